@@ -19,7 +19,7 @@ fn main(rt: HostRuntime) -> ExitCode {
     })
 }
 
-/// The command line, the program's own name first.
+/// The command line: the program's own name, then the arguments.
 fn words(rt: &HostRuntime) -> Result<Vec<String>, Stop> {
     Ok(std::env::args(rt)?.collect(rt.alloc())?)
 }

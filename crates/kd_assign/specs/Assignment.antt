@@ -1,4 +1,4 @@
--- An assignment of rows to columns: a list with each row's column.
+-- An assignment of rows to columns: a list that has the column of each row.
 -- Test: answers_three_rows, answers_small_tables, answers_the_largest_tables
 use Rattle.std.specs.Prelude.{ℕ, ◌+◌, ◌<◌, ◌≢◌, List, [], ◌∷◌, length, slice_index, All, AllPairs}
 
@@ -7,7 +7,7 @@ pub record IsOneToOne (to : List ℕ) : Type 0 where
   pub in_range : All (λ j. j < length to) to
   pub distinct : AllPairs (λ j k. j ≢ k) to
 
--- the cost of an assignment: the sum of each row's cost at its column
+-- the cost of the assignment `to`: the sum of the costs of all rows, each in its column
 abbrev pub assignment_cost : List (List ℕ) → List ℕ → ℕ
 assignment_cost [] to = 0
 assignment_cost (line ∷ cost) [] = 0

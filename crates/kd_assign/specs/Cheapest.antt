@@ -1,4 +1,4 @@
--- Why prices that fit prove that no assignment costs less than their sum.
+-- If prices fit, no assignment costs less than the sum of the prices.
 -- Source: the assignment problem and its dual
 -- Code: `assign` doesn't try assignments one by one: it grows a tree from each row.
 -- Test: answers_small_tables, answers_three_rows
@@ -6,7 +6,7 @@ use Rattle.std.specs.Prelude.{◌≡◌, ℕ, ◌≤◌, List, length, ℤ, pos,
 use Rattle.kd_assign.specs.Prices.{FitCosts, price_sum}
 use Rattle.kd_assign.specs.Assignment.{IsOneToOne, assignment_cost}
 
--- If prices fit, every one-to-one assignment costs at least their sum.
+-- If prices fit, every one-to-one assignment costs at least the sum of the prices.
 abbrev pub FittingPricesBoundCosts : Type 0
 FittingPricesBoundCosts =
     (cost : List (List ℕ)) (row col : List ℤ) (to : List ℕ) →
@@ -17,7 +17,7 @@ FittingPricesBoundCosts =
 abbrev pub IsLeastCost : List (List ℕ) → ℕ → Type 0
 IsLeastCost cost total = (to : List ℕ) → length to ≡ length cost → IsOneToOne to → total ≤ assignment_cost cost to
 
--- `to` is a one-to-one assignment of cost `total`, and none costs less
+-- `to` is a one-to-one assignment that costs `total`, and no one-to-one assignment costs less.
 pub record IsCheapestAssignment (cost : List (List ℕ)) (to : List ℕ) (total : ℕ) : Type 0 where
   pub one_to_one : IsOneToOne to
   pub cost_is : assignment_cost cost to ≡ total

@@ -1,24 +1,24 @@
--- Prices of the rows and columns of a cost table, and when they fit: a row's price and a column's add up to at
--- most the cost where the two meet. Rows and columns are counted from 0.
+-- Prices of the rows and columns of a table of costs. Prices fit if a row's price and a column's price always add
+-- up to at most the cost where row and column meet. Rows and columns are counted from 0.
 -- Source: the assignment problem and its dual
 -- Code: `assign` lowers the columns' prices once for each tree, and computes the rows' prices last.
 -- Test: answers_three_rows
 use Rattle.std.specs.Prelude.{ℕ, ◌<◌, ◌≤◌, All, List, [], ◌∷◌, length, slice_index, slice_index_or, ℤ, pos, ◌+ℤ◌, ◌≤ℤ◌}
 
--- the cost of row `i` at column `j`
+-- the cost in row `i` and column `j` of the table
 abbrev pub cost_at : List (List ℕ) → ℕ → ℕ → ℕ
 cost_at cost i j = slice_index (slice_index_or cost i []) j
 
--- No cost is above `greatest`.
+-- No cost in the table is above `greatest`.
 abbrev pub AreCostsAtMost : ℕ → List (List ℕ) → Type 0
 AreCostsAtMost greatest cost = All (λ line. All (λ c. c ≤ greatest) line) cost
 
--- price `i`, or 0 past the end
+-- price `i` of the list, counted from 0; 0 if the list has no price `i`
 abbrev pub price_at : List ℤ → ℕ → ℤ
 price_at prices i = slice_index_or prices i (pos 0)
 
--- Each row's price and each column's price add up to at most the row's cost at the column: the prices are a
--- feasible dual solution.
+-- The prices fit the table of costs: each row's price and each column's price add up to at most the cost where row
+-- and column meet. Such prices are a feasible dual solution.
 abbrev pub FitCosts : List (List ℕ) → List ℤ → List ℤ → Type 0
 FitCosts cost row col =
     (i j : ℕ) → i < length row → j < length col → (price_at row i +ℤ price_at col j) ≤ℤ pos (cost_at cost i j)

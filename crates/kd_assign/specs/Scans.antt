@@ -1,19 +1,19 @@
--- How many comparisons the trees for a table of `n` rows and columns take.
+-- How many comparisons it takes to assign `n` rows to `n` columns by growing a tree from each row.
 use Rattle.std.specs.Prelude.{ℕ, zero, suc, ◌+◌, ◌-◌, ◌*◌, ◌/◌, ◌≤◌}
 
--- `scans` is at least the number of cells of the table, and at most the comparisons for `n` trees
+-- `scans` comparisons are at least one for each cell of the table, and at most those for `n` full trees.
 pub record IsScanCount (n scans : ℕ) : Type 0 where
   pub least : n * n ≤ scans
   pub most : scans ≤ n * (n + 1) * (2 * n + 1) / 6
 
 -- ---- Tree by tree. No public contract cites these definitions.
 
--- the comparisons for a tree of `rows` rows: `n` columns for the root, and one column less for each later row
+-- the number of comparisons for a tree of `rows` rows: `n` for the first row, `n - 1` for the second row, and so on
 abbrev pub scans_of_tree : ℕ → ℕ → ℕ
 scans_of_tree n zero = 0
 scans_of_tree n (suc rows) = scans_of_tree n rows + (n - rows)
 
--- the comparisons for `trees` trees: the first tree has one row, each later tree one row more
+-- the number of comparisons for `trees` trees: the first tree has one row, and each next tree one row more
 abbrev pub scans_of_trees : ℕ → ℕ → ℕ
 scans_of_trees n zero = 0
 scans_of_trees n (suc trees) = scans_of_trees n trees + scans_of_tree n (suc trees)

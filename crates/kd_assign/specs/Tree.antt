@@ -1,6 +1,6 @@
 -- A tree of rows and columns, as in the Hungarian method, grown from a row that has no column yet. A column's
--- ceiling is the lowest price that a row of the tree offers for it; this row is its nearest row. No public contract
--- cites this file.
+-- ceiling is the lowest price that a row of the tree offers for it; this row is the column's nearest row. No public
+-- contract cites this file.
 use Rattle.std.specs.Prelude.{◌≡◌, ◌≢◌, ℕ, ◌<◌, ◌≤◌, Bool, false, true, List, [], length, slice_index, Option, None}
 use Rattle.std.specs.Prelude.{is_some, slice_index_or, ◌⊎◌, ℤ, pos, neg_ℤ, ◌+ℤ◌, ◌-ℤ◌, ◌≤ℤ◌}
 use Rattle.kd_assign.specs.Prices.{cost_at, price_at}
@@ -10,32 +10,32 @@ use Rattle.kd_assign.specs.Solved.{IsColumnTakenBy, IsCheapestColumn, IsRowAssig
 abbrev pub has_column : List Bool → ℕ → Bool
 has_column reached j = slice_index_or reached j false
 
--- how far the price of column `j` lies below its ceiling
+-- the room of column `j`: its ceiling (the lowest price that a row of the tree offers for it) minus its price
 abbrev pub room_at : List ℤ → List ℤ → ℕ → ℤ
 room_at ceilings prices j = price_at ceilings j -ℤ price_at prices j
 
--- No column's price is above its ceiling, and all prices and ceilings are from -128 to 4.
+-- No column's price is above the column's ceiling, and all prices and ceilings are from -128 to 4.
 pub record AreClose (n : ℕ) (prices ceilings : List ℤ) : Type 0 where
   pub low : (j : ℕ) → j < n → neg_ℤ (pos 128) ≤ℤ price_at prices j
   pub between : (j : ℕ) → j < n → price_at prices j ≤ℤ price_at ceilings j
   pub high : (j : ℕ) → j < n → price_at ceilings j ≤ℤ pos 4
 
--- `end` is a column outside the tree, and no other column outside has a price closer to its ceiling.
+-- Of all columns outside the tree, column `end` has the least room, which is a column's ceiling minus its price.
 pub record IsNearest (n : ℕ) (prices : List ℤ) (reached : List Bool) (ceilings : List ℤ) (end : ℕ) : Type 0 where
   pub within : end < n
   pub outside : has_column reached end ≡ false
   pub least : (j : ℕ) → j < n → has_column reached j ≡ false → room_at ceilings prices end ≤ℤ room_at ceilings prices j
 
--- A column was compared with `row`, which offers the price `offer` for it. A column outside the tree keeps the
--- lower of `ceiling` and `offer`, and the row that offers this price. A column of the tree keeps its ceiling and its
--- row.
+-- A column, whose nearest row `near` offers the price `ceiling` for it, is compared with `row`, which offers
+-- `offer`. Outside the tree, the row with the lower price becomes the nearest row (`near'`), and its price the
+-- ceiling. In the tree (`reached`), nothing changes.
 pub record IsCompared (reached : Bool) (row : ℕ) (offer : ℤ) (near : ℕ) (ceiling : ℤ)
     (near' : ℕ) (ceiling' : ℤ) : Type 0 where
   pub one : ((near' ≡ near) × (ceiling' ≡ ceiling)) ⊎ ((reached ≡ false) × (near' ≡ row) × (ceiling' ≡ offer))
   pub least : ceiling' ≤ℤ ceiling
   pub here : reached ≡ false → ceiling' ≤ℤ offer
 
--- Each column was compared with `row`, which offers `level` plus its cost at the column.
+-- Each column is compared with `row`, which offers the price `level` plus the cost in `row` and this column.
 pub record AreCompared (n : ℕ) (cost : List (List ℕ)) (reached : List Bool) (row : ℕ) (level : ℤ) (near : List ℕ)
     (ceilings : List ℤ) (near' : List ℕ) (ceilings' : List ℤ) : Type 0 where
   pub at : (j : ℕ) → j < n
@@ -44,9 +44,9 @@ pub record AreCompared (n : ℕ) (cost : List (List ℕ)) (reached : List Bool) 
 
 module _ (n : ℕ) (cost : List (List ℕ)) (prices : List ℤ) (holders : List (Option ℕ)) (root : ℕ) (reached : List Bool)
     (ceilings : List ℤ) where
-  -- `plan` gives a column to each row from 0 to `root`, except row `out`. If a row has a column of the tree, this is
-  -- its cheapest column at the ceilings. `plan` and `holders` take the same columns, and give each column outside
-  -- the tree to the same row.
+  -- `plan` gives a column to each row from 0 to `root`, except row `out`. Each column of the tree that has a row is
+  -- the cheapest for this row if the ceilings are the prices. `plan` and `holders` use the same columns, and give
+  -- each column outside the tree to the same row.
   pub record IsAssignmentWithout (plan : List (Option ℕ)) (out : ℕ) : Type 0 where
     pub places : length plan ≡ n
     pub out_in_range : out < n
@@ -57,9 +57,9 @@ module _ (n : ℕ) (cost : List (List ℕ)) (prices : List ℤ) (holders : List 
     pub same : (j : ℕ) → has_column reached j ≡ false → slice_index_or plan j None ≡ slice_index_or holders j None
     pub taken : (j : ℕ) → is_some (slice_index_or plan j None) ≡ is_some (slice_index_or holders j None)
 
-  -- Each column of the tree is taken. A column outside the tree has at least as much room (its ceiling minus its
-  -- price) as each column of the tree. At the ceilings, each column outside is the cheapest one for its nearest row.
-  -- For each nearest row, `plans` has an assignment that gives a column to all other rows from 0 to `root`.
+  -- Each column of the tree has a row. A column outside the tree has at least as much room (its ceiling minus its
+  -- price) as each column of the tree, and is the cheapest for its nearest row if the ceilings are the prices. For
+  -- this nearest row, `plans` has an assignment of columns to all other rows from 0 to `root`.
   pub record IsGrownTree (near : List ℕ) (plans : List (List (Option ℕ))) : Type 0 where
     pub places : length reached ≡ n
     pub plan_places : length plans ≡ n

@@ -1,4 +1,4 @@
-//! What follows from a finished assignment: each row's column, each row's price, and the cost.
+//! Computes each row's column, each row's price, and the cost of a finished assignment.
 ghost use Rattle.std.specs.Prelude.{◌≡◌, ℕ, ◌<◌, ◌≤◌, length, slice_index, pos, neg_ℤ, ◌-ℤ◌, ◌≤ℤ◌};
 ghost use Rattle.kd_assign.specs.Assignment.{IsOneToOne, assignment_cost};
 ghost use Rattle.kd_assign.specs.Prices.{AreCostsAtMost, cost_at, price_at};
@@ -22,7 +22,7 @@ pub fn columns_of_rows<const N: usize>(holders: &[Option<usize>; N]) -> [u8; N]
     columns
 }
 
-/// The price of each row: its cost at its column, less the price of the column.
+/// The price of each row: the row's cost in its column `to`, minus the column's price.
 pub fn row_prices<const N: usize>(cost: &[[u8; N]; N], prices: &[i16; N], to: &[u8; N]) -> [i16; N]
     requires few { N ≤ 32 }
     requires costs { AreCostsAtMost 4 cost.now }
@@ -41,7 +41,7 @@ pub fn row_prices<const N: usize>(cost: &[[u8; N]; N], prices: &[i16; N], to: &[
     rows
 }
 
-/// The cost of the assignment `to`.
+/// The cost of the assignment `to`, which has the column of each row.
 pub fn assignment_cost<const N: usize>(cost: &[[u8; N]; N], to: &[u8; N]) -> u16
     requires few { N ≤ 32 }
     requires costs { AreCostsAtMost 4 cost.now }

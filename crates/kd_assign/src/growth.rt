@@ -1,4 +1,4 @@
-//! Gives one more row a column, by growing a tree of rows and columns.
+//! Gives one more row a column, by growing a tree of rows and columns as in the Hungarian method.
 ghost use Rattle.std.specs.Prelude.{◌≡◌, ℕ, ◌+◌, ◌^◌, ◌<◌, ◌≤◌, length, ℤ, pos, neg_ℤ, ◌+ℤ◌, ◌-ℤ◌, ◌≤ℤ◌};
 ghost use Rattle.std.specs.Int.{int_min};
 ghost use Rattle.kd_assign.specs.Prices.{AreCostsAtMost, price_at};
@@ -8,11 +8,11 @@ ghost use Rattle.kd_assign.specs.Solved.{IsSolvedTo};
 use crate::nearest::Nearest;
 use crate::scans::Scans;
 
-/// Gives row `root` a column. Rows before it may get other columns, so that all together cost the least.
+/// Gives row `root` a column. The rows before it may get other columns, so that the total cost is the least.
 ///
 /// A tree of rows and columns grows from `root`. In each round the nearest column joins the tree, and then
 /// the row that holds this column. A free column ends the growth. For each row of the tree, `plans` keeps an
-/// assignment that gives a column to each row from 0 to `root`, except this row.
+/// assignment of columns to all other rows from 0 to `root`.
 pub fn assign_row<const N: usize>(
     cost: &[[u8; N]; N],
     prices: &mut [i16; N],
@@ -56,7 +56,7 @@ pub fn assign_row<const N: usize>(
     }
 }
 
-/// Lowers each column's price to its ceiling less `by`, if the price is higher.
+/// Lowers each column's price to the column's ceiling minus `by`, unless the price is lower already.
 fn lower_prices<const N: usize>(prices: &mut [i16; N], ceilings: &[i16; N], by: i16)
     requires low { (j : ℕ) → j < N → neg_ℤ (pos 128) ≤ℤ price_at ceilings.now j }
     requires by { pos 0 ≤ℤ by }

@@ -1,4 +1,4 @@
-//! A minimum-cost assignment for a square table of costs, with prices that prove that none costs less.
+//! A minimum-cost assignment for a square table of costs, with prices that prove that no assignment costs less.
 #![tactic(auto)]
 
 mod columns;

@@ -1,4 +1,4 @@
-//! For each column, the row of a growing tree that is nearest to it: the row that offers the lowest price.
+//! For each column, the nearest row of a growing tree: the row that offers the lowest price for the column.
 ghost use Rattle.std.specs.Prelude.{◌≡◌, ℕ, ◌+◌, ◌^◌, ◌<◌, ◌≢◌, ◌⊎◌, false, if◌then◌else◌, Some, IfSome, IsSomeAnd};
 ghost use Rattle.std.specs.Prelude.{All};
 ghost use Rattle.std.specs.Prelude.{length, count_by, slice_index, ℤ, pos, neg_ℤ, ◌+ℤ◌, ◌-ℤ◌, ◌≤ℤ◌};
@@ -7,19 +7,19 @@ ghost use Rattle.kd_assign.specs.Tree.{AreClose, AreCompared, IsCompared, IsNear
 
 use crate::scans::Scans;
 
-/// For each column, the row of a tree that is nearest to it, and the price that this row offers for it.
+/// For each column, the nearest row of a tree, and the price that this row offers for the column.
 #[derive(Drop)]
 pub struct Nearest<const N: usize> {
     pub row: [usize; N],
     /// The ceiling of each column: the lowest price that a row of the tree offers for it.
     ///
-    /// The nearest column is the one whose price is closest to its ceiling. When a free column ends the tree, each
-    /// price is lowered to at most its ceiling less the room (ceiling less price) of this free column.
+    /// The nearest column has the least room, which is its ceiling minus its price. When a free column ends the
+    /// tree, each price is lowered to at most its ceiling minus the room of this free column.
     pub ceiling: [i16; N],
 }
 
 impl<const N: usize> Nearest<N> {
-    /// Creates the state before any comparison: every ceiling is as high as an `i16` can be.
+    /// Creates the state before any comparison: every ceiling is `i16::MAX`.
     pub fn new() -> Self
         ensures far { All (λ s. s ≡ pos 32767) result.ceiling }
     {
@@ -29,7 +29,7 @@ impl<const N: usize> Nearest<N> {
         }
     }
 
-    /// Compares each column outside the tree with `row`, which has just joined the tree.
+    /// Compares the ceiling of each column outside the tree with the price that `row`, new in the tree, offers.
     pub fn join(
         &mut self,
         reached: &[bool; N],
@@ -55,7 +55,7 @@ impl<const N: usize> Nearest<N> {
         }
     }
 
-    /// If `column` is outside the tree and `offer` is below its ceiling, makes `row` its nearest row.
+    /// If `column` is outside the tree and its ceiling is above `offer`, makes `row` the column's nearest row.
     fn compare(&mut self, reached: bool, row: usize, column: usize, offer: i16, scans: &mut Scans)
         requires column { column < N }
         requires room { scans.old < 4294967295 }
@@ -76,7 +76,7 @@ impl<const N: usize> Nearest<N> {
         }
     }
 
-    /// How far the price of `column` lies below its ceiling.
+    /// The room of `column`: the column's ceiling minus its price.
     pub fn room(&self, prices: &[i16; N], column: usize) -> i16
         requires column { column < N }
         requires close { AreClose N prices.now self.now.ceiling }
@@ -85,10 +85,9 @@ impl<const N: usize> Nearest<N> {
         self.ceiling[column] - prices[column]
     }
 
-    /// The level of `row`, which joins the tree together with `column`, the column that it holds.
+    /// The level of `row`: the ceiling of `column`, which the row holds, minus the cost where the two meet.
     ///
-    /// The price that a row offers for a column is its level plus its cost there. For the column that it holds, this
-    /// is the column's ceiling.
+    /// The price that a row of the tree offers for a column is the row's level plus the cost where the two meet.
     pub fn level(&self, cost: &[[u8; N]; N], row: usize, column: usize) -> i16
         requires row { row < N }
         requires column { column < N }
@@ -102,7 +101,7 @@ impl<const N: usize> Nearest<N> {
         self.ceiling[column] - i16::from(cost[row][column])
     }
 
-    /// The nearest column outside the tree.
+    /// The nearest column outside the tree, which has the least room (its ceiling minus its price).
     pub fn column(
         &self,
         reached: &[bool; N],
@@ -120,10 +119,10 @@ impl<const N: usize> Nearest<N> {
         least.unwrap()
     }
 
-    /// The nearer of `first` and `second` if `second` is outside the tree, otherwise `first`.
+    /// The nearer of the columns `first` and `second`, or `first` if the tree has `second` already.
     ///
-    /// If both are equally near, the result is `second` if it is free, since the tree ends at a free column. The
-    /// contract leaves this choice open.
+    /// If both columns are equally near, the result is `second` only if `second` is free, since the tree ends at a
+    /// free column. The contract leaves this choice open.
     fn nearer(
         &self,
         reached: &[bool; N],

@@ -1,9 +1,9 @@
-//! Scans: a counter of comparisons. Each comparison raises it by one, and nothing else changes it.
+//! A counter of comparisons. Each comparison raises the counter by one, and nothing else changes it.
 ghost use Rattle.std.specs.Prelude.{◌≡◌, ℕ, ◌+◌, ◌<◌, ◌↔◌, IsTrue, ◌<ℤ◌};
 
 use std::marker::Model;
 
-/// How many comparisons have been made.
+/// The number of comparisons made so far.
 ///
 /// The field is private to this module, so that no other module can set the count by a formula.
 #[derive(Clone, Copy)]
@@ -20,14 +20,14 @@ impl Model for Scans {
 }
 
 impl Scans {
-    /// Creates a counter without comparisons.
+    /// Creates a counter that stands at 0.
     pub fn new() -> Self
         ensures { result ≡ 0 }
     {
         Scans { count: 0 }
     }
 
-    /// Whether `new` is less than `slack`, counting this comparison.
+    /// Counts one comparison, and returns whether `new` is less than `slack`.
     pub fn closer(&mut self, slack: i16, new: i16) -> bool
         requires room { self.old < 4294967295 }
         ensures less { IsTrue result ↔ (new <ℤ slack) }
@@ -37,7 +37,7 @@ impl Scans {
         new < slack
     }
 
-    /// The number of comparisons.
+    /// The number of comparisons made so far.
     pub fn count(self) -> u32
         ensures { result ≡ self }
     {

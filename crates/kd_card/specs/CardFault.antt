@@ -1,4 +1,4 @@
--- The card that bytes describe, or the first fault of these bytes. Lines are counted from 1.
+-- The result of reading bytes as a card: the card, or the first fault. Lines are counted from 1.
 use Rattle.std.specs.Prelude.{codes, decimal, ◌≡◌, ◌≢◌, ℕ, ◌+◌, ◌≤◌, ◌⊎◌, List, [], ◌∷◌, ◌++◌, length, map, All, ℤ}
 use Rattle.std.specs.Prelude.{Bool, true, false, Ok, Err, Option, Some, None}
 use Rattle.std.specs.Fmt.{signed_decimal}
@@ -26,12 +26,12 @@ use Rattle.kd_card.specs.CardText.{row_word, column_word, row_kind_word, price_c
 abbrev pub IsDigit : ℕ → Type 0
 IsDigit byte = (48 ≤ byte) × (byte ≤ 57)
 
--- an unsigned number of any length: digits without leading zeros
+-- an unsigned number of any length: decimal digits without leading zeros
 abbrev pub IsNumberText : List ℕ → Type 0
 IsNumberText [] = ⊥
 IsNumberText (digit ∷ digits) = IsDigit digit × All IsDigit digits × ((digit ≡ 48) → (digits ≡ []))
 
--- With `false`: an unsigned number. With `true`: an unsigned number, or a negative one with `-` first, but not `-0`.
+-- The text is a decimal number without leading zeros. If the argument is `true`, it may be negative, but not `-0`.
 abbrev pub IsNumeral : Bool → List ℕ → Type 0
 IsNumeral false text = IsNumberText text
 IsNumeral true text =
@@ -39,18 +39,18 @@ IsNumeral true text =
 
 -- ---- lines
 
--- the line of these words with its LF, and then `rest`
+-- a line that has `words`, with a space between two of them, the line's LF, and then `rest`
 abbrev pub line_then : List (List ℕ) → List ℕ → List ℕ
 line_then words rest = line_of words ++ 10 ∷ rest
 
--- The first line of `bytes` has these words between its spaces, and `rest` follows its LF.
+-- The first line of `bytes`, split at each space, is `words`, and `rest` follows this line's LF.
 pub record HasLineWords (bytes : List ℕ) (words : List (List ℕ)) (rest : List ℕ) : Type 0 where
   pub line : List ℕ
   pub first : IsFirstPart 10 bytes line rest
   pub parts : words_of line ≡ words
 
--- Reading a line that has to be `front` and the number `due` has this result: the bytes after the line, or a fault.
--- If the line isn't `front` and a number, it is bad; if it has another number, the count is wrong.
+-- The result of reading a line that has to be `front` and the number `due`: the bytes after the line, or a fault.
+-- If the line isn't `front` and a number, the fault is `BadLine`; if the number isn't `due`, it is `CountWrong`.
 abbrev pub IsValueAnswer : Bool → List ℕ → List ℕ → ℕ → List ℕ → AnswerRule CardFault (List ℕ)
 IsValueAnswer signed front due line bytes = do
   found ← Finds
@@ -59,14 +59,14 @@ IsValueAnswer signed front due line bytes = do
   _ ← Demands (found.0 ≡ due) CountWrong
   Yields found.1
 
--- Reading any line has this result: its words and the bytes after it, or a fault.
+-- The result of reading a price line: the line's words and the bytes after the line, or a fault.
 abbrev pub IsLineAnswer : ℕ → List ℕ → AnswerRule CardFault (List (List ℕ) × List ℕ)
 IsLineAnswer line bytes = do
   _ ← Demands (bytes ≢ []) PriceMissing
   Finds (λ (found : List (List ℕ) × List ℕ). HasLineWords bytes found.0 found.1) (BadLine line)
 
--- Reading a line that has to begin with `word key`, for some `key`, has this result: the key, the words after the
--- first, and the bytes after the line; or a fault.
+-- The result of reading a line whose first word has to be `word key` for some `key`: this key, the other words of
+-- the line, and the bytes after the line; or a fault.
 abbrev pub IsFirstWordAnswer : {K : Type 0} → (K → List ℕ) → ℕ → List ℕ
     → AnswerRule CardFault (K × List (List ℕ) × List ℕ)
 IsFirstWordAnswer {K} word line bytes = do
@@ -76,7 +76,7 @@ IsFirstWordAnswer {K} word line bytes = do
 
 -- ---- the head and the settings
 
--- `bytes` are a card's head, and then `rest`.
+-- `bytes` are the first line of a card with this version and day, and then `rest`.
 pub record BeginsWithHead (bytes : List ℕ) (version : Version) (day : ℕ) (rest : List ℕ) : Type 0 where
   pub text : bytes ≡ line_then (head_words version day) rest
   pub of_month : IsDayNumber day
@@ -84,8 +84,8 @@ pub record BeginsWithHead (bytes : List ℕ) (version : Version) (day : ℕ) (re
 abbrev pub IsHeadAnswer : List ℕ → AnswerRule CardFault (Version × ℕ × List ℕ)
 IsHeadAnswer bytes = Finds (λ (head : Version × ℕ × List ℕ). BeginsWithHead bytes head.0 head.1 head.2) BadHead
 
--- Reading the settings has this result: all settings up to the first line that isn't a setting, and the bytes after
--- them; or the fault `TooMany` if the first 193 lines are settings.
+-- The result of reading a card's settings: all settings before the first line that isn't a setting, and the bytes
+-- after them; or the fault `TooMany` if the first 193 lines are settings.
 abbrev pub IsSettingsAnswer : List ℕ → AnswerRule CardFault (List Setting × List ℕ)
 IsSettingsAnswer bytes (Ok list) = BeginsWithAllSettings bytes list.0 list.1
 IsSettingsAnswer bytes (Err fault) =
@@ -102,8 +102,8 @@ abbrev pub first_text : Version → Group → List ℕ
 first_text ByNumber group = row_word group
 first_text ByKind group = row_kind_word group
 
--- Reading words as `number` prices has this result: the prices, or a fault. A word that isn't a price makes line
--- `line` bad; with more or fewer prices, the fault is `PriceMissing`.
+-- The result of reading `words` as `number` prices: the prices, or a fault. If a word isn't a price, the fault is
+-- `BadLine line`; if there are more or fewer prices, it is `PriceMissing`.
 abbrev pub IsPricesAnswer : ℕ → ℕ → List (List ℕ) → AnswerRule CardFault (List ℤ)
 IsPricesAnswer number line words = do
   prices ← Finds (λ prices. (words ≡ map signed_decimal prices) × ArePricesInRange prices) (BadLine line)
@@ -129,46 +129,45 @@ IsByNumberPricesAnswer line bytes = do
 
 -- ---- prices by kind: two groups of lines
 
--- The first line of `bytes` ends with LF and begins with `word`.
+-- The first line of `bytes` ends with LF, and its first word is `word`.
 pub record BeginsWithWord (word bytes : List ℕ) : Type 0 where
   pub behind : List (List ℕ)
   pub rest : List ℕ
   pub has : HasLineWords bytes (word ∷ behind) rest
 
--- A group of kinds ends before `bytes`: they are empty, or their first word isn't `word`.
+-- A group of lines that begin with `word` ends before `bytes`: these are empty, or a line with another first word.
 pub data EndsGroup (word bytes : List ℕ) : Type 0 where
   AtNothing : bytes ≡ [] → EndsGroup word bytes
   AtOther : (other : List ℕ) → BeginsWithWord other bytes → other ≢ word → EndsGroup word bytes
 
 -- The first line of `bytes` is the line of `kind`, and `rest` follows that line. If there is a kind `last`, `kind`
--- comes after it in the order of kinds.
+-- comes after `last` in the order of kinds.
 pub record IsNextKind {K X : Type 0} (sort : Sort K X) (last : Option K) (bytes : List ℕ) (kind : K) (rest : List ℕ)
     : Type 0 where
   pub good : IsKind sort kind
   pub after : ComesAfter sort last kind
   pub line : HasLineWords bytes (kind_words sort kind) rest
 
--- `bytes` don't begin with the line of a kind that comes after the kind `last`.
+-- `bytes` don't begin with the line of a valid kind that comes after the kind `last`.
 abbrev pub HasNoNext : {K X : Type 0} → Sort K X → Option K → List ℕ → Type 0
 HasNoNext {K} sort last bytes = (kind : K) (rest : List ℕ) → ¬ (IsNextKind sort last bytes kind rest)
 
--- The last of `kinds`, or `last` if there are none.
+-- the last of `kinds`, or `last` if `kinds` is empty
 abbrev pub last_of : {K : Type 0} → Option K → List K → Option K
 last_of last [] = last
 last_of last (kind ∷ kinds) = last_of (Some kind) kinds
 
--- `bytes` are the lines of `kinds`, in order after the kind `last`, and then `rest`, which doesn't begin with the line
--- of a further kind in this order.
+-- `bytes` are the lines of `kinds`, and then `rest`. The kinds are strictly ascending, after the kind `last` if
+-- any. `rest` doesn't begin with the line of a valid kind that comes after all these kinds.
 pub record BeginsWithKinds {K X : Type 0} (sort : Sort K X) (last : Option K) (bytes : List ℕ) (kinds : List K)
     (rest : List ℕ) : Type 0 where
   pub lines : bytes ≡ kinds_text sort kinds ++ rest
   pub in_order : AreKinds sort last kinds
   pub none_more : HasNoNext sort (last_of last kinds) rest
 
--- Reading a group of kinds has this result: the kinds and the bytes after them, or a fault. If there are bytes after
--- the kinds, but they begin with the sort's word or have no whole line, their first line is bad. If the kinds don't
--- count `number` things, the fault is `PriceMissing`.
--- Code: the reader keeps at most `number` kinds, and stops counting things at `number + 1`.
+-- The result of reading a group of kinds: the kinds and the bytes after them, or a fault. It is `BadLine` if the
+-- group doesn't end after its last valid kind, and `PriceMissing` if the kinds' counts don't add up to `number`.
+-- Code: the reader keeps at most `number` kinds, and stops adding counts at `number + 1`.
 abbrev pub IsGroupAnswer : {K X : Type 0} → Sort K X → ℕ → ℕ → List ℕ → AnswerRule CardFault (List K × List ℕ)
 IsGroupAnswer {K} sort number line bytes = do
   group ← FindsAlways (λ (group : List K × List ℕ). BeginsWithKinds sort None bytes group.0 group.1)
@@ -176,8 +175,8 @@ IsGroupAnswer {K} sort number line bytes = do
   _ ← Demands (counted sort group.0 ≡ number) PriceMissing
   Yields group
 
--- Reading the group of the kinds of rows, and then the group of the kinds of columns, has this result: both groups
--- and the bytes after them, or a fault.
+-- The result of reading a group of kinds for the rows of the table of costs, and then a group for its columns: both
+-- groups and the bytes after them, or a fault.
 abbrev pub IsGroupsAnswer : {R X C Y : Type 0} → Sort R X → Sort C Y → ℕ → ℕ → List ℕ
     → AnswerRule CardFault (List R × List C × List ℕ)
 IsGroupsAnswer row_sort column_sort number line bytes = do
@@ -207,8 +206,8 @@ IsAllPricesAnswer ByKind line bytes = IsByKindPricesAnswer line bytes
 abbrev pub IsSumAnswer : ℤ → ℕ → List ℕ → AnswerRule CardFault (List ℕ)
 IsSumAnswer sum line bytes = IsValueAnswer true (codes "SUM ") (signed_decimal sum) line bytes
 
--- Reading the bytes after the settings (the number of settings, the prices and their sum) has this result: the
--- card with its day, or a fault.
+-- The result of reading the bytes after the settings (the number of settings, the prices and their sum): the day,
+-- the settings and the prices of the card, or a fault.
 abbrev pub IsRestAnswer : Version → ℕ → List Setting → ℕ → List ℕ → AnswerRule CardFault (ℕ × List Setting × PriceParts)
 IsRestAnswer version day settings number bytes = do
   rest ← IsCountAnswer number bytes
@@ -217,7 +216,7 @@ IsRestAnswer version day settings number bytes = do
   _ ← Demands (end ≡ []) Trailing
   Yields (day, settings, prices.0)
 
--- Reading `bytes` has this result: the day, the settings and the prices of the card, or the first fault.
+-- The result of reading `bytes` as a card: its day, its settings and its prices, or the first fault.
 abbrev pub IsCardAnswer : List ℕ → AnswerRule CardFault (ℕ × List Setting × PriceParts)
 IsCardAnswer bytes = do
   head ← IsHeadAnswer bytes

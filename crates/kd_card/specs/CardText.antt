@@ -1,4 +1,4 @@
--- The text of a card: lines of words, with one space between two words.
+-- The text of a card: lines that end with LF. Each has words, with one space between two words.
 use Rattle.std.specs.Prelude.{codes, decimal, ◌≡◌, ℕ, ◌≤◌, List, [], ◌∷◌, ◌++◌, length, map, None, All, ℤ}
 use Rattle.std.specs.List.{flat_map}
 use Rattle.std.specs.Fmt.{signed_decimal}
@@ -15,7 +15,7 @@ use Rattle.kd_card.specs.declared.group.Group.TheVariants.{OfCables, OfBars}
 use Rattle.kd_card.specs.Kinds.{Sort, kind_words, cable_sort, pair_sort, bar_sort, row_sort, counted, AreKinds}
 use Rattle.kd_card.specs.Prices.{version_of, price_sum, ArePrices}
 
--- the first words of the two price lines of a card where each thing has its own price
+-- the first words of a card's two price lines, if each cable, pair, nothing, bar or row has its own price
 abbrev pub row_word : Group → List ℕ
 row_word OfCables = codes "CABLES"
 row_word OfBars = codes "BARS"
@@ -24,22 +24,22 @@ abbrev pub column_word : Group → List ℕ
 column_word OfCables = codes "PAIRS"
 column_word OfBars = codes "ROWS"
 
--- the first word of each line for a kind of cables or bars, which are the rows of the table of costs
+-- the first word of the line of each kind of cables, or of each kind of bars
 abbrev pub row_kind_word : Group → List ℕ
 row_kind_word OfCables = cable_sort.word
 row_kind_word OfBars = bar_sort.word
 
--- the number of rows of the table of costs, which is also its number of columns: each has a price
+-- the number of rows of the table of costs, which is also its number of columns
 abbrev pub price_count : Group → ℕ
 price_count OfCables = 13
 price_count OfBars = 27
 
--- The kinds are valid, in order and each once, and count `number` things in all.
+-- The kinds are valid and strictly ascending, and their counts add up to `number`.
 pub record IsGroup {K X : Type 0} (sort : Sort K X) (number : ℕ) (kinds : List K) : Type 0 where
   pub in_order : AreKinds sort None kinds
   pub count : counted sort kinds ≡ number
 
--- the second word of a card's head: 1 if each thing has its own price, 2 if equal things share one
+-- the second word of a card's first line: 1 if each cable, pair, bar or row has a price, 2 if each kind has one
 abbrev pub version_text : Version → List ℕ
 version_text ByNumber = codes "1"
 version_text ByKind = codes "2"
@@ -51,26 +51,26 @@ head_words version day = codes "CARD" ∷ version_text version ∷ codes "DAY" �
 abbrev pub settings_words : ℕ → List (List ℕ)
 settings_words number = codes "SETTINGS" ∷ decimal number ∷ []
 
--- `word`, and then the prices
+-- the words of a price line: `word`, and then the prices
 abbrev pub price_words : List ℕ → List ℤ → List (List ℕ)
 price_words word prices = word ∷ map signed_decimal prices
 
--- the words of the last line: the sum of all prices
+-- the words of a card's last line, which has the sum of all prices
 abbrev pub sum_words : ℤ → List (List ℕ)
 sum_words sum = codes "SUM" ∷ signed_decimal sum ∷ []
 
--- the lines of these words, each with LF at its end
+-- the text of `lines`: for each line, its words with a space between two words, and then LF
 abbrev pub lines_text : List (List (List ℕ)) → List ℕ
 lines_text lines = flat_map (λ words. line_of words ++ 10 ∷ []) lines
 
--- the words of the price lines: two lines if each thing has its own price, else one for each kind
+-- the words of each price line: two lines if each cable, pair, bar or row has a price, else one for each kind
 abbrev pub price_lines : PriceParts → List (List (List ℕ))
 price_lines (Cables row col) = price_words (row_word OfCables) row ∷ price_words (column_word OfCables) col ∷ []
 price_lines (Bars row col) = price_words (row_word OfBars) row ∷ price_words (column_word OfBars) col ∷ []
 price_lines (CableKinds row col) = map (kind_words cable_sort) row.items ++ map (kind_words pair_sort) col.items
 price_lines (BarKinds row col) = map (kind_words bar_sort) row.items ++ map (kind_words row_sort) col.items
 
--- the words of all lines: head, settings and their number, prices and their sum
+-- the words of each line of a card: first line, settings, number of settings, prices, and sum of prices
 abbrev pub card_lines : ℕ → List Setting → PriceParts → List (List (List ℕ))
 card_lines day settings prices =
     head_words (version_of prices) day
@@ -83,7 +83,7 @@ card_lines day settings prices =
 abbrev pub card_text : ℕ → List Setting → PriceParts → List ℕ
 card_text day settings prices = lines_text (card_lines day settings prices)
 
--- `bytes` are the text of the card of this day, these settings and these prices.
+-- `bytes` are the text of the card with this day, these settings and these prices, all of which are valid.
 pub record IsCard (bytes : List ℕ) (day : ℕ) (settings : List Setting) (prices : PriceParts) : Type 0 where
   pub text : bytes ≡ card_text day settings prices
   pub of_month : IsDayNumber day

@@ -1,4 +1,4 @@
--- The text of the refusal of bytes that aren't a card.
+-- Why bytes aren't a card, as text: the refusal's number and name, and the line number if there is one.
 use Rattle.std.specs.Prelude.{decimal, ℕ, List, ◌++◌}
 use Rattle.kd_tables.specs.declared.refusal.Refusal.TheVariants as refusals
 use Rattle.kd_tables.specs.Refusals.{refusal_name, word_after_space}

@@ -1,4 +1,4 @@
--- Kinds: what equal cables, columns, bars or rows have in common, how many there are, and the price of each.
+-- Kinds. A kind stands for equal cables, columns, bars or rows: it has their number, and the price of each.
 use Rattle.std.specs.Prelude.{codes, decimal, ◌≡◌, ℕ, ◌+◌, ◌<◌, ◌≤◌, List, [], ◌∷◌, ◌++◌, length, map, replicate}
 use Rattle.std.specs.Prelude.{flat_map, ℤ, unsigned_abs, Option, Some, None, ◌⊎◌, IsPermutation, zip}
 use Rattle.std.specs.Fmt.{signed_decimal}
@@ -15,15 +15,15 @@ use Rattle.kd_card.specs.declared.kinds.RowKind.{RowKind}
 
 -- ---- things: a cable's letters, a column's pair, a bar's standing, a row's reading
 
--- The order of readings, and of pairs of letters, given as places in the alphabet: by the first number, then by the
--- second.
+-- The order of readings, and of pairs of letters: by the first number, then by the second number. The numbers of
+-- letters are their places in the alphabet, counted from 0.
 -- Code: readings are compared by the derived order of `Reading`.
 abbrev pub NumbersComeBefore : ℕ × ℕ → ℕ × ℕ → Type 0
 NumbersComeBefore x y = (x.0 < y.0) ⊎ ((x.0 ≡ y.0) × (x.1 < y.1))
 
--- The order of cables: by their letters, as words in a dictionary; a cable without a first letter comes last.
+-- The order of cables is the dictionary order of their letters; a cable without a first letter comes last.
 -- `SecondComesBefore` compares the second letters.
--- Code: cables are compared by the derived order of `Ends`; the law `ordered` of `Kind` proves that it is this order.
+-- Code: cables are compared by the derived order of `Ends`; the law `ordered` of `Kind` proves both orders equal.
 abbrev pub SecondComesBefore : Option ℕ → Option ℕ → Type 0
 SecondComesBefore None None = ⊥
 SecondComesBefore None (Some other) = Unit {0}
@@ -36,25 +36,25 @@ EndsComeBefore (None, second) (Some first, other) = ⊥
 EndsComeBefore (Some first, second) (None, other) = Unit {0}
 EndsComeBefore (Some one, second) (Some two, other) = (one < two) ⊎ ((one ≡ two) × SecondComesBefore second other)
 
--- The order of columns: pairs as words in a dictionary, and then the nothings, which are columns without a pair.
+-- The order of columns: pairs in dictionary order, and then columns without a pair.
 -- Code: columns are compared by the derived order of `Column`.
 abbrev pub PairComesBefore : Option (ℕ × ℕ) → Option (ℕ × ℕ) → Type 0
 PairComesBefore None other = ⊥
 PairComesBefore (Some pair) None = Unit {0}
 PairComesBefore (Some pair) (Some other) = NumbersComeBefore pair other
 
--- The order of standings: by the left lug's place, then by the right one's.
+-- The order of standings: by the left lug's place, then by the right lug's place.
 -- Code: standings are compared by the derived order of `Standing`.
 abbrev pub StandingComesBefore : Place × Place → Place × Place → Type 0
 StandingComesBefore x y = IsBefore x.0 y.0 ⊎ ((x.0 ≡ y.0) × IsBefore x.1 y.1)
 
--- the letters of a cable or a column as a kind's line has them, or `-` if there are none
+-- the text of a cable's or a column's letters in the line of its kind: the letters, or `-` if there are none
 abbrev pub letters_text : List ℕ → List ℕ
 letters_text [] = codes "-"
 letters_text (letter ∷ letters) = flat_map letter_text (letter ∷ letters)
 
--- A cable's letters are in the form that a card writes: two are in alphabetical order; a single one is in the first
--- place. A column is in this form if it has no pair, or a pair with its letters in alphabetical order.
+-- A kind of cables may have no letter, a single letter in the first place, or two letters in alphabetical order.
+-- `IsPairInOrder`: a kind of columns may have no pair, or a pair with its letters in alphabetical order.
 abbrev pub AreEnds : Option ℕ → Option ℕ → Type 0
 AreEnds None None = Unit {0}
 AreEnds None (Some other) = ⊥
@@ -67,10 +67,9 @@ IsPairInOrder (Some pair) = (pair.0 < pair.1) × (pair.1 < 26)
 
 -- ---- the four sorts of kinds
 
--- How kinds of one sort (of cables, columns, bars or rows) are written and ordered. `word` begins each kind's
--- line; `kind` gives what the kind's things have in common (`thing`), their number and their price; `text` is a
--- thing as the line has it. On a card, each thing satisfies `InForm`, and `ComesBefore` is the order of the
--- lines.
+-- How a card writes and orders the kinds of one sort: of cables, columns, bars or rows. `word` is the first word of
+-- a kind's line. `kind` is a kind as its thing (letters, standing or reading), count and price. `text` is the text
+-- of a thing. On a card, each thing satisfies `InForm`, and the lines are in the order `ComesBefore`.
 pub record Sort (K X : Type 0) : Type 1 where
   pub word : List ℕ
   pub kind : K → KindOf X
@@ -114,52 +113,52 @@ row_sort = record {
   ComesBefore = NumbersComeBefore;
 }
 
--- The thing is in the form that a card writes, and is written as `text`.
+-- A card may have a kind with this thing (letters, a standing or a reading), and writes the thing as `text`.
 pub record HasText {K X : Type 0} (sort : Sort K X) (text : List ℕ) (thing : X) : Type 0 where
   pub form : sort.InForm thing
   pub written : sort.text thing ≡ text
 
--- The thing is in the form that a card writes, and it alone is written as `text`.
+-- A card writes this thing (letters, a standing or a reading), and no other thing, as `text`.
 pub record IsOnlyThing {K X : Type 0} (sort : Sort K X) (text : List ℕ) (thing : X) : Type 0 where
   pub has : HasText sort text thing
   pub only : (other : X) → HasText sort text other → other ≡ thing
 
 -- ---- kinds of a card
 
--- The kind `next` comes after the kind `last` in the order of lines, or there is no `last`.
+-- If there is a kind `last`, the kind `next` comes after it in the order of a card's lines.
 abbrev pub ComesAfter : {K X : Type 0} → Sort K X → Option K → K → Type 0
 ComesAfter sort None next = Unit {0}
 ComesAfter sort (Some last) next = sort.ComesBefore (sort.kind last).thing (sort.kind next).thing
 
--- The kind is valid: in the form that a card writes, with a count from 1 to 255 and a price from -9999 to 9999.
+-- The kind is valid: its thing satisfies `InForm`, its count is from 1 to 255, and its price from -9999 to 9999.
 pub record IsKind {K X : Type 0} (sort : Sort K X) (kind : K) : Type 0 where
   pub form : sort.InForm (sort.kind kind).thing
   pub some : 1 ≤ (sort.kind kind).count
   pub most : (sort.kind kind).count ≤ 255
   pub reach : unsigned_abs (sort.kind kind).price ≤ 9999
 
--- The kinds are valid, each once and in the order of lines; they come after the kind `last` if there is one.
+-- The kinds are valid and strictly ascending. If there is a kind `last`, they come after it.
 abbrev pub AreKinds : {K X : Type 0} → Sort K X → Option K → List K → Type 0
 AreKinds sort last [] = Unit {0}
 AreKinds sort last (kind ∷ kinds) = IsKind sort kind × ComesAfter sort last kind × AreKinds sort (Some kind) kinds
 
--- the number of things that the kinds count
+-- the sum of the kinds' counts
 abbrev pub counted : {K X : Type 0} → Sort K X → List K → ℕ
 counted sort [] = 0
 counted sort (kind ∷ kinds) = (sort.kind kind).count + counted sort kinds
 
--- the price of each thing that the kinds count
+-- the price of each kind, as many times as the kind's count says
 abbrev pub prices_of_kinds : {K X : Type 0} → Sort K X → List K → List ℤ
 prices_of_kinds sort kinds = flat_map (λ k. replicate (sort.kind k).count (sort.kind k).price) kinds
 
--- the kinds written out: the thing of each kind, with its price, as often as the kind counts
+-- the thing of each kind with the kind's price, as many times as the kind's count says
 abbrev pub expansion : {X : Type 0} → List (KindOf X) → List (X × ℤ)
 expansion kinds = flat_map (λ kind. replicate kind.count (kind.thing, kind.price)) kinds
 
--- The kinds count exactly these things, each with its price: written out, each as often as it counts, they are the
--- things with their prices, in some order.
--- Code: `kinds_of` sorts things with their prices and counts equal ones; `prices_of` looks for each thing's kind and
--- compares the counts. Neither writes the kinds out.
+-- The kinds are those of `things` with `prices`: listing each kind as many times as its count says gives the things
+-- with their prices, in some order.
+-- Code: `kinds_of` sorts things with their prices and counts equal things; `prices_of` looks for each thing's kind
+-- and compares the counts. Neither makes the `expansion`.
 pub record AreKindsOf {K X : Type 0} (sort : Sort K X) (things : List X) (prices : List ℤ) (kinds : List K) : Type 0
   where
     pub number : length prices ≡ length things
@@ -167,16 +166,16 @@ pub record AreKindsOf {K X : Type 0} (sort : Sort K X) (things : List X) (prices
 
 -- ---- lines
 
--- the words of a kind's line: the word of its sort, what its things have in common, their number and their price
+-- the words of a kind's line: `CABLE`, `PAIR`, `BAR` or `ROW`, then the thing's text, the count and the price
 abbrev pub kind_words : {K X : Type 0} → Sort K X → K → List (List ℕ)
 kind_words sort k = sort.word ∷ sort.text (sort.kind k).thing ∷ decimal (sort.kind k).count
     ∷ signed_decimal (sort.kind k).price ∷ []
 
--- The kind is valid, and these are the words of its line.
+-- The kind is valid, and `words` are the words of its line.
 pub record HasKindWords {K X : Type 0} (sort : Sort K X) (words : List (List ℕ)) (kind : K) : Type 0 where
   pub good : IsKind sort kind
   pub written : kind_words sort kind ≡ words
 
--- the line of each kind, with its LF
+-- the lines of the kinds, each with LF at its end
 abbrev pub kinds_text : {K X : Type 0} → Sort K X → List K → List ℕ
 kinds_text sort kinds = flat_map (λ kind. line_of (kind_words sort kind) ++ 10 ∷ []) kinds

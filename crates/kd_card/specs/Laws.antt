@@ -14,13 +14,14 @@ use Rattle.kd_card.specs.CardFault.{IsCardAnswer, IsCardFault}
 use Rattle.kd_card.specs.Proving.{AreSettingsNeeded, AreModelPrices, ProvesByNumber, Proves, IsShortest, LeadsToTheDay}
 use Rattle.kd_card.specs.Proving.{priced_count}
 
--- There are as many settings for loose things as there are loose things.
+-- The settings for loose things are as many as the loose things.
 abbrev pub LooseThingsAreCounted : Type 0
 LooseThingsAreCounted =
     (m : Parts) (s : Day) → IsMachine m → IsLegalDay s → model_of m ≡ day_model s
     → length (loose_lines m s) ≡ loose_count m s
 
--- If prices fit, each list that reaches the day has at least as many settings as loose things plus the sum of prices.
+-- If prices fit, the length of each list that reaches the day is at least the number of loose things plus the sum
+-- of the prices.
 abbrev pub FittingPricesBoundLists : Type 0
 FittingPricesBoundLists =
     (m : Parts) (s : Day) (prices : PriceParts) (settings : List Setting) → IsMachine m → IsLegalDay s
@@ -28,16 +29,17 @@ FittingPricesBoundLists =
     → PricesFit (cost_table m s) prices → LeadsToTheDay m s settings
     → (pos (loose_count m s) +ℤ price_sum prices) ≤ℤ pos (length settings)
 
--- If a list that reaches the day has no more unpriced settings than loose things, each of its settings is needed.
--- Unpriced settings are those that change no cable and no bar.
+-- A list that reaches the day needs each setting, if it has no more unpriced settings than there are loose things.
+-- Unpriced settings change no cable and no bar.
 abbrev pub AsFewAreNeeded : Type 0
 AsFewAreNeeded =
     (m : Parts) (s : Day) (settings : List Setting) → IsLegalDay s → model_of m ≡ day_model s
     → LeadsToTheDay m s settings
     → length settings ≤ loose_count m s + priced_count settings → AreSettingsNeeded m s settings
 
--- A card that proves itself by number (with a price for each cable and column, or for each bar and row) has as many
--- settings as loose things plus the sum of its prices. A card that proves itself, by number or by kind, is shortest.
+-- If a card proves itself, and each cable and column (or each bar and row) has its own price, its list is as long
+-- as the number of loose things plus the sum of prices. `ProvingCardsAreShortest`: each card that proves itself is
+-- shortest.
 abbrev pub ProvingCardsAreAsLong : Type 0
 ProvingCardsAreAsLong =
     (m : Parts) (s : Day) (settings : List Setting) (prices : PriceParts) → ProvesByNumber m s settings prices
@@ -49,8 +51,8 @@ ProvingCardsAreShortest =
     → ArePrices prices → Proves m s settings prices
     → IsShortest m s settings
 
--- If a card proves itself by number, none of its prices can be raised alone: each row of the table of costs has a
--- column, and each column a row, so that their prices add up to the cost where they meet.
+-- If a card with a price for each cable and column, or each bar and row, proves itself, no price can be raised
+-- alone: each row and each column of the table of costs has a cell where the two prices add up to the cost.
 abbrev pub ProvingPricesAreTight : Type 0
 ProvingPricesAreTight =
     (m : Parts) (s : Day) (settings : List Setting) (prices : PriceParts) → IsMachine m → IsLegalDay s
@@ -69,13 +71,13 @@ NoCardBeginsAnother =
     (text rest : List ℕ) (day other : ℕ) (xs ys : List Setting) (prices others : PriceParts) → IsCard text day xs prices
     → IsCard (text ++ rest) other ys others → rest ≡ []
 
--- Bytes describe a card exactly if they are its text.
+-- Reading bytes gives a card exactly if the bytes are the text of this card.
 abbrev pub CardsAreSaid : Type 0
 CardsAreSaid =
     (bytes : List ℕ) (day : ℕ) (xs : List Setting) (prices : PriceParts)
     → IsCardAnswer bytes (Ok (day, xs, prices)) ↔ IsCard bytes day xs prices
 
--- The text of a card has no fault, and any bytes have at most one.
+-- The text of a card has no fault. `OneCardFault`: any bytes have at most one first fault.
 abbrev pub CardsHaveNoFault : Type 0
 CardsHaveNoFault =
     (bytes : List ℕ) (day : ℕ) (xs : List Setting) (prices : PriceParts) (fault : CardFault)

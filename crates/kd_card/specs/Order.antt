@@ -1,4 +1,4 @@
--- The derived order of standings is `StandingComesBefore`: by the left lug's place, then by the right one's.
+-- The order that `Ord` gives standings is `StandingComesBefore`: by the left lug's place, then by the right lug's.
 -- Standings that compare as equal are the same.
 use Rattle.std.specs.Prelude.{◌≡◌, ◌↔◌, ◌⊎◌}
 use Rattle.std.proofs.Common.{arith}

@@ -1,6 +1,6 @@
--- The prices of a card, and what it means that they fit a table of costs. By number, each cable, pair, nothing,
--- bar or row of the sheet has its own price; by kind, equal ones share one. Rows and columns of the table are
--- counted from 0.
+-- The prices of a card, and what it means that they fit a table of costs. If prices are by number, each cable,
+-- pair, nothing, bar or row of the sheet has its own price. If they are by kind, each kind of them has one price.
+-- Rows and columns of the table are counted from 0.
 use Rattle.std.specs.Prelude.{◌≡◌, ℕ, ◌<◌, ◌≤◌, List, [], ◌++◌, length, All, fold, slice_index, slice_index_or, ℤ}
 use Rattle.std.specs.Prelude.{None, pos, unsigned_abs, ◌+ℤ◌, ◌≤ℤ◌}
 use Rattle.kd_card.specs.declared.prices.PriceParts.{PriceParts}
@@ -9,22 +9,22 @@ use Rattle.kd_card.specs.declared.prices.Version.{Version}
 use Rattle.kd_card.specs.declared.prices.Version.TheVariants.{ByNumber, ByKind}
 use Rattle.kd_card.specs.Kinds.{cable_sort, pair_sort, bar_sort, row_sort, prices_of_kinds, AreKinds}
 
--- by number if each cable, pair, bar or row has its own price; by kind if each kind has one
+-- whether prices are by number (one for each cable, pair, nothing, bar or row) or by kind (one for each kind)
 abbrev pub version_of : PriceParts → Version
 version_of (Cables row col) = ByNumber
 version_of (Bars row col) = ByNumber
 version_of (CableKinds row col) = ByKind
 version_of (BarKinds row col) = ByKind
 
--- the prices of the rows of the table of costs, which are cables or bars; if prices are by kind, kind after kind
+-- a price for each row of the table of costs, a cable or a bar; if kinds have the prices, kind after kind
 abbrev pub row_prices : PriceParts → List ℤ
 row_prices (Cables row col) = row
 row_prices (Bars row col) = row
 row_prices (CableKinds row col) = prices_of_kinds cable_sort row.items
 row_prices (BarKinds row col) = prices_of_kinds bar_sort row.items
 
--- the prices of the columns of the table of costs, which are pairs and nothings, or the sheet's rows; if prices
--- are by kind, kind after kind
+-- a price for each column of the table of costs, a pair, a nothing or a row of the sheet; if kinds have the prices,
+-- kind after kind
 abbrev pub column_prices : PriceParts → List ℤ
 column_prices (Cables row col) = col
 column_prices (Bars row col) = col
@@ -42,14 +42,14 @@ table_rows (BarKinds row col) = 27
 abbrev pub ArePricesInRange : List ℤ → Type 0
 ArePricesInRange prices = All (λ price. unsigned_abs price ≤ 9999) prices
 
--- If the prices are by kind, the kinds are valid, in order and each once.
+-- If each kind has a price, the kinds of rows and the kinds of columns are valid and strictly ascending.
 abbrev pub HaveKindsInOrder : PriceParts → Type 0
 HaveKindsInOrder (Cables row col) = Unit {0}
 HaveKindsInOrder (Bars row col) = Unit {0}
 HaveKindsInOrder (CableKinds row col) = AreKinds cable_sort None row.items × AreKinds pair_sort None col.items
 HaveKindsInOrder (BarKinds row col) = AreKinds bar_sort None row.items × AreKinds row_sort None col.items
 
--- The prices are valid: one for each row and column of the table of costs, from -9999 to 9999; kinds are in order.
+-- The prices are valid: one for each row and column of the table of costs, from -9999 to 9999. All kinds are valid.
 pub record ArePrices (prices : PriceParts) : Type 0 where
   pub rows : length (row_prices prices) ≡ table_rows prices
   pub columns : length (column_prices prices) ≡ table_rows prices
@@ -57,11 +57,11 @@ pub record ArePrices (prices : PriceParts) : Type 0 where
   pub column_reach : ArePricesInRange (column_prices prices)
   pub kinds : HaveKindsInOrder prices
 
--- the cost of row `i` at column `j`
+-- the cost in row `i` and column `j` of the table
 abbrev pub cost_at : List (List ℕ) → ℕ → ℕ → ℕ
 cost_at costs i j = slice_index (slice_index_or costs i []) j
 
--- the price of row or column `i`
+-- the price of row `i`, if `prices` are those of rows, or of column `i`, if they are those of columns
 abbrev pub price_at : List ℤ → ℕ → ℤ
 price_at prices i = slice_index_or prices i (pos 0)
 
@@ -74,7 +74,7 @@ PricesFitAt costs prices i j =
 abbrev pub PricesFit : List (List ℕ) → PriceParts → Type 0
 PricesFit costs prices = (i j : ℕ) → i < table_rows prices → j < table_rows prices → PricesFitAt costs prices i j
 
--- the sum of the prices of all rows and columns
+-- the sum of the prices of all rows and columns of the table of costs
 abbrev pub price_sum : PriceParts → ℤ
 price_sum prices = fold (λ sum price. sum +ℤ price) (pos 0) (row_prices prices ++ column_prices prices)
 
@@ -83,7 +83,7 @@ abbrev pub IsPriceTightAt : List (List ℕ) → PriceParts → ℕ → ℕ → T
 IsPriceTightAt costs prices i j =
     (price_at (row_prices prices) i +ℤ price_at (column_prices prices) j) ≡ pos (cost_at costs i j)
 
--- Each row has a column, and each column a row, so that the prices of the two add up to exactly the cost.
+-- Each row and each column of the table of costs has a cell where the prices of row and column add up to the cost.
 pub record ArePricesTight (costs : List (List ℕ)) (prices : PriceParts) : Type 0 where
   pub column_of : (i : ℕ) → i < table_rows prices → (j : ℕ) × (j < table_rows prices) × IsPriceTightAt costs prices i j
   pub row_of : (j : ℕ) → j < table_rows prices → (i : ℕ) × (i < table_rows prices) × IsPriceTightAt costs prices i j

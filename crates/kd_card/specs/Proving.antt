@@ -19,8 +19,8 @@ use Rattle.kd_card.specs.declared.prices.Version.TheVariants.{ByNumber}
 use Rattle.kd_card.specs.Kinds.{cable_sort, pair_sort, bar_sort, row_sort, AreKindsOf}
 use Rattle.kd_card.specs.Prices.{version_of, price_sum, PricesFit, ArePrices}
 
--- The prices are by number (each thing has its own) and for this sort of machine: of cables for a rotor machine,
--- or of bars for a Converter M-209.
+-- Each cable and column has a price if the machine is a rotor machine. Each bar and row has a price if it is a
+-- Converter M-209.
 abbrev pub AreModelPrices : Parts → PriceParts → Type 0
 AreModelPrices (Rotor m) (Cables row col) = Unit {0}
 AreModelPrices (Pin m) (Bars row col) = Unit {0}
@@ -41,7 +41,7 @@ is_priced_setting (PinTo wheel letter effective) = false
 abbrev pub priced_count : List Setting → ℕ
 priced_count settings = count_by is_priced_setting settings
 
--- The setting changes a cable or a bar, or one thing less is loose after it.
+-- The setting changes a cable or a bar, or it lowers the number of loose things by one.
 abbrev pub IsSettingNeeded : Parts → Day → Setting → Type 0
 IsSettingNeeded m s x = IsFalse (is_priced_setting x) → loose_count m s ≡ loose_count (machine_after m x) s + 1
 
@@ -50,14 +50,14 @@ abbrev pub AreSettingsNeeded : Parts → Day → List Setting → Type 0
 AreSettingsNeeded m s [] = Unit {0}
 AreSettingsNeeded m s (x ∷ xs) = IsSettingNeeded m s x × AreSettingsNeeded (machine_after m x) s xs
 
--- The settings lead the machine to one that reads as the day.
+-- After the settings are carried out in turn, the machine reads as the day.
 abbrev pub LeadsToTheDay : Parts → Day → List Setting → Type 0
 LeadsToTheDay m s settings = (n : Parts) × Leads m settings n × ReadsAs n s
 
 -- ---- prices by kind mean prices by number
 
--- a pair with its letters in alphabetical order; and the columns of a day's table of costs, each with its
--- letters in this order
+-- a pair with its letters in alphabetical order; and the columns of a day's table of costs, with all their pairs in
+-- this form (`columns_in_order`)
 abbrev pub pair_in_order : Option (ℕ × ℕ) → Option (ℕ × ℕ)
 pair_in_order None = None
 pair_in_order (Some pair) = Some (smaller_first pair.0 pair.1)
@@ -65,8 +65,8 @@ pair_in_order (Some pair) = Some (smaller_first pair.0 pair.1)
 abbrev pub columns_in_order : List (ℕ × ℕ) → List (Option (ℕ × ℕ))
 columns_in_order pairs = map pair_in_order (columns_of pairs)
 
--- The first prices are by kind, the second ones by number. The kinds count just the machine's cables, and the day's
--- pairs and nothings, with their prices by number; or the machine's bars and the day's rows.
+-- The first prices belong to the kinds of the machine's cables and the day's columns, or of its bars and the day's
+-- rows. The second prices give each cable, column, bar or row the price of its kind.
 abbrev pub AreExpanded : Parts → Day → PriceParts → PriceParts → Type 0
 AreExpanded (Rotor m) (OfRotors s) (CableKinds row col) (Cables rows columns) =
     AreKindsOf cable_sort m.cables rows row.items × AreKindsOf pair_sort (columns_in_order s.pairs) columns col.items
@@ -74,17 +74,17 @@ AreExpanded (Pin m) (OfPins s) (BarKinds row col) (Bars rows columns) =
     AreKindsOf bar_sort m.bars rows row.items × AreKindsOf row_sort s.rows columns col.items
 AreExpanded _ _ _ _ = ⊥
 
--- `numbered` are prices by number: each thing has the price that `prices` give it. If `prices` are by number, the two
--- are equal. If they are by kind, equal things have the price of their kind.
+-- `numbered` has a price for each cable and column, or each bar and row. If `prices` has these too, both are equal.
+-- If `prices` has a price for each kind, `numbered` gives each cable, column, bar or row the price of its kind.
 pub data Expands (m : Parts) (s : Day) (prices numbered : PriceParts) : Type 0 where
   Same : version_of prices ≡ ByNumber → prices ≡ numbered → Expands m s prices numbered
   Expanded : ArePrices prices → ArePrices numbered → AreExpanded m s prices numbered → Expands m s prices numbered
 
 -- ---- the card proves itself
 
--- A card with one price for each thing (by number) proves itself: the settings lead the machine to the day, and
--- each is needed. The prices fit the table of costs, and their sum is the number of settings that change a cable
--- or a bar.
+-- A card by number proves itself: the settings lead the machine to the day, and each of them is needed. The prices
+-- fit the table of costs, and their sum is the number of settings that change a cable or a bar. By number, each
+-- cable and column, or each bar and row, has its own price.
 pub record ProvesByNumber (m : Parts) (s : Day) (settings : List Setting) (prices : PriceParts) : Type 0 where
   pub model : model_of m ≡ day_model s
   pub kind : AreModelPrices m prices
@@ -93,12 +93,12 @@ pub record ProvesByNumber (m : Parts) (s : Day) (settings : List Setting) (price
   pub sum : price_sum prices ≡ pos (priced_count settings)
   pub needed : AreSettingsNeeded m s settings
 
--- A card proves itself. Its prices are by number or by kind; `numbered` has the price of each thing.
+-- A card proves itself. `numbered` has its prices, expanded to one for each cable and column, or each bar and row.
 pub record Proves (m : Parts) (s : Day) (settings : List Setting) (prices : PriceParts) : Type 0 where
   pub numbered : PriceParts
   pub expands : Expands m s prices numbered
   pub proves : ProvesByNumber m s settings numbered
 
--- No list that leads the machine to the day is shorter.
+-- No list that leads the machine to the day is shorter than `settings`.
 abbrev pub IsShortest : Parts → Day → List Setting → Type 0
 IsShortest m s settings = (others : List Setting) → LeadsToTheDay m s others → length settings ≤ length others

@@ -1,10 +1,10 @@
-//! A card: settings, and prices that can prove that no fewer settings reach the day.
+//! A card: a list of settings, and prices that can prove that no shorter list reaches the day.
 use super::prices::Prices;
 use kd_state::Settings;
 
-/// A card: settings in order, and prices.
+/// A card: settings, in the order in which they are carried out, and prices.
 ///
-/// If the card proves itself, its prices prove that no fewer settings reach the day.
+/// If the card proves itself, no shorter list of settings reaches the day.
 #[derive(Drop)]
 pub struct Card {
     pub settings: Settings,

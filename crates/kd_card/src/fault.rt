@@ -9,7 +9,7 @@ use thiserror::Error;
 /// Why bytes are not the text of a card. Lines are counted from 1.
 #[derive(Clone, Copy, Debug, PartialEq, Eq, Error)]
 pub enum CardFault {
-    /// The first line isn't the head of a card.
+    /// The first line isn't `CARD 1 DAY` or `CARD 2 DAY` and a day of the month.
     BadHead,
     /// The line with this number is missing, has no LF, or doesn't have the form that is expected there.
     BadLine(usize),
@@ -17,7 +17,7 @@ pub enum CardFault {
     TooMany,
     /// A price line is missing or has a wrong first word, or there are too few or too many prices.
     PriceMissing,
-    /// The number after `SETTINGS` isn't the number of settings, or the one after `SUM` isn't the sum of prices.
+    /// The number after `SETTINGS` isn't that of the settings, or the number after `SUM` isn't the sum of prices.
     CountWrong,
     /// Bytes follow the last line of the card.
     Trailing,

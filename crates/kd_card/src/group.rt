@@ -8,9 +8,9 @@ use super::prices::Version;
 /// What a card has prices of: the rows and the columns of a table of costs.
 #[derive(Clone, Copy)]
 pub(crate) enum Group {
-    /// Cables are the rows; pairs and nothings are the columns.
+    /// Cables are the rows of the table; pairs and nothings are its columns.
     OfCables,
-    /// Bars are the rows; the rows of the key sheet are the columns.
+    /// Bars are the rows of the table; the rows of the key sheet are its columns.
     OfBars,
 }
 
@@ -27,7 +27,7 @@ impl Group {
         }
     }
 
-    /// The first word of the second price line of a card where each thing has its own price.
+    /// The first word of the second price line of a card where each pair, nothing or row has its own price.
     pub(crate) fn column_text(self) -> &'static str
         ensures { result.now ≡ column_word self }
     {

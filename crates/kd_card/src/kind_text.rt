@@ -14,7 +14,7 @@ use arrayvec::{ArrayString, ArrayVec};
 use itoa::Buffer;
 use kd_state::{is_word, number_of_text, push_number, split_words};
 
-/// Parses a kind's line; `behind` is its text after the first word and a space, if there is a space.
+/// Parses a kind from `behind`: the text of its line after the first space, or `None` if the line has no space.
 #[tactic(auto, using(crate::proofs::Lines::words_in_place))]
 fn kind_behind<K: Kind>(behind: Option<&[u8]>) -> Option<K>
     ensures { let words = K.sort.word ∷ words_after_first (option_copied behind.entry) in
@@ -29,7 +29,7 @@ fn kind_behind<K: Kind>(behind: Option<&[u8]>) -> Option<K>
     }
 }
 
-/// Makes a kind from the three words after the first in its line, or `None` if one of them isn't valid.
+/// Parses a kind from the last three words of its line. `None` if one of them isn't valid.
 #[tactic(auto, using(crate::proofs::KindWords::no_count))]
 fn kind_of_words<K: Kind>(thing: &[u8], count: &[u8], price: &[u8]) -> Option<K>
     ensures { let words = K.sort.word ∷ thing.now ∷ count.now ∷ price.now ∷ [] in
@@ -50,10 +50,10 @@ fn kind_of_words<K: Kind>(thing: &[u8], count: &[u8], price: &[u8]) -> Option<K>
     }))
 }
 
-/// Reads the next kind of a group, which has kinds of one sort. Returns it, and the text after its line.
+/// Reads the next kind of a group from the first line of `text`. Returns this kind, and the text after the line.
 ///
-/// `None` if the group ends here: `text` is empty, or its first line begins with another word than this sort's.
-/// Line `line` of the card, the first of `text`, is bad if it isn't that of a kind after the kind `last`.
+/// `None` if the group ends here: `text` is empty, or its first word isn't the group's, `K::word()`. Otherwise, the
+/// line, which is line `line` of the card, is bad if it has no valid kind that comes after the kind `last`.
 fn next_kind<K: Kind>(
     text: &[u8],
     last: Option<K>,
@@ -78,9 +78,9 @@ fn next_kind<K: Kind>(
     }
 }
 
-/// Reads a group of kinds, which count `N` things. Returns them, and the text after them.
+/// Reads all kinds of a group. Their counts have to add up to `N`. Returns the kinds, and the text after them.
 ///
-/// The first of these kinds is on line `line` of the card.
+/// The group begins on line `line` of the card, counted from 1.
 #[tactic(auto, using(crate::proofs::KindPrices::reads_none))]
 pub(crate) fn read_kinds<'a, K: Kind, const N: usize>(
     text: &'a [u8],
@@ -100,8 +100,8 @@ pub(crate) fn read_kinds<'a, K: Kind, const N: usize>(
     'kind: loop {
         match next_kind::<K>(rest, last, at) {
             Ok(Some((kind, after))) => {
-                // More than `N` things are refused, however many, so counting ends at `N + 1`. More than `N` kinds
-                // count more than `N` things.
+                // A sum of counts above `N` is refused, so adding ends at `N + 1`. The counts of more than `N`
+                // kinds add up to more than `N`.
                 number = (number + usize::from(kind.parts().count)).min(N + 1);
                 push_if_room(&mut kinds, &kind);
                 last = Some(kind);
@@ -119,7 +119,7 @@ pub(crate) fn read_kinds<'a, K: Kind, const N: usize>(
     }
 }
 
-/// Appends `kind` if there is room for it.
+/// Appends `kind` to `kinds`, unless `kinds` is full.
 fn push_if_room<K: Kind, const N: usize>(kinds: &mut ArrayVec<K, N>, kind: &K)
     ensures { length kinds.old.items < N → kinds.new.items ≡ kinds.old.items ++ kind.now ∷ [] }
 {

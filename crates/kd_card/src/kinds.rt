@@ -1,4 +1,4 @@
-//! Kinds: what equal cables, columns, bars or rows have in common, how many there are, and the price of each.
+//! Kinds. A kind stands for equal cables, columns, bars or rows: it has their number, and the price of each.
 ghost use Rattle.std.specs.Prelude.{◌≡◌, ◌≢◌, ◌↔◌, ℕ, ◌+◌, ◌<◌, ◌≤◌, [], ◌∷◌, ◌++◌, length, replicate};
 ghost use Rattle.std.specs.Prelude.{IsTrue, MatchOption};
 ghost use Rattle.arrayvec.specs.ArrayVec.{array_vec_len};
@@ -11,10 +11,10 @@ use arrayvec::{ArrayString, ArrayVec};
 use kd_state::push_letter;
 use kd_tables::{Letter, Reading, Standing};
 
-/// A kind of cables: those with the same letters.
+/// A kind of cables: all cables with the same letters.
 #[derive(Clone, Copy, Default)]
 pub struct CableKind {
-    /// The letters of each cable: a single letter comes first, two are in alphabetical order.
+    /// The letters of each cable. Two letters are in alphabetical order; a single letter has the first place.
     pub ends: (Option<Letter>, Option<Letter>),
     /// The number of these cables, at least 1.
     pub count: u8,
@@ -25,7 +25,7 @@ pub struct CableKind {
 /// A kind of columns of the table of costs: equal pairs, or the nothings, which are columns without a pair.
 #[derive(Clone, Copy, Default)]
 pub struct PairKind {
-    /// The letters of the pair in alphabetical order, or `None` for a nothing.
+    /// The letters of the pair in alphabetical order, or `None` for columns without a pair.
     pub pair: Option<(Letter, Letter)>,
     /// The number of these columns, at least 1.
     pub count: u8,
@@ -33,7 +33,7 @@ pub struct PairKind {
     pub price: i16,
 }
 
-/// A kind of bars: those with the same standing, the places of their two lugs.
+/// A kind of bars: all bars with the same standing, which is the places of a bar's two lugs.
 #[derive(Clone, Copy, Default)]
 pub struct BarKind {
     pub standing: Standing,
@@ -43,7 +43,7 @@ pub struct BarKind {
     pub price: i16,
 }
 
-/// A kind of rows of a key sheet: those with the same reading.
+/// A kind of rows of a key sheet: all rows with the same reading.
 #[derive(Clone, Copy, Default)]
 pub struct RowKind {
     pub reading: Reading,
@@ -53,7 +53,7 @@ pub struct RowKind {
     pub price: i16,
 }
 
-/// A kind of any sort: what its things have in common, their number, and the price of each.
+/// A kind of cables, columns, bars or rows: what they have in common, their number, and the price of each.
 #[derive(Clone, Copy, Default)]
 pub struct KindOf<T> {
     pub thing: T,
@@ -61,46 +61,46 @@ pub struct KindOf<T> {
     pub price: i16,
 }
 
-/// A kind of cables, columns, bars or rows: equal things, which share one price.
+/// A kind: equal cables, columns, bars or rows, which have one price.
 pub trait Kind: Copy + Default {
     ghost use Rattle.std.specs.Prelude.{◌≡◌, ◌↔◌, ◌≤◌, length, List, IsTrue, MatchOption};
     ghost use Rattle.std.specs.declared.cmp.Ordering.TheVariants.{Less};
     ghost use Rattle.kd_card.specs.Kinds.{Sort, HasText, IsOnlyThing};
 
-    /// What the things of one kind have in common.
+    /// What the cables, columns, bars or rows of one kind have in common.
     type Thing: Thing;
 
-    /// How kinds of this sort (of cables, columns, bars or rows) are written and ordered.
+    /// How a card writes and orders the kinds of this sort (of cables, columns, bars or rows).
     ghost sort: { Sort Self Self.Thing };
 
-    /// The first word of the line of each kind of this sort.
+    /// The first word of a kind's line on a card: `CABLE`, `PAIR`, `BAR` or `ROW`.
     fn word() -> &'static str
         ensures value { result.now ≡ sort.word }
         ensures few { length result.now ≤ 5 };
 
-    /// Makes a kind of this sort from what its things have in common, their number and their price.
+    /// Converts a `KindOf` to this type.
     fn of(kind: KindOf<Self::Thing>) -> Self
         ensures { sort.kind result ≡ kind };
 
-    /// What the kind's things have in common, their number, and the price of each.
+    /// Converts this kind to a `KindOf`.
     fn parts(&self) -> KindOf<Self::Thing>
         ensures { result ≡ sort.kind self.now };
 
-    /// Whether the kind's things are in the form that a card writes, as with letters in alphabetical order.
+    /// Whether a card may have this kind. Two letters, for example, have to be in alphabetical order.
     fn is_in_form(&self) -> bool
         ensures { IsTrue result ↔ sort.InForm (sort.kind self.now).thing };
 
-    /// What the kind's things have in common, as the kind's line has it.
+    /// The text of the kind's letters, standing or reading in the kind's line on a card.
     fn text(&self) -> ArrayString<8>
         ensures { result.bytes ≡ sort.text (sort.kind self.now).thing };
 
-    /// Parses what the things of a kind have in common, as the kind's line has it.
+    /// Parses the letters, the standing or the reading of a kind from their text in the kind's line.
     fn thing_of_text(text: &[u8]) -> Option<Self::Thing>
         ensures { MatchOption result
             ((thing : Self.Thing) → ¬ (HasText sort text.now thing))
             (IsOnlyThing sort text.now) };
 
-    /// The derived order of things is the order of lines that `sort` defines.
+    /// The order that `Ord` gives `Thing` is the order of a card's lines, `sort.ComesBefore`.
     ghost ordered: { (x y : Self.Thing) → sort.ComesBefore x y ↔ (Self.Thing.cmp x y ≡ Less) };
 }
 
@@ -331,7 +331,7 @@ fn is_before(one: Letter, other: Letter) -> bool
     one.index() < other.index()
 }
 
-/// Writes one letter or two, or `-` for none.
+/// Writes two letters, one letter, or `-` for no letter.
 fn text_of_letters(one: Option<Letter>, other: Option<Letter>) -> ArrayString<8>
     ensures { result.bytes ≡ letters_text (cable_letters (one, other)) }
 {
@@ -365,7 +365,7 @@ fn two_letters(text: &[u8]) -> Option<(Letter, Letter)>
     }
 }
 
-/// Whether `kind` comes after the kind `last` in the order of lines, or there is no `last`.
+/// Whether `kind` may follow the kind `last` in the order of a card's lines. Any kind may if `last` is `None`.
 pub(crate) fn comes_after<K: Kind>(last: Option<K>, kind: &K) -> bool
     ensures { IsTrue result ↔ ComesAfter K.sort last kind.now }
 {
@@ -375,7 +375,7 @@ pub(crate) fn comes_after<K: Kind>(last: Option<K>, kind: &K) -> bool
     }
 }
 
-/// Whether `kind` is valid: in the form of a card's lines, with a count above 0 and a price within ±9999.
+/// Whether a card may have `kind`: it is in form (`is_in_form`), its count is above 0, and its price within ±9999.
 fn is_kind<K: Kind>(kind: &K) -> bool
     ensures { IsTrue result ↔ IsKind K.sort kind.now }
 {
@@ -383,7 +383,7 @@ fn is_kind<K: Kind>(kind: &K) -> bool
     kind.is_in_form() && parts.count > 0 && parts.price.unsigned_abs() <= 9999
 }
 
-/// Whether `kinds` are valid, in order after the kind `last` if there is one, and count `number` things in all.
+/// Whether `kinds` are valid and strictly ascending (after `last`, if any), and their counts add up to `number`.
 pub(crate) fn are_kinds<K: Kind>(kinds: &[K], last: Option<K>, number: usize) -> bool
     ensures value { IsTrue result
         ↔ (AreKinds K.sort last kinds.now × (counted K.sort kinds.now ≡ number)) }
@@ -401,7 +401,7 @@ pub(crate) fn are_kinds<K: Kind>(kinds: &[K], last: Option<K>, number: usize) ->
     }
 }
 
-/// The price of each thing that `kinds` count, kind after kind.
+/// Lists the price of each kind as many times as the kind's count says, kind after kind.
 pub(crate) fn prices_of_kinds<K: Kind>(kinds: &[K]) -> ArrayVec<i16, 27>
     requires { length (prices_of_kinds K.sort kinds.now) ≤ 27 }
     ensures { result.items ≡ prices_of_kinds K.sort kinds.now }
@@ -413,7 +413,7 @@ pub(crate) fn prices_of_kinds<K: Kind>(kinds: &[K]) -> ArrayVec<i16, 27>
     prices
 }
 
-/// Appends the price of `kind` once for each of its things.
+/// Appends the price of `kind` as many times as the kind's count says.
 fn push_prices<T: Thing>(prices: &mut ArrayVec<i16, 27>, kind: &KindOf<T>)
     requires { array_vec_len prices.old + kind.now.count ≤ 27 }
     ensures { prices.new.items ≡ prices.old.items ++ replicate kind.now.count kind.now.price }

@@ -1,5 +1,5 @@
-//! Cards: the settings that lead a machine to a day of a sheet, the prices that prove that no fewer settings do,
-//! and the text of both.
+//! Cards. A card has settings that set a machine to a day, and prices that prove that no shorter list does. Reads
+//! and writes the text of a card.
 #![tactic(auto)]
 
 mod card;

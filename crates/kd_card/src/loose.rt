@@ -11,10 +11,9 @@ use kd_pins::PinSet;
 use kd_state::{Entry, Machine, Parts, SheetDay, SheetWheel};
 use kd_tables::{Letter, Reflector, Wheel};
 
-/// Counts the loose things: slots, reflector, rings and window letters; or pins and letters of pin wheels.
+/// Counts the loose things of `machine`: those that aren't as `day` says, except cables and bars.
 ///
-/// The count is 0 if the machine is a rotor machine and the day is for the Converter M-209, or the other way
-/// round.
+/// The count is 0 if the machine is a rotor machine and the day is for a Converter M-209, or vice versa.
 pub fn loose_count(machine: &Machine, day: &SheetDay) -> usize
     ensures value { result ≡ costs.loose_count machine.now day.now }
     ensures few { result ≤ 137 }
@@ -47,7 +46,7 @@ fn loose_slots(slots: &[Option<Wheel>], wheels: &[SheetWheel]) -> usize
         .count()
 }
 
-/// 1 if the machine has another reflector than the day, otherwise 0.
+/// 1 if the machine's reflector `present` isn't the day's reflector `wanted`, otherwise 0.
 fn loose_reflector(present: Reflector, wanted: Reflector) -> usize
     ensures value { result ≡ one_unless (same_reflector present wanted) }
     ensures few { result ≤ 1 }
@@ -55,7 +54,7 @@ fn loose_reflector(present: Reflector, wanted: Reflector) -> usize
     usize::from(present != wanted)
 }
 
-/// Counts the day's wheels whose rings aren't set to the day's letter.
+/// Counts the day's wheels whose rings aren't set to the day's letters.
 fn loose_rings(machine: &Machine, wheels: &[SheetWheel]) -> usize
     ensures value { result ≡ count_by
         (λ w. not (option_map_or (nat_eq w.ring) (machine_ring machine.now w.wheel) false)) wheels.now }
@@ -67,7 +66,7 @@ fn loose_rings(machine: &Machine, wheels: &[SheetWheel]) -> usize
         .count()
 }
 
-/// Counts the day's wheels that aren't turned to the day's letter.
+/// Counts the day's wheels that aren't turned to the day's window letters.
 fn loose_letters(machine: &Machine, wheels: &[SheetWheel]) -> usize
     ensures value { result ≡ count_by
         (λ w. not (option_map_or (nat_eq w.letter) (machine_letter machine.now w.wheel) false)) wheels.now }

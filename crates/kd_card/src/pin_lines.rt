@@ -14,9 +14,9 @@ use kd_pins::PinSet;
 use kd_state::{PinEntry, PinParts, Setting, Settings};
 use kd_tables::{Letter, ring1, ring2, ring3, ring4, ring5, ring6};
 
-/// One setting for each pin and each shown letter of a Converter M-209 that differs from the day.
+/// Lists a setting for each pin and each wheel letter of a Converter M-209 that isn't as on the day.
 ///
-/// Pins come first, then letters. Bars aren't changed.
+/// Pins come first, then letters. No setting changes a bar.
 pub fn pin_settings(parts: &PinParts, entry: &PinEntry) -> Settings
     ensures lines { result.items ≡ loose_lines (Pin parts.now) (OfPins (pin_values entry.now)) }
     ensures few { length result.items ≤ 137 }
@@ -27,7 +27,7 @@ pub fn pin_settings(parts: &PinParts, entry: &PinEntry) -> Settings
     settings
 }
 
-/// Appends PIN for each pin that differs from the day's, wheel by wheel.
+/// Appends the setting PIN for each pin whose state in `present` isn't the state in `wanted`, wheel by wheel.
 fn push_pins(settings: &mut Settings, present: &PinSet, wanted: &PinSet)
     requires { array_vec_len settings.old + 131 ≤ 192 }
     ensures items { settings.new.items ≡ settings.old.items ++ pin_lines present.now wanted.now }
@@ -41,9 +41,9 @@ fn push_pins(settings: &mut Settings, present: &PinSet, wanted: &PinSet)
     push_wheel_pins(settings, 6, &ring6().letters(), &present.w6, &wanted.w6);
 }
 
-/// Appends TURN for each pin wheel that shows another letter than the day's.
+/// Appends the setting TURN for each pin wheel whose letter in `letters` isn't the day's letter in `window`.
 ///
-/// `number` is the number of the first wheel, counted from 1.
+/// `number` is the number of the first of these wheels. Wheels are counted from 1.
 fn push_pin_turns(settings: &mut Settings, number: u8, letters: &[Letter], window: &[Letter])
     requires few { number + length letters.now < 256 }
     requires room { array_vec_len settings.old + length letters.now ≤ 192 }
@@ -59,7 +59,7 @@ fn push_pin_turns(settings: &mut Settings, number: u8, letters: &[Letter], windo
     }
 }
 
-/// Appends PIN for each pin of one wheel that differs from the day's, in the order of the wheel's letters.
+/// Appends the setting PIN for each pin of one wheel that isn't as on the day, in the order of the wheel's letters.
 fn push_wheel_pins(
     settings: &mut Settings,
     wheel: u8,
@@ -81,7 +81,7 @@ fn push_wheel_pins(
     }
 }
 
-/// The setting PIN, or `None` if the pin's state `present` is `effective` already.
+/// The setting PIN for one pin, or `None` if its state `present` is the wanted state `effective` already.
 fn pin_line(wheel: u8, letter: Letter, present: bool, effective: bool) -> Option<Setting>
     ensures { let so = not (exactly_one present effective) in
         result ≡ setting_unless so (Setting.PinTo wheel letter effective) }
@@ -93,7 +93,7 @@ fn pin_line(wheel: u8, letter: Letter, present: bool, effective: bool) -> Option
     })
 }
 
-/// The setting TURN, or `None` if the wheel shows `letter` already.
+/// The setting TURN for one pin wheel, or `None` if the wheel shows `letter` already.
 fn pin_turn_line(slot: u8, present: Letter, letter: Letter) -> Option<Setting>
     ensures { result ≡ setting_unless (nat_eq present letter) (Setting.Turn slot letter) }
 {

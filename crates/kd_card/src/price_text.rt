@@ -17,7 +17,7 @@ use itoa::Buffer;
 use kd_state::{is_word, split_once, split_words};
 use std::str;
 
-/// Whether `text` is an unsigned number: digits without leading zeros.
+/// Whether `text` is an unsigned number: decimal digits without leading zeros.
 fn is_number_text(text: &[u8]) -> bool
     ensures { IsTrue result ↔ IsNumberText text.now }
 {
@@ -28,7 +28,7 @@ fn is_number_text(text: &[u8]) -> bool
     }
 }
 
-/// Whether `text` is a number without leading zeros; with `signed`, `-` before it makes it negative.
+/// Whether `text` is a decimal number without leading zeros. If `signed`, it may be negative, but not `-0`.
 pub(crate) fn is_numeral(text: &[u8], signed: bool) -> bool
     ensures { IsTrue result ↔ IsNumeral signed text.now }
 {
@@ -53,9 +53,9 @@ pub(crate) fn price_of_text(text: &[u8]) -> Option<i16>
     is_word(text, buffer.format(price)).then_some(price)
 }
 
-/// Splits the first line off `text`: its first word, the text after this word's space, and the next lines.
+/// Splits `text`: the first line's first word, its text after the first space, if any, and the next lines.
 ///
-/// A price line is expected here; `line` is its number in the card, for a fault.
+/// The first line has to be a price line. It is line `line` of the card, counted from 1.
 pub(crate) fn split_first(
     text: &[u8],
     line: usize,
@@ -77,10 +77,9 @@ pub(crate) fn split_first(
     }
 }
 
-/// Reads the first word of the first price line: it shows whether the card has prices of cables or of bars.
+/// Reads the first word of the first price line. It shows whether the card has prices of cables or of bars.
 ///
-/// Also returns the text after this word's space, and the text after the line, which is line `line` of the
-/// card.
+/// Also returns the line's text after its first space, if any, and the text of the next lines.
 pub(crate) fn first_group(
     text: &[u8],
     version: Version,
@@ -98,7 +97,7 @@ pub(crate) fn first_group(
     }
 }
 
-/// The group whose first price line begins with `word`, if there is one.
+/// The group, of cables or of bars, whose first price line begins with `word`; `None` if neither does.
 fn group_of_word(word: &[u8], version: Version) -> Option<Group>
     ensures { MatchOption result
         ((group : _) → word.now ≢ first_text version group)
@@ -113,7 +112,7 @@ fn group_of_word(word: &[u8], version: Version) -> Option<Group>
     }
 }
 
-/// Parses `number` prices on line `line`; `behind` is the text after its first word and space, if any.
+/// Parses `number` prices from `behind`: the text of line `line` after its first space, or `None` if it has none.
 pub(crate) fn prices_behind(
     behind: Option<&[u8]>,
     number: usize,
@@ -130,7 +129,7 @@ pub(crate) fn prices_behind(
     }
 }
 
-/// Parses `number` prices with a space between them, from line `line`.
+/// Parses `text` as `number` prices, with a space between two prices. The text is from line `line` of the card.
 fn prices_of_text(text: &[u8], number: usize, line: usize) -> Result<ArrayVec<i16, 27>, CardFault>
     requires { number ≤ 27 }
     ensures { MatchResult result
@@ -153,7 +152,7 @@ fn prices_of_text(text: &[u8], number: usize, line: usize) -> Result<ArrayVec<i1
     }
 }
 
-/// Whether all words between the spaces of `text` are prices.
+/// Whether `text`, split at each space, consists of prices.
 fn are_prices(text: &[u8]) -> bool
     ensures { IsTrue result ↔ All IsPriceText (words_of text.now) }
 {
@@ -161,7 +160,7 @@ fn are_prices(text: &[u8]) -> bool
         .all(|word| price_of_text(word).is_some())
 }
 
-/// Parses each of `words`, or `None` if one isn't a price.
+/// Parses each of `words` as a price. `None` if one of them isn't a price.
 fn prices_of_words(words: &[&[u8]]) -> Option<ArrayVec<i16, 27>>
     requires { length words.now ≤ 27 }
     ensures { let texts = map (λ word. word.now) words.now in

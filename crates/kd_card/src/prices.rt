@@ -1,4 +1,4 @@
-//! The prices of a card: by number, one for each thing, or by kind, one for equal things.
+//! The prices of a card: one for each cable, pair, bar or row (by number), or one for each kind of them (by kind).
 ghost use Rattle.std.specs.Prelude.{◌≡◌, ◌↔◌, ◌+◌, ◌*◌, ◌≤◌, ◌++◌, length, fold, pos, unsigned_abs, ◌+ℤ◌};
 ghost use Rattle.std.specs.Prelude.{IsTrue, MatchOption};
 ghost use Rattle.kd_card.specs.Prices.{price_sum, version_of};
@@ -13,17 +13,17 @@ use super::kinds::{BarKind, CableKind, Kind, PairKind, RowKind, are_kinds, price
 use arrayvec::ArrayVec;
 use std::marker::Model;
 
-/// Whether a card has its prices by number or by kind.
+/// Whether each cable, pair, bar or row of a card has its own price, or each kind of them has one price.
 #[derive(Clone, Copy)]
 pub enum Version {
     /// Each cable, pair, nothing, bar or row has its own price.
     ByNumber,
-    /// Each kind of cable, pair, nothing, bar or row has one price.
+    /// Each kind of cables, pairs, nothings, bars or rows has one price.
     ByKind,
 }
 
 impl Version {
-    /// The head of a card, which is its first line, up to the day.
+    /// The text with which a card begins, before the day's number.
     pub(crate) fn front(self) -> &'static str
         ensures value { result.now ≡ head_prefix self }
         ensures few { length result.now ≡ 11 }
@@ -35,7 +35,7 @@ impl Version {
     }
 }
 
-/// The prices of a card: one list for rows and one for columns of the table of costs, by number or by kind.
+/// The prices of a card: a list for the rows of the table of costs, and a list for its columns.
 #[derive(Drop)]
 pub enum PriceParts {
     /// A price for each cable, and for each pair or nothing.
@@ -48,7 +48,7 @@ pub enum PriceParts {
     BarKinds(ArrayVec<BarKind, 27>, ArrayVec<RowKind, 27>),
 }
 
-/// Valid prices of a card: one for each thing, or valid kinds that count all things; each from -9999 to 9999.
+/// Valid prices of a card: each price is from -9999 to 9999, and if kinds have the prices, the kinds are valid.
 #[derive(Drop)]
 pub struct Prices {
     parts: PriceParts,
@@ -101,8 +101,8 @@ impl Prices {
 
     /// Makes prices by kind: one for each kind of cables, and one for each kind of pairs or nothings.
     ///
-    /// `None` if `cables` or `pairs` aren't in order and each once, or don't count 13 things; or if a kind has
-    /// letters out of order, the count 0, or a price below -9999 or above 9999.
+    /// `None` if `cables` or `pairs` aren't strictly ascending, or their counts don't add up to 13. Also `None` if
+    /// a kind has letters out of order, the count 0, or a price below -9999 or above 9999.
     #[tactic(auto, using(crate::proofs::KindPrices::cables_are_prices))]
     pub fn cable_kinds(cables: &[CableKind], pairs: &[PairKind]) -> Option<Self>
         ensures { let parts =
@@ -113,10 +113,10 @@ impl Prices {
         Some(Prices::of_parts(parts))
     }
 
-    /// Makes prices of kinds of bars and of kinds of the sheet's rows.
+    /// Makes prices by kind: one for each kind of bars, and one for each kind of the sheet's rows.
     ///
-    /// `None` if the kinds of a group aren't in order and each once, don't count 27 things, or if a kind has the
-    /// count 0, or a price below -9999 or above 9999.
+    /// `None` if `bars` or `rows` aren't strictly ascending, or their counts don't add up to 27. Also `None` if a
+    /// kind has the count 0, or a price below -9999 or above 9999.
     #[tactic(auto, using(crate::proofs::KindPrices::bars_are_prices))]
     pub fn bar_kinds(bars: &[BarKind], rows: &[RowKind]) -> Option<Self>
         ensures { let parts =
@@ -144,7 +144,7 @@ impl Prices {
         }
     }
 
-    /// Whether the prices are by number or by kind.
+    /// Whether each cable, pair, bar or row has its own price (by number), or each kind has one price (by kind).
     pub fn version(&self) -> Version
         ensures value { result ≡ version_of self.now }
         ensures are_prices { ArePrices self.now }
@@ -155,7 +155,7 @@ impl Prices {
         }
     }
 
-    /// The number of price lines in the card.
+    /// The number of lines that the prices take on a card.
     pub(crate) fn line_count(&self) -> usize
         ensures value { result ≡ length (price_lines self.now) }
         ensures few { result ≤ 54 }
@@ -167,7 +167,7 @@ impl Prices {
         }
     }
 
-    /// Wraps `parts`, which are valid.
+    /// Wraps `parts`, which have to be valid prices.
     pub(crate) fn of_parts(parts: PriceParts) -> Self
         requires { ArePrices parts }
         ensures { result ≡ parts }
@@ -175,7 +175,7 @@ impl Prices {
         Prices { parts }
     }
 
-    /// The prices of rows and of columns, by number or by kind.
+    /// The prices of the rows and the columns of the table of costs.
     pub fn parts(&self) -> PriceParts
         ensures value { result ≡ self.now }
         ensures are_prices { ArePrices result }
@@ -192,7 +192,7 @@ impl Prices {
         }
     }
 
-    /// The sum of the prices of all rows and columns.
+    /// The sum of the prices of all rows and columns of the table of costs.
     #[tactic(auto, using(crate::proofs::Lines::few_prices))]
     pub fn sum(&self) -> i32
         ensures { result ≡ price_sum self.now }
@@ -209,7 +209,7 @@ impl Prices {
     }
 }
 
-/// The sum of the prices of all things that the kinds `rows` and `columns` count.
+/// Adds up the prices of the kinds `rows` and `columns`, each price as often as its kind's count says.
 fn sum_of_kinds<R: Kind, C: Kind>(rows: &[R], columns: &[C]) -> i32
     requires rows { ArePricesInRange (kind_prices R.sort rows.now) }
     requires columns { ArePricesInRange (kind_prices C.sort columns.now) }
@@ -224,7 +224,7 @@ fn sum_of_kinds<R: Kind, C: Kind>(rows: &[R], columns: &[C]) -> i32
     )
 }
 
-/// The sum of the prices of rows and of columns.
+/// Adds up the prices `rows` and `columns`.
 pub fn sum_of_prices(rows: &[i16], columns: &[i16]) -> i32
     requires rows { ArePricesInRange rows.now }
     requires columns { ArePricesInRange columns.now }
@@ -242,7 +242,7 @@ fn are_within_reach(prices: &[i16]) -> bool
     prices.iter().all(|price| price.unsigned_abs() <= 9999)
 }
 
-/// Adds `prices` to `sum`.
+/// The sum of `sum` and all of `prices`.
 fn sum_onto(sum: i32, prices: &[i16]) -> i32
     requires reach { ArePricesInRange prices.now }
     requires few { length prices.now ≤ 27 }
@@ -265,7 +265,7 @@ fn array_of<const N: usize>(prices: &[i16]) -> [i16; N]
     <[i16; N]>::try_from(prices).unwrap()
 }
 
-/// Copies `kinds`. `None` if one is invalid, if they aren't in order and each once, or don't count `N` things.
+/// Copies `kinds`. `None` if they aren't valid and strictly ascending, or their counts don't add up to `N`.
 fn in_order<K: Kind, const N: usize>(kinds: &[K]) -> Option<ArrayVec<K, N>>
     ensures { MatchOption result
         (¬ (IsGroup K.sort N kinds.now))
@@ -278,7 +278,7 @@ fn in_order<K: Kind, const N: usize>(kinds: &[K]) -> Option<ArrayVec<K, N>>
     }
 }
 
-/// Copies `elements` to a list.
+/// Copies `elements` to an `ArrayVec`.
 fn copy_list<K: Copy + Default, const N: usize>(elements: &[K]) -> ArrayVec<K, N>
     requires { length elements.now ≤ N }
     ensures { result.items ≡ elements.now }

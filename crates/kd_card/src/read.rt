@@ -17,7 +17,7 @@ use arrayvec::ArrayVec;
 use itoa::Buffer;
 use kd_state::{day_of_text, is_word, split_once, split_settings};
 
-/// Reads a card and its day from `text`, or finds the first fault.
+/// Reads a card and its day of the month from `text`, or finds the first fault.
 pub fn read_card(text: &[u8]) -> Result<(u8, Card), CardFault>
     ensures { MatchResult result
         (λ found. IsCard text.now found.0 found.1.settings.items found.1.prices)
@@ -39,9 +39,9 @@ pub fn read_card(text: &[u8]) -> Result<(u8, Card), CardFault>
     Ok((day, Card { settings, prices }))
 }
 
-/// Splits off the first line of `text`, which begins with `front`: its part after `front`, and the next lines.
+/// Splits off the first line of `text`. Returns this line's text after `front`, and the text of the next lines.
 ///
-/// `None` if the line doesn't begin so, or has no LF.
+/// `None` if the first line doesn't begin with `front`, or has no LF.
 fn split_value<'a>(text: &'a [u8], front: &str) -> Option<(&'a [u8], &'a [u8])>
     ensures { MatchOption result
         ((value rest : List ℕ) → IsWithout 10 value → text.now ≢ front.now ++ value ++ 10 ∷ rest)
@@ -52,7 +52,7 @@ fn split_value<'a>(text: &'a [u8], front: &str) -> Option<(&'a [u8], &'a [u8])>
     split_once(behind, b'\n')
 }
 
-/// Reads the head: whether prices are by number or by kind, and the day. Also returns the text after the line.
+/// Reads a card's first line: the version of its prices, and the day. Also returns the text after this line.
 fn read_head(text: &[u8]) -> Option<(Version, u8, &[u8])>
     ensures { MatchOption result
         ((version : _) (day : ℕ) (rest : List ℕ) → ¬ (BeginsWithHead text.now version day rest))
@@ -65,7 +65,7 @@ fn read_head(text: &[u8]) -> Option<(Version, u8, &[u8])>
     Some((Version::ByKind, day, rest))
 }
 
-/// Reads the day from the head of a card of `version`. Returns it, and the text after the line.
+/// Reads the day from the first line of a card of `version`. Returns the day, and the text after this line.
 fn read_day(text: &[u8], version: Version) -> Option<(u8, &[u8])>
     ensures { MatchOption result
         ((day : ℕ) (rest : List ℕ) → ¬ (BeginsWithHead text.now version day rest))
@@ -75,7 +75,7 @@ fn read_day(text: &[u8], version: Version) -> Option<(u8, &[u8])>
     Some((day_of_text(day)?, rest))
 }
 
-/// Checks that the line after the settings has their number, `count`, and returns the text after this line.
+/// Checks that the first line of `text` is `SETTINGS` and the number `count`. Returns the text after this line.
 fn read_count(text: &[u8], count: usize) -> Result<&[u8], CardFault>
     requires { count ≤ 192 }
     ensures { MatchResult result
@@ -86,7 +86,7 @@ fn read_count(text: &[u8], count: usize) -> Result<&[u8], CardFault>
     read_value(text, "SETTINGS ", buffer.format(count), false, count + 2)
 }
 
-/// Checks that line `line` has the sum of the prices, `sum`, and returns the text after the line.
+/// Checks that line `line`, the first of `text`, is `SUM` and the number `sum`. Returns the text after this line.
 fn read_sum(text: &[u8], sum: i32, line: usize) -> Result<&[u8], CardFault>
     ensures { MatchResult result
         (λ rest. IsSumAnswer sum line text.now (Ok rest.now))
@@ -96,7 +96,7 @@ fn read_sum(text: &[u8], sum: i32, line: usize) -> Result<&[u8], CardFault>
     read_value(text, "SUM ", buffer.format(sum), true, line)
 }
 
-/// Checks that line `line` consists of `front` and the number `due`, and returns the text after the line.
+/// Checks that line `line`, the first of `text`, is `front` and the number `due`. Returns the text after this line.
 ///
 /// If `signed`, the number may be negative.
 fn read_value<'a>(
@@ -121,7 +121,7 @@ fn read_value<'a>(
     Ok(rest)
 }
 
-/// Reads the prices, which begin on line `line`. Returns them, and the text after them.
+/// Reads the prices of a card, from its line `line` on. Returns the prices, and the text after their lines.
 fn read_prices(text: &[u8], version: Version, line: usize) -> Result<(Prices, &[u8]), CardFault>
     requires { line < 200 }
     ensures { MatchResult result
@@ -134,9 +134,9 @@ fn read_prices(text: &[u8], version: Version, line: usize) -> Result<(Prices, &[
     }
 }
 
-/// Reads the two price lines of a card where each thing has its own price, from line `line` on.
+/// Reads the two price lines of a card by number. The first is line `line` of the card.
 ///
-/// Returns the prices, and the text after these lines.
+/// By number, each cable, pair, bar or row has its own price. Returns the prices, and the text after the lines.
 fn read_numbered(text: &[u8], line: usize) -> Result<(Prices, &[u8]), CardFault>
     requires { line < 200 }
     ensures { MatchResult result
@@ -151,9 +151,9 @@ fn read_numbered(text: &[u8], line: usize) -> Result<(Prices, &[u8]), CardFault>
     Ok((prices, rest))
 }
 
-/// Reads the price lines of a card where equal things share one price, from line `line` on.
+/// Reads the price lines of a card by kind, one line for each kind. The first is line `line` of the card.
 ///
-/// These are a group of kinds for rows and one for columns. Returns the prices, and the text after these lines.
+/// Kinds of cables or bars come first, then kinds of pairs or rows. Returns the prices, and the text after them.
 fn read_kinded(text: &[u8], line: usize) -> Result<(Prices, &[u8]), CardFault>
     requires { line < 200 }
     ensures { MatchResult result
@@ -175,7 +175,7 @@ fn read_kinded(text: &[u8], line: usize) -> Result<(Prices, &[u8]), CardFault>
     }
 }
 
-/// Reads the kinds of `N` rows and then of `N` columns of a table of costs, from line `line` on.
+/// Reads the kinds of `N` rows, and then of `N` columns, of a table of costs, from line `line` of the card on.
 ///
 /// Returns both lists of kinds, and the text after their lines.
 fn read_groups<'a, R: Kind, C: Kind, const N: usize>(
@@ -194,7 +194,7 @@ fn read_groups<'a, R: Kind, C: Kind, const N: usize>(
     Ok((rows, columns, rest))
 }
 
-/// Reads line `line`, which has `word` and `number` prices. Returns the prices, and the text after the line.
+/// Reads line `line`: `word`, and then `number` prices. Returns the prices, and the text after the line.
 fn read_price_line<'a>(
     text: &'a [u8],
     word: &str,

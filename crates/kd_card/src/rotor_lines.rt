@@ -16,9 +16,9 @@ use arrayvec::ArrayVec;
 use kd_state::{Machine, RotorEntry, RotorParts, Setting, Settings, SheetWheel};
 use kd_tables::{Reflector, Wheel};
 
-/// One setting for each thing of a rotor machine, except cables, that differs from the day.
+/// Lists a setting for each slot, reflector, ring and letter of a rotor machine that isn't as on the day.
 ///
-/// Wheels come first, then the reflector, rings and letters. `parts` are the parts of `machine`.
+/// Slots come first, then the reflector, rings and letters. `parts` are the parts of `machine`.
 #[tactic(auto, using(crate::proofs::Counting::few_in_box))]
 pub fn rotor_settings(machine: &Machine, parts: &RotorParts, entry: &RotorEntry) -> Settings
     requires { machine.now ≡ Rotor parts.now }
@@ -36,9 +36,9 @@ pub fn rotor_settings(machine: &Machine, parts: &RotorParts, entry: &RotorEntry)
     settings
 }
 
-/// Appends SEAT for each slot that doesn't hold the day's wheel.
+/// Appends the setting SEAT for each of `slots` that doesn't hold the day's wheel, which is in `wheels`.
 ///
-/// `number` is the number of the first slot of `slots`, counted from 1.
+/// `number` is the number of the first of these slots. Slots are counted from 1.
 fn push_seats(settings: &mut Settings, number: u8, slots: &[Option<Wheel>], wheels: &[SheetWheel])
     requires few { number + length slots.now < 256 }
     requires room { array_vec_len settings.old + length slots.now ≤ 192 }
@@ -54,7 +54,7 @@ fn push_seats(settings: &mut Settings, number: u8, slots: &[Option<Wheel>], whee
     }
 }
 
-/// Appends RING for each of the day's wheels in `boxed` whose ring isn't set to the day's letter.
+/// Appends the setting RING for each wheel in `boxed` that the day uses, unless its ring is at the day's letter.
 fn push_rings(
     settings: &mut Settings,
     machine: &Machine,
@@ -74,9 +74,9 @@ fn push_rings(
     }
 }
 
-/// Appends TURN for the slot of each of the day's wheels that isn't turned to the day's letter.
+/// Appends the setting TURN for each of the day's wheels that isn't turned to the day's letter.
 ///
-/// `wheels` are the day's wheels from slot `number` on, counted from 1.
+/// `wheels` are the day's wheels in slot `number` and the next slots. Slots are counted from 1.
 fn push_turns(
     settings: &mut Settings,
     machine: &Machine,
@@ -97,7 +97,7 @@ fn push_turns(
     }
 }
 
-/// The setting SEAT, or `None` if `wheel` is in the slot already.
+/// The setting SEAT for one slot, or `None` if `wheel` is in this slot already.
 fn seat_line(slot: u8, seated: Option<Wheel>, wheel: Wheel) -> Option<Setting>
     ensures { let so = option_map_or (same_wheel wheel) seated false in
         result ≡ setting_unless so (Setting.Seat slot wheel) }
@@ -113,14 +113,14 @@ fn reflector_line(present: Reflector, reflector: Reflector) -> Option<Setting>
     (present != reflector).then_some(Setting::SeatReflector { reflector })
 }
 
-/// Finds `wheel` among the day's wheels, with its ring and its letter.
+/// Finds `wheel` among the day's wheels `wheels`, each of which has its ring's letter and its window letter.
 fn find_wheel(wheels: &[SheetWheel], wheel: Wheel) -> Option<SheetWheel>
     ensures { result ≡ find (λ seated. same_wheel wheel seated.wheel) wheels.now }
 {
     wheels.iter().copied().find(|seated| wheel == seated.wheel)
 }
 
-/// The setting RING for the day's wheel `wanted`, or `None` if there is none or its ring is set already.
+/// The setting RING for the day's wheel `wanted`, or `None` if this is `None` or its ring is at the day's letter.
 fn ring_line(machine: &Machine, wanted: Option<SheetWheel>) -> Option<Setting>
     ensures { result ≡ option_and_then (λ seated.
         let so = option_map_or (nat_eq seated.ring) (machine_ring machine.now seated.wheel) false in

@@ -1,4 +1,4 @@
-//! Things: what equal cables, columns, bars or rows have in common, as values in the order of a card's lines.
+//! What equal cables, columns, bars or rows have in common. A card lists its kinds in the order of these values.
 ghost use Rattle.std.specs.Prelude.{◌≡◌};
 
 use kd_tables::{Letter, Reading, Standing};
@@ -6,16 +6,16 @@ use std::marker::Model;
 
 /// What equal cables, columns, bars or rows have in common: letters, a pair, a standing or a reading.
 ///
-/// The law `ordered` of `Kind` says that things have the same order as the lines of their kinds on a card.
+/// A card lists its kinds in the order of these values, as the law `ordered` of `Kind` says.
 pub trait Thing: Copy + Default + Ord {
     ghost use Rattle.std.specs.Prelude.{◌≡◌};
     ghost use Rattle.std.specs.declared.cmp.Ordering.TheVariants.{Equal};
 
-    /// Things that compare as equal are the same.
+    /// If `cmp` finds two values equal, they are the same value.
     ghost told_apart: { (x y : Self) → Self.cmp x y ≡ Equal → x ≡ y };
 }
 
-/// The letters of a cable, ordered as words in a dictionary. A cable without a first letter comes last.
+/// The letters of a cable. They have dictionary order; a cable whose first letter is `None` comes last.
 #[derive(Clone, Copy, PartialEq, Eq, PartialOrd, Ord)]
 pub struct Ends {
     is_last: bool,
@@ -66,7 +66,7 @@ impl Ends {
 
 /// A column of the table of costs: a pair, or a nothing, which is a column without a pair.
 ///
-/// Pairs are ordered as words in a dictionary, and a nothing comes last.
+/// Pairs have dictionary order; a nothing comes after all pairs.
 #[derive(Clone, Copy, PartialEq, Eq, PartialOrd, Ord)]
 pub struct Column {
     is_last: bool,
@@ -85,7 +85,7 @@ impl Model for Column {
     ghost inverse = { λ pair. record { is_last = is_none pair; pair = pair } };
 }
 
-/// By default, a column is a nothing.
+/// By default, a column has no pair.
 impl Default for Column {
     ghost use Rattle.std.specs.Prelude.{◌≡◌, None};
 
@@ -97,7 +97,7 @@ impl Default for Column {
 }
 
 impl Column {
-    /// Wraps a pair, or `None` for a nothing.
+    /// Makes a column with this pair, or without a pair if `pair` is `None`.
     pub fn new(pair: Option<(Letter, Letter)>) -> Self
         ensures { result ≡ pair }
     {
@@ -107,7 +107,7 @@ impl Column {
         }
     }
 
-    /// The pair, or `None` for a nothing.
+    /// The column's pair, or `None` if the column has no pair.
     pub fn pair(self) -> Option<(Letter, Letter)>
         ensures { result ≡ self }
     {

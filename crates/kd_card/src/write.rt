@@ -18,10 +18,10 @@ use itoa::Buffer;
 use kd_state::{Setting, push_number};
 use kd_tables::{Device, Sink, put_all};
 
-/// Enough bytes for each card: its head, 192 settings, their number, twice 27 prices or kinds, and the sum.
+/// A buffer size, in bytes, for the text of any card, which has at most 192 settings and 54 prices or kinds.
 const LONGEST: usize = 6144;
 
-/// Writes the text of `card` for day `day`. A sink that fails has taken a prefix of the text.
+/// Writes the text of `card` for day `day` of the month. If the sink fails, it has taken a prefix of the text.
 pub fn write_card<W: Sink>(sink: &mut W, day: u8, card: &Card) -> Result<(), Device>
     requires { IsDayNumber day }
     ensures text { let text = card_text day card.now.settings.items card.now.prices in
@@ -33,7 +33,7 @@ pub fn write_card<W: Sink>(sink: &mut W, day: u8, card: &Card) -> Result<(), Dev
     put_all(sink, card_text(day, card).as_str().as_bytes())
 }
 
-/// The text of `card` for day `day`.
+/// The text of `card` for day `day` of the month.
 fn card_text(day: u8, card: &Card) -> ArrayString<LONGEST>
     ensures bytes { result.bytes ≡ card_text day card.now.settings.items card.now.prices }
     ensures in_range { All IsSettingInRange card.now.settings.items }
@@ -49,7 +49,7 @@ fn card_text(day: u8, card: &Card) -> ArrayString<LONGEST>
     text
 }
 
-/// Appends the head of a card for day `day`.
+/// Appends a card's first line: the version of its prices, and `day`, the day of the month.
 fn push_head<const N: usize>(text: &mut ArrayString<N>, version: Version, day: u8)
     requires { array_string_len text.old + 15 ≤ N }
     ensures bytes { text.new.bytes ≡ text.old.bytes ++ line_then (head_words version day) [] }
@@ -84,7 +84,7 @@ fn push_setting<const N: usize>(text: &mut ArrayString<N>, setting: &Setting)
     text.push_str("\n");
 }
 
-/// Appends the line with the number of settings.
+/// Appends the line `SETTINGS` with `count`, the number of settings.
 fn push_count<const N: usize>(text: &mut ArrayString<N>, count: usize)
     requires { array_string_len text.old + 30 ≤ N }
     ensures bytes { text.new.bytes ≡ text.old.bytes ++ line_then (settings_words count) [] }
@@ -96,7 +96,7 @@ fn push_count<const N: usize>(text: &mut ArrayString<N>, count: usize)
     text.push_str("\n");
 }
 
-/// Appends the price lines.
+/// Appends the price lines of a card.
 fn push_prices<const N: usize>(text: &mut ArrayString<N>, prices: &Prices)
     requires { array_string_len text.old + 1404 ≤ N }
     ensures bytes { text.new.bytes ≡ text.old.bytes ++ lines_text (price_lines prices.now) }
@@ -122,7 +122,7 @@ fn push_prices<const N: usize>(text: &mut ArrayString<N>, prices: &Prices)
     }
 }
 
-/// Appends a line that has `word` and then `prices`.
+/// Appends a line: `word`, and then `prices`, each after a space.
 fn push_price_line<const N: usize>(text: &mut ArrayString<N>, word: &str, prices: &[i16])
     requires room { array_string_len text.old + length word.now + 7 * length prices.now + 1 ≤ N }
     requires reach { ArePricesInRange prices.now }
@@ -150,7 +150,7 @@ fn push_price<const N: usize>(text: &mut ArrayString<N>, price: i16)
     text.push_str(buffer.format(price));
 }
 
-/// Appends the line with the sum of prices.
+/// Appends the line `SUM` with `sum`, the sum of all prices.
 fn push_sum<const N: usize>(text: &mut ArrayString<N>, sum: i32)
     requires { array_string_len text.old + 16 ≤ N }
     ensures bytes { text.new.bytes ≡ text.old.bytes ++ line_then (sum_words sum) [] }

@@ -1,4 +1,4 @@
--- The grammar of the desk's command line: the commands with their arguments, without options and help.
+-- The grammar of the desk's command line: the six commands with their arguments, without options or help.
 -- Code: `grammar` builds the grammar by calls of the library `clap`.
 -- Test: refuses_other_words
 use Rattle.std.specs.Prelude.{codes, decimal, ◌≡◌, ℕ, true, false, List, [], ◌∷◌, ◌++◌, map, fold, Option, Some, None}
@@ -16,36 +16,36 @@ use Rattle.kd_desk.specs.declared.command.Task.TheVariants as tasks
 use Rattle.kd_desk.specs.declared.command.Direction.{Direction}
 use Rattle.kd_desk.specs.declared.command.Direction.TheVariants.{Send, Receive}
 
--- a command with its arguments, named by `words`, without options and help
+-- the command `name` with an argument for each of `words`, without options or help
 abbrev pub command_shape : List ℕ → List (List ℕ) → Shape
 command_shape name words = record (new_shape name) {
   disable_help_flag = true;
   rules = map new_rule words;
 }
 
--- a grammar that is one command without subcommands
+-- a grammar whose only command is `shape`, without subcommands
 abbrev pub app_without_subcommands : Shape → App
 app_without_subcommands shape = record { top = shape; subs = [] }
 
--- `command_shape`, for borrowed names of arguments
+-- `command_shape`, but the names of the arguments are borrowed
 abbrev pub borrowed_shape : List ℕ → List (Bor (List ℕ)) → Shape
 borrowed_shape name words = command_shape name (map (λ word. word.now) words)
 
--- the grammar with these commands added, each with the names of its arguments
+-- the grammar `app` with `commands` added as subcommands, each with the names of its arguments
 abbrev pub with_commands : App → List (Bor (List ℕ) × Bor (List (Bor (List ℕ)))) → App
 with_commands app commands = fold (λ a command. with_subcommand a (borrowed_shape command.0.now command.1.now)) app
     commands
 
--- The grammar is the command `name` with an argument for each of `words`, and no argument is global.
+-- `grammar` is the command `name` with an argument for each of `words`, and no argument is global.
 pub record IsMadeOf (grammar : Grammar) (name : List ℕ) (words : List (Bor (List ℕ))) : Type 0 where
   pub shape : app_of grammar ≡ app_without_subcommands (borrowed_shape name words)
   pub local : (out-Command grammar).has_globals ≡ false
 
--- the names of the arguments for a machine file, a sheet and a day
+-- the names of three arguments: a machine file, a sheet and a day
 abbrev pub day_words : List (List ℕ)
 day_words = codes "MACHINE" ∷ codes "SHEET" ∷ codes "DAY" ∷ []
 
--- the name of the command that sends or receives; and next, the name of its argument for the message's file
+-- the name of the command that sends or receives; the next definition is the name of its argument for the message
 abbrev pub direction_name : Direction → List ℕ
 direction_name Send = codes "send"
 direction_name Receive = codes "receive"
@@ -54,7 +54,7 @@ abbrev pub direction_word : Direction → List ℕ
 direction_word Send = codes "ORDER"
 direction_word Receive = codes "FORM"
 
--- the commands `type`, `apply` and `card`
+-- the command `type`; the next two definitions are the commands `apply` and `card`
 abbrev pub type_shape : Shape
 type_shape = command_shape (codes "type") (codes "MACHINE" ∷ [])
 
@@ -64,11 +64,11 @@ apply_shape = command_shape (codes "apply") (codes "MACHINE" ∷ codes "LIST" �
 abbrev pub card_shape : Shape
 card_shape = command_shape (codes "card") day_words
 
--- a command with a machine file, a sheet, a day and one more file
+-- the command `name` with a machine file, a sheet, a day, and one more file as the argument `word`
 abbrev pub file_shape : List ℕ → List ℕ → Shape
 file_shape name word = command_shape name (day_words ++ word ∷ [])
 
--- the commands `check`, `send` and `receive`
+-- the command `check`; the next definition is the command `send` or `receive`
 abbrev pub check_shape : Shape
 check_shape = file_shape (codes "check") (codes "CARD")
 
@@ -91,7 +91,7 @@ desk_grammar = record {
 -- streamed.
 -- Test: stops_where_a_file_can_not_be_read_on
 
--- the task, with `f` applied to the file that is read whole, and `g` to the opened file
+-- the task, with `f` applied to a file that is read whole, and `g` applied to a file that is streamed
 abbrev pub with_task_files : {F G O P : Type 0} → (F → G) → (O → P) → Task F O → Task G P
 with_task_files f g tasks.Card = tasks.Card
 with_task_files f g (tasks.Check card) = tasks.Check (f card)
@@ -105,7 +105,7 @@ with_action_files f g (actions.OnDay sheet day task) = actions.OnDay (f sheet) d
 abbrev pub with_files : {F G O P : Type 0} → (F → G) → (O → P) → Command F O → Command G P
 with_files f g command = record { machine = f command.machine; action = with_action_files f g command.action }
 
--- the task, with its file names as texts that aren't borrowed
+-- the task, with its borrowed file names replaced by the names themselves
 abbrev pub unborrowed_task : Task (Bor (List ℕ)) (Bor (List ℕ)) → Task (List ℕ) (List ℕ)
 unborrowed_task task = with_task_files (λ name. name.now) (λ name. name.now) task
 
@@ -115,7 +115,7 @@ unborrowed_action action = with_action_files (λ name. name.now) (λ name. name.
 abbrev pub unborrowed_command : Command (Bor (List ℕ)) (Bor (List ℕ)) → Command (List ℕ) (List ℕ)
 unborrowed_command command = with_files (λ name. name.now) (λ name. name.now) command
 
--- the task, with `g` applied to the opened file
+-- the task, with `g` applied to the file that is streamed
 abbrev pub with_task_opened : {F O P : Type 0} → (O → P) → Task F O → Task F P
 with_task_opened g task = with_task_files (λ file. file) g task
 
@@ -125,7 +125,7 @@ with_action_opened g action = with_action_files (λ file. file) g action
 abbrev pub with_command_opened : {F O P : Type 0} → (O → P) → Command F O → Command F P
 with_command_opened g command = with_files (λ file. file) g command
 
--- the opened file, if the task has one
+-- the file that is streamed, if the task has one
 abbrev pub task_opened : {F O : Type 0} → Task F O → Option O
 task_opened tasks.Card = None
 task_opened (tasks.Check card) = None
@@ -143,7 +143,7 @@ command_opened command = action_opened command.action
 -- Code: `clap` parses the command line; `command_of` makes the command from the arguments that `clap` found.
 -- Test: finds_the_machine_file, finds_the_day, refuses_other_words, stops_before_it_writes
 
--- A command with the names of its files.
+-- A command that has the names of its files, not the files themselves.
 abbrev pub NamedCommand : Type 0
 NamedCommand = Command (List ℕ) (List ℕ)
 
@@ -153,7 +153,7 @@ NamedAction = Action (List ℕ) (List ℕ)
 abbrev pub NamedTask : Type 0
 NamedTask = Task (List ℕ) (List ℕ)
 
--- the name of a task's command
+-- the name of the command that does the task
 abbrev pub task_name : NamedTask → List ℕ
 task_name tasks.Card = codes "card"
 task_name (tasks.Check card) = codes "check"
@@ -164,13 +164,13 @@ action_name actions.Type = codes "type"
 action_name (actions.Apply list) = codes "apply"
 action_name (actions.OnDay sheet day task) = task_name task
 
--- The arguments, with their values in `rows`, name this sheet and this day. The day's number is in decimal.
+-- The arguments, with their values in `rows`, name the sheet `sheet` and the day `day`, in decimal.
 pub record HaveSheetAndDay (rows : List Row) (sheet : List ℕ) (day : ℕ) : Type 0 where
   pub sheet_word : first_of (codes "SHEET") rows ≡ Some sheet
   pub day_word : first_of (codes "DAY") rows ≡ Some (decimal day)
   pub of_month : IsDayNumber day
 
--- The arguments name the file of the task, if it has one.
+-- The arguments, with their values in `rows`, name the task's own file, if the task has one.
 abbrev pub HasTaskFile : List Row → NamedTask → Type 0
 HasTaskFile rows tasks.Card = Unit {0}
 HasTaskFile rows (tasks.Check card) = first_of (codes "CARD") rows ≡ Some card
@@ -181,12 +181,12 @@ HasActionWords rows actions.Type = Unit {0}
 HasActionWords rows (actions.Apply list) = first_of (codes "LIST") rows ≡ Some list
 HasActionWords rows (actions.OnDay sheet day task) = HaveSheetAndDay rows sheet day × HasTaskFile rows task
 
--- `said` has a command's name and the values of its arguments, and they mean this action.
+-- `said` is a command's name and the values of its arguments. They mean the action `action`.
 pub record IsActionOf (said : List ℕ × List Row) (action : NamedAction) : Type 0 where
   pub name : said.0 ≡ action_name action
   pub words : HasActionWords said.1 action
 
--- `said` has a command's name and the values of its arguments, and they mean this command.
+-- `said` is a command's name and the values of its arguments. They mean the command `command`.
 pub record IsCommandOf (said : List ℕ × List Row) (command : NamedCommand) : Type 0 where
   pub machine : first_of (codes "MACHINE") said.1 ≡ Some command.machine
   pub action : IsActionOf said command.action
@@ -194,7 +194,7 @@ pub record IsCommandOf (said : List ℕ × List Row) (command : NamedCommand) : 
 abbrev pub IsNoCommand : List ℕ × List Row → Type 0
 IsNoCommand said = (command : NamedCommand) → ¬ (IsCommandOf said command)
 
--- The command line fits the grammar and means this command. Its first word is the program's own name.
+-- The command line `words` fits the grammar and means `command`. Its first word is the program's own name.
 pub record IsCommandLineOf (words : List (List ℕ)) (command : NamedCommand) : Type 0 where
   pub taken : fault_of desk_grammar words ≡ []
   pub said : IsSomeAnd (subcommand_of desk_grammar words) (λ said. IsCommandOf said command)
@@ -202,7 +202,7 @@ pub record IsCommandLineOf (words : List (List ℕ)) (command : NamedCommand) : 
 abbrev pub IsNoCommandLine : List (List ℕ) → Type 0
 IsNoCommandLine words = (command : NamedCommand) → ¬ (IsCommandLineOf words command)
 
--- the file names of a task, in the order of the command line
+-- the names of a task's files, in the order of the command line
 abbrev pub task_files : NamedTask → List (List ℕ)
 task_files tasks.Card = []
 task_files (tasks.Check card) = card ∷ []

@@ -1,4 +1,4 @@
--- How the program ends: its line on standard error, and its exit status.
+-- How the program ends: the line that it writes to standard error, and its exit status.
 -- Source: the table of the command line in docs/FORMATS.md
 -- Test: ends_with_a_status_and_a_line
 use Rattle.std.specs.Prelude.{codes, ◌≡◌, ℕ, ◌||◌, List, [], ◌∷◌, ◌++◌, Result, Ok, Err, is_err}
@@ -12,18 +12,18 @@ use Rattle.kd_desk.specs.declared.stop.Stop.TheVariants.{Usage, Unread, ReadFail
 use Rattle.kd_desk.specs.FaultText.{desk_fault_text}
 use Rattle.kd_desk.specs.Stops.{fault_of_file}
 
--- the line for a refusal
+-- the line on standard error for a refusal
 abbrev pub refused_line : DeskFault → List ℕ
 refused_line fault = codes "refused " ++ desk_fault_text fault ++ 10 ∷ []
 
--- the line for a `Stop`
+-- the line on standard error for a `Stop`
 abbrev pub stop_line : Stop → List ℕ
 stop_line Usage = codes "usage: desk COMMAND WORDS" ++ 10 ∷ []
 stop_line (Unread fault) = refused_line (fault_of_file fault)
 stop_line ReadFailed = refused_line faults.Device
 stop_line (Refused fault) = refused_line fault
 
--- the text for standard error: nothing if all went well
+-- what is written to standard error: a line for a `Stop`, or no bytes if all went well
 abbrev pub error_text : Result (Unit {0}) Stop → List ℕ
 error_text (Ok done) = []
 error_text (Err stop) = stop_line stop
@@ -36,8 +36,8 @@ status_of (Err (Unread fault)) = 1
 status_of (Err ReadFailed) = 1
 status_of (Err (Refused fault)) = 1
 
--- The program ends with the status of this answer. The answer's line was written to standard error, or only a
--- prefix of it if standard error failed.
+-- The program ends with the exit status for `answer`. The line for `answer` was written to standard error, or only
+-- a prefix of the line if standard error failed.
 pub record EndsAs (answer : Result (Unit {0}) Stop) (errors : Port) (status : ℕ) : Type 0 where
   pub ends : status ≡ status_of answer
   pub written : Result (Unit {0}) Device

@@ -1,4 +1,4 @@
--- The text of each refusal of the desk, from the texts of the crates below.
+-- The text of each refusal of the desk, which is the text of a lower crate's fault or of the desk's own.
 -- Test: says_why_it_refuses
 use Rattle.std.specs.Prelude.{ℕ, List}
 use Rattle.kd_tables.specs.declared.refusal.Refusal.TheVariants as refusals

@@ -1,5 +1,5 @@
--- The cables of a month: a machine that uses only its first cables needs no other, if no day has more pairs
--- than these.
+-- How many cables a month needs: if no day has more than `number` pairs, and a machine uses only its first `number`
+-- cables, the machine needs no others.
 use Rattle.std.specs.Prelude.{◌≡◌, ℕ, List, Option, Some, Ok, All}
 use Rattle.kd_state.specs.declared.machine.parts.Parts.{Parts}
 use Rattle.kd_state.specs.declared.setting.Setting.{Setting}
@@ -11,29 +11,29 @@ use Rattle.kd_sheet.specs.SheetFile.{sheet_of}
 use Rattle.kd_desk.specs.Month.{Papers, AreWrittenInTurn}
 use Rattle.kd_desk.specs.Settings.{AreSettings}
 
--- The file's machine uses no cable above `number`.
+-- The machine that `file` describes uses no cable above `number`.
 abbrev pub FileUsesNoneAbove : ℕ → List ℕ → Type 0
 FileUsesNoneAbove number file = (m : Parts) → machine_of file ≡ Ok m → UsesNoneAbove number m
 
--- The settings of the card name no cable above `number`.
+-- The settings of `card` name no cable above `number`.
 abbrev pub CardNamesNoneAbove : ℕ → List ℕ → Type 0
 CardNamesNoneAbove number card =
     (settings : List Setting) → AreSettings card settings → All (NamesNoneAbove number) settings
 
--- The sheet's day has at most `number` pairs.
+-- Day `day` of `sheet` has at most `number` pairs.
 abbrev pub DayHasPairsUpTo : ℕ → List ℕ → ℕ → Type 0
 DayHasPairsUpTo number sheet day =
     (month : List (Option Day)) (s : Day) → sheet_of sheet ≡ Ok month → day_of month day ≡ Some s
     → HasPairsUpTo number s
 
--- The card of a day and the machine's file after it use only the first `number` cables.
+-- The card of a day, and the machine file after the card, use only the first `number` cables.
 pub record KeepsToFirst (number : ℕ) (papers : Papers) : Type 0 where
   pub card : CardNamesNoneAbove number papers.card
   pub file : FileUsesNoneAbove number papers.file
 
--- If the first file uses only the first `number` cables, and each day has at most `number` pairs, all cards
+-- If the first machine file uses only the first `number` cables, and each day has at most `number` pairs, all cards
 -- and files of the month use only these cables. So whoever owns ten cables, numbered 1 to 10, never needs an
--- eleventh.
+-- eleventh cable.
 abbrev pub FewCablesServeAMonth : Type 0
 FewCablesServeAMonth =
     (number : ℕ) (file sheet days : List ℕ) (papers : List Papers) → AreWrittenInTurn file sheet days papers

@@ -1,4 +1,4 @@
--- What is known of a file's bytes, as it is read whole or opened.
+-- What is known of a file's bytes: of a file that is read whole, and of an opened file, which is streamed.
 -- Code: `read_whole` reads a file chunk by chunk, into a vector that grows.
 -- Test: reads_to_the_limit, a_file_that_is_not_there_is_a_failed_device, stops_where_an_order_is_too_long
 use Rattle.std.specs.Prelude.{◌≡◌, ◌⊎◌, ℕ, ◌+◌, ◌≤◌, nat_le, Bool, true, false, IsTrue, List, [], ◌∷◌, ◌++◌, map}
@@ -10,12 +10,12 @@ use Rattle.kd_tables.specs.Ports.{read_limit, Port, HasNotFailed}
 use Rattle.kd_desk.specs.declared.files.fault.FileFault.{FileFault}
 use Rattle.kd_desk.specs.declared.files.fault.FileFault.TheVariants.{NoMemory, Device, ReadTooLong}
 
--- the bytes of a file, or why it can't be read: it isn't there, or it is too long
+-- the bytes of a file, or the fault: there is no file, or the file is too long
 abbrev pub content_of : Option (List ℕ) → Result (List ℕ) FileFault
 content_of None = Err Device
 content_of (Some bytes) = if nat_le (length bytes) read_limit then Ok bytes else Err ReadTooLong
 
--- What is known of an opened file: the bytes that are still to come, and whether a read of it has failed.
+-- What is known of an opened file: the bytes that are still to be read, and whether a read has failed.
 pub record KnownFile : Type 0 where
   pub bytes : Option (List ℕ)
   pub failed : Bool
@@ -23,28 +23,28 @@ pub record KnownFile : Type 0 where
 abbrev pub known_file : {O : Type 0} → (O → Option (List ℕ)) → (O → Bool) → O → KnownFile
 known_file bytes failed file = record { bytes = bytes file; failed = failed file }
 
--- an opened file, with all of its bytes still to come, or the fault that it isn't there
+-- an opened file with all of its bytes still to be read; or the fault that there is no file
 abbrev pub opening_of : Option (List ℕ) → Result KnownFile FileFault
 opening_of None = Err Device
 opening_of (Some bytes) = Ok (record { bytes = Some bytes; failed = false })
 
--- the bytes of the first file with this name, in a list of names with bytes
+-- the bytes of the first of `files` with the name `name`; `files` are pairs of a name and bytes
 abbrev pub bytes_in_files : List (Bor (List ℕ) × Bor (List ℕ)) → List ℕ → Option (List ℕ)
 bytes_in_files files name = option_map (λ file. file.1.now) (find (λ file. bytes_eq file.0.now name) files)
 
--- The answer is `meant`, unless memory ran out.
+-- `answer` is `meant`, or it is `NoMemory`.
 abbrev pub AgreesOrNoMemory : {X : Type 0} → Result X FileFault → Result X FileFault → Type 0
 AgreesOrNoMemory meant answer = (answer ≡ meant) ⊎ (answer ≡ Err NoMemory)
 
--- The answer is `meant`, once the opened file is replaced by what is known of it.
+-- `answer` is `meant`, once `known` is applied to the opened file in `answer`.
 abbrev pub IsOpenAnswer : {O : Type 0} → Result KnownFile FileFault → (O → KnownFile) → Result O FileFault → Type 0
 IsOpenAnswer meant known answer = result_map_both known (λ fault. fault) answer ≡ meant
 
 abbrev pub IsReadAnswer : {X Y : Type 0} → Result Y FileFault → (X → Y) → Result X FileFault → Type 0
 IsReadAnswer meant known answer = AgreesOrNoMemory meant (result_map_both known (λ fault. fault) answer)
 
--- What was read of a source, for each answer: all that it had; one byte more than a file may have; or what
--- came before a read failed or memory ran out.
+-- What was read from a source, by the answer: all bytes that the source had; one byte more than a file may have; or
+-- the bytes before a read failed or memory ran out.
 abbrev pub IsReadWholeAs : Port → List ℕ → Result (List ℕ) FileFault → Type 0
 IsReadWholeAs source read (Ok bytes) = (bytes ≡ read) × (length read ≤ read_limit) × IsAtEnd source.has
     × HasNotFailed source
@@ -61,7 +61,7 @@ pub record IsReadWhole (source : Port) (answer : Result (List ℕ) FileFault) : 
 -- Code: `HostFiles` keeps the names in a record, `Asked`.
 -- Test: stops_before_it_writes
 
--- A name that was asked for, and whether its file could be read or opened.
+-- A file name that was asked for, and whether the file could be read or opened.
 abbrev pub AskedName : Type 0
 AskedName = List ℕ × Bool
 
@@ -78,7 +78,7 @@ pub record MissesOne (names : List (List ℕ)) (old new : List AskedName) : Type
   pub names_are : names ≡ before ++ name ∷ after
   pub asked : new ≡ old ++ (map asked_and_had before ++ asked_and_missed name ∷ [])
 
--- The names were asked for in order: all of them, or up to the first whose file couldn't be read or opened.
+-- Asked for in order: all of `names`, or the names up to the first file that couldn't be read or opened.
 abbrev pub AreAskedFor : List (List ℕ) → List AskedName → List AskedName → Bool → Type 0
 AreAskedFor names old new true = new ≡ old ++ map asked_and_had names
 AreAskedFor names old new false = MissesOne names old new

@@ -1,4 +1,4 @@
--- What a card promises of the machine to which it leads.
+-- What a card promises of the machine to which its settings lead.
 use Rattle.std.specs.Prelude.{◌≡◌, ◌<◌, ℕ, List, All}
 use Rattle.kd_state.specs.declared.machine.parts.Parts.{Parts}
 use Rattle.kd_state.specs.declared.setting.Setting.{Setting}
@@ -15,12 +15,12 @@ pub record IsSheetsMachine (n : Parts) (s : Day) : Type 0 where
   pub ready : IsReady n
   pub enciphers : (text : List ℕ) → physical_cipher n text ≡ sheet_cipher s text
 
--- Each setting is legal after the settings before it, and together they lead to a machine that reads as the
--- day, is ready, and enciphers as the day's own machine.
+-- Each setting is legal after the settings before it. Together they lead to a machine that reads as the day, is
+-- ready, and enciphers as the day's own machine does.
 abbrev pub LeavesTheSheetsMachine : Parts → Day → List Setting → Type 0
 LeavesTheSheetsMachine m s settings = (n : Parts) × Leads m settings n × IsSheetsMachine n s
 
--- The two machines are on the day's key and show the same letters.
+-- Both machines are on the day's key, and they show the same letters.
 pub record AreEquallySet (s : Day) (one other : Parts) : Type 0 where
   pub machine : IsMachine one
   pub other_machine : IsMachine other
@@ -28,7 +28,7 @@ pub record AreEquallySet (s : Day) (one other : Parts) : Type 0 where
   pub other_on_key : OnKey other s
   pub letters : window_of one ≡ window_of other
 
--- A machine deciphers what an equally set machine enciphers.
+-- A machine deciphers what another, equally set machine has enciphered.
 abbrev pub EquallySetDecipherOn : Day → Type 0
 EquallySetDecipherOn s =
     (one other : Parts) (text : List ℕ) → AreEquallySet s one other → All (λ letter. letter < 26) text

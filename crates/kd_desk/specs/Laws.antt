@@ -1,5 +1,5 @@
--- The laws of settings as bytes: bytes give at most one list of settings or have at most one fault, and never
--- both.
+-- The laws of bytes that are read as settings: bytes give at most one list of settings or have at most one fault,
+-- and never both.
 use Rattle.std.specs.Prelude.{◌≡◌, ◌≢◌, ◌≤◌, ℕ, List, Option, Ok}
 use Rattle.kd_tables.specs.declared.model.Model.TheVariants.{M209}
 use Rattle.kd_state.specs.declared.machine.parts.Parts.{Parts}
@@ -29,7 +29,7 @@ SettingsHaveOneFault =
     (bytes : List ℕ) (fault other : DeskFault) → IsSettingsFault bytes fault → IsSettingsFault bytes other
     → fault ≡ other
 
--- If settings lead from one machine to another, none of their lines is refused.
+-- If settings lead from one machine to another, the machine refuses none of the settings.
 abbrev pub LeadsOrRefuses : Type 0
 LeadsOrRefuses =
     (m n : Parts) (xs : List Setting) (line : ℕ) (why : Why) → Leads m xs n → ¬ (IsFirstIllegal m xs line why)
@@ -37,14 +37,14 @@ LeadsOrRefuses =
 -- ---- The laws of a month: its cards set the machine to each day, by the fewest settings in all on a rotor
 -- machine.
 
--- If cards and files are written for days in turn, they set the machine to each of these days in turn.
+-- If cards and machine files are written for one day after another, they set the machine to these days in turn.
 abbrev pub MonthsSetTheMachine : Type 0
 MonthsSetTheMachine =
     (file sheet numbers : List ℕ) (papers : List Papers) → AreWrittenInTurn file sheet numbers papers
     → SetTheMachineInTurn file sheet numbers papers
 
--- On a rotor machine, take the cards that are written for days of a sheet, one after another. No other lists
--- that reach these days, in this order and from the same machine, have fewer settings in all.
+-- On a rotor machine, take the cards that are written for days of a sheet, one after another. No other lists that
+-- reach the same days in the same order, from the same machine, have fewer settings in all.
 abbrev pub MonthsAreFewest : Type 0
 MonthsAreFewest =
     (file sheet numbers : List ℕ) (papers : List Papers) (m : Parts) (month : List (Option Day)) (days : List Day)

@@ -15,18 +15,18 @@ use Rattle.kd_desk.specs.declared.fault.DeskFault.{DeskFault}
 use Rattle.kd_desk.specs.declared.fault.DeskFault.TheVariants as faults
 use Rattle.kd_tables.specs.Ports.{Port}
 
--- the desk's fault for a message's fault; a failed device and the limit are the desk's own faults
+-- the desk's fault for a message's fault: `Device` and `ReadTooLong` stay, any other becomes a `Message`
 abbrev pub fault_of_message : FormFault → DeskFault
 fault_of_message message.Device = faults.Device
 fault_of_message message.ReadTooLong = faults.ReadTooLong
 fault_of_message fault = faults.Message fault
 
--- the desk's answer for a message, from the answer of typing, sending or receiving it
+-- the desk's answer for the answer of the call that typed, sent or received a message
 abbrev pub answer_to_message : Result (Unit {0}) FormFault → Result (Unit {0}) DeskFault
 answer_to_message answer = result_map_both (λ done. done) fault_of_message answer
 
--- `answer` is the desk's answer for `told`, which is the answer of typing, sending or receiving. And `told`
--- satisfies `is_so`.
+-- `told`, the answer of a call that types, sends or receives, satisfies `is_so`; and `answer` is the desk's answer
+-- for `told`.
 pub record IsAnswered (is_so : Result (Unit {0}) FormFault → Type 0) (answer : Result (Unit {0}) DeskFault)
     : Type 0 where
   pub told : Result (Unit {0}) FormFault
@@ -37,7 +37,7 @@ pub record IsAnswered (is_so : Result (Unit {0}) FormFault → Type 0) (answer :
 abbrev pub TypesText : Parts → Port → Port → Result (Unit {0}) DeskFault → Type 0
 TypesText m source sink answer = IsAnswered (TypesIfReady m source sink) answer
 
--- A message was streamed: read in chunks, while its result was written.
+-- The message was streamed: it was read in chunks, and its result was written meanwhile.
 abbrev pub IsStreamedOn : Parts → Day → Message → Port → Port → Result (Unit {0}) DeskFault → Type 0
 IsStreamedOn m s message source sink answer = IsAnswered (StreamsOnKey m s message source sink) answer
 
@@ -45,9 +45,9 @@ IsStreamedOn m s message source sink answer = IsAnswered (StreamsOnKey m s messa
 abbrev pub Sends : Parts → Day → Port → Port → Result (Unit {0}) DeskFault → Type 0
 Sends m s order sink answer = IsStreamedOn m s (order_message s) order sink answer
 
--- How forms and orders agree on day `s`. If a form is an order's form, its text is the one that the order's
--- receiver has to get. If a form has a fault, it isn't the form of any order. If the fault stands, any form that
--- begins with this form isn't the form of any order either.
+-- How forms and orders agree on the day `s`. If a form is an order's form, the form's text is the text that
+-- `IsPlaintextOf` says. If a form has a fault, it is the form of no order. If the fault stays whatever bytes
+-- follow, no longer form that begins with this form is the form of an order either.
 pub record TellOfOrders (s : Day) : Type 0 where
   pub back : (form text order given : List ℕ) → IsTextOf s form text → IsFormOf s order form
       → IsPlaintextOf s order given → text ≡ given

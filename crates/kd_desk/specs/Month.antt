@@ -1,4 +1,4 @@
--- A month on one machine: a card for each day, the machine's file after it, and what they promise.
+-- A month on one machine: for each day a card and the machine file after it, and what they promise.
 -- Test: tests/guide
 use Rattle.std.specs.Prelude.{◌≡◌, ◌⊎◌, ℕ, List, [], ◌∷◌, false, Option, Some, Result, Ok, IfOk}
 use Rattle.std.specs.List.{AllZip}
@@ -21,35 +21,35 @@ use Rattle.kd_desk.specs.RunCard.{Prints}
 use Rattle.kd_desk.specs.RunSteps.{LacksMemory}
 use Rattle.kd_desk.specs.Settings.{AreSettings}
 
--- What is written for a day: a card, and the machine's file after it.
+-- What is written for a day: a card, and the machine file after the card's settings.
 pub record Papers : Type 0 where
   pub card : List ℕ
   pub file : List ℕ
 
--- a sink that has taken just this text; and next, the answer of a call that went well
+-- a sink that was empty before a call, and has taken exactly `text` in the call
 abbrev pub sink_with : List ℕ → Port
 sink_with text = record { had = Some []; has = Some text; had_failed = false; has_failed = false }
 
 abbrev pub success : Result (Unit {0}) DeskFault
 success = Ok tt
 
--- The card is what `run_card` writes for the machine's file and day `number`. The next file is what
--- `run_apply` writes for the machine's file and this card.
+-- `run_card` writes the card, from the machine file `file` and for day `number`. `run_apply` writes the next
+-- machine file, from `file` and this card.
 pub record AreWritten (file sheet : List ℕ) (number : ℕ) (papers : Papers) : Type 0 where
   pub printed : IsAnswerOnDay file sheet number (λ m s. Prints m s number (sink_with papers.card) success) success
   pub applied : IfOk (machine_of file)
       (λ m. Applies m papers.card (sink_with papers.file) success ⊎ LacksMemory success)
 
--- Cards and files are written for one day after another, each card from the file before it.
+-- Cards and machine files are written for one day after another. Each card starts from the machine file before it.
 abbrev pub AreWrittenInTurn : List ℕ → List ℕ → List ℕ → List Papers → Type 0
 AreWrittenInTurn file sheet [] [] = Unit {0}
 AreWrittenInTurn file sheet (number ∷ numbers) (papers ∷ more) =
     AreWritten file sheet number papers × AreWrittenInTurn papers.file sheet numbers more
 AreWrittenInTurn file sheet numbers papers = ⊥
 
--- The card's settings lead from the machine of `file` to the machine of the next file. This machine reads as
--- day `number`, and enciphers as the day's own machine. There are prices that prove the settings, no fewer
--- settings lead to the day, and spare cables stay free.
+-- The card's settings lead from the machine of `file` to the machine of the next file. The next machine reads as
+-- day `number`, and enciphers as the day's own machine. The card's prices prove that no fewer settings lead to the
+-- day, and spare cables stay free.
 pub record SetTheMachine (file sheet : List ℕ) (number : ℕ) (papers : Papers) : Type 0 where
   pub m : Parts
   pub of_file : machine_of file ≡ Ok m
@@ -66,35 +66,35 @@ pub record SetTheMachine (file sheet : List ℕ) (number : ℕ) (papers : Papers
   pub of_next : machine_of papers.file ≡ Ok n
   pub sheets : IsSheetsMachine n s
 
--- The card and the file of each day set the machine to this day.
+-- The card and the machine file of each day set the machine to this day.
 abbrev pub SetTheMachineInTurn : List ℕ → List ℕ → List ℕ → List Papers → Type 0
 SetTheMachineInTurn file sheet [] [] = Unit {0}
 SetTheMachineInTurn file sheet (number ∷ numbers) (papers ∷ more) =
     SetTheMachine file sheet number papers × SetTheMachineInTurn papers.file sheet numbers more
 SetTheMachineInTurn file sheet numbers papers = ⊥
 
--- `days` are the days of the month with these numbers.
+-- `days` are the days of the month with the numbers `numbers`.
 abbrev pub AreDaysOf : List (Option Day) → List ℕ → List Day → Type 0
 AreDaysOf month numbers days = AllZip (λ number s. day_of month number ≡ Some s) numbers days
 
--- `cards` are the settings of the cards, card by card.
+-- For each of the papers, `cards` has the settings of the card.
 abbrev pub AreCardsOf : List Papers → List (List Setting) → Type 0
 AreCardsOf papers cards = AllZip (λ paper settings. AreSettings paper.card settings) papers cards
 
--- The month has a day with this number, and the day is of this model.
+-- The month has day `number`, and this day is of `model`.
 pub record HasDayOf (model : Model) (month : List (Option Day)) (number : ℕ) : Type 0 where
   pub s : Day
   pub of_month : day_of month number ≡ Some s
   pub of_model : day_model s ≡ model
 
--- From each machine file of `m`, a card for the day and a next file can be written, and the machine of the
+-- From each machine file of `m`, a card for the day `s` and a next machine file can be written; the machine of the
 -- next file is `n`.
 abbrev pub HasPapers : Parts → Day → Parts → Type 0
 HasPapers m s n = (file sheet : List ℕ) (month : List (Option Day)) → machine_of file ≡ Ok m → sheet_of sheet ≡ Ok month
     → day_of month (day_number s) ≡ Some s
     → (papers : Papers) × AreWritten file sheet (day_number s) papers × (machine_of papers.file ≡ Ok n)
 
--- Cards and files for these days can be written, one after another.
+-- Cards and machine files for the days `numbers` can be written, one day after another.
 abbrev pub HasPapersInTurn : Parts → List (Option Day) → List ℕ → Type 0
 HasPapersInTurn m month numbers = (file sheet : List ℕ) → machine_of file ≡ Ok m → sheet_of sheet ≡ Ok month
     → (papers : List Papers) × AreWrittenInTurn file sheet numbers papers

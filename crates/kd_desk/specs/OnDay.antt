@@ -1,4 +1,4 @@
--- The machine of a machine file and a day of a key sheet, and what is done with them.
+-- How the machine of a machine file and a day of a key sheet are found, and what is done with them.
 -- Test: refuses_the_sheet_next
 use Rattle.std.specs.Prelude.{◌≡◌, ℕ, List, Option, Some, None, Result, Ok, Err, MatchResult}
 use Rattle.kd_state.specs.declared.machine.parts.Parts.{Parts}
@@ -11,8 +11,8 @@ use Rattle.kd_sheet.specs.SheetFile.{sheet_of}
 use Rattle.kd_desk.specs.declared.fault.DeskFault.{DeskFault}
 use Rattle.kd_desk.specs.declared.fault.DeskFault.TheVariants.{File, NoSuchDay}
 
--- The files hold a machine and a day with this number. Or the answer is their first fault: of the machine
--- file, of the sheet, or that there is no such day. Or memory ran out while they were read.
+-- `found` is the machine of the machine file and day `number` of the sheet. Or it is the first fault: the machine
+-- file's, the sheet's, or that there is no such day. Or memory ran out while the files were read.
 pub data FindsDay (machine sheet : List ℕ) (number : ℕ) (found : Result (Parts × Day) DeskFault) : Type 0 where
   LackedMemory : found ≡ Err (File NoMemory) → FindsDay machine sheet number found
   NoMachine : (fault : SheetFault) → machine_of machine ≡ Err fault → found ≡ Err (File fault)
@@ -24,7 +24,7 @@ pub data FindsDay (machine sheet : List ℕ) (number : ℕ) (found : Result (Par
   Found : (m : Parts) (days : List (Option Day)) (s : Day) → machine_of machine ≡ Ok m → sheet_of sheet ≡ Ok days
       → day_of days number ≡ Some s → found ≡ Ok (m, s) → FindsDay machine sheet number found
 
--- The machine and the day that the files hold satisfy `does`, or the answer is the first fault of the files.
+-- The machine and the day found satisfy `does`, or the answer is the first fault in finding them.
 pub record IsAnswerOnDay (machine sheet : List ℕ) (number : ℕ) (does : Parts → Day → Type 0)
     (answer : Result (Unit {0}) DeskFault) : Type 0 where
   pub found : Result (Parts × Day) DeskFault

@@ -6,7 +6,7 @@ use Rattle.kd_tables.specs.Writing.{Writes}
 use Rattle.kd_desk.specs.declared.fault.DeskFault.{DeskFault}
 use Rattle.kd_desk.specs.declared.fault.DeskFault.TheVariants.{Device}
 
--- The text was written; or only a prefix of it, and the answer is `Device`.
+-- The text was written; or only a prefix of the text, and the answer is `Device`.
 pub record WritesText (text : List ℕ) (sink : Port) (answer : Result (Unit {0}) DeskFault) : Type 0 where
   pub written : Writes sink.had sink.has text answer
   pub device : OnErr answer (answer ≡ Err Device)

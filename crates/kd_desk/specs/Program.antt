@@ -33,8 +33,8 @@ use Rattle.kd_desk.specs.RunCard.{Prints}
 use Rattle.kd_desk.specs.RunCheck.{Checks}
 use Rattle.kd_desk.specs.RunSteps.{LacksMemory, AnswersFault, is_refused_before, is_device}
 
--- A command with what is known of its files: the bytes of the files that are read whole, and `KnownFile` of
--- the opened file.
+-- A task with what is known of its files: the bytes of a file that is read whole, and a `KnownFile` for an opened
+-- file. The next two definitions are the same for actions and commands.
 abbrev pub KnownTask : Type 0
 KnownTask = Task (List ℕ) KnownFile
 
@@ -44,7 +44,7 @@ KnownAction = Action (List ℕ) KnownFile
 abbrev pub KnownCommand : Type 0
 KnownCommand = Command (List ℕ) KnownFile
 
--- `made` applied to the file; or the fault, if the file couldn't be read or opened
+-- `made` applied to the file, or the fault if the file couldn't be read or opened
 abbrev pub with_file : {F X : Type 0} → Result F FileFault → (F → Result X FileFault) → Result X FileFault
 with_file (Ok file) made = made file
 with_file (Err fault) made = Err fault
@@ -80,14 +80,14 @@ pub record AppliesTo (machine list : List ℕ) (sink : Port) (answer : Result (U
   pub refused : IfErr (machine_of machine) (λ fault. AnswersFault answer (File fault))
   pub applied : IfOk (machine_of machine) (λ m. Applies m list sink answer ⊎ LacksMemory answer)
 
--- What a task does with a machine and a day. The file of a message is read like a source.
+-- What a task does with a machine and a day. An order or a form is a port that is read.
 abbrev pub DoesTask : Task (List ℕ) Port → ℕ → Port → Result (Unit {0}) DeskFault → Parts → Day → Type 0
 DoesTask tasks.Card number sink answer m s = Prints m s number sink answer
 DoesTask (tasks.Check card) number sink answer m s = Checks m s number card sink answer
 DoesTask (tasks.Message Send order) number sink answer m s = Sends m s order sink answer
 DoesTask (tasks.Message Receive form) number sink answer m s = Receives m s form sink answer
 
--- What an action does with the machine of a machine file. Only typing reads the source.
+-- What an action does with the machine of a machine file. Only `Type` reads `source`.
 abbrev pub DoesAction : List ℕ → Action (List ℕ) Port → Port → Port → Result (Unit {0}) DeskFault → Type 0
 DoesAction machine actions.Type source sink answer = TypesOn machine source sink answer
 DoesAction machine (actions.Apply list) source sink answer = AppliesTo machine list sink answer × IsUntouched source
@@ -104,12 +104,12 @@ DoesCommand command source sink answer = DoesAction command.machine command.acti
 abbrev pub file_port : KnownFile → KnownFile → Port
 file_port left file = record { had = file.bytes; has = left.bytes; had_failed = file.failed; has_failed = left.failed }
 
--- whether there is an opened file, and a read of it failed
+-- whether a command has an opened file, and a read of this file failed; `left` is what is known after the call
 abbrev pub has_file_failed : Option KnownFile → KnownFile → Bool
 has_file_failed None left = false
 has_file_failed (Some file) left = left.failed
 
--- There is no opened file, or no read of it has failed yet.
+-- There is no opened file, or no read of the opened file has failed yet.
 abbrev pub IsUnfailed : {O : Type 0} → (O → Bool) → Option O → Type 0
 IsUnfailed failed file = IfSome file (λ f. failed f ≡ false)
 
@@ -117,15 +117,15 @@ IsUnfailed failed file = IfSome file (λ f. failed f ≡ false)
 abbrev pub StopsForMemory : Result (Unit {0}) Stop → Type 0
 StopsForMemory answer = (answer ≡ Err (Refused (File NoMemory))) ⊎ (answer ≡ Err (Unread files.NoMemory))
 
--- A command was carried out. `told` is the answer of its call, and `answer` the program's answer for it.
--- `left` is what is left of the file that the command opened.
+-- A command was carried out. `told` is the answer of the call that did it, and `answer` the program's answer.
+-- `left` is what is known of the opened file after the call.
 pub record IsCommandDone (command : KnownCommand) (source sink : Port) (answer : Result (Unit {0}) Stop) : Type 0 where
   pub left : KnownFile
   pub told : Result (Unit {0}) DeskFault
   pub does : DoesCommand (with_command_opened (file_port left) command) source sink told
   pub answers : answer ≡ stop_after (has_file_failed (command_opened command) left) told
 
--- `IsCommandDone` for a task, with a machine file and a day of a sheet.
+-- `IsCommandDone` for a task, on the machine of a machine file and a day of a sheet.
 pub record IsTaskDone (machine sheet : List ℕ) (number : ℕ) (task : KnownTask) (sink : Port)
     (answer : Result (Unit {0}) Stop) : Type 0 where
   pub left : KnownFile
@@ -141,7 +141,7 @@ CarriesOut (Err fault) source sink answer = (answer ≡ Err (Unread fault)) ⊎ 
 
 -- ---- What holds of the program's answer: the command's answer, the files asked for, and the ports.
 
--- whether the program stopped before it read a text or wrote anything
+-- whether the program stopped before it read a text, an order or a form, or wrote anything
 abbrev pub is_stopped_before : Result (Unit {0}) Stop → Bool
 is_stopped_before (Ok _) = false
 is_stopped_before (Err Usage) = true
@@ -154,22 +154,22 @@ abbrev pub is_stopped_by_port : Result (Unit {0}) Stop → Bool
 is_stopped_by_port (Err (Refused fault)) = is_device (Err fault)
 is_stopped_by_port _ = false
 
--- Which files were asked for, by the answer: none, for `Usage`, or if memory ran out over the command line;
--- those up to the first that couldn't be read or opened, for `Unread`; otherwise all.
+-- Which file names were asked for, by the answer: none, for `Usage` or if memory ran out over the command line; the
+-- names up to the first file that couldn't be read or opened, for `Unread`; otherwise all names.
 abbrev pub AsksFor : List (List ℕ) → List AskedName → Result (Unit {0}) Stop → Type 0
 AsksFor names asked (Err Usage) = asked ≡ []
 AsksFor names asked (Err (Unread fault)) = AreAskedFor names [] asked false
 AsksFor names asked (Err (Refused fault)) = AreAskedFor names [] asked true ⊎ ((asked ≡ []) × (fault ≡ File NoMemory))
 AsksFor names asked answer = AreAskedFor names [] asked true
 
--- If it is known which bytes the files have, the command was carried out on these bytes.
+-- If `known` says which bytes the files have, the command was carried out on these bytes.
 abbrev pub CarriesOutKnown : Option (List ℕ → Option (List ℕ)) → NamedCommand → Port → Port → Result (Unit {0}) Stop
     → Type 0
 CarriesOutKnown known command source sink answer =
     IfSome known (λ held. CarriesOut (known_command held command) source sink answer)
 
--- What holds of the program's answer to a command line: what is done, if the bytes of the files are known; which
--- files are asked for; when the answer is `Usage`; and what happens to the ports.
+-- What holds of the program's answer to a command line: what is done if the files' bytes are known; which files are
+-- asked for; when the answer is `Usage`; and what happens to the ports.
 pub record IsRun (words : List (List ℕ)) (known : Option (List ℕ → Option (List ℕ))) (asked : List AskedName)
     (source sink : Port) (Untouched : Type 0) (answer : Result (Unit {0}) Stop) : Type 0 where
   pub carried : (command : NamedCommand) → IsCommandLineOf words command
@@ -181,7 +181,7 @@ pub record IsRun (words : List (List ℕ)) (known : Option (List ℕ → Option 
   pub untouched : IsTrue (is_stopped_before answer) → Untouched
   pub failed : FailureAgrees source sink (is_stopped_by_port answer)
 
--- The program's answer satisfies `IsSo`, and the program ended with this answer's line and status.
+-- The program's answer satisfies `IsSo`, and the program ended with the line and the exit status for this answer.
 pub record HasEnded (IsSo : Result (Unit {0}) Stop → Type 0) (errors : Port) (status : ℕ) : Type 0 where
   pub answer : Result (Unit {0}) Stop
   pub is_so : IsSo answer

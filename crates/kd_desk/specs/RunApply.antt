@@ -1,4 +1,4 @@
--- What the desk does with a machine and the bytes of a list or a card.
+-- What the desk does with a machine and bytes that should be a list or a card.
 -- Test: writes_the_machine_that_stands_then
 use Rattle.std.specs.Prelude.{◌≡◌, ℕ, List, Result, Ok, Err}
 use Rattle.kd_state.specs.declared.machine.parts.Parts.{Parts}
@@ -13,9 +13,9 @@ use Rattle.kd_tables.specs.Ports.{Port}
 use Rattle.kd_desk.specs.Ports.{WritesText}
 use Rattle.kd_desk.specs.Settings.{AreSettings, IsSettingsFault}
 
--- The bytes aren't settings, and the answer is their fault. Or the machine refuses a line, and the answer is
--- the first line that it refuses. Or the settings lead to a machine `n`, and the machine file of `n` is
--- written. Whoever reads this file gets exactly `n`.
+-- The bytes aren't settings, and the answer is their fault. Or the machine refuses a setting, and the answer is the
+-- first line that it refuses. Or the settings lead to a machine `n`, and the machine file of `n` is written. This
+-- file is read as exactly `n`.
 pub data Applies (m : Parts) (bytes : List ℕ) (sink : Port) (answer : Result (Unit {0}) DeskFault) : Type 0 where
   NoSettings : (fault : DeskFault) → IsSettingsFault bytes fault → answer ≡ Err fault → Applies m bytes sink answer
   RefusedLine : (settings : List Setting) (fault : IllegalAt) → AreSettings bytes settings

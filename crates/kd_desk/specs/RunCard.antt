@@ -1,4 +1,4 @@
--- What the desk writes as a card, and what this card promises.
+-- What the desk writes as a card, and what the card promises.
 -- Code: `print_card` plans the card with `plan`, gives it prices by kind with `by_kind`, and writes it with
 -- `write_card`.
 -- Test: prints_cards_without_prices, prints_cards_with_prices
@@ -19,11 +19,10 @@ use Rattle.kd_desk.specs.Headline.{LeavesTheSheetsMachine, EquallySetDecipherOn}
 use Rattle.kd_tables.specs.Ports.{Port}
 use Rattle.kd_desk.specs.Ports.{WritesText}
 
--- The text of a card for day `number` was written, or only a prefix of it if the device failed. The card has
--- prices by kind, one for all cables, pairs, bars or rows that are equal. Written out, these are prices by
--- number, one for each cable, pair, bar or row. They prove that no fewer settings reach the day, and the card
--- is a planned one: spare cables stay free. Its settings lead to a machine that is ready and enciphers as the
--- day's own. A machine on the day's key deciphers what an equally set machine enciphers.
+-- The card for day `number` was written, or only a prefix of it if the device failed. It has prices by kind: one
+-- for all equal cables, pairs, bars or rows. Written out as prices by number, one for each, they prove that no
+-- fewer settings reach the day. Spare cables stay free. The settings lead to a machine that is ready and enciphers
+-- as the day's own. A machine on the day's key deciphers what an equally set machine enciphers.
 pub record WritesCard (m : Parts) (s : Day) (number : ℕ) (sink : Port)
     (answer : Result (Unit {0}) DeskFault) : Type 0 where
   pub settings : List Setting
@@ -37,7 +36,7 @@ pub record WritesCard (m : Parts) (s : Day) (number : ℕ) (sink : Port)
   pub card : IsCard text number settings prices
   pub written : WritesText text sink answer
 
--- Machine and day are of different models, or a card was written.
+-- The machine and the day are of different models, or a card was written.
 pub data Prints (m : Parts) (s : Day) (number : ℕ) (sink : Port) (answer : Result (Unit {0}) DeskFault) : Type 0 where
   Different : model_of m ≢ day_model s → answer ≡ Err OtherModel → Prints m s number sink answer
   Card : WritesCard m s number sink answer → Prints m s number sink answer

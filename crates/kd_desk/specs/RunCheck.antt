@@ -1,4 +1,4 @@
--- What the desk says of a card.
+-- What the desk answers when it checks a card.
 -- Test: tells_of_each_card
 use Rattle.std.specs.Prelude.{codes, decimal, ◌≡◌, ◌≢◌, ℕ, List, [], ◌∷◌, ◌++◌, length, Result, Err}
 use Rattle.kd_state.specs.declared.machine.parts.Parts.{Parts}
@@ -16,12 +16,12 @@ use Rattle.kd_desk.specs.declared.fault.DeskFault.TheVariants as faults
 use Rattle.kd_tables.specs.Ports.{Port}
 use Rattle.kd_desk.specs.Ports.{WritesText}
 
--- the line for a shortest card, with the number of its settings
+-- the line for a shortest card, which has `number` settings
 abbrev pub verdict_text : ℕ → List ℕ
 verdict_text number = codes "SHORTEST " ++ decimal number ++ 10 ∷ []
 
--- The card proves itself, so no fewer settings reach the day. The line `verdict_text` was written, or only a
--- prefix of it if the device failed.
+-- The card proves itself, so no fewer settings reach the day. The line `verdict_text` was written, or only a prefix
+-- of the line if the device failed.
 pub record IsVerdictWritten (m : Parts) (s : Day) (settings : List Setting) (prices : PriceParts) (sink : Port)
     (answer : Result (Unit {0}) DeskFault)
     : Type 0 where
@@ -29,8 +29,8 @@ pub record IsVerdictWritten (m : Parts) (s : Day) (settings : List Setting) (pri
   pub shortest : IsShortest m s settings
   pub written : WritesText (verdict_text (length settings)) sink answer
 
--- The answer is the card's fault; or that the card is for another day; or the first reason why the card
--- doesn't prove itself. Otherwise the desk says that the card is shortest.
+-- The answer is the card's fault; or that the card is for another day; or the first reason why the card doesn't
+-- prove itself. Otherwise the line that says SHORTEST is written.
 pub data Checks (m : Parts) (s : Day) (number : ℕ) (bytes : List ℕ) (sink : Port)
     (answer : Result (Unit {0}) DeskFault) : Type 0 where
   NoCard : (fault : CardFault) → IsCardFault bytes fault → answer ≡ Err (faults.Card fault)

@@ -1,4 +1,4 @@
--- Answers of a call: lack of memory, a fault, a refusal before anything was written, a failed device.
+-- Answers of a call: lack of memory, a fault, a refusal before anything was written, or a failed device.
 -- Test: refuses_the_machine_first
 use Rattle.std.specs.Prelude.{◌≡◌, ◌⊎◌, Bool, true, false, Result, Ok, Err}
 use Rattle.kd_sheet.specs.declared.fault.SheetFault.TheVariants.{NoMemory}
@@ -10,11 +10,11 @@ use Rattle.kd_form.specs.Streams.{is_off_key}
 abbrev pub LacksMemory : Result (Unit {0}) DeskFault → Type 0
 LacksMemory answer = answer ≡ Err (File NoMemory)
 
--- The answer is this fault, unless the call ran out of memory.
+-- The answer is `fault`, unless the call ran out of memory.
 abbrev pub AnswersFault : Result (Unit {0}) DeskFault → DeskFault → Type 0
 AnswersFault answer fault = (answer ≡ Err fault) ⊎ LacksMemory answer
 
--- whether a call was refused before it read a text or wrote anything
+-- whether a call was refused before it read a text, an order or a form, or wrote anything
 abbrev pub is_refused_before : Result (Unit {0}) DeskFault → Bool
 is_refused_before (Ok _) = false
 is_refused_before (Err Device) = false

@@ -1,4 +1,4 @@
--- Why the program stops.
+-- Why the program stops without success.
 -- Test: stops_where_a_file_can_not_be_read_on, stops_half_way, ends_with_a_status_and_a_line
 use Rattle.std.specs.Prelude.{Bool, true, Result, Ok, Err}
 use Rattle.std.specs.declared.io.ErrorKind.{ErrorKind}
@@ -11,7 +11,7 @@ use Rattle.kd_sheet.specs.declared.fault.SheetFault.TheVariants.{NoMemory}
 use Rattle.kd_desk.specs.declared.stop.Stop.{Stop}
 use Rattle.kd_desk.specs.declared.stop.Stop.TheVariants.{Usage, ReadFailed, Refused}
 
--- why a file can't be read: no memory, or the device failed
+-- why a file can't be read, by the kind of the system's error: no memory, or a failed device
 abbrev pub fault_of_kind : ErrorKind → FileFault
 fault_of_kind OutOfMemory = files.NoMemory
 fault_of_kind _ = files.Device
@@ -22,12 +22,12 @@ fault_of_file files.NoMemory = File NoMemory
 fault_of_file files.Device = Device
 fault_of_file files.ReadTooLong = ReadTooLong
 
--- why the command line can't be read: no memory, or an argument that isn't UTF-8
+-- why the command line can't be read, by the kind of the error: no memory, or an argument that isn't UTF-8
 abbrev pub stop_of_kind : ErrorKind → Stop
 stop_of_kind OutOfMemory = Refused (File NoMemory)
 stop_of_kind _ = Usage
 
--- the `Stop` for a command's fault; `Device` becomes `ReadFailed` if a read of the opened file failed
+-- the program's answer for a command's answer; `Device` becomes `ReadFailed` if a read of the opened file failed
 abbrev pub stop_after : Bool → Result (Unit {0}) DeskFault → Result (Unit {0}) Stop
 stop_after file_failed (Ok done) = Ok done
 stop_after true (Err Device) = Err ReadFailed

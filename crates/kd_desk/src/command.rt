@@ -1,4 +1,4 @@
-//! The desk's commands, and the parser of its command line.
+//! The desk's commands, and the parser of the desk's command line.
 ghost use Rattle.std.specs.Prelude.{◌≡◌, ◌≢◌, [], ◌∷◌, ℕ, List, false, codes, map, Err, IfSome, IfOk, IfErr};
 ghost use Rattle.clap.specs.Words.{App, app_of, found_of, kind_of, rows_of};
 ghost use Rattle.kd_desk.specs.CommandLine.{IsMadeOf, direction_name, direction_word, desk_grammar, with_commands};
@@ -14,11 +14,10 @@ use kd_state::day_of_text;
 use std::alloc::{AllocError, Global};
 use std::convert::AsStr;
 
-/// A command of the desk with its files.
+/// A command of the desk, with its files or their names.
 ///
-/// A parsed command has the names of its files; a command to carry out has the files themselves. `F` is the
-/// type for a file that is read whole: for its name, or for its contents. `O` is the type for an order or a
-/// form, which is streamed: for its name, or for the opened file.
+/// `F` stands for a file that is read whole, and `O` for an order or a form, which is streamed. In a parsed command
+/// both are file names. In a command to carry out, `F` is the file's contents, and `O` the opened file.
 #[derive(Drop)]
 pub struct Command<F, O> {
     /// The machine file.
@@ -27,7 +26,7 @@ pub struct Command<F, O> {
     pub action: Action<F, O>,
 }
 
-/// What is done with the machine.
+/// What a command does with the machine.
 #[derive(Drop)]
 pub enum Action<F, O> {
     /// Types standard input on the machine.
@@ -36,7 +35,7 @@ pub enum Action<F, O> {
     Apply {
         list: F,
     },
-    /// Does `task` with the machine and a day of `sheet`.
+    /// Does `task` with the machine and a day of the key sheet `sheet`.
     OnDay {
         sheet: F,
         /// The day's number, from 1 to 31.
@@ -45,18 +44,18 @@ pub enum Action<F, O> {
     },
 }
 
-/// What is done with the machine and the day.
+/// What a command does with the machine and a day.
 #[derive(Drop)]
 pub enum Task<F, O> {
     /// Prints the shortest card from the machine to the day.
     Card,
-    /// Checks whether this card's prices prove it shortest, from the machine to the day.
+    /// Checks whether the card's prices prove it shortest, from the machine to the day.
     Check(F),
-    /// Sends or receives the message in this file, part by part.
+    /// Sends the order in the file, or receives the form in the file, part by part.
     Message(Direction, O),
 }
 
-/// The direction of a message.
+/// Whether a message is sent or received.
 #[derive(Clone, Copy)]
 pub enum Direction {
     /// The message is an order; its form is printed.
@@ -85,9 +84,9 @@ pub type NamedAction<'a> = Action<&'a str, &'a str>;
 
 /// Parses the command line `words`, which begins with the program's own name.
 ///
-/// A file name that begins with `-` must come after the argument `--`, unless the name is `-` alone. The
-/// argument `--` may come once, after the command's name. An invalid command line gives `Usage`; the only
-/// other error is lack of memory.
+/// A file name that begins with `-` must come after the argument `--`, unless the name is `-` alone. The argument
+/// `--` may come once, after the command's name. An invalid command line gives `Usage`; the only other error is
+/// lack of memory.
 pub fn parse_words<'a, S: AsStr>(alloc: Global, words: &'a [S]) -> Result<NamedCommand<'a>, Stop>
     ensures said { IfOk result (λ command. IsCommandLineOf (map S.text words.entry.now) (unborrowed_command command)) }
     ensures usage { result ≡ Err Stop.Usage → IsNoCommandLine (map S.text words.entry.now) }
@@ -104,7 +103,7 @@ pub fn parse_words<'a, S: AsStr>(alloc: Global, words: &'a [S]) -> Result<NamedC
     command_of(name, words).ok_or(Stop::Usage)
 }
 
-/// The command called `name`, with the file names and the day in its arguments `words`.
+/// The command named `name`, with the file names and the day in its arguments `words`.
 fn command_of<'a>(name: &str, words: &ArgMatches<'a>) -> Option<NamedCommand<'a>>
     ensures said { IfSome result (λ command.
         IsCommandOf (name.now, rows_of (found_of words.now)) (unborrowed_command command)) }
@@ -115,7 +114,7 @@ fn command_of<'a>(name: &str, words: &ArgMatches<'a>) -> Option<NamedCommand<'a>
     Some(Command { machine, action })
 }
 
-/// The action of the command `name`, with the file names and the day in its arguments `words`.
+/// The action of the command named `name`, with the file names and the day in its arguments `words`.
 fn action_of<'a>(name: &str, words: &ArgMatches<'a>) -> Option<NamedAction<'a>>
     ensures said { IfSome result (λ action.
         IsActionOf (name.now, rows_of (found_of words.now)) (unborrowed_action action)) }
@@ -213,7 +212,7 @@ fn grammar<'a>(alloc: Global) -> Result<Grammar<'a>, AllocError>
     with_commands(alloc, desk, &COMMANDS)
 }
 
-/// Adds `commands`, each with the names of its arguments, to `grammar`.
+/// Adds `commands` to `grammar`. Each of `commands` is a name with the names of its arguments.
 fn with_commands<'a>(
     alloc: Global,
     grammar: Grammar<'a>,

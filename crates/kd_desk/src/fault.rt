@@ -1,4 +1,4 @@
-//! DeskFault: why a command is refused.
+//! `DeskFault`: why a command is refused.
 ghost use Rattle.std.specs.Prelude.{◌≡◌, Some};
 ghost use Rattle.kd_desk.specs.FaultText.{desk_fault_text};
 
@@ -14,26 +14,26 @@ use std::alloc::AllocError;
 use std::fmt;
 use thiserror::Error;
 
-/// Why the desk refuses a command: the first fault that its steps find.
+/// Why the desk refuses a command: the first fault, in the order of testing.
 #[derive(Clone, Copy, Debug, PartialEq, Eq, Error)]
 pub enum DeskFault {
-    /// A fault of a machine file or of a key sheet, or no memory.
+    /// A machine file or a key sheet has this fault, or there was no memory.
     File(SheetFault),
     /// A list of settings has this fault.
     List(ListFault),
     /// A card has this fault.
     Card(CardFault),
-    /// The machine refuses this line of a list or of a card, once the lines before it are carried out.
+    /// The machine refuses this line of a list or a card, after the lines before it were carried out.
     Illegal(IllegalAt),
     /// The machine and the sheet's day are of different models.
     OtherModel,
-    /// A read or a write failed.
+    /// A read from a source or a write to a sink failed.
     Device,
     /// A source or a file has more than `READ_LIMIT` bytes.
     ReadTooLong,
-    /// The sheet has no day of this number.
+    /// The sheet has no day with the number asked for.
     NoSuchDay,
-    /// The card is for another day.
+    /// The card is for another day than the day asked for.
     OtherDay,
     /// The card doesn't prove itself shortest, for this reason.
     Doubtful(Doubt),
@@ -42,7 +42,7 @@ pub enum DeskFault {
 }
 
 impl DeskFault {
-    /// Returns the refusal's number and name, followed by the place or the numbers in the fault.
+    /// Returns the refusal's number and name, followed by the fault's place or numbers, if it has any.
     pub fn text(&self) -> Text
         ensures { result.bytes ≡ desk_fault_text self.now }
     {

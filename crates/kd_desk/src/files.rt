@@ -1,4 +1,4 @@
-//! `Files`: the trait that reads and opens the files that the command line names.
+//! `Files`: a trait for reading and opening the files that the command line names.
 ghost use Rattle.std.specs.Prelude.{◌≡◌, ◌<◌, [], ◌∷◌, ◌++◌, ℕ, false, List, Option, None, IfSome, IfOk, is_ok, length};
 ghost use Rattle.kd_desk.specs.Files.{content_of, opening_of, known_file, AskedName, AgreesOrNoMemory, IsOpenAnswer};
 
@@ -14,17 +14,17 @@ pub use host::{HostFile, HostFiles};
 use kd_tables::Source;
 use std::alloc::Global;
 
-/// Files by name, with a record of the names that were asked for.
+/// Files that can be asked for by name, with a record of the names asked for.
 pub trait Files<'n> {
     /// An opened file, which is streamed.
     type Opened: Source + Drop;
 
-    /// Maps a name to the bytes of its file, if there is such a file.
+    /// Maps a name to the bytes of the file with this name, if there is one.
     ///
-    /// `None` in place of the map means that the bytes aren't known, as for the host's files.
+    /// `None` in place of the map means that the files' bytes aren't known, as for the host's files.
     ghost known: { Self → Option (List ℕ → Option (List ℕ)) } = { λ _. None };
 
-    /// The names asked for, in order, and for each whether the file could be read or opened.
+    /// The names asked for, in order, each with whether the file could be read or opened.
     ghost asked: { Self → List AskedName };
 
     /// Reads the file `name` whole.

@@ -1,4 +1,4 @@
-//! Laws: how bytes are read as settings, and how a month's cards set the machine to each day.
+//! Laws: how bytes are read as settings, and how the cards of a month set the machine to each day.
 ghost use Rattle.std.specs.Prelude.{◌≡◌, All};
 ghost use Rattle.kd_state.specs.Machine.{model_of};
 ghost use Rattle.kd_state.specs.SheetDay.{day_model};
@@ -15,27 +15,27 @@ use kd_sheet::laws::written_files_are_read_back;
 use kd_state::{Entry, Machine, Parts, SheetDay, carry_all};
 use kd_tables::MemorySink;
 
-/// Bytes give at most one list of settings and at most one fault, and never both.
+/// Bytes give at most one list of settings or have at most one fault, and never both.
 pub fn bytes_say_settings_or_have_a_fault()
     ensures settings { TextsTellSettings }
     ensures no_fault { SettingsHaveNoFault }
     ensures one_fault { SettingsHaveOneFault }
 {}
 
-/// If settings lead from one machine to another, none of their lines is refused.
+/// If settings lead from one machine to another, the machine refuses none of the settings.
 pub fn settings_lead_or_are_refused()
     ensures { LeadsOrRefuses }
 {}
 
 /// Cards and machine files, written for one day of a sheet after another, set the machine to each day.
 ///
-/// Each card's settings lead from the machine of one file to the machine of the next file. This next machine
-/// reads as the day, and enciphers as the day's own machine. No shorter list of settings leads to the day.
+/// Each card's settings lead from the machine of one file to the machine of the next file. The machine of the next
+/// file reads as the day, and enciphers as the day's own machine. No fewer settings lead to the day.
 pub fn months_set_the_machine()
     ensures { MonthsSetTheMachine }
 {}
 
-/// On a rotor machine, a month's cards together have no more settings than any other lists.
+/// On a rotor machine, a month's cards together have no more settings than other lists would have.
 ///
 /// The other lists start from the same machine, and reach the same days one after another.
 #[tactic(auto, using(crate::proofs::Months::months_are_fewest))]
@@ -51,7 +51,7 @@ pub fn few_cables_serve_a_month()
     ensures { FewCablesServeAMonth }
 {}
 
-/// For days of the machine's model, one after another, cards and machine files can be written.
+/// Cards and machine files can be written for days of the machine's model, one day after another.
 pub fn months_can_be_written(machine: &Machine, sheet: &Sheet, numbers: &[u8])
     requires { All (HasDayOf (model_of machine.now) sheet.now) numbers.now }
     ensures { HasPapersInTurn machine.now sheet.now numbers.now }
@@ -62,20 +62,20 @@ pub fn months_can_be_written(machine: &Machine, sheet: &Sheet, numbers: &[u8])
     }
 }
 
-/// Returns the machine that `machine` becomes by the settings of the planned card for `day`.
+/// The machine to which the settings of the planned card for `day` lead from `machine`.
 fn machine_after_card(machine: &Machine, day: &SheetDay) -> Machine
     requires { day_model day.now ≡ model_of machine.now }
     ensures model { model_of result ≡ model_of machine.now }
     ensures written { HasPapers machine.now day.now result }
 {
-    // The calls of `parts` and `entry` show the prover that machine and day are legal.
+    // The calls of `parts` and `entry` show the prover that the machine and the day are legal.
     prove!(matches!(machine.parts(), Parts::Rotor(_) | Parts::Pin(_)));
     prove!(matches!(day.entry(), Entry::Rotor(_) | Entry::Pin(_)));
     settings_lead_or_are_refused();
     written_files_are_read_back();
     let card = in_kinds(machine, day, &plan(machine, day).unwrap());
-    // The contract of `write_card` shows the prover that there is a text of the card. The sink may take none
-    // of it.
+    // The contract of `write_card` shows the prover that the card has a text. The sink needn't take any byte of the
+    // text.
     let _ = write_card(&mut MemorySink::<0>::new(0), day.day(), &card);
     carry_all(machine, card.settings.as_slice()).unwrap()
 }

@@ -9,9 +9,9 @@ use kd_state::{Settings, read_list};
 /// The first bytes of every card.
 const CARD: &[u8] = b"CARD ";
 
-/// Reads `bytes` as a card if they begin with `CARD `, otherwise as a list with one setting on each line.
+/// Reads `bytes` as a card if they begin with `CARD `, otherwise as a list with one setting a line.
 ///
-/// The card may be for any day, and have any prices.
+/// A card may be for any day, and have any prices.
 pub fn read_settings(bytes: &[u8]) -> Result<Settings, DeskFault>
     ensures { MatchResult result
         (λ settings. AreSettings bytes.now settings.items)

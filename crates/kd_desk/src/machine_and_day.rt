@@ -1,4 +1,4 @@
-//! Reads the machine of a machine file and a day of a key sheet.
+//! Reads a machine from a machine file, and a day from a key sheet.
 ghost use Rattle.std.specs.Prelude.{◌≡◌, IfOk};
 ghost use Rattle.kd_state.specs.Machine.{IsMachine};
 ghost use Rattle.kd_state.specs.SheetDay.{IsLegalDay, day_number};
@@ -9,9 +9,9 @@ use kd_sheet::{read_machine, read_sheet};
 use kd_state::{Entry, Machine, Parts, SheetDay};
 use std::alloc::Global;
 
-/// Reads the machine in the machine file `machine`, and day `number` of the key sheet `sheet`.
+/// Reads the machine in the machine file `machine`, and day `number` in the key sheet `sheet`.
 ///
-/// Faults are tested in this order: the machine file's, the sheet's, and `NoSuchDay`.
+/// Faults are tested in this order: faults of the machine file, faults of the sheet, and `NoSuchDay`.
 pub fn find_day(
     alloc: Global,
     machine: &[u8],
@@ -25,7 +25,7 @@ pub fn find_day(
     let machine = read_machine(alloc, machine)?;
     let sheet = read_sheet(alloc, sheet)?;
     let day = sheet.into_day(number).ok_or(DeskFault::NoSuchDay)?;
-    // The calls of `parts` and `entry` show the prover that machine and day are legal.
+    // The calls of `parts` and `entry` show the prover that the machine and the day are legal.
     prove!(matches!(machine.parts(), Parts::Rotor(_) | Parts::Pin(_)));
     prove!(matches!(day.entry(), Entry::Rotor(_) | Entry::Pin(_)));
     Ok((machine, day))

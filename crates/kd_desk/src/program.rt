@@ -1,4 +1,4 @@
-//! The program: reads the command line, then the files, and carries the command out.
+//! The program: reads the command line and the files, and carries the command out.
 ghost use Rattle.std.specs.Prelude.{◌≡◌, ◌≤◌, ◌⊎◌, ◌||◌, [], false, map, length, Err, IfSome, IfOk, IsTrue, is_ok};
 ghost use Rattle.kd_desk.specs.CommandLine.{unborrowed_command, unborrowed_action, unborrowed_task, files_of};
 ghost use Rattle.kd_desk.specs.CommandLine.{action_files, task_files, with_command_opened, with_action_opened};
@@ -28,11 +28,11 @@ use std::convert::AsStr;
 
 /// Carries out the command line `words`, which begins with the program's own name.
 ///
-/// Returns the exit status: 0 for success, 2 for an invalid command line, or 1 for any refusal. With 1 or 2,
-/// it writes one line to `errors` that says why. It reads or opens each file once, in the order of the
-/// command line. An order or a form is opened, and read only while the command is carried out. Every other
-/// file is read whole before the next file is read or opened. If a file can't be read or opened, nothing is
-/// read from `source` or written to `sink`.
+/// Returns the exit status: 0 for success, 2 for an invalid command line, 1 for a refusal. With 1 or 2, one line
+/// that says why is written to `errors`. Each file is read or opened once, in the order of the command line. An
+/// order or a form is opened in its turn, but read only while the command is carried out. Every other file is read
+/// whole before the next file is read or opened. If a file can't be read or opened, nothing is read from `source`
+/// or written to `sink`.
 pub fn run_desk<'n, S: AsStr, F: Files<'n>, R: Source, W: Sink, E: Sink>(
     alloc: Global,
     words: &'n [S],
@@ -82,7 +82,7 @@ fn carry_words<'n, S: AsStr, F: Files<'n>, R: Source, W: Sink>(
 
 /// Reads or opens the files that `command` names, in the order of the command line.
 ///
-/// If a file can't be read or opened, returns the fault, and asks for no later file.
+/// If a file can't be read or opened, returns the fault, and asks for none of the files after it.
 fn read_files<'n, F: Files<'n>>(
     alloc: Global,
     command: NamedCommand<'n>,
@@ -185,7 +185,7 @@ fn carry_out<O: Source + Drop, R: Source, W: Sink>(
     }
 }
 
-/// Carries out `task` with the machine in `machine` and day `number` of `sheet`.
+/// Carries out `task` with the machine in the file `machine` and day `number` of the sheet `sheet`.
 fn carry_task<O: Source + Drop, W: Sink>(
     alloc: Global,
     machine: &[u8],
@@ -213,7 +213,7 @@ fn carry_task<O: Source + Drop, W: Sink>(
     }
 }
 
-/// Sends or receives the message in `file`, with the machine in `machine` and day `number` of `sheet`.
+/// Sends or receives the message in `file`, with the machine in the file `machine` and day `number` of `sheet`.
 fn carry_message<O: Source, W: Sink>(
     alloc: Global,
     machine: &[u8],

@@ -1,4 +1,4 @@
-//! The command `apply`: carries out settings on a machine, and writes its new machine file.
+//! The command `apply`: carries out settings on a machine, and writes the new machine file.
 ghost use Rattle.std.specs.Prelude.{◌≡◌, ◌⊎◌, ◌||◌, IfOk, IfErr, IsTrue};
 ghost use Rattle.kd_sheet.specs.MachineFile.{machine_of};
 ghost use Rattle.kd_desk.specs.declared.fault.DeskFault.TheVariants.{File};
@@ -15,9 +15,9 @@ use std::alloc::Global;
 
 /// Carries out the settings of `list` on the machine in the file `machine`; writes the new machine file.
 ///
-/// `list` is a list or a card; the card may be for any day, and have any prices. Faults are tested in this order:
-/// the machine file's, those of `list`, and the first line that the machine refuses. With each of these, nothing
-/// is written. With `Device`, only a prefix of the new file is written.
+/// `list` is a list or a card; a card may be for any day, and have any prices. Faults are tested in this order:
+/// faults of the machine file, faults of `list`, and the first line that the machine refuses. For all of these
+/// faults, nothing is written. For `Device`, only a prefix of the new file is written.
 pub fn run_apply<W: Sink>(
     alloc: Global,
     machine: &[u8],

@@ -20,8 +20,8 @@ use std::alloc::Global;
 
 /// Writes the shortest card from the machine in the file `machine` to day `number` of the sheet `sheet`.
 ///
-/// Faults are tested in this order: the machine file's, the sheet's, `NoSuchDay`, and `OtherModel`. With each of
-/// these, nothing is written. With `Device`, only a prefix of the card is written.
+/// Faults are tested in this order: faults of the machine file, faults of the sheet, `NoSuchDay`, and `OtherModel`.
+/// For all of these, nothing is written. For `Device`, only a prefix of the card is written.
 pub fn run_card<W: Sink>(
     alloc: Global,
     machine: &[u8],
@@ -45,7 +45,7 @@ pub fn print_card<W: Sink>(machine: &Machine, day: &SheetDay, sink: &mut W) -> R
     ensures untouched { IsTrue (is_refused_before result) → sink.new ≡ sink.old }
     ensures failed { W.has_failed sink.new ≡ (W.has_failed sink.old || is_device result) }
 {
-    // The calls of `parts` and `entry` show the prover that machine and day are legal.
+    // The calls of `parts` and `entry` show the prover that the machine and the day are legal.
     prove!(matches!(machine.parts(), Parts::Rotor(_) | Parts::Pin(_)));
     prove!(matches!(day.entry(), Entry::Rotor(_) | Entry::Pin(_)));
     let card = in_kinds(machine, day, &plan(machine, day)?);
@@ -53,7 +53,7 @@ pub fn print_card<W: Sink>(machine: &Machine, day: &SheetDay, sink: &mut W) -> R
     Ok(())
 }
 
-/// Returns `card` with prices by kind: one price for all cables, bars, pairs or rows that are equal.
+/// Returns `card` with prices by kind: one price for all equal cables, bars, pairs or rows.
 pub(crate) fn in_kinds(machine: &Machine, day: &SheetDay, card: &Card) -> Card
     requires machine { IsMachine machine.now }
     requires day { IsLegalDay day.now }

@@ -18,11 +18,10 @@ use std::alloc::Global;
 
 /// Checks that `card` proves itself shortest, from the machine in `machine` to day `number` of `sheet`.
 ///
-/// `machine` is a machine file, `sheet` a key sheet. If the card's prices prove the card shortest, writes
-/// SHORTEST and the number of its settings, whoever made the card. Faults are tested in this order: the machine
-/// file's, the sheet's, `NoSuchDay`, the card's, `OtherDay`, and `Doubtful`, which has the first reason why the
-/// card doesn't prove itself. With each of these, nothing is written. With `Device`, only a prefix of the line is
-/// written.
+/// `machine` is a machine file, and `sheet` a key sheet. If the card's prices prove the card shortest, writes
+/// SHORTEST and the number of its settings. Faults are tested in this order: faults of the machine file, faults of
+/// the sheet, `NoSuchDay`, faults of the card, `OtherDay`, and `Doubtful`, which has the first reason why the card
+/// doesn't prove itself. For all of these, nothing is written. For `Device`, only a prefix of the line is written.
 pub fn run_check<W: Sink>(
     alloc: Global,
     machine: &[u8],
@@ -53,7 +52,7 @@ pub fn check_card<W: Sink>(
     ensures untouched { IsTrue (is_refused_before result) → sink.new ≡ sink.old }
     ensures failed { W.has_failed sink.new ≡ (W.has_failed sink.old || is_device result) }
 {
-    // The calls of `parts` and `entry` show the prover that machine and day are legal.
+    // The calls of `parts` and `entry` show the prover that the machine and the day are legal.
     prove!(matches!(machine.parts(), Parts::Rotor(_) | Parts::Pin(_)));
     prove!(matches!(day.entry(), Entry::Rotor(_) | Entry::Pin(_)));
     let (dated, card) = read_card(card)?;
@@ -65,7 +64,7 @@ pub fn check_card<W: Sink>(
     Ok(())
 }
 
-/// Writes the line that says that a card of `number` settings is shortest.
+/// Writes the line that says that a card with `number` settings is shortest.
 fn write_verdict<W: Sink>(sink: &mut W, number: usize) -> Result<(), Device>
     ensures text { Writes (W.taken sink.old) (W.taken sink.new) (verdict_text number) result }
     ensures failed { W.has_failed sink.new ≡ (W.has_failed sink.old || is_err result) }

@@ -1,4 +1,4 @@
-//! The command `receive`: writes the text of a form, a message as it is received.
+//! The command `receive`: deciphers a form, and writes its text.
 ghost use Rattle.std.specs.Prelude.{◌≡◌, IsTrue};
 ghost use Rattle.kd_desk.specs.Messages.{Receives};
 ghost use Rattle.kd_desk.specs.OnDay.{IsAnswerOnDay};
@@ -11,14 +11,14 @@ use kd_form::receive_stream;
 use kd_tables::{Sink, Source};
 use std::alloc::Global;
 
-/// Receives `form` on the machine in the file `machine`, and writes its text.
+/// Receives `form` on the machine in the file `machine`, and writes the form's text.
 ///
-/// The machine must be on the key of day `number` of the key sheet `sheet`. The form is streamed: a part's text
-/// is written once the next part begins. Before any byte of the form is read, faults are tested in this order:
-/// the machine file's, the sheet's, `NoSuchDay`, `NotReady`, and `NotOnKey`. With each of these, nothing is read
-/// or written. While the form is read, the fault is the form's; or `ReadTooLong`, if the form has more than
-/// 1,048,576 bytes; or `Device`, if a read or a write fails. With each of these, the texts of the parts before
-/// the fault are written, or a prefix of them if a write failed.
+/// The machine must be on the key of day `number` of the key sheet `sheet`. The form is streamed: a part's text is
+/// written once the next part begins. Before the form is read, faults are tested in this order: faults of the
+/// machine file, faults of the sheet, `NoSuchDay`, `NotReady`, and `NotOnKey`. For all of these, nothing is read or
+/// written. While the form is read, the fault is the form's; or `ReadTooLong`, if the form has more than 1,048,576
+/// bytes; or `Device`, if a read or a write fails. For these, the texts of the parts before the fault are written,
+/// or a prefix of them if a write failed.
 pub fn run_receive<R: Source, W: Sink>(
     alloc: Global,
     machine: &[u8],

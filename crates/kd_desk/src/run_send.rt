@@ -1,4 +1,4 @@
-//! The command `send`: writes the form of an order, the file that says what to send.
+//! The command `send`: enciphers an order, and writes its form.
 ghost use Rattle.std.specs.Prelude.{◌≡◌, IsTrue};
 ghost use Rattle.kd_desk.specs.Messages.{Sends};
 ghost use Rattle.kd_desk.specs.OnDay.{IsAnswerOnDay};
@@ -11,14 +11,14 @@ use kd_form::send_stream;
 use kd_tables::{Sink, Source};
 use std::alloc::Global;
 
-/// Sends `order` on the machine in the file `machine`, and writes its form.
+/// Sends `order` on the machine in the file `machine`, and writes the order's form.
 ///
 /// The machine must be on the key of day `number` of the key sheet `sheet`. The order is streamed: a part is
-/// written once the first letter of the next part is read. Before any byte of the order is read, faults are
-/// tested in this order: the machine file's, the sheet's, `NoSuchDay`, `NotReady`, and `NotOnKey`. With each of
+/// written once the first letter of the next part is read. Before the order is read, faults are tested in this
+/// order: faults of the machine file, faults of the sheet, `NoSuchDay`, `NotReady`, and `NotOnKey`. For all of
 /// these, nothing is read or written. While the order is read, the fault is the order's; or `ReadTooLong`, if the
-/// order has more than 1,048,576 bytes; or `Device`, if a read or a write fails. With each of these, the parts
-/// made before are written, or a prefix of them if a write failed.
+/// order has more than 1,048,576 bytes; or `Device`, if a read or a write fails. For these, the parts made before
+/// the fault are written, or a prefix of them if a write failed.
 pub fn run_send<R: Source, W: Sink>(
     alloc: Global,
     machine: &[u8],

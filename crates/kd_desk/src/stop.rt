@@ -1,4 +1,4 @@
-//! Stop: why the program stops without success, with its exit status and its line on standard error.
+//! `Stop`: why the program stops without success, with its exit status and its line on standard error.
 ghost use Rattle.std.specs.Prelude.{◌≡◌, false, Err};
 ghost use Rattle.kd_tables.specs.Ports.{port};
 ghost use Rattle.kd_desk.specs.Ending.{refused_line, status_of, stop_line, EndsAs};
@@ -28,7 +28,7 @@ pub enum Stop {
 }
 
 impl Stop {
-    /// Turns the result of a command into the program's: a fault becomes a `Stop`.
+    /// Turns the result of a command into the program's result: a fault becomes a `Stop`.
     pub(crate) fn of_answer(done: Result<(), DeskFault>) -> Result<(), Stop>
         ensures { result ≡ stop_after false done }
     {
@@ -38,9 +38,9 @@ impl Stop {
         }
     }
 
-    /// Turns the result of a command that streams a file into the program's: a fault becomes a `Stop`.
+    /// Turns the result of a command that streams a file into the program's result: a fault becomes a `Stop`.
     ///
-    /// `file_failed` says whether a read of this file failed.
+    /// `file_failed` says whether a read of the streamed file failed.
     pub(crate) fn of_file_answer(done: Result<(), DeskFault>, file_failed: bool) -> Result<(), Stop>
         ensures { result ≡ stop_after file_failed done }
     {
@@ -77,7 +77,7 @@ impl Stop {
     }
 }
 
-/// The line on standard error for a refusal.
+/// The line on standard error for the refusal with the fault `fault`.
 fn refused_line(fault: DeskFault) -> Line
     ensures { result.bytes ≡ refused_line fault }
 {
@@ -88,9 +88,9 @@ fn refused_line(fault: DeskFault) -> Line
     line
 }
 
-/// Writes the line for the error in `answer`, if there is one, to `errors`; returns the exit status.
+/// Writes the line for the `Stop` in `answer`, if there is one, to `errors`; returns the exit status.
 ///
-/// The status doesn't depend on whether the line could be written.
+/// The exit status is the same even if the line can't be written.
 pub fn end_program<E: Sink>(answer: Result<(), Stop>, errors: &mut E) -> u8
     ensures { EndsAs answer (port E.taken E.has_failed errors.old errors.new) result }
 {

@@ -1,5 +1,5 @@
--- The cipher of the Converter M-209, by the number of bars met. Wheels are numbered from 1 to 6. Letters of a
--- text and places of a wheel are counted from 0.
+-- The cipher of the Converter M-209, which moves each letter by the number of bars that the wheels meet. Wheels are
+-- numbered from 1 to 6. Letters of a text and places of a wheel are counted from 0.
 -- Source: War Department TM 11-380
 -- Code: `Converter` turns its wheels at each letter. It finds the number of bars met in a table, which has an
 -- entry for each set of wheels that may have an effective acting pin.
@@ -36,13 +36,13 @@ is_acting_after pins letters count wheel =
     (nat_le 1 wheel && nat_le wheel 6) && is_effective (pins_on pins wheel)
     ((shown_place letters wheel + count + acting_offset wheel) % pin_wheel_size wheel)
 
--- how many bars are met after `count` letters: those with a lug at a wheel whose acting pin is effective
+-- how many bars are met after `count` letters; a bar is met if it has a lug at a wheel with an effective acting pin
 abbrev pub bars_met : PinKey → ℕ → ℕ
 bars_met key count =
     let acts = is_acting_after key.pins key.letters count in count_by (λ row. acts row.0 || acts row.1) key.rows
 
--- The ciphertext of `text`. Each letter becomes the letter that is as far before Z as it is after A. This letter
--- is moved on by the number of bars met, with A after Z.
+-- The ciphertext of `text`. Each letter is reversed (A becomes Z, B becomes Y, and so on), and then moved on by the
+-- number of bars met, with A after Z.
 abbrev pub converter_cipher : PinKey → List ℕ → List ℕ
 converter_cipher key text = map (λ numbered. (25 + bars_met key numbered.0 - numbered.1) % 26) (enumerate_from 0 text)
 
@@ -51,6 +51,6 @@ abbrev pub letter_after : PinKey → ℕ → ℕ → ℕ
 letter_after key count wheel = slice_index (ring_of wheel)
     ((shown_place key.letters wheel + count) % pin_wheel_size wheel)
 
--- the key after `count` letters have been enciphered
+-- the key after `count` letters have been enciphered, each of which turns all wheels by one place
 abbrev pub pin_key_after : PinKey → ℕ → PinKey
 pin_key_after key count = pin_key_turned key (map (letter_after key count) pin_wheels)

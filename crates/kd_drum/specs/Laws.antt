@@ -8,7 +8,7 @@ ConverterTwiceGivesBack =
     (key : PinKey) (text : List ℕ) → All (λ letter. letter < 26) text
     → converter_cipher key (converter_cipher key text) ≡ text
 
--- Enciphering `first` followed by `rest` is enciphering `first`, and then `rest` with the key after the letters of
+-- Enciphering `first ++ rest` is the same as enciphering `first`, and then `rest` with the key after the letters of
 -- `first`.
 abbrev pub ConverterCipherInTurn : Type 0
 ConverterCipherInTurn =

@@ -38,7 +38,7 @@ impl Model for Converter {
 }
 
 impl Converter {
-    /// Sets up a machine with the pins `pins`, showing `letters`, whose bars read as `rows`.
+    /// Sets up a Converter that has the pins `pins`, shows `letters`, and has bars that read as `rows`.
     ///
     /// Returns `NotOnWheel` if one of `letters` isn't on its wheel.
     pub fn new(
@@ -148,7 +148,7 @@ impl Converter {
 
     /// The set of wheels with an effective acting pin.
     ///
-    /// The set is a sum: 1 for wheel 1, 2 for wheel 2, and so on up to 32 for wheel 6.
+    /// The set is a number: the sum of 1 for wheel 1, 2 for wheel 2, and so on up to 32 for wheel 6.
     fn acting_wheels(&self) -> usize
         ensures set { result < 64 }
         ensures each { (wheel : _) → is_in_set result wheel
@@ -176,7 +176,7 @@ impl Converter {
     }
 }
 
-/// The letter that is as far before Z as `letter` is after A, moved on by `met` places, with A after Z.
+/// Reverses `letter` (A becomes Z, B becomes Y, and so on), and moves it on by `met` places, with A after Z.
 fn reversed_letter(met: u8, letter: Letter) -> Letter
     requires { met ≤ 27 }
     ensures { result ≡ (25 + met - letter) % 26 }

@@ -1,12 +1,12 @@
-//! How many bars the wheels meet: a table with an entry for each set of wheels.
+//! How many bars are met, as a table with an entry for each set of wheels.
 ghost use Rattle.std.specs.Prelude.{◌≡◌, ◌≤◌, ◌||◌};
 ghost use Rattle.kd_drum.specs.Counts.{AreCounts, is_in_set, bars_met_by};
 
 use kd_tables::Reading;
 
-/// Counts, for each set of wheels, the bars met if just these wheels have an effective acting pin.
+/// Counts, for each set of wheels, the bars that are met if exactly these wheels have an effective acting pin.
 ///
-/// A set is a sum: 1 for wheel 1, 2 for wheel 2, and so on up to 32 for wheel 6.
+/// A set is a number: the sum of 1 for wheel 1, 2 for wheel 2, and so on up to 32 for wheel 6.
 pub(crate) fn count_bars_met(rows: &[Reading; 27]) -> [u8; 64]
     ensures { AreCounts rows.now result }
 {
@@ -17,7 +17,7 @@ pub(crate) fn count_bars_met(rows: &[Reading; 27]) -> [u8; 64]
     counts
 }
 
-/// Counts the bars that the wheels of the set `wheels` meet.
+/// Counts the bars that have a lug at a wheel of the set `wheels`.
 fn bars_met_by(rows: &[Reading; 27], wheels: usize) -> u8
     ensures { result ≡ bars_met_by rows.now wheels }
 {
@@ -30,7 +30,7 @@ fn bars_met_by(rows: &[Reading; 27], wheels: usize) -> u8
     met
 }
 
-/// Whether a bar that reads as `row` is met: it has a lug at a wheel of the set `wheels`.
+/// Whether a bar that reads as `row` has a lug at a wheel of the set `wheels`.
 fn is_met(row: Reading, wheels: usize) -> bool
     ensures { result ≡ (is_in_set wheels row.0 || is_in_set wheels row.1) }
 {

@@ -1,4 +1,4 @@
-//! Laws on the definition of the Converter's cipher, independent of the code.
+//! Laws that follow from the definition of the Converter's cipher alone.
 ghost use Rattle.kd_drum.specs.Laws.{ConverterTwiceGivesBack, ConverterCipherInTurn, ConverterKeyInTurn};
 
 /// Enciphering twice with the same key gives the text back.
@@ -7,7 +7,7 @@ pub fn enciphering_twice_gives_back()
     ensures { ConverterTwiceGivesBack }
 {}
 
-/// A text can be enciphered in chunks. Each chunk starts from the letters that the earlier chunks leave on the wheels.
+/// A text can be enciphered in chunks. Each starts with the letters that the wheels show after the chunk before.
 #[tactic(auto, using(crate::proofs::Ciphers::cipher_in_turn))]
 pub fn pieces_are_enciphered_in_turn()
     ensures cipher { ConverterCipherInTurn }

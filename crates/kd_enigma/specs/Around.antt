@@ -1,6 +1,6 @@
--- The path of the current around a core: in through wheels, through the core, and back. A core is the path
--- further left: the reflector alone, or in through other wheels to the reflector, and back. No public contract
--- cites this file.
+-- The current's path around a core, which is a path further left: in through wheels, through the core, and back.
+-- The core is the reflector alone, or in through more wheels, the reflector, and back. No public contract cites
+-- this file.
 use Rattle.std.specs.Prelude.{ℕ, List, ◌∷◌, map}
 use Rattle.kd_tables.specs.Permutation.{alphabet, followed_by, inverse}
 use Rattle.kd_tables.specs.declared.wheel.Wheel.{Wheel}
@@ -12,19 +12,19 @@ pub record SeatedWheel : Type 0 where
   pub ring : ℕ
   pub board : List ℕ
 
--- the path around `core`: through the board and the wheel, through `core`, and back
+-- the current's path around `core`: in through board and wheel, through `core`, and back through wheel and board
 abbrev pub around_wheel : List ℕ → List ℕ → List ℕ → List ℕ
 around_wheel board core wheel = followed_by (followed_by (followed_by board wheel) core)
     (followed_by (inverse wheel) board)
 
--- The path through these wheels, around `core`, while the window shows these letters. The first wheel is next
--- to `core`.
+-- The current's path through these wheels and around `core`, while the window shows these letters. The first wheel
+-- is next to `core`.
 abbrev pub around_wheels : List ℕ → List SeatedWheel → List ℕ → List ℕ
 around_wheels core (s ∷ seated) (letter ∷ window) = around_wheels
     (around_wheel s.board core (rotor s.wheel s.ring letter)) seated window
 around_wheels core _ _ = core
 
--- for each letter in a wheel's window: the permutations on the way in and on the way back, each with the board
+-- for each letter in a wheel's window: the permutation of board and wheel on the way in, and that on the way back
 abbrev pub ways_by_window : Wheel → ℕ → List ℕ → List (List ℕ × List ℕ)
 ways_by_window wheel ring board = map (λ window. let turns = rotor wheel ring window in
     (followed_by board turns, followed_by (inverse turns) board)) alphabet

@@ -19,7 +19,7 @@ pub record RotorKey : Type 0 where
   pub reflector : Reflector
   pub plugs : List ℕ
 
--- The plugboard exchanges letters: it is a permutation, and applied twice changes nothing.
+-- The plugboard exchanges letters: it is a permutation, and if it is applied twice, it changes nothing.
 pub record IsPlugboard (plugs : List ℕ) : Type 0 where
   pub permutation : IsPermutation26 plugs
   pub own_inverse : IsOwnInverse plugs
@@ -43,7 +43,7 @@ unfoldable pub rotors : List Wheel → List ℕ → List ℕ → List (List ℕ)
 rotors (wheel ∷ wheels) (ring ∷ rings) (letter ∷ window) = rotor wheel ring letter ∷ rotors wheels rings window
 rotors _ _ _ = []
 
--- the product of permutations: the first one is applied first
+-- the product of permutations, of which the first is applied first
 unfoldable pub product : List (List ℕ) → List ℕ
 product [] = alphabet
 product (p ∷ ps) = followed_by p (product ps)

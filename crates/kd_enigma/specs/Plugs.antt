@@ -9,7 +9,7 @@ use Rattle.std.specs.List.{flat_map, IsDistinct}
 abbrev pub letters_in_pairs : List (ℕ × ℕ) → List ℕ
 letters_in_pairs pairs = flat_map (λ pair. pair.0 ∷ pair.1 ∷ []) pairs
 
--- No letter is in two pairs, or twice in one.
+-- No letter is in two pairs, or twice in one pair.
 abbrev pub NoLetterTwice : List (ℕ × ℕ) → Type 0
 NoLetterTwice pairs = IsDistinct nat_eq (letters_in_pairs pairs)
 

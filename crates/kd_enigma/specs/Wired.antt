@@ -8,7 +8,7 @@ use Rattle.kd_step.specs.Stepper.{Stepping}
 use Rattle.kd_enigma.specs.Around.{SeatedWheel, around_wheels}
 use Rattle.kd_enigma.specs.Cipher.{RotorKey, IsPlugboard, path}
 
--- the items of the slow wheels: all but the last item, which is the right wheel's
+-- all items but the last, which belongs to the right wheel; the wheels of the other items are the slow wheels
 abbrev pub slow_slots : {X : Type 0} → List X → List X
 slow_slots slots = take (length slots - 1) slots
 
@@ -30,9 +30,9 @@ key_of_parts stepper rings reflector plugs = record {
   plugs = plugs;
 }
 
--- What the code keeps for a key: its wheels in their slots, and three permutations. `reflecting` is the
--- reflector's, `slow_map` the path through the slow wheels, the reflector and back, and `path_map` the whole path
--- while the key's window shows.
+-- What the code keeps for a key: the wheels in their slots, and three permutations. `reflecting` is the reflector's
+-- permutation. `slow_map` is the path through all wheels but the right one, the reflector, and back. `path_map` is
+-- the whole path while the key's window shows.
 pub record IsWired (key : RotorKey) (seated : List SeatedWheel) (reflecting slow_map path_map : List ℕ) : Type 0 where
   pub seats : seated ≡ wheels_with_boards key.plugs key.wheels key.rings
   pub board : IsPlugboard key.plugs

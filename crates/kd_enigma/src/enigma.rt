@@ -42,7 +42,7 @@ impl<const S: usize> Model for Enigma<S> {
 }
 
 impl<const S: usize> Enigma<S> {
-    /// Sets up the machine of `key`, which has three or four slots.
+    /// Sets up a machine of three or four slots to `key`.
     pub fn new(key: EnigmaKey<S>) -> Self
         requires least { 3 ≤ S }
         requires most { S ≤ 4 }
@@ -119,7 +119,7 @@ impl<const S: usize> Enigma<S> {
         self.stepper.window()
     }
 
-    /// Steps the wheels, and updates the permutations that depend on them.
+    /// Steps the wheels, and updates the permutations that depend on the window.
     ///
     /// `slow_map` is the path through all wheels but the right one. It changes only if the second wheel from the
     /// right has moved: this wheel moves whenever a wheel to its left does.
@@ -145,7 +145,7 @@ impl<const S: usize> Enigma<S> {
     }
 }
 
-/// The path through all wheels but the right one: in through them, the reflector, and back.
+/// The current's path through all wheels but the right one, the reflector, and back through these wheels.
 #[tactic(auto, using(crate::proofs::Seats::around_more))]
 fn around_slow<const S: usize>(rotors: &[Rotor; S], window: &[Letter; S], reflecting: Map) -> Map
     requires { 1 ≤ S }

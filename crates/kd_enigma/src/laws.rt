@@ -1,4 +1,4 @@
-//! Laws on the definition of the cipher, independent of the code.
+//! Laws that follow from the definition of the Enigma's cipher alone.
 ghost use Rattle.std.specs.Prelude.{[]};
 ghost use Rattle.kd_tables.specs.Permutation.{exchange};
 ghost use Rattle.kd_enigma.specs.Cipher.{IsPlugboard};

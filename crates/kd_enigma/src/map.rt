@@ -6,7 +6,7 @@ use kd_tables::Letter;
 use std::marker::Model;
 use std::simd::prelude::*;
 
-/// A permutation of the alphabet. The six lanes after the 26 letters map to themselves.
+/// A permutation of the alphabet in 32 bytes. Bytes 26 to 31 stand for no letter, and map to themselves.
 #[derive(Clone, Copy)]
 pub(crate) struct Map {
     lanes: u8x32,

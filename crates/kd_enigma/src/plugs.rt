@@ -79,7 +79,7 @@ impl Plugs {
     }
 }
 
-/// Plugs `one` and `other` together if they differ and neither is plugged yet; returns whether it did.
+/// Plugs `one` and `other` together. Returns `false` if they are equal, or one of them is plugged already.
 fn plug(table: &mut [Letter; 26], one: Letter, other: Letter) -> bool
     ensures can { IsTrue result ↔ (one ≢ other) × IsFixedLetter table.old one × IsFixedLetter table.old other }
     ensures after { IsTrue result → table.new ≡ slice_set (slice_set table.old one other) other one }

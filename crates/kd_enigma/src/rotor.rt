@@ -10,7 +10,7 @@ use std::marker::Model;
 
 /// A wheel with its ring, and with what lies to its right: the plugboard, or nothing.
 ///
-/// For each window letter, it keeps the permutations on the way in and on the way back.
+/// For each window letter, it keeps one permutation for the current's way in, and one for its way back.
 #[derive(Drop)]
 pub(crate) struct Rotor {
     wheel: Wheel,
@@ -56,7 +56,7 @@ impl Rotor {
         }
     }
 
-    /// The path around `core`: in through board and wheel, through `core`, and back, while `window` shows.
+    /// The current's path in through board and wheel, through `core`, and back, while `window` shows.
     ///
     /// `core` is the path further left: in to the reflector, and back.
     pub(crate) fn enclose(&self, core: Map, window: Letter) -> Map

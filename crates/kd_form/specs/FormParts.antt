@@ -1,4 +1,4 @@
--- The parts of a form: a heading line, and all lines before the next heading line. Places are counted from 0.
+-- How a form is cut into parts. A part is a heading line and all lines before the next heading line.
 -- Code: `FormReader` reads byte by byte; it keeps the first six bytes of a body's line, to see whether the line
 -- is a heading line.
 -- Test: forms_are_received
@@ -11,7 +11,7 @@ use Rattle.kd_form.specs.declared.heading.Heading.{Heading}
 use Rattle.kd_form.specs.Part.{heading_words}
 use Rattle.kd_form.specs.Reading.{HasIndicator}
 
--- whether the bytes begin as a heading line does: with `PART `, then a digit
+-- whether `bytes` begin as a heading line does: with `PART ` and a digit
 unfoldable pub begins_heading : List ℕ → Bool
 begins_heading bytes =
     bytes_eq (take 5 bytes) (codes "PART ") && (nat_le 48 (slice_index bytes 5) && nat_le (slice_index bytes 5) 57)
@@ -19,7 +19,7 @@ begins_heading bytes =
 abbrev pub BeginsHeading : List ℕ → Type 0
 BeginsHeading bytes = IsTrue (begins_heading bytes)
 
--- The first part of a form, and its other parts. A new part begins after each LF that a heading line follows.
+-- The first part of a form, and the list of its other parts. A part ends at each LF before a heading line.
 abbrev pub cut_at_headings : List ℕ → List ℕ × List (List ℕ)
 cut_at_headings [] = ([], [])
 cut_at_headings (byte ∷ bytes) =
@@ -31,31 +31,31 @@ parts_of form = (cut_at_headings form).0 ∷ (cut_at_headings form).1
 
 -- ---- Which headings are valid on a day, and the first line of a part.
 
--- How many letters a body may have: on a rotor machine, fillers, group and 1 to 245 letters of text; on the
--- Converter M-209, the indicators twice and 1 to 100 groups of text.
+-- How many letters a body may have. On rotor machines: two fillers, a group of three, and 1 to 245 letters of text.
+-- On the Converter M-209: ten letters of indicators twice, and 1 to 100 groups of five letters.
 abbrev pub IsLetterCount : Day → ℕ → Type 0
 IsLetterCount (OfRotors s) count = (6 ≤ count) × (count ≤ 250)
 IsLetterCount (OfPins s) count = (25 ≤ count) × (count ≤ 520) × (count % 5 ≡ 0)
 
--- The number of a part is from 1 to `parts`, and `parts` is at most 99.
+-- The part's number `part` is from 1 to the number `parts` of all parts, and `parts` is at most 99.
 pub record IsFraction (part parts : ℕ) : Type 0 where
   pub first : 1 ≤ part
   pub in_order : part ≤ parts
   pub few : parts ≤ 99
 
--- The heading is valid for the day's model.
+-- `h` is a valid heading for the model of the day `s`.
 pub record IsHeading (s : Day) (h : Heading) : Type 0 where
   pub number : IsFraction h.part h.parts
   pub letters : IsLetterCount s h.letters
   pub indicator : HasIndicator s h.indicator
 
--- `text` is the line without the CR at its end, if it has one.
+-- `text` is `line`, without its last byte if this byte is CR.
 pub data IsLineText (line text : List ℕ) : Type 0 where
   WithReturn : line ≡ text ++ 13 ∷ [] → IsLineText line text
   WithoutReturn : text ≡ line → ((front : List ℕ) → line ≢ front ++ 13 ∷ []) → IsLineText line text
 
--- `line` is the first line of `text` without its line end, and `rest` follows the line end. If `text` has no
--- LF, all of it is the line.
+-- `line` is the first line of `text` without its line end, and `rest` follows the line end. If `text` has no LF,
+-- `line` is all of `text`.
 abbrev pub HasFirstLine : List ℕ → List ℕ → List ℕ → Type 0
 HasFirstLine text line rest =
     ((shown : List ℕ) × IsFirstPart 10 text shown rest × IsLineText shown line)
@@ -63,13 +63,13 @@ HasFirstLine text line rest =
 
 -- ---- What the code holds. No public contract cites these definitions.
 
--- `found` is the heading with these words, or `None` if no heading of the day's model has them.
+-- `found` is the valid heading with the words `words`, or `None` if no valid heading has these words.
 abbrev pub AreHeadingWords : Day → List (List ℕ) → Option Heading → Type 0
 AreHeadingWords s words found =
     MatchOption found ((h : Heading) → IsHeading s h → heading_words h ≢ words)
     (λ h. IsHeading s h × (heading_words h ≡ words))
 
--- There are at most four letters.
+-- `letters` are at most four letters, as numbers below 26.
 pub record AreFewLetters (letters : List ℕ) : Type 0 where
   pub few : length letters ≤ 4
   pub within : All (λ letter. letter < 26) letters

@@ -1,4 +1,4 @@
--- What the reader of a form holds after some of its bytes. No public contract cites this file.
+-- What `FormReader` holds after it has read some bytes of a form. No public contract cites this file.
 use Rattle.std.specs.Prelude.{codes, ◌≡◌, ◌≢◌, ◌⊎◌, ℕ, ◌<◌, ◌≤◌, List, [], ◌∷◌, ◌++◌, length, take, slice_index, All}
 use Rattle.std.specs.Prelude.{IsTrue, Option, Some, None, Result, Ok, Err, MatchResult, MatchOption}
 use Rattle.kd_tables.specs.Text.{is_text_byte}
@@ -19,23 +19,22 @@ use Rattle.kd_form.specs.FormText.{PartStart, PartsProperty, ReadsPartsTo, first
 
 -- ---- the last part
 
--- The byte can be at this place of a heading line, counted from 0: a heading line begins with `PART ` and a
--- digit.
+-- A heading line, which begins with `PART ` and a digit, can have `byte` at `place`, counted from 0.
 abbrev pub FitsHeadingAt : ℕ → ℕ → Type 0
 FitsHeadingAt place byte = (place < 5 → byte ≡ slice_index (codes "PART ") place)
     × (place ≡ 5 → (48 ≤ byte) × (byte ≤ 57))
 
--- The bytes begin as a heading line does, or they are a prefix of `PART `.
+-- `bytes` begin as a heading line does, or they are a prefix of `PART `.
 abbrev pub HasBegunHeading : List ℕ → Type 0
 HasBegunHeading bytes = ((count : ℕ) × (count ≤ 5) × (bytes ≡ take count (codes "PART "))) ⊎ BeginsHeading bytes
 
--- `part` is a prefix of a heading line, without LF, and `held` has its first bytes, up to 64.
+-- `part` is an incomplete heading line, without LF, and `held` has its first bytes, up to 64.
 pub record HoldsLine (held part : List ℕ) : Type 0 where
   pub kept : held ≡ take 64 part
   pub unbroken : IsWithout 10 part
   pub begins : HasBegunHeading part
 
--- `first` has the first bytes, up to 6, of the last line of `body`, which may be incomplete. `line` is the
+-- `first` has the first six bytes of the last line of `body`, or all bytes of a shorter last line. `line` is the
 -- line before `body`.
 pub record HasTail (line body first : List ℕ) : Type 0 where
   pub settled : List ℕ
@@ -46,7 +45,7 @@ pub record HasTail (line body first : List ℕ) : Type 0 where
   pub unbroken : IsWithout 10 tail
   pub kept : first ≡ take 6 tail
 
--- `part` has the heading that the reader holds, and then `body`, of which the reader holds up to 525 letters.
+-- `part` is a heading line and `body`. The reader holds, in `b`, the heading and the first 525 letters of `body`.
 pub record HoldsBody (s : Day) (b : PartBody) (part body : List ℕ) : Type 0 where
   pub line : List ℕ
   pub first : IsFirstPart 10 part line body
@@ -56,7 +55,7 @@ pub record HoldsBody (s : Day) (b : PartBody) (part body : List ℕ) : Type 0 wh
   pub allowed : All (λ b. IsTrue (is_text_byte b)) body
   pub kept : b.letters.items ≡ take 525 (letters_from None body)
 
--- `part` is part `number`, its heading has the expected number of parts, and the reader holds its body.
+-- `part` is part number `number`, its heading has the expected number of parts, and `b` holds its body.
 pub record HoldsPart (s : Day) (b : PartBody) (number : ℕ) (expected : Option ℕ) (part : List ℕ) : Type 0 where
   pub body : List ℕ
   pub holds : HoldsBody s b part body
@@ -67,12 +66,12 @@ abbrev pub HoldsStage : Day → FormStage → ℕ → Option ℕ → List ℕ �
 HoldsStage s (stages.Heading line) number expected part = HoldsLine line.items part × (length part < 6 → number ≡ 1)
 HoldsStage s (stages.Body b) number expected part = HoldsPart s b number expected part
 
--- `letters` are the body after this heading, and `made` is its text, as bytes.
+-- A body with the letters `letters`, after the heading `h`, is deciphered to a text, whose bytes are `made`.
 abbrev pub IsBodyPlaintext : Day → Heading → List ℕ → List ℕ → Type 0
 IsBodyPlaintext s h letters made = (text : List ℕ) × IsBodyAnswer s h.part h letters (Ok text)
     × (made ≡ plaintext_bytes s text)
 
--- The letters held, but for the last `others` of them, are deciphered into `output`, or refused.
+-- The letters that `b` holds, without the last `others` letters, are deciphered to `output`, or refused.
 abbrev pub IsDecipherAnswer : Day → PartBody → ℕ → List ℕ → Result (Unit {0}) FormFault → Type 0
 IsDecipherAnswer s b others output answer =
     (letters more : List ℕ) → length more ≡ others → b.letters.items ≡ take 525 (letters ++ more)
@@ -80,26 +79,26 @@ IsDecipherAnswer s b others output answer =
     (λ _. IsBodyPlaintext s b.heading letters output)
     (λ fault. IsBodyAnswer s b.heading.part b.heading letters (Err fault))
 
--- `found` is the heading of a part that ends within its heading line; if none is found, the part has no heading.
+-- `found` is the heading of `part`, which ends within its heading line. `None` means that `part` has no heading.
 abbrev pub IsOpenHeading : Day → List ℕ → Option Heading → Type 0
 IsOpenHeading s part found =
     MatchOption found ((h : Heading) (body : List ℕ) → ¬ (HasHeading s part h body)) (λ h. HasHeading s part h [])
 
--- `found` is the heading in the line `part`, which has ended; if none is found, no part that begins with this line
--- has a heading.
+-- `found` is the heading in the line `part`, whose LF was read. `None` means that a part with this first line has
+-- no heading.
 abbrev pub IsEndedHeading : Day → List ℕ → Option Heading → Type 0
 IsEndedHeading s part found =
     MatchOption found
     ((h : Heading) (body : List ℕ) → ¬ (HasHeading s (part ++ 10 ∷ []) h body))
     (λ h. IsHeading s h × IsLineText part (line_of (heading_words h)))
 
--- `h` was found. It is the heading of part `number`, with the expected number of parts.
+-- `found` is the heading `h`, with the part number `number` and the expected number of parts.
 pub record IsExpectedHeading (number : ℕ) (expected : Option ℕ) (found : Option Heading) (h : Heading) : Type 0 where
   pub is : found ≡ Some h
   pub numbered : h.part ≡ number
   pub due : IsExpectedCount expected h.parts
 
--- No heading was found, or the heading of another part, or one with another number of parts.
+-- Why `found` is refused: it is no heading, or a heading with another part number or number of parts.
 pub data IsHeadingFault (number : ℕ) (expected : Option ℕ) (found : Option Heading) (fault : FormFault) : Type 0 where
   HeadingMissing : found ≡ None → fault ≡ BadHeading number → IsHeadingFault number expected found fault
   HeadingOfOther : (h : Heading) → found ≡ Some h → (h.part ≢ number) ⊎ (¬ (IsExpectedCount expected h.parts))
@@ -108,15 +107,15 @@ pub data IsHeadingFault (number : ℕ) (expected : Option ℕ) (found : Option H
 
 -- ---- the form
 
--- where the part begins that the reader is in; `front` are the bytes of the form before this part
+-- the start of the part that the reader `r` is in; `front` are the form's bytes before this part
 abbrev pub reader_place : FormReader → List ℕ → PartStart
 reader_place r front = record { number = r.number; expected = r.expected; bytes_before = length front }
 
 abbrev pub IsAtPartStart : PartStart → PartsProperty
 IsAtPartStart q p parts = (p ≡ q) × (parts ≡ [])
 
--- The reader has read `form` and output `text`. It has deciphered the parts before the last one, and holds
--- the last one. Further bytes don't change the parts before the last one.
+-- The reader `r` has read `form`, and has output `text`, the texts of all parts but the last. It holds the last
+-- part. Further bytes don't change the earlier parts.
 pub record HoldsForm (s : Day) (r : FormReader) (form text : List ℕ) : Type 0 where
   pub front : List ℕ
   pub last : List ℕ

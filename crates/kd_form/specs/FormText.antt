@@ -15,8 +15,8 @@ use Rattle.kd_form.specs.Sending.{blank_of, text_letters}
 use Rattle.kd_form.specs.FormParts.{BeginsHeading, parts_of}
 use Rattle.kd_form.specs.Receiving.{IsPartRead, IsExpectedCount, IsEarlyFault, IsPartFault}
 
--- Where a part begins: its number, the number of all parts if an earlier heading gives it, and how many bytes
--- come before the part.
+-- How a part begins: the part's number, the number of all parts if an earlier heading has given it, and the number
+-- of the form's bytes before the part.
 pub record PartStart : Type 0 where
   pub number : ℕ
   pub expected : Option ℕ
@@ -25,18 +25,17 @@ pub record PartStart : Type 0 where
 abbrev pub first_part_start : PartStart
 first_part_start = record { number = 1; expected = None; bytes_before = 0 }
 
--- where the next part begins, after `part`, which begins at `p` and whose heading says that there are `count`
--- parts
+-- the start of the part after `part`; `part` begins at `p`, and its heading says that there are `count` parts
 abbrev pub next_part_start : PartStart → ℕ → List ℕ → PartStart
 next_part_start p count part = record
     { number = p.number + 1; expected = Some count; bytes_before = p.bytes_before + length part }
 
--- A property of the last parts of a form, and of where the first of them begins.
+-- A property of the start of a part, and of the form's parts from this part on.
 abbrev pub PartsProperty : Type 1
 PartsProperty = PartStart → List (List ℕ) → Type 0
 
--- From `p` on, parts are read in order until the parts left satisfy `Holds`. `letters` are the letters of the
--- texts of the parts read.
+-- The parts from `p` on are read in order, until the parts left satisfy `Holds`. `letters` are the deciphered
+-- letters of the parts read.
 abbrev pub ReadsPartsTo : Day → PartsProperty → PartStart → List (List ℕ) → List ℕ → Type 0
 ReadsPartsTo s Holds p [] letters = Holds p [] × (letters ≡ [])
 ReadsPartsTo s Holds p (part ∷ parts) letters =
@@ -47,12 +46,12 @@ ReadsPartsTo s Holds p (part ∷ parts) letters =
 -- ---- The text of a form.
 -- Test: forms_are_received
 
--- the byte for a letter: a space for the letter `blank`, if there is one, otherwise a capital letter
+-- the byte for a letter: a space if the letter is `blank`, otherwise the capital letter
 abbrev pub plaintext_byte : Option ℕ → ℕ → ℕ
 plaintext_byte None letter = letter + 65
 plaintext_byte (Some blank) letter = if letter == blank then 32 else letter + 65
 
--- letters as bytes; on the Converter M-209, a space for each Z
+-- the bytes for letters; on the Converter M-209, a space for each Z
 abbrev pub plaintext_bytes : Day → List ℕ → List ℕ
 plaintext_bytes s letters = map (plaintext_byte (blank_of s)) letters
 
@@ -66,7 +65,7 @@ IsFormReadTo s Holds form text =
     (letters : List ℕ) × ReadsPartsTo s Holds first_part_start (parts_of form) letters
     × (text ≡ plaintext_bytes s letters)
 
--- No part is left, and there were as many parts as the headings say.
+-- No part is left, and as many parts were read as the headings say.
 abbrev pub AreAllPartsRead : PartsProperty
 AreAllPartsRead p [] = (count : ℕ) × (p.expected ≡ Some count) × (p.number ≡ count + 1)
 AreAllPartsRead p (part ∷ parts) = ⊥
@@ -80,8 +79,8 @@ pub record IsTextOf (s : Day) (form text : List ℕ) : Type 0 where
 -- ---- Why a form has no text: its first fault, for good or at the form's end, and the text before this fault.
 -- Test: forms_are_received, parts_are_missing_or_exchanged
 
--- The part at `p` has this fault whatever bytes follow. If another part has begun after it, the fault can be any
--- of the part's. If not, the fault is an early one, and the part's heading line has ended.
+-- The part that begins at `p` has `fault`, whatever bytes follow. If a next part has begun, this can be any fault
+-- of the part. If not, the part's heading line has ended, and the fault shows before the part ends.
 abbrev pub IsPartFaultForGood : Day → FormFault → PartsProperty
 IsPartFaultForGood s fault p [] = ⊥
 IsPartFaultForGood s fault p (part ∷ []) =
@@ -89,25 +88,25 @@ IsPartFaultForGood s fault p (part ∷ []) =
     × IsEarlyFault s p.number p.expected p.bytes_before part fault
 IsPartFaultForGood s fault p (part ∷ next ∷ others) = IsPartFault s p.number p.expected p.bytes_before part fault
 
--- The form has this fault whatever bytes follow, and `text` is the text of the parts before the fault. Either the
--- form doesn't begin with a heading line, whatever bytes follow, or a part has the fault.
+-- The form has `fault` whatever bytes follow, and `text` is the text of the parts before the fault. Either the form
+-- can't begin with a heading line, whatever bytes follow, or one of its parts has the fault.
 pub data IsRefusedForGood (s : Day) (form text : List ℕ) (fault : FormFault) : Type 0 where
   NoHeading : ((more : List ℕ) → ¬ (BeginsHeading (form ++ more))) → text ≡ [] → fault ≡ BadHeading 1
       → IsRefusedForGood s form text fault
   AtPart : IsFormReadTo s (IsPartFaultForGood s fault) form text → IsRefusedForGood s form text fault
 
--- A form that ends here has this fault: its last part has it, or there are fewer parts than the headings say.
+-- If the form ends with these parts, it has `fault`: the last part has it, or the headings say more parts.
 abbrev pub IsPartFaultAtEnd : Day → FormFault → PartsProperty
 IsPartFaultAtEnd s fault p [] = (fault ≡ PartOrder) × (count : ℕ) × (p.expected ≡ Some count) × (p.number ≤ count)
 IsPartFaultAtEnd s fault p (part ∷ []) = IsPartFault s p.number p.expected p.bytes_before part fault
 IsPartFaultAtEnd s fault p (part ∷ next ∷ others) = ⊥
 
--- If the form ends here, it has this fault, and `text` is the text of the parts before the fault. An empty
--- form has one empty part.
+-- `form`, as a whole form, has `fault`, and `text` is the text of the parts before the fault. An empty form has one
+-- empty part.
 abbrev pub IsRefusedAtEnd : Day → List ℕ → List ℕ → FormFault → Type 0
 IsRefusedAtEnd s form text fault = IsFormReadTo s (IsPartFaultAtEnd s fault) form text
 
--- The form has this fault, for good or at its end.
+-- The form has `fault`: whatever bytes follow, or if it ends here.
 abbrev pub IsReceiveFault : Day → List ℕ → FormFault → Type 0
 IsReceiveFault s form fault = (text : List ℕ) × (IsRefusedForGood s form text fault ⊎ IsRefusedAtEnd s form text fault)
 
@@ -115,8 +114,7 @@ IsReceiveFault s form fault = (text : List ℕ) × (IsRefusedForGood s form text
 abbrev pub IsLastPart : PartsProperty
 IsLastPart p parts = (part : List ℕ) × (parts ≡ part ∷ [])
 
--- `text` is what is written before this fault. Without a fault, it is the text of the parts before the last
--- one.
+-- `text` is what is written before the fault. Without a fault, it is the text of all parts but the last.
 abbrev pub IsTextBefore : Day → Option FormFault → List ℕ → List ℕ → Type 0
 IsTextBefore s None form text = IsFormReadTo s IsLastPart form text
 IsTextBefore s (Some fault) form text = IsRefusedForGood s form text fault ⊎ IsRefusedAtEnd s form text fault
@@ -132,12 +130,12 @@ form_message s = record {
 
 -- ---- The text that an order's form has to give back.
 
--- the letters that are sent for a text; on the Converter M-209, X fills the last group of five
+-- the letters that are enciphered for a text's letters; on the Converter M-209, X fills the last group of five
 abbrev pub sent_letters : Day → List ℕ → List ℕ
 sent_letters (OfRotors s) letters = letters
 sent_letters (OfPins s) letters = fill_last_group letters
 
--- `given` is the text that the receiver of the order's form has to get.
+-- `given` is the text to which the form of `order` has to be deciphered.
 pub record IsPlaintextOf (s : Day) (order given : List ℕ) : Type 0 where
   pub keys : List Keys
   pub head : List ℕ

@@ -7,7 +7,7 @@ use Rattle.std.specs.Prelude.{◌≡◌, ◌++◌, Contains, ◌⊎◌, ℕ, ◌
 use Rattle.kd_tables.specs.Rings.{ring_of}
 use Rattle.kd_state.specs.Machine.{AreOnWheels}
 
--- The places are in rising order; the first place is at least `first`, and all are below `end`.
+-- The places are in strictly rising order, at least `first`, and below `end`.
 abbrev pub AreRising : ℕ → ℕ → List ℕ → Type 0
 AreRising first end [] = Unit {0}
 AreRising first end (place ∷ places) = (first ≤ place) × (place < end) × AreRising (place + 1) end places
@@ -19,28 +19,28 @@ PrecedesOrEquals (place ∷ places) [] = ⊥
 PrecedesOrEquals (place ∷ places) (other ∷ others) = (place < other)
     ⊎ ((place ≡ other) × PrecedesOrEquals places others)
 
--- `places` are in rising order, and `picked` are the letters of `letters` at these places. Six letters are
--- picked: the first is on wheel 1, the second on wheel 2, and so on.
+-- `places` are in rising order, and `picked` are the letters of `letters` at these places. Six letters are picked:
+-- the first is on wheel 1, the second on wheel 2, and so on.
 pub record ArePicked (letters places picked : List ℕ) : Type 0 where
   pub rising : AreRising 0 (length letters) places
   pub taken : picked ≡ map (λ place. slice_index letters place) places
   pub on_wheels : AreOnWheels picked
 
--- The key has the letters at the lexicographically first `places` that `ArePicked` allows. So each wheel in
--- turn takes the next letter that is on it.
+-- `key` has the letters at the lexicographically first places that `ArePicked` allows. So each wheel in turn takes
+-- the next of `letters` that is on the wheel.
 pub record IsInternalKey (letters key : List ℕ) : Type 0 where
   pub places : List ℕ
   pub picked : ArePicked letters places key
   pub first : (others other : List ℕ) → ArePicked letters others other → PrecedesOrEquals places others
 
--- The letters run out: no six places satisfy `ArePicked`.
+-- There is no internal key: no places in `letters` satisfy `ArePicked`.
 abbrev pub HaveNoInternalKey : List ℕ → Type 0
 HaveNoInternalKey letters = (places picked : List ℕ) → ¬ (ArePicked letters places picked)
 
 -- ---- What the code holds. No public contract cites these definitions.
 
--- `next` is `key` with the letter appended, if the letter is on the first wheel without a letter in `key`;
--- otherwise it is `key`.
+-- If `letter` is on the first wheel without a letter in `key`, `next` is `key` with `letter` appended. Otherwise
+-- `next` is `key`.
 pub data IsTakenInTurn (key : List ℕ) (letter : ℕ) (next : List ℕ) : Type 0 where
   OnWheel : Contains (ring_of (length key + 1)) letter → next ≡ key ++ letter ∷ [] → IsTakenInTurn key letter next
   OffWheel : ¬ (Contains (ring_of (length key + 1)) letter) → next ≡ key → IsTakenInTurn key letter next

@@ -7,12 +7,12 @@ use Rattle.kd_form.specs.declared.keys.Keys.TheVariants.{Rotor, Pin}
 use Rattle.kd_form.specs.Keys.{AreKeys}
 use Rattle.kd_form.specs.Order.{IsKeyLine}
 
--- `number` times `_`, each the place of a letter
+-- `number` bytes `_`, each of which stands for a letter
 abbrev pub blank_places : ℕ → List ℕ
 blank_places number = replicate number 95
 
--- the pattern of a line of keys: for a rotor machine with `slots` slots; next, for the Converter M-209; and
--- last, for the day's model
+-- the pattern of a line of keys for a rotor machine with `slots` slots; the next two definitions are the patterns
+-- for the Converter M-209 and for the day's model
 abbrev pub rotor_pattern : ℕ → List ℕ
 rotor_pattern slots = line_of (codes "PART" ∷ blank_places slots ∷ blank_places slots ∷ blank_places 2
     ∷ blank_places 3 ∷ [])
@@ -24,12 +24,12 @@ abbrev pub key_pattern : Day → List ℕ
 key_pattern (OfRotors s) = rotor_pattern (length s.wheels)
 key_pattern (OfPins s) = pin_pattern
 
--- the letters of the keys, in the line's order
+-- the letters of `k`, in the order in which a line of keys has them
 abbrev pub key_letters : Keys → List ℕ
 key_letters (Rotor k) = k.ground_setting ++ (k.message_key ++ (k.fillers ++ k.group))
 key_letters (Pin k) = k.chosen ∷ k.external
 
--- `bytes` are a line of keys of the day's model, and its end.
+-- `bytes` are a line of keys for the day's model, and the line's end.
 pub record IsAnyKeyLine (s : Day) (bytes : List ℕ) : Type 0 where
   pub keys : Keys
   pub of_the_day : AreKeys s keys

@@ -1,4 +1,4 @@
--- The keys that an order gives for a part, and the words of their line.
+-- The keys that an order gives for one part of its form, and the words of the line with these keys.
 -- Test: orders_are_sent
 use Rattle.std.specs.Prelude.{codes, ℕ, ◌<◌, List, [], ◌∷◌, length}
 use Rattle.kd_tables.specs.Text.{letters_text}
@@ -9,14 +9,14 @@ use Rattle.kd_form.specs.declared.keys.Keys.TheVariants.{Rotor, Pin}
 use Rattle.kd_form.specs.declared.keys.RotorKeys.{RotorKeys}
 use Rattle.kd_form.specs.declared.keys.PinKeys.{PinKeys}
 
--- the words of a line of keys
+-- the words of the line with the keys
 abbrev pub key_words : Keys → List (List ℕ)
 key_words (Rotor k) =
     codes "PART" ∷ letters_text k.ground_setting ∷ letters_text k.message_key ∷ letters_text k.fillers ∷ letters_text k.group
     ∷ []
 key_words (Pin k) = codes "PART" ∷ letters_text (k.chosen ∷ []) ∷ letters_text k.external ∷ []
 
--- The ground and the message key have a letter for each slot. There are two fillers, and a group of three
+-- The ground setting and the message key have a letter for each slot. There are two fillers, and a group of three
 -- letters.
 pub record AreRotorKeys (slots : ℕ) (k : RotorKeys) : Type 0 where
   pub ground_setting : AreLetters slots k.ground_setting
@@ -29,7 +29,7 @@ pub record ArePinKeys (k : PinKeys) : Type 0 where
   pub chosen : k.chosen < 26
   pub external : AreLetters 6 k.external
 
--- The keys are of the day's model.
+-- The keys are for the day's model.
 abbrev pub AreKeys : Day → Keys → Type 0
 AreKeys (OfRotors s) (Rotor k) = AreRotorKeys (length s.wheels) k
 AreKeys (OfPins s) (Pin k) = ArePinKeys k

@@ -26,7 +26,7 @@ OrdersHaveOneFault =
 abbrev pub OrderIsAnswered : Day → List ℕ → Type 0
 OrderIsAnswered s order = ((form : List ℕ) × IsFormOf s order form) ⊎ ((fault : FormFault) × IsSendFault s order fault)
 
--- A fault that stands in an order stays its fault, whatever bytes follow.
+-- If an order has a fault for good, it keeps this fault whatever bytes follow.
 abbrev pub OrdersStayRefused : Type 0
 OrdersStayRefused =
     (s : Day) (order more : List ℕ) (fault : FormFault) → IsOrderFaultForGood s order fault
@@ -48,7 +48,7 @@ FormsHaveOneFault =
     (s : Day) (form : List ℕ) (fault other : FormFault) → IsReceiveFault s form fault → IsReceiveFault s form other
     → fault ≡ other
 
--- A fault that a form has for good stays its fault, whatever bytes follow.
+-- If a form has a fault for good, it keeps this fault whatever bytes follow.
 abbrev pub FormsStayRefused : Type 0
 FormsStayRefused =
     (s : Day) (form more text : List ℕ) (fault : FormFault) → IsRefusedForGood s form text fault
@@ -58,12 +58,12 @@ FormsStayRefused =
 abbrev pub FormIsAnswered : Day → List ℕ → Type 0
 FormIsAnswered s form = ((text : List ℕ) × IsTextOf s form text) ⊎ ((fault : FormFault) × IsReceiveFault s form fault)
 
--- For an order that becomes a form, there is a text that the receiver has to get.
+-- For an order that becomes a form, there is a text to which the form has to be deciphered.
 abbrev pub OrdersGiveLetters : Type 0
 OrdersGiveLetters = (s : Day) (order form : List ℕ) → IsFormOf s order form → (given : List ℕ)
     × IsPlaintextOf s order given
 
--- On a legal day, the form of an order becomes the text that its receiver has to get.
+-- On a legal day, an order's form becomes the text to which it has to be deciphered.
 abbrev pub FormsGiveTheirOrders : Type 0
 FormsGiveTheirOrders =
     (s : Day) (order form given : List ℕ) → IsLegalDay s → IsFormOf s order form → IsPlaintextOf s order given

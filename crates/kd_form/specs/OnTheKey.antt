@@ -1,4 +1,4 @@
--- Whether a machine is ready and on the day's key, and what a call returns for a machine that isn't.
+-- Whether a machine is ready and on the day's key, and what a call returns if it isn't.
 -- Test: orders_are_sent
 use Rattle.std.specs.Prelude.{◌≡◌, ◌⊎◌, Result, Err, MatchResult}
 use Rattle.kd_state.specs.declared.machine.parts.Parts.{Parts}
@@ -18,12 +18,12 @@ pub record IsReadyOnKey (m : Parts) (s : Day) : Type 0 where
 abbrev pub IsKeyFault : Parts → Day → FormFault → Type 0
 IsKeyFault m s fault = (¬ (IsReady m) × (fault ≡ NotReady)) ⊎ (IsReady m × ¬ (OnKey m s) × (fault ≡ NotOnKey))
 
--- The fault satisfies `is_fault`. Or it is `NoMemory`, and `takes_memory` holds.
+-- `fault` satisfies `is_fault`; or `fault` is `NoMemory`, and `takes_memory` holds.
 abbrev pub IsFaultOrNoMemory : (FormFault → Type 0) → Type 0 → FormFault → Type 0
 IsFaultOrNoMemory is_fault takes_memory fault = (takes_memory × (fault ≡ NoMemory)) ⊎ is_fault fault
 
--- For a machine that isn't ready or isn't on the key, the answer is `NotReady` or `NotOnKey`. Otherwise the
--- answer is a result that satisfies `is_due`, or a fault that satisfies `IsFaultOrNoMemory`.
+-- If the machine isn't ready or isn't on the key, the answer is `NotReady` or `NotOnKey`. Otherwise the answer is a
+-- result that satisfies `is_due`, or a fault that satisfies `IsFaultOrNoMemory`.
 pub data IsAnswerOnKey {X : Type 0} (m : Parts) (s : Day) (is_due : X → Type 0) (is_fault : FormFault → Type 0)
     (takes_memory : Type 0) (answer : Result X FormFault) : Type 0 where
   OffKey : (fault : FormFault) → IsKeyFault m s fault → answer ≡ Err fault

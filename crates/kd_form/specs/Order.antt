@@ -1,5 +1,5 @@
--- Orders: a line of keys for each part, the line TEXT, and the text; and where the head of an order has a
--- fault. Bytes are counted from 1.
+-- An order: its head, which is a line of keys for each part and the line TEXT; and then its text. Also: where a
+-- head has its fault. Bytes are counted from 1.
 -- Test: orders_are_sent
 use Rattle.std.specs.Prelude.{codes, ◌≡◌, ◌≢◌, ◌⊎◌, ℕ, ◌+◌, ◌≤◌, List, [], ◌∷◌, ◌++◌, length}
 use Rattle.kd_state.specs.Words.{line_of}
@@ -9,31 +9,31 @@ use Rattle.kd_form.specs.declared.pattern_line.Unread.{Unread}
 use Rattle.kd_form.specs.declared.pattern_line.Unread.TheVariants.{Incomplete, Mismatch}
 use Rattle.kd_form.specs.Keys.{key_words, AreKeys}
 
--- `bytes` are the line and its end: LF, or CR and LF.
+-- `bytes` are `line` and a line end: LF, or CR and LF.
 abbrev pub IsLineWithEnd : List ℕ → List ℕ → Type 0
 IsLineWithEnd line bytes = (bytes ≡ line ++ 10 ∷ []) ⊎ (bytes ≡ line ++ 13 ∷ 10 ∷ [])
 
--- `bytes` are the line of these keys, and its end.
+-- `bytes` are the line with the keys `keys`, and a line end.
 abbrev pub IsKeyLine : Keys → List ℕ → Type 0
 IsKeyLine keys bytes = IsLineWithEnd (line_of (key_words keys)) bytes
 
--- The bytes begin with the lines of these keys, which are of the day's model. The rest satisfies `Holds`.
+-- `bytes` begin with a line for each of `keys`, all for the day's model. The bytes after them satisfy `Holds`.
 abbrev pub BeginsWithKeys : Day → List Keys → (List ℕ → Type 0) → List ℕ → Type 0
 BeginsWithKeys s [] Holds bytes = Holds bytes
 BeginsWithKeys s (keys ∷ more) Holds bytes =
     (line rest : List ℕ) × AreKeys s keys × IsKeyLine keys line × BeginsWithKeys s more Holds rest
     × (bytes ≡ line ++ rest)
 
--- `bytes` are the head of an order: at most 99 lines of keys, and the line TEXT.
+-- `bytes` are the head of an order: at most 99 lines, with the keys `keys`, and the line TEXT.
 pub record IsOrderHead (s : Day) (keys : List Keys) (bytes : List ℕ) : Type 0 where
   pub lines : BeginsWithKeys s keys (IsLineWithEnd (codes "TEXT")) bytes
   pub few : length keys ≤ 99
 
--- `bytes` are the head of an order, whatever its keys.
+-- `bytes` are the head of an order, with any keys.
 abbrev pub IsAnyOrderHead : Day → List ℕ → Type 0
 IsAnyOrderHead s bytes = (keys : List Keys) × IsOrderHead s keys bytes
 
--- The order has this head with these keys, and then this text.
+-- `order` is the head `head`, which has the keys `keys`, and then the text `text`.
 pub record IsOrder (s : Day) (order : List ℕ) (keys : List Keys) (head text : List ℕ) : Type 0 where
   pub joined : order ≡ head ++ text
   pub is_head : IsOrderHead s keys head
@@ -44,8 +44,8 @@ abbrev pub IsUnread : (List ℕ → Type 0) → List ℕ → Unread → Type 0
 IsUnread Is bytes Incomplete = (more : List ℕ) × (more ≢ []) × Is (bytes ++ more)
 IsUnread Is bytes Mismatch = (more : List ℕ) → ¬ (Is (bytes ++ more))
 
--- The bytes before `position` are a proper prefix of a head. No head begins with them and the byte at `position`.
--- If the order ends within its head, `position` is one past its last byte.
+-- The bytes before `position` are a proper prefix of a head, but with the byte at `position` they begin no head. If
+-- the order ends within its head, `position` is one past the order's last byte.
 pub record IsOrderHeadFault (s : Day) (order : List ℕ) (position : ℕ) : Type 0 where
   pub before : List ℕ
   pub rest : List ℕ

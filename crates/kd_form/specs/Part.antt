@@ -1,4 +1,4 @@
--- A part of a form, as a heading and letters, and how it is written.
+-- A part of a form: its heading and its letters, and how they are written.
 -- Test: long_texts_are_sent_and_received
 use Rattle.std.specs.Prelude.{codes, decimal, ℕ, List, [], ◌∷◌, ◌++◌, length, map, Option, Some, None}
 use Rattle.std.specs.List.{flat_map}
@@ -9,7 +9,7 @@ use Rattle.kd_state.specs.Words.{line_of}
 use Rattle.kd_form.specs.declared.heading.Heading.{Heading}
 use Rattle.kd_form.specs.declared.heading.Indicator.{Indicator}
 
--- the letters in pieces of `size`; the last one may be shorter
+-- `letters` cut into pieces of `size` letters; the last piece may be shorter
 abbrev pub pieces : ℕ → List ℕ → List (List ℕ)
 pieces size letters = first_chunks size (div_ceil (length letters) size) letters
 
@@ -17,7 +17,7 @@ pieces size letters = first_chunks size (div_ceil (length letters) size) letters
 abbrev pub fraction_text : ℕ → ℕ → List ℕ
 fraction_text part parts = decimal part ++ codes "/" ++ decimal parts
 
--- the ground and the enciphered message key, as words
+-- an indicator as words: the ground setting and the enciphered message key; no words for no indicator
 abbrev pub indicator_words : Option Indicator → List (List ℕ)
 indicator_words (Some indicator) = letters_text indicator.ground_setting ∷ letters_text indicator.enciphered_key ∷ []
 indicator_words None = []
@@ -26,15 +26,15 @@ indicator_words None = []
 abbrev pub heading_words : Heading → List (List ℕ)
 heading_words h = codes "PART" ∷ fraction_text h.part h.parts ∷ decimal h.letters ∷ indicator_words h.indicator
 
--- the line of these words, with LF at its end, and then `rest`
+-- the line of the words `words`, then LF, and then `rest`
 abbrev pub line_then : List (List ℕ) → List ℕ → List ℕ
 line_then words rest = line_of words ++ 10 ∷ rest
 
--- the words of a body's line: groups of five letters
+-- the words of a line of a body: groups of five letters; the last group may be shorter
 abbrev pub letter_groups : List ℕ → List (List ℕ)
 letter_groups letters = map letters_text (pieces 5 letters)
 
--- the lines of a body, with ten groups each
+-- the lines of a body: ten groups of five letters a line; the last line may be shorter
 abbrev pub body_text : List ℕ → List ℕ
 body_text letters = flat_map (λ line. line_then (letter_groups line) []) (pieces 50 letters)
 
@@ -48,6 +48,6 @@ part_text part = line_then (heading_words part.heading) (body_text part.body)
 
 -- ---- What the code holds. No public contract cites these definitions.
 
--- words, each after a space
+-- the words, with a space before each
 abbrev pub words_after_spaces : List (List ℕ) → List ℕ
 words_after_spaces words = flat_map (λ word. 32 ∷ word) words

@@ -1,10 +1,10 @@
--- Patterns of lines: `_` stands for a letter, each other byte for itself. No public contract cites this file.
+-- Patterns of lines: `_` means any capital letter, other bytes themselves. No public contract cites this file.
 use Rattle.std.specs.Prelude.{◌≡◌, ℕ, ◌+◌, ◌-◌, ◌==◌, ◌++◌, ◌&&◌, nat_le, Bool, List, [], ◌∷◌, drop, slice_index}
 use Rattle.std.specs.Prelude.{if◌then◌else◌}
 use Rattle.kd_state.specs.Machine.{AreLetters}
 use Rattle.kd_form.specs.Order.{IsLineWithEnd}
 
--- the pattern, with `letters` in place of its `_`, in order
+-- the pattern, with each `_` replaced by the next of `letters`
 abbrev pub filled_pattern : List ℕ → List ℕ → List ℕ
 filled_pattern [] letters = []
 filled_pattern (mark ∷ pattern) letters =
@@ -16,23 +16,23 @@ abbrev pub blank_count : List ℕ → ℕ
 blank_count [] = 0
 blank_count (mark ∷ pattern) = if mark == 95 then blank_count pattern + 1 else blank_count pattern
 
--- `bytes` are the line of the pattern with these letters, and its end.
+-- `bytes` are the pattern's line with `letters` in place of the `_`, and a line end.
 pub record IsFilledLine (pattern letters bytes : List ℕ) : Type 0 where
   pub are_letters : AreLetters (blank_count pattern) letters
   pub ended : IsLineWithEnd (filled_pattern pattern letters) bytes
 
--- `bytes` are the line of the pattern with some letters, and its end.
+-- `bytes` are the pattern's line with any letters in place of the `_`, and a line end.
 abbrev pub IsPatternLine : List ℕ → List ℕ → Type 0
 IsPatternLine pattern bytes = (letters : List ℕ) × IsFilledLine pattern letters bytes
 
 -- ---- one byte
 
--- whether the byte fits `mark`, a byte of a pattern: any capital letter fits `_`, and only an equal byte fits
--- any other mark
+-- whether `byte` fits `mark`, a byte of a pattern: any capital letter fits `_`, and each other mark fits only
+-- itself
 abbrev pub fits_mark : ℕ → ℕ → Bool
 fits_mark mark byte = if mark == 95 then nat_le 65 byte && nat_le byte 90 else byte == mark
 
--- the letter of the byte if `mark` is `_`; otherwise none
+-- the letter that `byte` is, if `mark` is `_`; otherwise no letter
 abbrev pub letters_for_mark : ℕ → ℕ → List ℕ
 letters_for_mark mark byte = if mark == 95 then (byte - 65) ∷ [] else []
 

@@ -19,16 +19,16 @@ use Rattle.kd_form.specs.Making.{cipher_from, list_letters, enciphered_choice}
 -- Source: the singly enciphered message key of the Wehrmacht
 -- Test: a_message_of_1941
 
--- the group, which comes after the two fillers
+-- the group in a body: the three letters after the two fillers
 abbrev pub group_of_body : List ℕ → List ℕ
 group_of_body letters = slice_range letters 2 5
 
--- the message key in the indicator, deciphered with the ground in the windows
+-- the message key: the indicator's enciphered key, deciphered with the ground setting in the windows
 abbrev pub deciphered_key : Day → Indicator → List ℕ
 deciphered_key s indicator = cipher_from s indicator.ground_setting indicator.enciphered_key
 
--- The answer is `WrongGroup` if the group is none of the day's. Otherwise it is the text, deciphered with the
--- message key in the windows.
+-- The answer is `WrongGroup` if the body's group is none of the day's groups. Otherwise it is the text, deciphered
+-- with the message key in the windows.
 abbrev pub IsRotorAnswer : Day → ℕ → Indicator → List ℕ → AnswerRule FormFault (List ℕ)
 IsRotorAnswer s part indicator letters = do
   _ ← Demands (AreADaysGroup s (group_of_body letters)) (WrongGroup part)
@@ -43,8 +43,8 @@ pub record HasIndicatorsAround (letters : List ℕ) : Type 0 where
   pub again : take 10 letters ≡ drop (length letters - 10) letters
   pub twice : slice_index letters 0 ≡ slice_index letters 1
 
--- The sections of a body: the keys (the chosen letter twice, then the external letters), the two list
--- letters, and the enciphered text between the indicators.
+-- The keys in a body: the chosen letter is the second letter, and the external letters are the next six. Then come
+-- the two list letters, and then the enciphered text.
 abbrev pub keys_of_body : List ℕ → PinKeys
 keys_of_body letters = record { chosen = slice_index letters 1; external = slice_range letters 2 8 }
 
@@ -54,9 +54,9 @@ list_of_body letters = slice_range letters 8 10
 abbrev pub text_of_body : List ℕ → List ℕ
 text_of_body letters = slice_range letters 10 (length letters - 10)
 
--- The tests, in order: the indicators before and after the text are the same; each external letter is on its
--- wheel; the list letters are the day's; there is an internal key. The first test that fails gives the fault.
--- Otherwise the answer is the text, deciphered with the internal key showing at the start.
+-- The tests, in order: the indicators before and after the text are equal; each external letter is on its wheel;
+-- the list letters are the day's; there is an internal key. The first test that fails gives the fault. Otherwise
+-- the answer is the text, deciphered with the internal key in the windows at the start.
 abbrev pub IsPinAnswer : Day → ℕ → List ℕ → AnswerRule FormFault (List ℕ)
 IsPinAnswer s part letters = do
   _ ← Demands (HasIndicatorsAround letters) (IndicatorsDiffer part)
@@ -68,8 +68,8 @@ IsPinAnswer s part letters = do
 -- ---- The letters of a body for either kind of machine.
 -- Test: forms_are_received
 
--- The indicator is one of the day's model. On a rotor machine, its ground and its message key have a letter
--- for each slot. On the Converter M-209, there is no indicator.
+-- The indicator is valid for the day's model. On a rotor machine, its ground setting and its enciphered key have a
+-- letter for each slot. On the Converter M-209, there is no indicator.
 abbrev pub HasIndicator : Day → Option Indicator → Type 0
 HasIndicator (OfRotors s) (Some i) = AreLetters (length s.wheels) i.ground_setting
     × AreLetters (length s.wheels) i.enciphered_key

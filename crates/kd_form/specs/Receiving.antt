@@ -20,13 +20,13 @@ pub record HasHeading (s : Day) (part : List ℕ) (h : Heading) (body : List ℕ
   pub first : HasFirstLine part (line_of (heading_words h)) body
 
 -- The answer is `CountWrong` if the body has more or fewer letters than its heading says. Otherwise it is the
--- answer for the body's letters.
+-- answer for the body's letters by `IsLettersAnswer`.
 abbrev pub IsBodyAnswer : Day → ℕ → Heading → List ℕ → AnswerRule FormFault (List ℕ)
 IsBodyAnswer s number h letters = do
   _ ← Demands (length letters ≡ h.letters) (CountWrong number)
   IsLettersAnswer s number h.indicator letters
 
--- The part is part `number` of `parts`, and `text` are the letters that its body deciphers to.
+-- `part` is part number `number` of `parts`, and its body is deciphered to the letters `text`.
 pub record IsPartRead (s : Day) (number parts : ℕ) (part text : List ℕ) : Type 0 where
   pub heading : Heading
   pub body : List ℕ
@@ -36,7 +36,7 @@ pub record IsPartRead (s : Day) (number parts : ℕ) (part text : List ℕ) : Ty
   pub allowed : All (λ b. IsTrue (is_text_byte b)) body
   pub read : IsBodyAnswer s number heading (letters_from None body) (Ok text)
 
--- `parts` is the expected number of parts, or no number is expected yet.
+-- `parts` is the number of parts that an earlier heading has given, if there is an earlier heading.
 abbrev pub IsExpectedCount : Option ℕ → ℕ → Type 0
 IsExpectedCount None parts = Unit {0}
 IsExpectedCount (Some first) parts = first ≡ parts

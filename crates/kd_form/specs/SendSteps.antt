@@ -1,4 +1,4 @@
--- What the reader of an order holds after some of its bytes. No public contract cites this file.
+-- What `OrderReader` holds after it has read some bytes of an order. No public contract cites this file.
 use Rattle.std.specs.Prelude.{codes, ◌≡◌, ◌≢◌, ◌⊎◌, Result, Ok, Err, ℕ, ◌*◌, ◌<◌, ◌≤◌, List, [], ◌++◌, length, take}
 use Rattle.std.specs.Prelude.{drop, All}
 use Rattle.kd_state.specs.SheetDay.{Day}
@@ -21,12 +21,12 @@ use Rattle.kd_form.specs.KeyPatterns.{IsAnyKeyLine}
 use Rattle.kd_form.specs.Sending.{text_letters, parts_needed, ArePartTextsMade, IsSendable}
 use Rattle.kd_form.specs.SendStream.{IsWritableCount}
 
--- The line may follow `count` lines of keys in a head. It is another line of keys, if `count` is below 99, or the
--- line TEXT.
+-- After `count` lines of keys, `line` may be the next line of an order's head. It is the line TEXT or, if `count`
+-- is below 99, another line of keys.
 abbrev pub IsHeadLine : Day → ℕ → List ℕ → Type 0
 IsHeadLine s count line = (IsAnyKeyLine s line × (count < 99)) ⊎ IsLineWithEnd (codes "TEXT") line
 
--- The order has a line for each of these keys, and then `line`, the incomplete next line of the head.
+-- `order` has a line for each of `keys`, and then `line`, an incomplete line of the head.
 pub record IsHeadBegun (s : Day) (keys : List Keys) (line order : List ℕ) : Type 0 where
   pub lines : BeginsWithKeys s keys (λ rest. rest ≡ line) order
   pub few : length keys ≤ 99
@@ -37,14 +37,14 @@ IsHeadStep s keys line order Open = IsHeadBegun s keys line order
 IsHeadStep s keys line order Text = IsOrder s order keys order []
 IsHeadStep s keys line order Bad = IsOrderHeadFault s order (length order)
 
--- There are at most 99 keys of the day's model, and all suit the day.
+-- There are keys for at most 99 parts. All are for the day's model, and suit the day.
 pub record AreSuitedKeys (s : Day) (keys : List Keys) : Type 0 where
   pub of_the_day : All (AreKeys s) keys
   pub suited : All (KeysSuitDay s) keys
   pub few : length keys ≤ 99
 
--- All parts of these letters that can be written were written, with keys that suit the day. The writer keeps
--- the next letters, at most as many as a part has.
+-- All parts of `letters` that can be written were written, with keys that suit the day. The writer `w` keeps the
+-- letters after them, at most as many as a part can have.
 pub record AreLettersTaken (s : Day) (keys : List Keys) (w : PartWriter) (letters sent : List ℕ) : Type 0 where
   pub suited : AreSuitedKeys s keys
   pub counted : w.count ≡ length letters
@@ -53,8 +53,8 @@ pub record AreLettersTaken (s : Day) (keys : List Keys) (w : PartWriter) (letter
   pub made : ArePartTextsMade s 1 (length keys) (take w.written keys)
       (pieces (part_size s) (take (part_size s * w.written) letters)) sent
 
--- Why a text with these letters can't be sent: there are none; or they need more or fewer parts than there are
--- keys.
+-- Why a text with the letters `letters` can't be sent: there are none, or they need more or fewer parts than the
+-- order has lines of keys.
 abbrev pub IsTextEndFault : Day → List Keys → List ℕ → FormFault → Type 0
 IsTextEndFault s keys letters fault =
     ((letters ≡ []) × (fault ≡ EmptyText))
@@ -74,7 +74,7 @@ pub record IsFreshWriter (w : PartWriter) : Type 0 where
   pub unwritten : w.written ≡ 0
   pub empty : w.letters.items ≡ []
 
--- The order is read up to some place in its text.
+-- The order is read up to a place in its text, and `w` has taken the letters before this place.
 pub record IsTextRead (s : Day) (keys : List Keys) (w : PartWriter) (order sent : List ℕ) : Type 0 where
   pub head : List ℕ
   pub text : List ℕ

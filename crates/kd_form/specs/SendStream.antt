@@ -10,21 +10,21 @@ use Rattle.kd_form.specs.Order.{IsOrder}
 use Rattle.kd_form.specs.Sending.{text_letters, IsOrderFaultForGood, IsSendFault, ArePartTextsMade, IsFormOf}
 use Rattle.kd_form.specs.Streams.{Message}
 
--- `front` is the prefix of the text before the first byte that isn't allowed.
+-- `front` is the prefix of `text` before the first byte that isn't allowed.
 pub record IsAllowedPrefix (text front : List ℕ) : Type 0 where
   pub rest : List ℕ
   pub joined : text ≡ front ++ rest
   pub allowed : All (λ b. IsTrue (is_text_byte b)) front
   pub ends : (byte : ℕ) (more : List ℕ) → rest ≡ byte ∷ more → IsFalse (is_text_byte byte)
 
--- Of `parts` parts, `written` can be written after `letters` letters. A part has at most `size` letters, and
--- can be written once a letter of the next part has been read.
+-- After `letters` letters of text, `written` of `parts` parts can be written. A part has at most `size` letters,
+-- and can be written once a letter of the next part has been read.
 pub record IsWritableCount (size parts letters written : ℕ) : Type 0 where
   pub due : (written ≡ 0) ⊎ ((written < parts) × (size * written < letters))
   pub most : (other : ℕ) → other < parts → size * other < letters → other ≤ written
 
--- `sent` is written before the end of the order is read. If the text hasn't begun, or the keys don't suit the
--- day, nothing is written. Otherwise, the parts that can be written are.
+-- `sent` is written before the end of the order is read. If the text hasn't begun, or the keys don't suit the day,
+-- nothing is written. Otherwise `sent` has the parts that `IsWritableCount` counts.
 pub data IsSentBefore (s : Day) (order sent : List ℕ) : Type 0 where
   NothingSent : ((keys : List Keys) (head text : List ℕ) → IsOrder s order keys head text
       → ¬ (All (KeysSuitDay s) keys))

@@ -23,7 +23,7 @@ abbrev pub blank_of : Day → Option ℕ
 blank_of (OfRotors s) = None
 blank_of (OfPins s) = Some 25
 
--- the letter that a byte of a text gives: a capital letter gives itself, a space `blank`, any other byte none
+-- the letter that a byte gives: a capital letter gives itself, a space gives `blank`, other bytes give none
 abbrev pub letter_of_byte : Option ℕ → ℕ → Option ℕ
 letter_of_byte blank byte = if is_capital byte then Some (byte - 65) else if byte == 32 then blank else None
 
@@ -35,7 +35,7 @@ letters_from blank text = filter_map (letter_of_byte blank) text
 abbrev pub text_letters : Day → List ℕ → List ℕ
 text_letters s text = letters_from (blank_of s) text
 
--- `place` is the index of the first byte of the text that isn't allowed.
+-- `place` is the index, from 0, of the first byte of `text` that isn't allowed.
 pub record IsFirstBadByteAt (text : List ℕ) (place : ℕ) : Type 0 where
   pub before : List ℕ
   pub byte : ℕ
@@ -61,7 +61,7 @@ IsKeysFault (OfPins s) part (Pin k) fault =
 IsKeysFault (OfRotors s) part (Pin k) fault = ⊥
 IsKeysFault (OfPins s) part (Rotor k) fault = ⊥
 
--- The fault of the first keys that don't suit the day.
+-- The fault of the first part whose keys don't suit the day.
 pub record IsFirstKeysFault (s : Day) (keys : List Keys) (fault : FormFault) : Type 0 where
   pub before : List Keys
   pub unsuited : Keys
@@ -70,8 +70,8 @@ pub record IsFirstKeysFault (s : Day) (keys : List Keys) (fault : FormFault) : T
   pub suited : All (KeysSuitDay s) before
   pub is : IsKeysFault s (length before + 1) unsuited fault
 
--- The order has a whole head, its keys suit the day, and each byte of its text is allowed. So no fault stands
--- in it.
+-- The order has a whole head, its keys suit the day, and each byte of its text is allowed. So there is no
+-- `IsOrderFaultForGood`.
 pub record IsSendable (s : Day) (order : List ℕ) (keys : List Keys) (head text : List ℕ) : Type 0 where
   pub is_order : IsOrder s order keys head text
   pub suited : All (KeysSuitDay s) keys
@@ -88,8 +88,8 @@ pub data IsOrderFaultForGood (s : Day) (order : List ℕ) (fault : FormFault) : 
       → All (KeysSuitDay s) keys
       → IsFirstBadByteAt text place → fault ≡ BadByte (length head + place + 1) → IsOrderFaultForGood s order fault
 
--- The fault that an order has only at its end: it ends in its head, it has no letter, or it needs more or fewer
--- parts than it has lines of keys.
+-- The fault that an order has if it ends here: it ends within its head, its text has no letter, or its text needs
+-- more or fewer parts than the order has lines of keys.
 pub data IsOrderFaultAtEnd (s : Day) (order : List ℕ) (fault : FormFault) : Type 0 where
   HeadCutShort : IsOrderHeadFault s order (length order + 1) → fault ≡ BadByte (length order + 1)
       → IsOrderFaultAtEnd s order fault

@@ -10,19 +10,19 @@ use Rattle.kd_form.specs.declared.stream.interruption.Interruption.{Interruption
 use Rattle.kd_form.specs.declared.stream.interruption.Interruption.TheVariants.{Device, Refused}
 use Rattle.kd_form.specs.Streams.{Message, IsOpen, IsRefused, IsMessageAnswer, FallsShort}
 
--- The reader has read `bytes` and output `text`, and no fault stands in `bytes`.
+-- The reader has read `bytes` and output `text`, as `holds` says, and no fault stands in `bytes`.
 pub record HasReadSoFar (m : Message) (holds : List ℕ → List ℕ → Type 0) (bytes text : List ℕ) : Type 0 where
   pub is : holds bytes text
   pub open_yet : IsOpen m bytes text
 
--- The reader has read some bytes, and `room` more may follow.
+-- The reader has read some bytes, and `room` more bytes may follow.
 pub record HasRoom (m : Message) (holds : List ℕ → List ℕ → Type 0) (room : ℕ) : Type 0 where
   pub bytes : List ℕ
   pub text : List ℕ
   pub held : HasReadSoFar m holds bytes text
   pub within : length bytes + room < 2 ^ 63
 
--- The reader reads `byte` after the bytes before, and outputs `made`. Or a fault stands once `byte` is read.
+-- The reader, of which `old` holds, reads `byte` and outputs `made`; then `new` holds. Or a fault stands.
 abbrev pub IsFeedAnswer : Message → (List ℕ → List ℕ → Type 0) → (List ℕ → List ℕ → Type 0) → ℕ → List ℕ
     → Result (Unit {0}) FormFault → Type 0
 IsFeedAnswer m old new byte made answer =
@@ -35,7 +35,7 @@ abbrev pub IsEndAnswer : Message → (List ℕ → List ℕ → Type 0) → List
 IsEndAnswer m old made answer = (bytes text : List ℕ) → HasReadSoFar m old bytes text
     → IsMessageAnswer m bytes (text ++ made) answer
 
--- the fault that a call returns for an interruption
+-- the fault that a call returns if an interruption ends the call
 abbrev pub fault_of_interruption : Interruption → FormFault
 fault_of_interruption Device = faults.Device
 fault_of_interruption (Refused fault) = fault
@@ -75,7 +75,7 @@ IsFeedAllAnswer m old new more sink answer =
 
 -- ---- the end
 
--- All that is due at the end was written. If the sink failed, only a proper prefix of it was.
+-- All text that is due at the message's end was written. If the sink failed, a proper prefix of this text was.
 abbrev pub HasBeenEnded : Message → List ℕ → List ℕ → Result (Unit {0}) Interruption → Type 0
 HasBeenEnded m bytes text (Ok _) = IsMessageAnswer m bytes text (Ok tt)
 HasBeenEnded m bytes text (Err (Refused fault)) = IsMessageAnswer m bytes text (Err fault)
@@ -92,7 +92,7 @@ abbrev pub IsFinishAnswer : Message → (List ℕ → List ℕ → Type 0) → P
 IsFinishAnswer m old sink answer = (bytes text : List ℕ) → HasReadSoFar m old bytes text
     → IsClosed m bytes text sink answer
 
--- the answer, with an interruption as the fault that a call returns for it
+-- the answer, with `fault_of_interruption` applied to an interruption
 abbrev pub answer_with_fault : Result (Unit {0}) Interruption → Result (Unit {0}) FormFault
 answer_with_fault (Ok _) = Ok tt
 answer_with_fault (Err stop) = Err (fault_of_interruption stop)
@@ -115,8 +115,8 @@ pub data IsReadStopped (m : Message) (new : List ℕ → List ℕ → Type 0) (s
       → sink.has_failed ≡ (sink.had_failed || is_device_interruption {T = Unit {0}} (Err stop))
       → IsReadStopped m new source sink read text stop
 
--- `count` bytes were taken from the source and read, and `count` is 0 only at the source's end. Or reading
--- them stopped.
+-- `count` bytes were taken from the source and fed to the reader; `count` is 0 only at the source's end. Or an
+-- interruption came.
 abbrev pub HasBeenRead : Message → (List ℕ → List ℕ → Type 0) → Port → Port → List ℕ → List ℕ → List ℕ
     → Result ℕ Interruption
     → Type 0

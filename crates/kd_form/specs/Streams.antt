@@ -10,9 +10,9 @@ use Rattle.kd_form.specs.declared.fault.FormFault.{FormFault}
 use Rattle.kd_form.specs.declared.fault.FormFault.TheVariants.{NotReady, Device, NotOnKey, ReadTooLong}
 use Rattle.kd_form.specs.OnTheKey.{IsReadyOnKey, IsKeyFault}
 
--- A kind of message, as properties of bytes: which fault stands in them; which fault they have as a whole
--- message; what they become as a whole message; and what is written before a fault, or, without a fault,
--- before more bytes are read.
+-- A kind of message. It says of bytes which fault they keep whatever bytes follow; which fault they have as a whole
+-- message; and what they become as a whole message. It also says what is written before a fault or, without a
+-- fault, before more bytes are read.
 pub record Message : Type 1 where
   pub stands : List ℕ → FormFault → Type 0
   pub refused : List ℕ → FormFault → Type 0
@@ -33,7 +33,7 @@ IsMessageAnswer m bytes text answer =
 -- Code: `stream_message` reads a message chunk by chunk; the readers of orders and forms take it byte by byte.
 -- Test: orders_are_sent, forms_are_received
 
--- `text` has to be written: because a prefix of `read` was read, or because the source has ended.
+-- `text` has to be written: because a prefix of `read` was read, or because the source has ended after `read`.
 pub data IsDue (m : Message) (source : Port) (read text : List ℕ) : Type 0 where
   ByThen : (front : List ℕ) → StartsWith read front → IsOpen m front text → IsDue m source read text
   ByTheEnd : (answer : Result (Unit {0}) FormFault) → IsAtEnd source.has → IsMessageAnswer m read text answer
@@ -49,10 +49,10 @@ pub record FallsShort (due text : List ℕ) : Type 0 where
   pub some : missing ≢ []
   pub joined : due ≡ text ++ missing
 
--- What was read, up to the limit, and what was written, for each answer. `MessageComplete`: the message is
--- complete. `FaultForGood`: a fault stands, whatever bytes follow. `FaultAtEnd`: no fault stands, but the whole
--- message has one. `TooLong`: one byte more than the limit was read. `SourceFails`: all that was due for the
--- bytes read is written. `SinkFails`: less than what was due is written.
+-- What a call has read and written when it returns. `MessageComplete`: the message is complete. `FaultForGood`: the
+-- bytes have a fault whatever bytes follow. `FaultAtEnd`: only the whole message has a fault. `TooLong`: one byte
+-- more than the limit was read. `SourceFails`: all text that was due for the bytes read is written. `SinkFails`: a
+-- proper prefix of the text that was due is written.
 pub data IsStreamAnswer (m : Message) (source sink : Port) (read text : List ℕ)
     (answer : Result (Unit {0}) FormFault) : Type 0 where
   MessageComplete : length read ≤ read_limit → IsAtEnd source.has → m.becomes read text → HaveNotFailed source sink
@@ -72,7 +72,7 @@ pub data IsStreamAnswer (m : Message) (source sink : Port) (read text : List ℕ
       → FailsAlone sink source
       → answer ≡ Err Device → IsStreamAnswer m source sink read text answer
 
--- The call took `read` from the source and put `text` into the sink, and they satisfy `IsStreamAnswer`.
+-- The call took `read` from the source and put `text` into the sink, as `IsStreamAnswer` says.
 pub record IsStreamed (m : Message) (source sink : Port) (answer : Result (Unit {0}) FormFault) : Type 0 where
   pub read : List ℕ
   pub text : List ℕ
@@ -94,12 +94,12 @@ is_off_key (Err NotReady) = true
 is_off_key (Err NotOnKey) = true
 is_off_key _ = false
 
--- The port is as it was, and didn't fail.
+-- The call left the port as it was, and the port didn't fail.
 pub record IsUntouched (p : Port) : Type 0 where
   pub has : p.has ≡ p.had
   pub well : HasNotFailed p
 
--- If there is a fault before anything is read, it is the answer, and both ports are left as they were.
+-- If a fault comes before anything is read, the answer is this fault, and both ports are left as they were.
 -- Otherwise `may` holds, the message is read, and its result is written.
 pub data StreamsUnlessFault (is_fault : FormFault → Type 0) (may : Type 0) (message : Message) (source sink : Port)
     (answer : Result (Unit {0}) FormFault) : Type 0 where
@@ -115,7 +115,7 @@ StreamsOnKey m s message source sink answer = StreamsUnlessFault (IsKeyFault m s
 
 -- ---- What the code holds. No public contract cites these definitions.
 
--- The bytes have this fault whatever bytes follow, and `text` is written before it.
+-- The bytes have `fault` whatever bytes follow, and `text` is written before the fault.
 pub record IsRefused (m : Message) (bytes text : List ℕ) (fault : FormFault) : Type 0 where
   pub stands : (more : List ℕ) → m.stands (bytes ++ more) fault
   pub refused : (more : List ℕ) → m.refused (bytes ++ more) fault

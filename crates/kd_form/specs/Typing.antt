@@ -15,7 +15,7 @@ use Rattle.kd_form.specs.Sending.{letters_from, IsFirstBadByteAt}
 use Rattle.kd_form.specs.SendStream.{IsAllowedPrefix}
 use Rattle.kd_form.specs.Streams.{Message, StreamsUnlessFault}
 
--- the letters in the bytes; a space gives none
+-- the capital letters among `bytes`; other bytes, such as spaces, give none
 abbrev pub typed_letters : List ℕ → List ℕ
 typed_letters bytes = letters_from None bytes
 
@@ -50,14 +50,14 @@ pub record IsTypedChunk (key left : EngineKey) (bytes lamps : List ℕ) : Type 0
   pub cipher : lamps ≡ cipher_text (cipher key) bytes
   pub after : left ≡ engine_key_after key (length (typed_letters bytes))
 
--- The first `front` bytes are allowed, and the next one, if there is one, isn't.
+-- The first `front` bytes are allowed, and the next byte, if there is one, isn't.
 pub record IsAllowedUpTo (bytes : List ℕ) (front : ℕ) : Type 0 where
   pub within : front ≤ length bytes
   pub allowed : All (λ b. IsTrue (is_text_byte b)) (take front bytes)
   pub next : front < length bytes → IsFalse (is_text_byte (slice_index bytes front))
 
--- All of `bytes` are allowed and were typed. `text` is their ciphertext, and the engine is set to encipher
--- what follows them.
+-- All of `bytes` are allowed and were typed. `text` is their ciphertext, and the engine is set to encipher the
+-- bytes that follow.
 pub record HasTyped (m : Parts) (t : Typist) (bytes text : List ℕ) : Type 0 where
   pub counted : t.read ≡ length bytes
   pub allowed : All (λ b. IsTrue (is_text_byte b)) bytes

@@ -51,7 +51,7 @@ fn push_groups<const N: usize>(text: &mut ArrayString<N>, letters: &[Letter])
     push_groups(text, rest);
 }
 
-/// Splits `letters` after the first `size`, or after the last letter if there are fewer.
+/// Splits `letters` after the first `size` letters, or after the last letter if there are fewer.
 #[tactic(auto, using(crate::proofs::MadeParts::first_pieces))]
 fn first_piece(letters: &[Letter], size: usize) -> (&[Letter], &[Letter])
     requires size { 1 ≤ size }

@@ -1,4 +1,4 @@
-//! FormFault: why a text, an order or a form is refused.
+//! `FormFault`: why a text, an order or a form is refused.
 ghost use Rattle.std.specs.Prelude.{◌≡◌, Some};
 ghost use Rattle.kd_form.specs.FaultText.{form_fault_text};
 
@@ -7,18 +7,18 @@ use kd_tables::{Device, Refusal, Text};
 use std::fmt;
 use thiserror::Error;
 
-/// Why a text, an order or a form is refused. Bytes and parts are counted from 1.
+/// Why a typed text, an order or a form is refused. Bytes and parts are counted from 1.
 #[derive(Clone, Copy, Debug, PartialEq, Eq, Error)]
 pub enum FormFault {
     /// A slot of the machine is empty, or a cable has one letter.
     NotReady,
     /// A read from the source or a write to the sink failed.
     Device,
-    /// There was no memory for the form, or for the text.
+    /// There was no memory for the form or the text that the call returns.
     NoMemory,
-    /// The machine isn't set as the day says.
+    /// The machine isn't on the day's key: it isn't set as the day says.
     NotOnKey,
-    /// The byte at this position isn't allowed there, or is missing.
+    /// The byte at this position of the message isn't allowed there, or is missing.
     BadByte(usize),
     /// The order's text has no letter.
     EmptyText,
@@ -26,17 +26,17 @@ pub enum FormFault {
     PartKeys { needed: usize, given: usize },
     /// A letter that the message gives for a wheel (an external letter) isn't on this wheel.
     KeyNotOnWheel,
-    /// The part's group isn't one of the day's; on the Converter M-209, its list letters aren't the day's.
+    /// This part's group is none of the day's. Or, on the Converter M-209, its list letters aren't the day's.
     WrongGroup(u8),
-    /// This part's twelve enciphered letters run out before each wheel has a letter of the internal key.
+    /// This part's enciphered letters run out before each wheel has a letter of the internal key.
     IndicatorSpent(u8),
-    /// This part doesn't begin with a heading of the day's model.
+    /// This part doesn't begin with a valid heading for the day's model.
     BadHeading(u8),
     /// This part has more or fewer letters than its heading says.
     CountWrong(u8),
-    /// This part ends in other indicators than it begins with, or their first two letters differ.
+    /// The indicators at the end of this part aren't those at its start, or the first two letters differ.
     IndicatorsDiffer(u8),
-    /// Parts are out of order or missing, or their headings differ in the number of parts.
+    /// Parts are out of order or missing, or their headings differ in the number of all parts.
     PartOrder,
     /// The source has more than `READ_LIMIT` bytes.
     ReadTooLong,

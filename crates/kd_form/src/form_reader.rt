@@ -16,23 +16,23 @@ use super::text::is_text_byte;
 use arrayvec::ArrayVec;
 use kd_state::SheetDay;
 
-/// How many bytes of a heading line are kept: more than a valid heading line has, its line end included.
+/// How many bytes of a heading line are kept. A valid heading line, with its line end, has fewer.
 const LINE: usize = 64;
 
-/// A reader of a form, which keeps one part at a time.
+/// A reader of a form, which holds only the current part.
 #[derive(Drop)]
 pub(crate) struct FormReader {
     /// How many bytes of the form were read.
     pub(crate) position: usize,
     /// The number of the current part, counted from 1.
     pub(crate) number: u8,
-    /// How many parts the headings say the form has; `None` until the first part has been read.
+    /// The number of all parts that the headings give; `None` until the first part has been read.
     pub(crate) expected: Option<u8>,
-    /// Whether the next byte is in the heading line or in the body of the current part.
+    /// What is kept of the current part. The variant says whether the next byte is in its heading line or body.
     pub(crate) stage: FormStage,
 }
 
-/// The section of a part that the next byte belongs to, with what is kept of this section so far.
+/// The section of a part that the next byte belongs to, with the bytes or letters kept so far.
 #[derive(Drop)]
 pub(crate) enum FormStage {
     /// The heading line; its first `LINE` bytes are kept.
@@ -108,9 +108,9 @@ impl MessageReader for FormReader {
     }
 }
 
-/// The fault of a form that ends within the heading line of part `number`.
+/// The fault of a form that ends within the heading line `line` of part `number`.
 ///
-/// If the heading is valid, the fault is `CountWrong`, because the body is missing.
+/// If the heading is valid, the fault is `CountWrong`, because the part has no body.
 fn fault_in_heading(
     day: &SheetDay,
     number: u8,
@@ -129,7 +129,7 @@ fn fault_in_heading(
 
 /// Whether `byte` may follow `line` in a heading line.
 ///
-/// Tests only `PART ` and the digit after it. The rest is tested when the line has ended.
+/// Only the first six bytes, `PART ` and a digit, are tested here. The rest is tested when the line has ended.
 fn may_follow(line: &[u8], byte: u8) -> bool
     ensures { IsTrue result ↔ FitsHeadingAt (length line.now) byte }
 {
@@ -139,7 +139,7 @@ fn may_follow(line: &[u8], byte: u8) -> bool
     }
 }
 
-/// The first bytes of a heading line: `PART `, then `digit`.
+/// The first bytes of a heading line: `PART ` and `digit`.
 fn heading_from(digit: u8) -> ArrayVec<u8, LINE>
     ensures { result.items ≡ codes "PART " ++ digit ∷ [] }
 {
@@ -170,7 +170,7 @@ fn check_heading(
     Ok(heading)
 }
 
-/// Whether `parts` is `expected`, the number in the form's first heading; true if nothing is expected yet.
+/// Whether `parts` is `expected`, the number of parts in the form's first heading; true if `expected` is `None`.
 fn is_expected(expected: Option<u8>, parts: u8) -> bool
     ensures { IsTrue result ↔ IsExpectedCount expected parts }
 {

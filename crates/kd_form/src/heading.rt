@@ -18,20 +18,20 @@ pub(crate) struct Heading {
     pub(crate) parts: u8,
     /// How many letters the body has.
     pub(crate) letters: usize,
-    /// What a rotor machine's heading says of the keys; `None` on the Converter M-209.
+    /// The indicator of a rotor machine's part; `None` on the Converter M-209.
     pub(crate) indicator: Option<Indicator>,
 }
 
-/// What the heading of a rotor machine's part says of the keys.
+/// What a rotor machine's heading says of the part's keys.
 #[derive(Clone, Copy)]
 pub(crate) struct Indicator {
-    /// The ground: the letters in the windows before the message key is deciphered.
+    /// The ground setting: the letters in the windows before the message key is deciphered.
     pub(crate) ground_setting: PerSlot<Letter>,
     /// The enciphered message key.
     pub(crate) enciphered_key: PerSlot<Letter>,
 }
 
-/// Appends `heading` as a line.
+/// Appends the heading line of `heading`.
 #[tactic(auto, using(crate::proofs::MadeParts::heading_line))]
 pub(crate) fn push_heading<const N: usize>(text: &mut ArrayString<N>, heading: &Heading)
     requires { array_string_len text.old + 50 ≤ N }
@@ -49,7 +49,7 @@ pub(crate) fn push_heading<const N: usize>(text: &mut ArrayString<N>, heading: &
     text.push_str("\n");
 }
 
-/// Appends the ground and the enciphered message key, each after a space; nothing for `None`.
+/// Appends the ground setting and the enciphered message key, each after a space; nothing for `None`.
 fn push_indicator<const N: usize>(text: &mut ArrayString<N>, indicator: &Option<Indicator>)
     requires { array_string_len text.old + 10 ≤ N }
     ensures bytes { text.new.bytes

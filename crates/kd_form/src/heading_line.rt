@@ -1,4 +1,4 @@
-//! Reads the heading line of a part.
+//! Reads the heading line of a part of a form.
 ghost use Rattle.std.specs.Prelude.{◌≡◌, ◌≢◌, ◌⊎◌, ◌↔◌, ℕ, ◌^◌, ◌<◌, List, [], ◌∷◌, ◌++◌};
 ghost use Rattle.std.specs.Prelude.{All, decimal, map, take, IsTrue, MatchOption};
 ghost use Rattle.kd_tables.specs.Text.{letters_text};
@@ -18,7 +18,7 @@ use arrayvec::ArrayVec;
 use kd_state::{PerSlot, SheetDay, number_of_text, split_once, split_words, wide_number_of_text};
 use kd_tables::Letter;
 
-/// Reads a word such as `2/5`: the part's number, and the number of parts, at most 99.
+/// Reads a word such as `2/5`: a part's number and the number of all parts, which is at most 99.
 fn read_fraction(word: &[u8]) -> Option<(u8, u8)>
     ensures { MatchOption result
         ((part parts : ℕ) → IsFraction part parts → fraction_text part parts ≢ word.now)
@@ -33,7 +33,7 @@ fn read_fraction(word: &[u8]) -> Option<(u8, u8)>
     Some((part, parts))
 }
 
-/// Reads `word` as a count of letters, if a body may have so many letters on the day's model.
+/// Reads `word` as the number of a body's letters, if a body may have this number on the day's model.
 #[tactic(auto, using(crate::proofs::Headings::same_count))]
 fn read_letter_count(day: &SheetDay, word: &[u8]) -> Option<u16>
     ensures { MatchOption result
@@ -79,9 +79,9 @@ fn read_slots(slots: usize, word: &[u8]) -> Option<PerSlot<Letter>>
     PerSlot::new(letters.as_slice())
 }
 
-/// Reads the words after the letter count in a heading.
+/// Reads the words after the letter count in a heading: the indicator.
 ///
-/// On the Converter M-209, a heading has no such words, and the result is `Some(None)`.
+/// On the Converter M-209, a heading ends with the letter count, and the result is `Some(None)`.
 fn read_indicator(day: &SheetDay, words: &[&[u8]]) -> Option<Option<Indicator>>
     ensures { MatchOption result
         ((found : _) → HasIndicator day.now found
@@ -113,7 +113,7 @@ fn is_letter_count(day: &SheetDay, count: u16) -> bool
     }
 }
 
-/// Reads `words` as a heading of the day's model.
+/// Reads `words` as a valid heading for the day's model.
 fn heading_of_words(day: &SheetDay, words: &[&[u8]]) -> Option<Heading>
     ensures { AreHeadingWords day.now (map (λ word. word.now) words.now) result }
 {
@@ -135,7 +135,7 @@ fn heading_of_words(day: &SheetDay, words: &[&[u8]]) -> Option<Heading>
     })
 }
 
-/// Reads `line`, without its line end, as a heading of the day's model.
+/// Reads `line`, which has no line end, as a valid heading for the day's model.
 #[tactic(auto, using(crate::proofs::Headings::too_many_words))]
 fn heading_of_line(day: &SheetDay, line: &[u8]) -> Option<Heading>
     ensures { MatchOption result

@@ -9,7 +9,7 @@ use super::own_machine::OwnMachine;
 use arrayvec::ArrayVec;
 use kd_tables::{Letter, place_on_wheel};
 
-/// The internal key for `keys` on the day's machine; `None` if the enciphered letters give none.
+/// The internal key for `keys` on the day's machine; `None` if the enciphered letters give no internal key.
 pub(crate) fn internal_key_of(own: &mut OwnMachine, keys: &PinKeys) -> Option<ArrayVec<Letter, 6>>
     requires { IsWindow (sheet_key own.old) keys.now.external }
     ensures day { own.new ≡ own.old }
@@ -38,7 +38,7 @@ fn pick_internal_key(letters: &[Letter]) -> Option<ArrayVec<Letter, 6>>
     if key.is_full() { Some(key) } else { None }
 }
 
-/// Appends `letter` if it is on the first wheel that has no letter yet.
+/// Appends `letter` if it is on the first wheel without a letter in `key`.
 fn take_in_turn(key: &mut ArrayVec<Letter, 6>, letter: Letter)
     ensures { IsTakenInTurn key.old.items letter key.new.items }
 {

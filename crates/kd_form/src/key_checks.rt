@@ -1,4 +1,4 @@
-//! Checks that the keys of an order suit the day: the day's groups, its pin wheels and its cipher.
+//! Checks that the keys of an order suit the day.
 ghost use Rattle.std.specs.Prelude.{◌≤◌, length, All, MatchResult};
 ghost use Rattle.kd_form.specs.Keys.{AreKeys};
 ghost use Rattle.kd_form.specs.Making.{KeysSuitDay};
@@ -10,9 +10,9 @@ use super::keys::{Keys, PinKeys};
 use super::own_machine::OwnMachine;
 use kd_state::SheetDay;
 
-/// Checks that the keys of all parts suit the day; otherwise, returns the first fault.
+/// Checks that the keys of all parts suit the day; otherwise returns the fault of the first part whose keys don't.
 ///
-/// Not inlined: otherwise every byte read would pay for this frame.
+/// Not inlined: otherwise every byte read would pay for this function's stack frame.
 #[inline(never)]
 #[tactic(auto, using(crate::proofs::Prelude::err_is, crate::proofs::Lines::is_first_keys_fault))]
 pub(crate) fn check_keys(day: &SheetDay, keys: &[Keys]) -> Result<(), FormFault>
@@ -28,7 +28,7 @@ pub(crate) fn check_keys(day: &SheetDay, keys: &[Keys]) -> Result<(), FormFault>
     Ok(())
 }
 
-/// Checks that the keys of part `part` suit the day.
+/// Checks that the keys of part number `part` suit the day.
 fn check_part_keys(day: &SheetDay, part: u8, keys: &Keys) -> Result<(), FormFault>
     requires { AreKeys day.now keys.now }
     ensures { MatchResult result
@@ -47,7 +47,7 @@ fn check_part_keys(day: &SheetDay, part: u8, keys: &Keys) -> Result<(), FormFaul
     }
 }
 
-/// Checks that the keys of part `part` on the Converter M-209 suit the day.
+/// Checks that the keys of part number `part` suit the day of a Converter M-209.
 fn check_pin_keys(own: &mut OwnMachine, part: u8, keys: &PinKeys) -> Result<(), FormFault>
     requires { AreKeys own.old (Keys.Pin keys.now) }
     ensures { MatchResult result

@@ -1,4 +1,4 @@
-//! The lines of keys in an order: their pattern, and the keys made from their letters.
+//! The lines of keys in an order: the pattern of a line, and the keys that its letters mean.
 ghost use Rattle.std.specs.Prelude.{◌≡◌, ◌≤◌, ◌+◌, ◌⊎◌, ◌++◌, ◌∷◌, length, MatchOption};
 ghost use Rattle.kd_state.specs.Machine.{AreLetters};
 ghost use Rattle.kd_form.specs.Keys.{AreKeys, AreRotorKeys, ArePinKeys};
@@ -9,7 +9,7 @@ use super::keys::{Keys, PinKeys, RotorKeys};
 use kd_state::{Entry, PerSlot, SheetDay};
 use kd_tables::Letter;
 
-/// The pattern of a line of keys, with `_` for each letter.
+/// The pattern of a line of keys for the day's model, with `_` for each letter.
 pub(crate) fn key_pattern(day: &SheetDay) -> &'static [u8]
     ensures pattern { result.now ≡ key_pattern day.now }
     ensures few { blank_count (key_pattern day.now) ≤ 13 }
@@ -34,7 +34,7 @@ pub(crate) fn slots_of(day: &SheetDay) -> Option<usize>
     }
 }
 
-/// Makes keys from the letters in a line of keys, in the order of the line.
+/// Makes keys from `letters`, the letters of a line of keys in the line's order.
 pub(crate) fn keys_of(day: &SheetDay, letters: &[Letter]) -> Keys
     requires { AreLetters (blank_count (key_pattern day.now)) letters.now }
     ensures letters { key_letters result ≡ letters.now }
@@ -46,7 +46,7 @@ pub(crate) fn keys_of(day: &SheetDay, letters: &[Letter]) -> Keys
     }
 }
 
-/// Makes the keys for a machine with `slots` slots from the letters in a line of keys.
+/// Makes the keys for a rotor machine with `slots` slots from the letters of a line of keys.
 fn rotor_keys(slots: usize, letters: &[Letter]) -> RotorKeys
     requires slots { (slots ≡ 3) ⊎ (slots ≡ 4) }
     requires letters { AreLetters (slots + slots + 5) letters.now }
@@ -69,7 +69,7 @@ fn rotor_keys(slots: usize, letters: &[Letter]) -> RotorKeys
     }
 }
 
-/// Makes the keys for the Converter M-209 from the letters in a line of keys.
+/// Makes the keys for the Converter M-209 from the letters of a line of keys.
 fn pin_keys(letters: &[Letter]) -> PinKeys
     requires { AreLetters 7 letters.now }
     ensures letters { letters.now ≡ result.chosen ∷ result.external }

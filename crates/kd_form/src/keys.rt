@@ -1,4 +1,4 @@
-//! Keys: what the sender chose for one part of a form.
+//! `Keys`: what the sender chose for one part of a form.
 use kd_state::PerSlot;
 use kd_tables::Letter;
 
@@ -12,13 +12,13 @@ pub(crate) enum Keys {
 /// The keys of a part on a rotor machine.
 #[derive(Clone, Copy)]
 pub(crate) struct RotorKeys {
-    /// The ground: the letters in the windows before the message key is enciphered.
+    /// The ground setting: the letters in the windows before the message key is enciphered.
     pub(crate) ground_setting: PerSlot<Letter>,
     /// The message key: the letters in the windows before the text is enciphered.
     pub(crate) message_key: PerSlot<Letter>,
     /// Two letters of the sender's choice, written before the group.
     pub(crate) fillers: [Letter; 2],
-    /// The letters of one of the day's groups, in any order.
+    /// Three letters: one of the day's groups, with its letters in any order.
     pub(crate) group: [Letter; 3],
 }
 
@@ -27,11 +27,11 @@ pub(crate) struct RotorKeys {
 pub(crate) struct PinKeys {
     /// The letter that is enciphered twelve times for the internal key.
     pub(crate) chosen: Letter,
-    /// The letters that the wheels show before the chosen letter is enciphered.
+    /// The letters in the windows before the chosen letter is enciphered.
     pub(crate) external: [Letter; 6],
 }
 
-/// A placeholder: an `ArrayVec` of keys needs one for its unused places.
+/// A placeholder: an `ArrayVec` of keys needs a value for its unused places.
 impl Default for Keys {
     fn default() -> Self {
         Keys::Pin(PinKeys {

@@ -1,4 +1,4 @@
-//! Laws: each order and each form has one result or one fault; a form gives back its order's letters.
+//! Laws: each order and each form has one result or one fault, and a form gives back its order's letters.
 ghost use Rattle.kd_form.specs.Laws.{OrderIsAnswered, FormIsAnswered};
 ghost use Rattle.kd_form.specs.Laws.{OrdersBecomeOneForm, OrdersHaveOneFault};
 ghost use Rattle.kd_form.specs.Laws.{SentOrdersHaveNoFault};
@@ -19,7 +19,7 @@ pub fn orders_have_one_answer()
     ensures never_both { SentOrdersHaveNoFault }
 {}
 
-/// Every order has a form or a fault: the code of this function reads `order` and finds out which.
+/// Every order has a form or a fault: the body of this function reads `order` and finds which.
 pub fn orders_have_an_answer(day: &SheetDay, order: &[u8])
     ensures { OrderIsAnswered day.now order.now }
 {
@@ -43,7 +43,7 @@ pub fn forms_stay_refused()
     ensures { FormsStayRefused }
 {}
 
-/// Every form has a text or a fault: the code of this function reads `form` and finds out which.
+/// Every form has a text or a fault: the body of this function reads `form` and finds which.
 pub fn forms_have_an_answer(day: &SheetDay, form: &[u8])
     ensures { FormIsAnswered day.now form.now }
 {
@@ -52,8 +52,7 @@ pub fn forms_have_an_answer(day: &SheetDay, form: &[u8])
 
 /// Deciphering an order's form gives back the letters of the order's text.
 ///
-/// On the Converter M-209, the received text is filled with X to whole groups of five letters, and has a
-/// space in place of each Z.
+/// On the Converter M-209, X fills the last group of five letters, and the received text has a space for each Z.
 pub fn forms_give_their_orders()
     ensures letters { OrdersGiveLetters }
     ensures back { FormsGiveTheirOrders }

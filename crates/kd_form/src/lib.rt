@@ -1,4 +1,4 @@
-//! Types texts, enciphers orders into forms, and deciphers forms into texts, byte by byte as they arrive.
+//! Types texts, enciphers orders into forms, and deciphers forms into texts, as the bytes arrive.
 #![tactic(auto)]
 
 mod body;

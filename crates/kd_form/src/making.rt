@@ -1,4 +1,4 @@
-//! Makes one part of a form from its keys and its share of the text.
+//! Makes one part of a form from the part's keys and its letters of the text.
 ghost use Rattle.std.specs.Prelude.{◌≡◌, ◌≤◌, ℕ, List, length};
 ghost use Rattle.kd_form.specs.InternalKey.{IsInternalKey};
 ghost use Rattle.kd_form.specs.Keys.{AreKeys};
@@ -16,10 +16,10 @@ use arrayvec::{ArrayString, ArrayVec};
 use kd_state::{PerSlot, SheetDay};
 use kd_tables::Letter;
 
-/// Enough bytes for any part: its heading, and 520 letters in groups.
+/// Enough bytes for any part: a heading line, and 520 letters in groups of five.
 pub(crate) const LONGEST: usize = 1100;
 
-/// Writes part `part` of `parts`: its heading, and `text` enciphered with `keys`.
+/// Writes part number `part` of `parts`: a heading line, and `text` enciphered with `keys`.
 pub(crate) fn make_part(
     day: &SheetDay,
     part: u8,
@@ -46,7 +46,7 @@ pub(crate) fn make_part(
     }
 }
 
-/// Writes part `part` of `parts`: its heading, and `letters` as its body.
+/// Writes part number `part` of `parts`: a heading line, and `letters` as the body.
 fn part_text(
     part: u8,
     parts: u8,
@@ -68,7 +68,7 @@ fn part_text(
     text
 }
 
-/// The indicator: the ground, and the message key enciphered with the ground in the windows.
+/// The indicator: the ground setting, and the message key enciphered with the ground setting in the windows.
 #[tactic(auto, using(crate::proofs::MadeParts::enciphered_length))]
 fn indicator_of(own: &mut OwnMachine, keys: &RotorKeys) -> Indicator
     requires { AreKeys own.old (Keys.Rotor keys.now) }
@@ -86,7 +86,7 @@ fn indicator_of(own: &mut OwnMachine, keys: &RotorKeys) -> Indicator
     }
 }
 
-/// The body of a rotor machine's part: fillers, group, and `text` enciphered.
+/// The body of a rotor machine's part: two fillers, the group, and `text` enciphered with the message key.
 fn rotor_letters(own: &mut OwnMachine, keys: &RotorKeys, text: &[Letter]) -> ArrayVec<Letter, 520>
     requires keys { AreKeys own.old (Keys.Rotor keys.now) }
     requires few { length text.now ≤ 245 }
@@ -138,7 +138,7 @@ pub(crate) fn indicators_of(day: &SheetDay, keys: &PinKeys) -> ArrayVec<Letter, 
     indicators
 }
 
-/// `text`, filled with X to whole groups of five letters.
+/// `text`, with X appended until the last group of five letters is full.
 fn fill_last_group(text: &[Letter]) -> ArrayVec<Letter, 500>
     requires { length text.now ≤ 500 }
     ensures { result.items ≡ fill_last_group text.now }

@@ -1,6 +1,6 @@
-//! Reads an order byte by byte, and makes the parts of its form.
+//! Reads an order byte by byte, and makes the parts of the order's form.
 //!
-//! An order says what to send: it has a line of keys for each part, then the line TEXT, then the text.
+//! An order has a line of keys for each part, then the line TEXT, and then the text to send.
 ghost use Rattle.std.specs.Prelude.{◌≡◌, [], ◌∷◌, ◌++◌};
 
 pub(crate) mod head;
@@ -14,7 +14,7 @@ use head::{HeadReader, HeadStep};
 use kd_state::SheetDay;
 use parts::PartWriter;
 
-/// A reader of an order, which makes the parts of its form.
+/// A reader of an order, which makes the parts of the order's form.
 #[derive(Drop)]
 pub(crate) struct OrderReader {
     /// How many bytes of the order were read.
@@ -24,7 +24,7 @@ pub(crate) struct OrderReader {
     parts: PartWriter,
 }
 
-/// The section of an order that its next byte belongs to.
+/// The section of an order that the next byte belongs to.
 #[derive(Clone, Copy)]
 pub(crate) enum OrderStage {
     /// The head: the lines of keys and the line TEXT.

@@ -1,4 +1,4 @@
-//! OwnMachine: a machine set as the day says, with any letters in its windows; and `append_letters`.
+//! `OwnMachine`: a machine set as the day says, with any letters in its windows; and `append_letters`.
 ghost use Rattle.std.specs.Prelude.{◌≡◌, ◌↔◌, ◌≤◌, ◌+◌, ◌<◌, ◌++◌, length, All, IsTrue};
 ghost use Rattle.std.specs.Bool.{OnTrue};
 ghost use Rattle.kd_state.specs.TwoCiphers.{sheet_key, IsWindow};
@@ -13,7 +13,7 @@ use std::marker::Model;
 #[derive(Drop)]
 pub(crate) struct OwnMachine<'day> {
     pub(crate) day: &'day SheetDay,
-    /// The engine, set to the day's key, whatever letters show.
+    /// The engine: set as the day says, with any letters in its windows.
     engine: Engine,
 }
 
@@ -40,9 +40,9 @@ impl<'day> OwnMachine<'day> {
         }
     }
 
-    /// Enciphers or deciphers `text` in place, with the letters of `window` showing first.
+    /// Enciphers or deciphers `text` in place, with the letters of `window` in the windows at the start.
     ///
-    /// Returns false if `window` isn't one letter for each slot or wheel, each on its wheel.
+    /// Returns false, unless `window` has one letter for each slot or pin wheel, each on its wheel.
     #[tactic(auto, using(crate::proofs::MadeParts::own_when_turned))]
     pub(crate) fn encipher(&mut self, window: &[Letter], text: &mut [Letter]) -> bool
         ensures day { self.new ≡ self.old }
@@ -56,7 +56,7 @@ impl<'day> OwnMachine<'day> {
         turned
     }
 
-    /// Whether `window` is one letter for each slot or wheel, each on its wheel.
+    /// Whether `window` has one letter for each slot or pin wheel, each on its wheel.
     pub(crate) fn can_show(&mut self, window: &[Letter]) -> bool
         ensures day { self.new ≡ self.old }
         ensures window { IsTrue result ↔ IsWindow (sheet_key self.old) window.now }
@@ -64,7 +64,7 @@ impl<'day> OwnMachine<'day> {
         self.encipher(window, &mut [])
     }
 
-    /// `text`, enciphered or deciphered with the letters of `window` showing first.
+    /// `text`, enciphered or deciphered with the letters of `window` in the windows at the start.
     #[tactic(auto, using(crate::proofs::MadeParts::stay_letters))]
     pub(crate) fn encipher_text<const N: usize>(
         &mut self,
@@ -84,7 +84,7 @@ impl<'day> OwnMachine<'day> {
     }
 }
 
-/// Appends `more` to `letters`, which must have room.
+/// Appends `more` to `letters`, which must have room for it.
 pub(crate) fn append_letters<const N: usize>(letters: &mut ArrayVec<Letter, N>, more: &[Letter])
     requires { length letters.old.items + length more.now ≤ N }
     ensures { letters.new.items ≡ letters.old.items ++ more.now }

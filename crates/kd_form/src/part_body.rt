@@ -24,11 +24,11 @@ use kd_tables::Letter;
 
 /// How many letters of a body are kept.
 ///
-/// A body has at most 520. One more shows that it is too long, and four may be the `PART` of the next
-/// heading.
+/// A body has at most 520 letters. One letter more shows that it is too long, and four letters may be the `PART` of
+/// the next heading.
 const KEPT: usize = 525;
 
-/// How many bytes of a line are kept, to see whether it begins a heading.
+/// How many bytes of a line are kept: enough to see whether it is a heading line.
 const FIRST: usize = 6;
 
 /// The body of a part of a form, as far as it has been read.
@@ -36,9 +36,9 @@ const FIRST: usize = 6;
 pub(crate) struct PartBody {
     /// What the part's heading says.
     pub(crate) heading: Heading,
-    /// The first letters of the body.
+    /// The first letters of the body, at most `KEPT`.
     pub(crate) letters: ArrayVec<Letter, KEPT>,
-    /// The first bytes of the current line.
+    /// The first bytes of the current line, at most `FIRST`.
     pub(crate) line: ArrayVec<u8, FIRST>,
 }
 
@@ -56,7 +56,7 @@ impl PartBody {
         }
     }
 
-    /// Whether `byte` is the first digit of the next heading line.
+    /// Whether `byte` is the digit after the `PART ` of the next heading line.
     pub(crate) fn is_next_heading_digit(&self, byte: u8) -> bool
         ensures { IsTrue result ↔ ((self.now.line.items ≡ codes "PART ") × (48 ≤ byte) × (byte ≤ 57)) }
     {
@@ -74,9 +74,9 @@ impl PartBody {
         keep_byte(&mut self.line, byte);
     }
 
-    /// Deciphers the body into `output`, without its last `others` letters, which belong to the next heading.
+    /// Deciphers the body into `output`, without the last `others` letters, which are part of the next heading.
     ///
-    /// Not inlined: otherwise every byte read would pay for this frame.
+    /// Not inlined: otherwise every byte read would pay for this function's stack frame.
     #[inline(never)]
     pub(crate) fn decipher_into(
         &self,
@@ -99,7 +99,7 @@ impl PartBody {
     }
 }
 
-/// Appends `letter`, if there is one and room for it.
+/// Appends `letter`, if there is a letter and room for it.
 fn keep_letter(letters: &mut ArrayVec<Letter, KEPT>, letter: Option<Letter>)
     ensures { letters.old.items ≡ take 525 letters.old.items
         → letters.new.items ≡ take 525 (letters.old.items ++ option_to_list letter) }
@@ -109,10 +109,9 @@ fn keep_letter(letters: &mut ArrayVec<Letter, KEPT>, letter: Option<Letter>)
     }
 }
 
-/// Appends `byte` while there is room; an LF begins a new line.
+/// Appends `byte` if `line` has room; an LF empties `line`, because a new line begins.
 ///
-/// Only the first six bytes of a line are stored. Most bytes come later and store nothing, so the next byte
-/// needn't wait for a store.
+/// Only the first six bytes of a line are stored. For most bytes nothing is stored, and the next byte needn't wait.
 fn keep_byte(line: &mut ArrayVec<u8, FIRST>, byte: u8)
     ensures ended { byte ≡ 10 → line.new.items ≡ [] }
     ensures longer { byte ≢ 10 → line.new.items ≡ take 6 (line.old.items ++ byte ∷ []) }
@@ -124,7 +123,7 @@ fn keep_byte(line: &mut ArrayVec<u8, FIRST>, byte: u8)
     }
 }
 
-/// The byte of `PART ` at `place`, counted from 0; `None` after its five bytes.
+/// The byte of `PART ` at `place`, counted from 0; `None` if `place` is past these five bytes.
 pub(crate) fn head_byte(place: usize) -> Option<u8>
     ensures { MatchOption result
         (5 ≤ place)

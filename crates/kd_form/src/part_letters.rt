@@ -1,4 +1,4 @@
-//! Reads the letters of a part's body: tests indicators and group, and deciphers the rest.
+//! Reads the letters of a part's body: tests the indicators and the group, and deciphers the text.
 ghost use Rattle.std.specs.Prelude.{◌≡◌, ◌+◌, ◌^◌, ◌<◌, ◌≤◌, ◌↔◌, Some, length, IsTrue};
 ghost use Rattle.std.specs.Prelude.{MatchResult};
 ghost use Rattle.kd_form.specs.Reading.{HasIndicator, IsRotorAnswer, IsPinAnswer};
@@ -96,9 +96,9 @@ fn read_pin_letters(
     }
 }
 
-/// Deciphers `letters`, the body of the part with `heading`.
+/// Deciphers `letters`, the body of the part with the heading `heading`.
 ///
-/// If the body is too long, `letters` may be a prefix of it that is longer than any heading allows.
+/// If the body is longer than any heading allows, `letters` may be a prefix that is also longer.
 pub(crate) fn read_body(
     day: &SheetDay,
     heading: &Heading,

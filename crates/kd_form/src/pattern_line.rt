@@ -1,4 +1,4 @@
-//! Reads a line by its pattern, in which `_` stands for a letter and each other byte for itself.
+//! Reads a line by its pattern, in which `_` stands for any letter and each other byte for itself.
 ghost use Rattle.std.specs.Prelude.{◌≡◌, ◌≤◌, ◌<◌, [], ◌+◌, ◌++◌, MatchResult};
 ghost use Rattle.std.specs.Bool.{OnTrue, OnFalse};
 ghost use Rattle.arrayvec.specs.ArrayVec.{array_vec_len};
@@ -12,7 +12,7 @@ use kd_tables::Letter;
 /// How many `_` a pattern has at most: 13, in the pattern of a line of keys for four slots.
 const MOST: usize = 13;
 
-/// Why bytes can't be read as a line that fits a pattern.
+/// Why bytes aren't a line that fits a pattern.
 #[derive(Clone, Copy)]
 pub(crate) enum Unread {
     /// Bytes are missing at the end: the bytes are a prefix of a line that fits.
@@ -21,7 +21,7 @@ pub(crate) enum Unread {
     Mismatch,
 }
 
-/// Reads `bytes` as a line that fits `pattern`, with its line end; returns the letter at each `_`.
+/// Reads `bytes` as a line that fits `pattern`, and its line end; returns the letter at each `_`.
 pub(crate) fn read_pattern(pattern: &[u8], bytes: &[u8]) -> Result<ArrayVec<Letter, MOST>, Unread>
     requires { blank_count pattern.now ≤ 13 }
     ensures { MatchResult result
@@ -33,7 +33,7 @@ pub(crate) fn read_pattern(pattern: &[u8], bytes: &[u8]) -> Result<ArrayVec<Lett
     Ok(letters)
 }
 
-/// Reads `bytes` as a line that fits `pattern`, with its line end; appends the letter at each `_`.
+/// Reads `bytes` as a line that fits `pattern`, and its line end; appends the letter at each `_`.
 #[tactic(auto, using(crate::proofs::Lines::line_open, crate::proofs::Lines::line_off, crate::proofs::Lines::line_on, crate::proofs::Lines::line_ends))]
 fn read_pattern_letters(
     pattern: &[u8],
@@ -57,7 +57,7 @@ fn read_pattern_letters(
     read_pattern_letters(marks, rest, letters)
 }
 
-/// Whether `byte` fits `mark`, a byte of a pattern; if it does and `mark` is `_`, appends its letter.
+/// Whether `byte` fits `mark`, a byte of a pattern. If `mark` is `_` and `byte` fits, appends the letter.
 fn take_marked_letter(letters: &mut ArrayVec<Letter, MOST>, mark: u8, byte: u8) -> bool
     requires { mark ≡ 95 → array_vec_len letters.old < 13 }
     ensures fits { result ≡ fits_mark mark byte }

@@ -20,7 +20,7 @@ pub(crate) fn plaintext_bytes<const N: usize>(day: &SheetDay, letters: &[Letter]
     given
 }
 
-/// The byte for `letter`: a space if it is `blank`, otherwise a capital letter.
+/// The byte for `letter`: a space if the letter is `blank`, otherwise the capital letter.
 fn plaintext_byte(blank: &Option<Letter>, letter: Letter) -> u8
     ensures { result ≡ plaintext_byte blank.now letter }
 {

@@ -20,10 +20,9 @@ use std::alloc::Global;
 /// Deciphers `form` on `machine`, which must be on the day's key. The text ends in LF.
 ///
 /// On the Converter M-209, the text has a space in place of each Z. `NotReady` and `NotOnKey` are tested first,
-/// then the parts of the form, one after another. A part is tested in this order: `BadHeading`, `PartOrder`,
-/// `BadByte`, `CountWrong`, and the faults of the indicators, the group and the internal key. If parts are
-/// missing at the end of the form, the fault is `PartOrder`. `NoMemory` is returned only for a form without a
-/// fault.
+/// then the parts of the form, one after another. For each part, `BadHeading`, `PartOrder`, `BadByte` and
+/// `CountWrong` are tested in this order, then the indicators, the group and the internal key. If parts are missing
+/// at the end of the form, the fault is `PartOrder`. `NoMemory` comes only if the form has no fault.
 pub fn receive(
     alloc: Global,
     machine: &Machine,
@@ -38,13 +37,13 @@ pub fn receive(
     message_result::<FormReader>(alloc, day, form)
 }
 
-/// Reads a form from `source`, and writes its text to `sink`, part by part.
+/// Reads a form from `source`, and writes the form's text to `sink`, part by part.
 ///
 /// At most one part is held, and nothing is allocated. `NotReady` and `NotOnKey` are returned before anything is
-/// read. A fault of the form that further bytes can't change is returned once it is found, even if the source is
-/// too long or would fail later. The other faults of the form are found at its end. Before a fault of the form is
-/// returned, the texts of the parts before the fault are written. `ReadTooLong` means that the source has more
-/// than `READ_LIMIT` bytes, `Device` that a get or a put failed.
+/// read. A fault that further bytes can't change is returned once it is found, even if the source is too long or
+/// would fail later. Other faults are found at the form's end. Before a fault of the form is returned, the texts of
+/// the parts before the fault are written. `ReadTooLong` means that the source has more than `READ_LIMIT` bytes,
+/// and `Device` that a get or a put failed.
 #[tactic(auto, using(crate::proofs::OneText::off_key, crate::proofs::OneText::form_told))]
 pub fn receive_stream<R: Source, W: Sink>(
     machine: &Machine,

@@ -1,6 +1,6 @@
-//! Sends an order: `send` returns its form, and `send_stream` writes it to a sink.
+//! Sends an order: `send` returns the order's form, and `send_stream` writes it to a sink.
 //!
-//! An order says what to send: it has a line of keys for each part, then the line TEXT, then the text.
+//! An order has a line of keys for each part, then the line TEXT, and then the text to send.
 ghost use Rattle.std.specs.Prelude.{◌≡◌, ◌≤◌, ℕ, List, IsTrue, MatchResult};
 ghost use Rattle.kd_tables.specs.Ports.{FailureAgrees, port};
 ghost use Rattle.kd_form.specs.Making.{part_size};
@@ -18,11 +18,10 @@ use kd_state::{Machine, SheetDay};
 use kd_tables::{Sink, Source};
 use std::alloc::Global;
 
-/// Enciphers `order` on `machine`, which must be on the day's key, into a form.
+/// Enciphers `order` into a form on `machine`, which must be on the day's key.
 ///
-/// Faults are tested in this order: `NotReady`, `NotOnKey`, those of the order's head, of the keys of each part,
-/// and of the bytes of its text, then `EmptyText` and `PartKeys`. `NoMemory` is returned only for an order
-/// without a fault.
+/// Faults are tested in this order: `NotReady`, `NotOnKey`; faults of the order's head, of the keys of each part,
+/// and of the bytes of the text; then `EmptyText` and `PartKeys`. `NoMemory` comes only if the order has no fault.
 pub fn send(
     alloc: Global,
     machine: &Machine,
@@ -37,13 +36,13 @@ pub fn send(
     message_result::<OrderReader>(alloc, day, order)
 }
 
-/// Reads an order from `source`, and writes its form to `sink`, part by part.
+/// Reads an order from `source`, and writes the order's form to `sink`, part by part.
 ///
 /// At most one part is held, and nothing is allocated. `NotReady` and `NotOnKey` are returned before anything is
-/// read or written. A fault of the order that further bytes can't change is returned once it is found, even if
-/// the source is too long or would fail later. The other faults of the order are found at its end. A part is
-/// written once the first letter of the next part has been read. So the sink may have parts of an order that is
-/// refused. At most 1,048,576 bytes are read, and one more to see whether there are more.
+/// read or written. A fault that further bytes can't change is returned once it is found, even if the source is too
+/// long or would fail later. Other faults are found at the order's end. A part is written once the first letter of
+/// the next part has been read. So parts of a refused order may have been written. At most 1,048,576 bytes are
+/// read, and one byte more to see whether the source ends.
 #[tactic(auto, using(crate::proofs::OneText::off_key))]
 pub fn send_stream<R: Source, W: Sink>(
     machine: &Machine,
@@ -63,7 +62,7 @@ pub fn send_stream<R: Source, W: Sink>(
     stream_message(day, &mut OrderReader::start(day), source, sink)
 }
 
-/// How many letters of text a part has at most.
+/// How many letters of text a part can have.
 pub(crate) fn part_size(day: &SheetDay) -> usize
     ensures value { result ≡ part_size day.now }
     ensures some { 245 ≤ result }
@@ -75,7 +74,7 @@ pub(crate) fn part_size(day: &SheetDay) -> usize
     }
 }
 
-/// Refuses a machine that isn't ready, or not on the day's key.
+/// Refuses a machine that isn't ready, or isn't on the day's key.
 pub(crate) fn check_machine(machine: &Machine, day: &SheetDay) -> Result<(), FormFault>
     ensures { MatchResult result
         (λ _. IsReadyOnKey machine.now day.now)

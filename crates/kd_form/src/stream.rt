@@ -15,7 +15,7 @@ use chunk::{close, read_next};
 use kd_tables::{READ_LIMIT, Sink, Source, is_at_end};
 use reader::{CHUNK, ChunkReader};
 
-/// Reads a message from `source` to its end, in chunks, and meanwhile writes its result to `sink`.
+/// Reads a message from `source` to its end, in chunks, and writes the message's result to `sink` meanwhile.
 ///
 /// `context` is the day or the machine that the reader works with.
 pub(crate) fn stream_message<Context, M: ChunkReader<Context>, R: Source, W: Sink>(

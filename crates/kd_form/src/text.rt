@@ -1,4 +1,4 @@
-//! The bytes of a text: capital letters, spaces and line ends; and the letter that each byte gives.
+//! The bytes of a text (capital letters, spaces and line ends), and the letter that each byte gives.
 ghost use Rattle.std.specs.Prelude.{◌≡◌, ◌↔◌, IsTrue};
 ghost use Rattle.kd_tables.specs.Text.{is_text_byte};
 ghost use Rattle.kd_form.specs.Sending.{blank_of, letter_of_byte};
@@ -6,7 +6,7 @@ ghost use Rattle.kd_form.specs.Sending.{blank_of, letter_of_byte};
 use kd_state::SheetDay;
 use kd_tables::Letter;
 
-/// The letter that is sent for a space: Z on the Converter M-209; `None` on a rotor machine.
+/// The letter that is enciphered for a space: Z on the Converter M-209, and `None` on a rotor machine.
 pub(crate) fn blank_of(day: &SheetDay) -> Option<Letter>
     ensures { result ≡ blank_of day.now }
 {
@@ -16,7 +16,7 @@ pub(crate) fn blank_of(day: &SheetDay) -> Option<Letter>
     }
 }
 
-/// The letter that `byte` gives: a capital letter gives itself, a space `blank`, any other byte `None`.
+/// The letter that `byte` gives: a capital letter gives itself, a space gives `blank`, other bytes `None`.
 pub(crate) fn letter_of_byte(blank: &Option<Letter>, byte: u8) -> Option<Letter>
     ensures { result ≡ letter_of_byte blank.now byte }
 {

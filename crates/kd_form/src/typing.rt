@@ -17,10 +17,10 @@ use kd_tables::{Letter, Sink, Source, put_all};
 
 /// Types the text from `source` on `machine`, and writes the lamps as capital letters, then LF.
 ///
-/// `NotReady` is returned before anything is read or written. The first byte that isn't allowed is refused once
-/// it is found, even if the source is too long or would fail later. Before that, the lamps of the letters before
-/// it are written; if the sink fails, `Device` is returned. At most 1,048,576 bytes are read, and one more to see
-/// whether there are more.
+/// `NotReady` is returned before anything is read or written. The first byte that isn't allowed is refused once it
+/// is found, even if the source is too long or would fail later. Before, the lamps of the letters up to this byte
+/// are written; if the sink fails, the fault is `Device`. At most 1,048,576 bytes are read, and one byte more to
+/// see whether the source ends.
 #[tactic(auto, using(crate::proofs::OneText::text_told))]
 pub fn type_stream<R: Source, W: Sink>(
     machine: &Machine,
@@ -44,7 +44,7 @@ pub fn type_stream<R: Source, W: Sink>(
     stream_message(machine, &mut typist, source, sink)
 }
 
-/// A reader of a text, which types the letters on a machine.
+/// A reader of a typed text, which types the text's letters on a machine.
 #[derive(Drop)]
 pub(crate) struct Typist {
     engine: Engine,
@@ -52,9 +52,9 @@ pub(crate) struct Typist {
     read: usize,
     /// The letters of the current chunk.
     ///
-    /// `letters` and `lamps` are kept from chunk to chunk, so that their places are filled only once.
+    /// `letters` and `lamps` are kept from chunk to chunk, so that they are filled with placeholders only once.
     letters: ArrayVec<Letter, CHUNK>,
-    /// The lamps that lit up for these letters, as capital letters.
+    /// The lamps that lit up for `letters`, as capital letters.
     lamps: ArrayVec<u8, CHUNK>,
 }
 

@@ -6,15 +6,15 @@
 use Rattle.std.specs.Prelude.{◌≡◌, ℕ, ◌+◌, ◌-◌, ◌%◌, ◌<◌, Bool, false, List, slice_index, slice_index_or, unwrap_or}
 use Rattle.kd_tables.specs.Rings.{IsRing, place_on}
 
--- What contracts say of a wheel: its letters in order; how many places the acting pin is past the shown letter;
--- which pins are effective; and the place of the shown letter.
+-- A wheel as contracts see it: its letters in order; how many places the acting pin is past the shown letter; which
+-- pins are effective; and the place of the shown letter.
 pub record TurnedWheel : Type 0 where
   pub ring : List ℕ
   pub offset : ℕ
   pub pins : List Bool
   pub place : ℕ
 
--- The wheel has `size` places, with a different letter at each; `offset` and the shown place are below `size`.
+-- The wheel has `size` places, with a different letter at each. Its fields `place` and `offset` are below `size`.
 pub record IsWheel (size : ℕ) (wheel : TurnedWheel) : Type 0 where
   pub ring : IsRing size wheel.ring
   pub offset : wheel.offset < size
@@ -32,7 +32,7 @@ is_effective pins place = slice_index_or pins place false
 abbrev pub letter_shown : TurnedWheel → ℕ
 letter_shown wheel = slice_index wheel.ring wheel.place
 
--- whether the acting pin is effective
+-- whether the wheel's acting pin is effective
 abbrev pub is_acting_pin_effective : ℕ → TurnedWheel → Bool
 is_acting_pin_effective size wheel = is_effective wheel.pins (place_past size wheel.place wheel.offset)
 
@@ -46,11 +46,11 @@ wheel_showing wheel letter = wheel_at_place wheel (unwrap_or (place_on wheel.rin
 
 -- ---- What the code keeps. No public contract cites these definitions.
 
--- the place of the shown letter, `offset` places before the acting pin at `acting`
+-- the place of the shown letter, which is `offset` places before `acting`, the place of the acting pin
 abbrev pub shown_place_at_acting : ℕ → ℕ → ℕ → ℕ
 shown_place_at_acting size acting offset = place_past size acting (size - offset)
 
--- The acting pin is at `acting`, `offset` places past the shown letter.
+-- The acting pin is at place `acting`, `offset` places past the shown letter; both numbers are below `size`.
 pub record ActsAt (size acting offset : ℕ) : Type 0 where
   pub inside : offset < size
   pub there : acting < size

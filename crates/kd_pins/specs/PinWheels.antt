@@ -6,7 +6,7 @@ use Rattle.std.specs.List.{range_with_len}
 use Rattle.kd_tables.specs.Rings.{ring_of}
 use Rattle.kd_pins.specs.declared.pin_set.PinSet.{PinSet}
 
--- the numbers of the wheels
+-- the numbers of the pin wheels, from 1 to 6
 abbrev pub pin_wheels : List ℕ
 pin_wheels = range_with_len 1 6
 
@@ -14,7 +14,7 @@ pin_wheels = range_with_len 1 6
 abbrev pub acting_offset : ℕ → ℕ
 acting_offset wheel = slice_index (15 ∷ 14 ∷ 13 ∷ 12 ∷ 11 ∷ 10 ∷ []) (wheel - 1)
 
--- how many letters a wheel has; it has as many pins
+-- the number of letters on a wheel, which is also its number of pins
 abbrev pub pin_wheel_size : ℕ → ℕ
 pin_wheel_size wheel = length (ring_of wheel)
 

@@ -1,4 +1,4 @@
-//! PinSet: the pins of all six wheels.
+//! The pins of all six wheels of a Converter M-209, as one value.
 ghost use Rattle.std.specs.Prelude.{◌≡◌, ◌↔◌, IsTrue};
 
 /// Which pins of the Converter's six wheels are effective.

@@ -25,8 +25,8 @@ impl NotOnWheel {
 
 /// A pin wheel: its letters, in the wheel's own order, with a pin beside each letter.
 ///
-/// The wheel may lack some letters of the alphabet. The field `acting` has the place of the acting pin, rather than
-/// that of the letter shown, because each key press needs the pin.
+/// The wheel may lack some letters of the alphabet. The field `acting` has the place of the acting pin, not of the
+/// shown letter, because each key press needs the acting pin.
 #[derive(Clone, Copy)]
 pub struct PinWheel<const N: usize> {
     ring: Ring<N>,
@@ -69,7 +69,7 @@ impl<const N: usize> Model for PinWheel<N> {
 impl<const N: usize> PinWheel<N> {
     /// Makes a wheel that shows its first letter, A, with the pins `pins` beside its letters.
     ///
-    /// The acting pin is the one beside the letter `offset` places past the letter shown, in the wheel's own order.
+    /// The acting pin is beside the letter that is `offset` places past the shown letter, in the wheel's own order.
     #[tactic(auto, using(crate::proofs::Rings::at_most_all))]
     pub fn new(ring: Ring<N>, offset: usize, pins: [bool; N]) -> Self
         requires { offset < N }
@@ -160,9 +160,9 @@ impl<const N: usize> PinWheel<N> {
     }
 }
 
-/// The place after `place` on a wheel of `size` places, with 0 after the last one.
+/// The place after `place` on a wheel of `size` places, with place 0 after the last place.
 ///
-/// A comparison is faster than a division, and each key press waits for the result.
+/// The code compares rather than divides, because each key press waits for the result.
 fn next_place(place: usize, size: usize) -> usize
     requires { place < size }
     ensures { result ≡ place_past size place 1 }

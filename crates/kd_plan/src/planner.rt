@@ -18,8 +18,8 @@ use kd_state::{
 
 /// Plans a card that sets the machine to the day by the fewest settings, and leaves spare cables free.
 ///
-/// If several cards do, the contract doesn't say which of them it is, or which prices prove it. If no cable and no
-/// bar has to change, all prices are 0.
+/// If there are several shortest cards, the contract leaves open which one is planned, and with which prices. If no
+/// cable and no bar has to change, all prices are 0.
 #[tactic(auto, using(crate::proofs::Planning::planned_card_is_proved))]
 pub fn plan(machine: &Machine, day: &SheetDay) -> Result<Card, OtherModel>
     ensures refused { IsErr result ↔ (model_of machine.now ≢ day_model day.now) }

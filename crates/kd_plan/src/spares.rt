@@ -1,4 +1,4 @@
-//! Gives pairs to cables in use before spare cables, which have no letter.
+//! Assigns pairs to cables in use first. Only the pairs left go to spare cables, which have no letter.
 ghost use Rattle.std.specs.Prelude.{◌≡◌, ℕ, ◌<◌, ◌≤◌, length, slice_index, IsTrue, MatchOption};
 ghost use Rattle.kd_assign.specs.Assignment.{IsOneToOne, assignment_cost};
 ghost use Rattle.kd_plan.specs.{Spares.{is_spare}, SparesLast.{comes_before, SparesComeLast}};
@@ -9,9 +9,8 @@ use kd_tables::Letter;
 
 /// Reassigns pairs in `to` from spare cables to cables in use, and to spare cables with lower numbers.
 ///
-/// The total cost doesn't grow. A spare cable that becomes a pair costs 2, and a cable that becomes a column without
-/// a pair costs 1 for each of its letters. After the two exchange their columns, the spare cable costs 0, and the
-/// other cable at most 2 more than before.
+/// The total cost doesn't grow. A spare cable with a pair costs 2; if it exchanges its column with a cable without
+/// a pair, the spare cable costs 0 afterwards, and the other cable at most 2 more than before.
 pub(crate) fn keep_spares_free(cables: &[Cable; 13], pairs: &[(Letter, Letter)], to: &mut [u8; 13])
     requires { IsOneToOne to.old }
     ensures one_to_one { IsOneToOne to.new }
@@ -29,10 +28,10 @@ pub(crate) fn keep_spares_free(cables: &[Cable; 13], pairs: &[(Letter, Letter)],
     }
 }
 
-/// Finds the first cable that comes before the spare cable `spare`, but has a column without a pair.
+/// Finds the first cable that comes before the spare cable `spare`, but is assigned no pair.
 ///
-/// A cable comes before the spare one if it is in use or has a lower number. Cables are counted from 0, and `pairs`
-/// is the number of pairs.
+/// A cable comes before a spare cable if it is in use or has a lower number. Cables are counted from 0. `pairs` is
+/// the number of pairs.
 fn find_left_out(spare: usize, cables: &[Cable; 13], pairs: usize, to: &[u8; 13]) -> Option<usize>
     ensures { MatchOption result
         ((place : ℕ) → place < 13 → IsTrue (comes_before cables.now place spare)

@@ -6,7 +6,7 @@ use Rattle.kd_state.specs.Machine.{cable_letters}
 use Rattle.kd_state.specs.SheetDay.{Day, OfRotors, OfPins}
 use Rattle.kd_state.specs.OnKey.{HaveSameLetters}
 
--- Cables `place` and `other` have the same letters, or bars `place` and `other` have their lugs at the same places.
+-- Cables `place` and `other` have the same letters; or bars `place` and `other` have their lugs at the same places.
 abbrev pub StandAlike : Parts → ℕ → ℕ → Type 0
 StandAlike (Rotor m) place other =
     HaveSameLetters
@@ -14,8 +14,8 @@ StandAlike (Rotor m) place other =
     (cable_letters (slice_index_or m.cables other (None, None)))
 StandAlike (Pin m) place other = slice_get m.bars place ≡ slice_get m.bars other
 
--- Columns `place` and `other` are both nothings, after the day's pairs; or rows `place` and `other` of the sheet
--- have the same reading.
+-- Columns `place` and `other`, counted from 0, are both nothings; or rows `place` and `other` of the sheet have the
+-- same reading.
 abbrev pub ReadAlike : Day → ℕ → ℕ → Type 0
 ReadAlike (OfRotors s) place other = (length s.pairs ≤ place) × (length s.pairs ≤ other)
 ReadAlike (OfPins s) place other = slice_get s.rows place ≡ slice_get s.rows other

@@ -1,18 +1,17 @@
--- Lists of prices for the rows and columns of a table of costs. No contract of a public function cites these
--- definitions.
+-- Lists of prices that fit a table of costs. No contract of a public function cites these definitions.
 use Rattle.std.specs.Prelude.{ℕ, ◌<◌, List, slice_index, ℤ, pos, ◌+ℤ◌, ◌≤ℤ◌}
 use Rattle.kd_card.specs.Prices.{cost_at, price_at}
 
--- The prices of row `i` and column `j` add up to at most the cost where they meet.
+-- The prices of row `i` and column `j` add up to at most the cost where row and column meet.
 abbrev pub ListsFitAt : List (List ℕ) → List ℤ → List ℤ → ℕ → ℕ → Type 0
 ListsFitAt costs rows columns i j = (price_at rows i +ℤ price_at columns j) ≤ℤ pos (cost_at costs i j)
 
--- `costs` and `price` are those of one row of the table: `price` and the price of column `j` add up to at most the
--- cost in this column.
+-- In one row of the table, which has these `costs` and this `price`: `price` and the price of column `j` add up to
+-- at most the cost in column `j`.
 abbrev pub FitsAtColumn : List ℕ → ℤ → List ℤ → ℕ → Type 0
 FitsAtColumn costs price columns j = (price +ℤ price_at columns j) ≤ℤ pos (slice_index costs j)
 
--- `place` is the first of `number` places, counted from 0, for which `Holds` is false.
+-- `place` is the first of `number` places, counted from 0, where `Holds` is false.
 pub record IsFirstPlaceWithout (Holds : ℕ → Type 0) (number place : ℕ) : Type 0 where
   pub within : place < number
   pub here : ¬ (Holds place)

@@ -1,5 +1,4 @@
--- When a card by number, where each thing has its own price, can become a card by kind, where equal things share
--- one; and which card that is.
+-- When and how a card with a price for each cable, pair, bar or row becomes a card with a price for each kind.
 use Rattle.std.specs.Prelude.{◌≡◌}
 use Rattle.kd_state.specs.declared.machine.parts.Parts.{Parts}
 use Rattle.kd_state.specs.SheetDay.{Day}
@@ -11,19 +10,20 @@ use Rattle.kd_card.specs.Proving.{Expands}
 use Rattle.kd_prices.specs.Doubt.{AreNumbered}
 use Rattle.kd_prices.specs.Laws.{AreEqualWhereAlike}
 
--- Machine and day are of one model; the prices are for this sort of machine, and by number; and equal things
--- have equal prices.
+-- Machine and day are of one model. Each cable and column, or bar and row, has its own price, and equal cables,
+-- columns, bars or rows have equal prices.
 pub record CanBeByKind (m : Parts) (s : Day) (prices : PriceParts) : Type 0 where
   pub numbered : AreNumbered m s prices
   pub equal : AreEqualWhereAlike m s prices
 
--- `by_kind` are prices by kind that give each thing the price that it has in `prices`.
+-- `by_kind` has a price for each kind: the price that each cable, column, bar or row of this kind has in `prices`.
 pub record AreByKind (m : Parts) (s : Day) (prices by_kind : PriceParts) : Type 0 where
   pub can : CanBeByKind m s prices
   pub version : version_of by_kind ≡ ByKind
   pub expands : Expands m s by_kind prices
 
--- `other` has the settings of `card`, and prices by kind that give each thing the price that it has on `card`.
+-- `other` has the settings of `card`, and a price for each kind: the price that each cable, column, bar or row of
+-- this kind has on `card`.
 pub record IsByKind (m : Parts) (s : Day) (card other : Card) : Type 0 where
   pub settings : other.settings.items ≡ card.settings.items
   pub version : version_of other.prices ≡ ByKind

@@ -12,7 +12,7 @@ use Rattle.kd_prices.specs.declared.doubt.Doubt.{Doubt}
 use Rattle.kd_prices.specs.Doubt.{IsDoubt}
 use Rattle.kd_prices.specs.Alike.{StandAlike, ReadAlike}
 
--- A card that proves itself has no first doubt, and no card has two different first doubts.
+-- If a card proves itself, there is no doubt about it. `OneDoubt`: no card has two different first doubts.
 abbrev pub ProvingCardsAreInNoDoubt : Type 0
 ProvingCardsAreInNoDoubt =
     (m : Parts) (s : Day) (settings : List Setting) (prices : PriceParts) (doubt : Doubt) → Proves m s settings prices
@@ -24,13 +24,13 @@ OneDoubt =
     → IsDoubt m s settings prices doubt → IsDoubt m s settings prices other
     → doubt ≡ other
 
--- There are `number` settings, which lead the machine to the day, and no list that does is shorter.
+-- There are `number` settings, they lead the machine to the day, and no shorter list does.
 pub record AreShortest (m : Parts) (s : Day) (settings : List Setting) (number : ℕ) : Type 0 where
   pub leads : LeadsToTheDay m s settings
   pub shortest : IsShortest m s settings
   pub count : length settings ≡ number
 
--- After any number of lines of a card that proves itself, the other lines are a shortest list to the day.
+-- After any number of lines of a card that proves itself are carried out, the lines left are a shortest list.
 abbrev pub RestIsShortest : Type 0
 RestIsShortest =
     (m between : Parts) (s : Day) (settings : List Setting) (prices : PriceParts) (lines : ℕ) → IsMachine m
@@ -38,8 +38,8 @@ RestIsShortest =
     → Proves m s settings prices → lines ≤ length settings → Leads m (take lines settings) between
     → AreShortest between s (drop lines settings) (length settings - lines)
 
--- Cables with the same letters have equal prices; so have bars with their lugs at the same places, nothings
--- (columns without a pair), and rows of the sheet with the same reading.
+-- Cables with the same letters have equal prices, and all columns without a pair have equal prices; or bars with
+-- their lugs at the same places have equal prices, and rows with the same reading have equal prices.
 pub record AreEqualWhereAlike (m : Parts) (s : Day) (prices : PriceParts) : Type 0 where
   pub rows :
       (place other : ℕ) → place < table_rows prices → other < table_rows prices → StandAlike m place other
@@ -48,7 +48,8 @@ pub record AreEqualWhereAlike (m : Parts) (s : Day) (prices : PriceParts) : Type
       (place other : ℕ) → place < table_rows prices → other < table_rows prices → ReadAlike s place other
       → price_at (column_prices prices) place ≡ price_at (column_prices prices) other
 
--- In a card by number that proves itself, equal things have equal prices, though each has its own.
+-- If a card proves itself, and has a price for each cable and column, or each bar and row, equal cables, nothings,
+-- bars or rows have equal prices.
 abbrev pub AlikePricesAreEqual : Type 0
 AlikePricesAreEqual =
     (m : Parts) (s : Day) (settings : List Setting) (prices : PriceParts) → IsMachine m → IsLegalDay s

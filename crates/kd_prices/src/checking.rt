@@ -1,4 +1,4 @@
-//! Checks a card: whether it proves itself, or the first doubt about it.
+//! Checks whether a card proves itself, or finds the first doubt about the card.
 ghost use Rattle.std.specs.Prelude.{◌≡◌, ◌↔◌, ◌≤◌, length, IsOk, IfErr};
 ghost use Rattle.kd_state.specs.Costs.{cost_table};
 ghost use Rattle.kd_state.specs.{Machine.{model_of}, SheetDay.{day_model}};
@@ -16,7 +16,7 @@ use super::walking::{carry_settings, is_priced_setting};
 use kd_card::{Card, Kind, PriceParts, sum_of_prices};
 use kd_state::{Machine, OneModel, Setting, SheetDay, bar_costs, cable_costs};
 
-/// Checks that `card`, whoever made it, proves itself, or finds the first doubt about it.
+/// Checks that `card` proves itself, or finds the first doubt about it.
 ///
 /// A card proves itself if its settings lead `machine` to `day`, and its prices show that no shorter list does.
 /// The variants of `Doubt` are tested in their order; the first that applies is the result.
@@ -29,7 +29,7 @@ pub fn check(machine: &Machine, day: &SheetDay, card: &Card) -> Result<(), Doubt
     first_doubt(machine, day, card)
 }
 
-/// Compares the models, then makes the table of costs and checks `card` by it. An error is the first doubt.
+/// Compares the models of machine and day, then makes the table of costs and checks `card` by this table.
 fn first_doubt(machine: &Machine, day: &SheetDay, card: &Card) -> Result<(), Doubt>
     ensures { IsCheckedAnswer machine.now day.now card.now.settings.items card.now.prices result }
 {
@@ -78,7 +78,7 @@ fn first_doubt(machine: &Machine, day: &SheetDay, card: &Card) -> Result<(), Dou
     }
 }
 
-/// Finds the first doubt about `settings` on a card by kind, where equal things share one price.
+/// Finds the first doubt about a card's `settings`, given a price for each kind of row and each kind of column.
 ///
 /// `row_things` are the machine's cables or bars, one for each row of the table of costs. `column_things` are the
 /// day's pairs and nothings, or the rows of the sheet, one for each column.
@@ -113,7 +113,7 @@ fn doubt_by_kinds<R: Kind, C: Kind, const N: usize>(
     doubt_by_prices(machine, day, settings, costs, &rows, &columns)
 }
 
-/// Finds the first doubt about `settings`, given a price for each row and column of the table of costs.
+/// Finds the first doubt about a card's `settings`, given a price for each row and column of the table of costs.
 fn doubt_by_prices<const N: usize>(
     machine: &Machine,
     day: &SheetDay,

@@ -7,36 +7,33 @@ use kd_tables::{Refusal, Text};
 use std::fmt;
 use thiserror::Error;
 
-/// Why a card doesn't prove itself. A line is a setting of the card; lines are counted from 1.
+/// Why a card doesn't prove itself. Lines are settings of the card, counted from 1.
 #[derive(Clone, Copy, Debug, PartialEq, Eq, Error)]
 pub enum Doubt {
-    /// Machine and day are of different models, or the prices are for the other sort of machine.
+    /// Machine and day are of different models, or the prices aren't for this machine.
     ///
     /// Cards for rotor machines have prices of cables, and cards for the Converter have prices of bars.
     OtherModel,
-    /// The card is by kind, but its kinds or their counts aren't those of machine and day.
-    ///
-    /// A card is by kind if equal things share one price.
+    /// The card has a price for each kind, but its kinds or their counts aren't those of machine and day.
     PriceMissing,
-    /// The machine refuses this line, for this reason, after the lines before it were carried out.
+    /// The machine refuses this line, for this reason, after the lines before it are carried out.
     IllegalAt(usize, Why),
     /// After the last line the machine doesn't read as the day.
     NotTheSheet,
-    /// The prices of this row and this column add up to more than the cost where they meet.
+    /// The prices of this row and this column add up to more than the cost where row and column meet.
     ///
-    /// Rows and columns are those of the table of costs, counted from 1: rows are cables or bars; columns are
-    /// pairs and nothings, or the sheet's rows. These are the first that don't fit, row by row.
+    /// Row and column are the first where this is so, row by row, counted from 1. Rows of the table of costs are
+    /// cables or bars; its columns are pairs and nothings, or the sheet's rows.
     PriceTooHigh(u8, u8),
     /// The sum of the prices isn't the number of lines that change a cable or a bar.
     SumDiffers,
-    /// This line isn't needed: it changes no cable or bar, and doesn't lower the number of loose things by one.
-    ///
-    /// It is the first such line.
+    /// This line is the first that isn't needed: it changes no cable and no bar, and doesn't lower the number of
+    /// loose things by one.
     NeedlessLine(usize),
 }
 
 impl Doubt {
-    /// The refusal's number and name, and what the doubt has: a line, the reason, or a row and a column.
+    /// The refusal's number and name, and then what the doubt names: a line, a reason, or a row and a column.
     pub fn text(&self) -> Text
         ensures { result.bytes ≡ doubt_text self.now }
     {

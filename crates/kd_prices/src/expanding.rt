@@ -1,4 +1,4 @@
-//! Finds the price of each thing on a card by kind, where equal things share one price.
+//! Finds the price of each cable, column, bar or row among the prices of kinds.
 ghost use Rattle.std.specs.Prelude.{◌≡◌, ◌↔◌, ◌≤◌, length, map, count_by, ℤ, List, All, None, IsTrue, MatchOption};
 ghost use Rattle.kd_card.specs.Kinds.{AreKinds, AreKindsOf};
 ghost use Rattle.kd_card.specs.Prices.{ArePricesInRange};
@@ -7,9 +7,9 @@ ghost use Rattle.kd_prices.specs.Grouping.{IsCounted, IsPriceOf, HasNoKind};
 use arrayvec::ArrayVec;
 use kd_card::{Kind, Thing};
 
-/// The price of each of `things`: the price of its kind, which is one of `kinds`.
+/// The price of each of `things`, which is the price of its kind in `kinds`.
 ///
-/// `None` if `kinds` or their counts aren't those of `things`.
+/// `None` if `things` don't have exactly these kinds, with these counts.
 pub(crate) fn prices_of<K: Kind, const N: usize>(
     things: &[K::Thing],
     kinds: &[K],
@@ -32,7 +32,7 @@ pub(crate) fn prices_of<K: Kind, const N: usize>(
     prices.into_inner().ok()
 }
 
-/// Whether the count of each kind is the number of `things` equal to the kind's thing, and isn't 0.
+/// Whether each kind's count is the number of `things` that are equal to the kind's thing, and isn't 0.
 fn are_counted<K: Kind>(things: &[K::Thing], kinds: &[K]) -> bool
     ensures { IsTrue result
         ↔ All (IsCounted K.Thing.eq things.now) (map K.sort.kind kinds.now) }
@@ -54,7 +54,7 @@ fn number_of<T: Thing>(thing: &T, things: &[T]) -> usize
     things.iter().filter(|other| **other == *thing).count()
 }
 
-/// The price of the kind of `thing`, or `None` if this kind isn't among `kinds`.
+/// The price of the kind whose thing is `thing`, or `None` if there is no such kind in `kinds`.
 fn price_of<K: Kind>(thing: &K::Thing, kinds: &[K]) -> Option<i16>
     ensures { let parts = map K.sort.kind kinds.now in
         MatchOption result (HasNoKind parts thing.now) (IsPriceOf parts thing.now) }

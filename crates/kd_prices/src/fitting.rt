@@ -1,4 +1,4 @@
-//! Finds the first cell of a table of costs where the prices of its row and column add up to too much.
+//! Finds the first cell of a table of costs where the prices of row and column add up to more than the cost.
 ghost use Rattle.std.specs.Prelude.{◌≡◌, ◌↔◌, ℕ, ◌<◌, length, MatchOption, IsTrue};
 ghost use Rattle.kd_prices.specs.Doubt.{IsFirstWithout};
 ghost use Rattle.kd_prices.specs.Fitting.{ListsFitAt, FitsAtColumn, IsFirstPlaceWithout};
@@ -10,7 +10,7 @@ pub(crate) struct Cell {
     pub column: usize,
 }
 
-/// Finds the first cell, row by row, where the prices of its row and column add up to more than its cost.
+/// Finds the first cell, row by row, where the prices of row and column add up to more than the cell's cost.
 pub(crate) fn first_too_high<const N: usize>(
     costs: &[[u8; N]; N],
     rows: &[i16],
@@ -30,9 +30,9 @@ pub(crate) fn first_too_high<const N: usize>(
     None
 }
 
-/// Finds the first column whose price and `price`, added up, are above the cost in this column.
+/// Finds the first column, counted from 0, where `price` and the column's price add up to more than the cost.
 ///
-/// `costs` and `price` are those of one row of the table.
+/// `price` is the price of one row of the table of costs, and `costs` are the costs in this row.
 fn first_column_too_high(costs: &[u8], price: i16, columns: &[i16]) -> Option<usize>
     requires { length costs.now ≡ length columns.now }
     ensures { MatchOption result
@@ -47,9 +47,9 @@ fn first_column_too_high(costs: &[u8], price: i16, columns: &[i16]) -> Option<us
     None
 }
 
-/// Whether `price` and the price of `column` add up to at most the cost in this column.
+/// Whether `price` and the price of column `column`, counted from 0, add up to at most the cost in this column.
 ///
-/// `costs` and `price` are those of one row of the table.
+/// `price` is the price of one row of the table of costs, and `costs` are the costs in this row.
 fn fits_at_column(costs: &[u8], price: i16, columns: &[i16], column: usize) -> bool
     requires inside { column < length columns.now }
     requires each { length costs.now ≡ length columns.now }

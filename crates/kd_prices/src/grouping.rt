@@ -1,11 +1,13 @@
-//! Groups things with prices: equal things become one kind, with their number and their price.
+//! Groups equal cables, columns, bars or rows, which have equal prices, into kinds.
 ghost use Rattle.std.specs.Prelude.{◌≡◌, ◌<◌, ◌≤◌, length, map, MatchOption};
 ghost use Rattle.kd_prices.specs.Grouping.{AreGroupsOf, HaveOnePriceEach, CountsIn, IsLast};
 
 use arrayvec::ArrayVec;
 use kd_card::{Kind, KindOf};
 
-/// Groups things with their prices into kinds, in order. `None` if two equal things have different prices.
+/// Groups equal things into kinds, in ascending order. `None` if two equal things have different prices.
+///
+/// `pairs` are things (the letters of a cable or column, a standing or a reading) with their prices.
 pub(crate) fn kinds_of<K: Kind, const N: usize>(
     pairs: ArrayVec<(K::Thing, i16), N>,
 ) -> Option<ArrayVec<K, N>>
@@ -25,10 +27,9 @@ pub(crate) fn kinds_of<K: Kind, const N: usize>(
     Some(kinds)
 }
 
-/// Counts one more thing: in the last of `kinds` if it is equal to that kind's thing, or in a new kind.
+/// Adds a thing with its price, `pair`, to the last kind if this kind has an equal thing, else as a new kind.
 ///
-/// `pair` is the thing and its price. The result is `false` if the thing is equal to the last kind's thing, but
-/// has another price.
+/// The result is `false` if the things are equal, but the prices aren't.
 fn count_in<K: Kind, const N: usize>(kinds: &mut ArrayVec<K, N>, pair: &(K::Thing, i16)) -> bool
     requires few { length kinds.old.items < N }
     requires counts { (kind : KindOf K.Thing) → IsLast (map K.sort.kind kinds.old.items) kind

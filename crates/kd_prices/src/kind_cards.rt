@@ -1,4 +1,4 @@
-//! Makes cards by kind, where equal things share one price, from cards by number, where each thing has its own.
+//! Converts a card with a price for each cable, pair, bar or row to a card with a price for each kind.
 ghost use Rattle.std.specs.Prelude.{◌↔◌, IfSome, IsSome, MatchOption};
 ghost use Rattle.kd_prices.specs.KindCards.{CanBeByKind, IsByKind, AreByKind};
 
@@ -8,11 +8,11 @@ use arrayvec::ArrayVec;
 use kd_card::{BarKind, CableKind, Card, PairKind, PriceParts, Prices, RowKind};
 use kd_state::{Machine, OneModel, SheetDay};
 
-/// Makes a card by kind: it has the settings of `card`, and one price for equal things.
+/// Converts `card` to a card where each kind has the price that its members have on `card`. The settings stay.
 ///
-/// From this card, `check` finds the price that each thing has on `card`. `None` if machine and day are of
-/// different models, if the prices are for the other sort of machine, if `card` is by kind already, or if two
-/// equal things have different prices. In a card by number that proves itself, equal things have equal prices.
+/// `None` if machine and day are of different models, if the prices aren't for this machine, if `card` has one
+/// price for each kind already, or if two equal cables, columns, bars or rows have different prices. On a card that
+/// proves itself, equal cables, columns, bars or rows never have different prices.
 pub fn by_kind(machine: &Machine, day: &SheetDay, card: &Card) -> Option<Card>
     ensures some { IsSome result ↔ CanBeByKind machine.now day.now card.now.prices }
     ensures card { IfSome result (λ other. IsByKind machine.now day.now card.now other) }
@@ -22,7 +22,7 @@ pub fn by_kind(machine: &Machine, day: &SheetDay, card: &Card) -> Option<Card>
     Some(Card { settings, prices })
 }
 
-/// Converts prices by number, one for each thing, to prices by kind, one for equal things, if possible.
+/// Converts a price for each cable and column, or each bar and row, to a price for each kind, if possible.
 fn prices_by_kind(machine: &Machine, day: &SheetDay, prices: &Prices) -> Option<Prices>
     ensures { MatchOption result
         (¬ (CanBeByKind machine.now day.now prices.now))

@@ -1,18 +1,18 @@
-//! Laws on checked cards: doubts, the rest of a card, and prices of equal things.
+//! Laws on checked cards: on doubts, on the lines left of a card, and on the prices of equal cables or bars.
 ghost use Rattle.kd_prices.specs.Laws.{ProvingCardsAreInNoDoubt, OneDoubt, RestIsShortest, AlikePricesAreEqual};
 
-/// A card that proves itself has no first doubt, and no card has two different first doubts.
+/// If a card proves itself, there is no doubt about it. No card has two different first doubts.
 pub fn a_card_is_in_one_doubt_at_most()
     ensures none { ProvingCardsAreInNoDoubt }
     ensures one { OneDoubt }
 {}
 
-/// After any number of lines of a card that proves itself, the other lines are a shortest list to the day.
+/// After any number of lines of a card that proves itself are carried out, the lines left are a shortest list.
 pub fn rest_of_a_card_is_shortest()
     ensures { RestIsShortest }
 {}
 
-/// In a card by number that proves itself, equal things have equal prices, though each has its own.
+/// Equal cables, nothings, bars or rows have equal prices on a card that proves itself, though each has its own.
 ///
 /// Cables are equal if they have the same letters, bars if their lugs are at the same places, and rows of the
 /// sheet if they have the same reading. All nothings (columns without a pair) are equal.

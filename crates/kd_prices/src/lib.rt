@@ -1,5 +1,5 @@
-//! Checks whether a card proves itself. Makes cards by kind, where equal things share one price, from cards by
-//! number, where each thing has its own.
+//! Checks whether a card proves itself. Converts a card where each cable, pair, bar or row has its own price to a
+//! card where each kind of them has one price.
 #![tactic(auto)]
 
 mod checking;

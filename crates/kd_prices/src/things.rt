@@ -1,4 +1,4 @@
-//! Cables and columns as values that can be sorted in the order of a card's lines, and things with their prices.
+//! Converts cables and columns to `Ends` and `Column`, which have the order of a card's lines.
 ghost use Rattle.std.specs.Prelude.{◌≡◌, ◌≤◌, length, zip};
 ghost use Rattle.kd_card.specs.Proving.{columns_in_order, pair_in_order};
 
@@ -7,7 +7,7 @@ use kd_card::{Column, Ends, Thing};
 use kd_state::{column_at, letters_in_order};
 use kd_tables::Letter;
 
-/// The letters of each of `cables`, as a value that can be sorted.
+/// Converts the letters of each of `cables` to `Ends`, which can be sorted.
 pub(crate) fn ends_of(cables: &[(Option<Letter>, Option<Letter>); 13]) -> ArrayVec<Ends, 13>
     ensures { result.items ≡ cables.now }
 {
@@ -30,7 +30,7 @@ pub(crate) fn columns_of(pairs: &[(Letter, Letter)]) -> ArrayVec<Column, 13>
     columns
 }
 
-/// `pair` with its letters in alphabetical order, or `None` if there is no pair.
+/// `pair` with its letters in alphabetical order, or `None` if `pair` is `None`.
 fn in_order(pair: Option<(Letter, Letter)>) -> Option<(Letter, Letter)>
     ensures { result ≡ pair_in_order pair }
 {
@@ -38,7 +38,7 @@ fn in_order(pair: Option<(Letter, Letter)>) -> Option<(Letter, Letter)>
     Some(letters_in_order(one, other))
 }
 
-/// Each of `things` with its price, which is at the same place of `prices`.
+/// Pairs each of `things` with its price, which has the same place in `prices`.
 pub(crate) fn beside<T: Thing, const N: usize>(
     things: &[T],
     prices: &[i16; N],

@@ -10,16 +10,16 @@ use super::doubt::Doubt;
 use kd_card::loose_count;
 use kd_state::{Machine, Setting, SheetDay};
 
-/// The machine after all settings of a card, and the doubt about the first setting that isn't needed, if any.
+/// The machine after all settings of a card, and the doubt about the first needless setting, if there is one.
 #[derive(Drop)]
 pub(crate) struct Carried {
     pub reached: Machine,
     pub needed: Result<(), Doubt>,
 }
 
-/// Carries out `settings` in turn, and compares the number of loose things before and after each.
+/// Carries out `settings` in turn, and compares the number of loose things before and after each setting.
 ///
-/// An error is the doubt about the first setting that the machine refuses.
+/// The error is the doubt about the first setting that the machine refuses.
 #[tactic(auto, using(kd_state::proofs::Telling::Refusing::stops_at))]
 pub(crate) fn carry_settings(
     machine: &Machine,
@@ -45,7 +45,7 @@ pub(crate) fn carry_settings(
     Ok(Carried { reached, needed })
 }
 
-/// Checks that `setting`, on line `line`, changes a cable or a bar, or leaves one loose thing less.
+/// Checks that `setting`, on line `line`, changes a cable or a bar, or lowers the number of loose things by one.
 ///
 /// `before` and `after` are the numbers of loose things before and after the setting.
 fn check_need(setting: &Setting, line: usize, before: usize, after: usize) -> Result<(), Doubt>

@@ -1,5 +1,5 @@
--- How a document is read: its table, and the values in it. The result of a reading is a value or a fault. The
--- readings in a `do` are tried in their order; at the first fault, this fault is the result of the `do`.
+-- How the values in a TOML document are read. Each step gives a value or a fault. The steps of a `do` run in order,
+-- and the first fault is the result of the whole `do`.
 -- Source: TOML 1.1, toml.io
 -- Code: the library `toml` parses the document, and `?` returns the first fault.
 -- Test: kd_trials/src/sheet/files.rt, kd_trials/src/sheet/faults.rt
@@ -14,7 +14,7 @@ use Rattle.kd_sheet.specs.declared.key.Key.{Key}
 use Rattle.kd_sheet.specs.declared.fault.SheetFault.{SheetFault}
 use Rattle.kd_sheet.specs.declared.fault.SheetFault.TheVariants.{NotToml, Missing, BadValue, NoMemory}
 
--- `f` applied to the value of the reading on the left; if this reading has a fault, the fault.
+-- If the left operand is a value, `f` applied to this value; if it is a fault, this fault.
 infixl 10 ◌>>=◌
 abbrev pub ◌>>=◌ : {A B : Type 0} → Result A SheetFault → (A → Result B SheetFault) → Result B SheetFault
 (Ok x) >>= f = f x
@@ -25,8 +25,8 @@ infixl 10 ◌>>◌
 abbrev pub ◌>>◌ : {B : Type 0} → Result (Unit {0}) SheetFault → Result B SheetFault → Result B SheetFault
 test >> reading = test >>= (λ _. reading)
 
--- The values of the items, in order, or the first fault. `reading` takes the values of the items before an item,
--- and the item.
+-- The values of the items, in order, or the first fault. `reading` reads an item: it takes the values of the items
+-- before the item, and the item itself.
 abbrev pub read_items : {A : Type 0} → (List A → Data → Result A SheetFault) → List Data → Result (List A) SheetFault
 read_items reading [] = Ok []
 read_items reading (first ∷ rest) = do
@@ -34,28 +34,28 @@ read_items reading (first ∷ rest) = do
   values ← read_items (λ earlier. reading (value ∷ earlier)) rest
   Ok (value ∷ values)
 
--- `answer` is `meant`, or it is the fault `NoMemory`.
+-- `answer` equals `meant`, or `answer` is the fault `NoMemory`.
 abbrev pub AgreesOrNoMemory : {A : Type 0} → Result A SheetFault → Result A SheetFault → Type 0
 AgreesOrNoMemory (Err NoMemory) meant = ⊤
 AgreesOrNoMemory answer meant = answer ≡ meant
 
--- `answer` with `view` applied to its value, if it has one
+-- `answer` with `view` applied to its value; a fault stays as it is
 abbrev pub result_map : {A B : Type 0} → (A → B) → Result A SheetFault → Result B SheetFault
 result_map view answer = result_map_both view (λ fault. fault) answer
 
--- `Ok` if `test` is true, otherwise the fault
+-- `Ok` if `test` is true, otherwise the fault `fault`
 abbrev pub demand : Bool → SheetFault → Result (Unit {0}) SheetFault
 demand test fault = if test then Ok tt else Err fault
 
--- the table of the TOML document `bytes`, or `NotToml`
+-- the table of the TOML document `bytes`, or the fault `NotToml`
 unfoldable pub document_of : List ℕ → Result Members SheetFault
 document_of bytes = if is_utf8 bytes then ok_or (parse_document bytes) NotToml else Err NotToml
 
--- the value at `key`, or `Missing`
+-- the value at `key`, or the fault `Missing`
 abbrev pub value_at : Key → Members → Result Data SheetFault
 value_at key table = ok_or (get_member (key_name key) table) (Missing key)
 
--- the text at `key`; `Missing` without this key, or `BadValue` if its value isn't a text
+-- the text at `key`; the fault is `Missing` if the key is absent, and `BadValue` if its value isn't a text
 abbrev pub text_at : Key → Members → Result (List ℕ) SheetFault
 text_at key table = value_at key table >>= (λ value. ok_or (as_str value) (BadValue key))
 
@@ -64,15 +64,15 @@ abbrev pub items_list : Items → List Data
 items_list no_items = []
 items_list (item first rest) = first ∷ items_list rest
 
--- the items of `value`, or `BadValue` if it isn't an array
+-- the items of the array `value`, or the fault `BadValue` if `value` isn't an array
 abbrev pub items_in : Key → Data → Result (List Data) SheetFault
 items_in key value = ok_or (option_map items_list (as_array value)) (BadValue key)
 
--- the items of the array at `key`; `Missing` without this key, or `BadValue` if its value isn't an array
+-- the items of the array at `key`; the fault is `Missing` if the key is absent, and `BadValue` if it has no array
 abbrev pub items_at : Key → Members → Result (List Data) SheetFault
 items_at key table = value_at key table >>= items_in key
 
--- the values of the array at `key`, which has to have exactly `count` items
+-- the values that `reading` gives for the items of the array at `key`, which must have exactly `count` items
 abbrev pub read_each : {A : Type 0} → Key → ℕ → (List A → Data → Result A SheetFault) → Members
     → Result (List A) SheetFault
 read_each key count reading table = do
@@ -80,7 +80,7 @@ read_each key count reading table = do
   demand (length items == count) (BadValue key)
   read_items reading items
 
--- the values of an array, which may have at most `count` items
+-- the values that `reading` gives for the items of the array `value`, which must have at most `count` items
 abbrev pub read_up_to : {A : Type 0} → Key → ℕ → (List A → Data → Result A SheetFault) → Data
     → Result (List A) SheetFault
 read_up_to key count reading value = do

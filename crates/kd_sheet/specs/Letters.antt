@@ -10,11 +10,11 @@ use Rattle.kd_sheet.specs.declared.key.Key.{Key}
 use Rattle.kd_sheet.specs.declared.fault.SheetFault.{SheetFault}
 use Rattle.kd_sheet.specs.declared.fault.SheetFault.TheVariants.{BadValue}
 
--- the letters of a text, if it is exactly `count` capital letters
+-- the letters of `text`, if it is exactly `count` capital letters
 abbrev pub capital_letters : ℕ → List ℕ → Option (List ℕ)
 capital_letters count text = if length text == count && list_all is_capital text then Some (letters_of text) else None
 
--- the letters of the text at `key`, which has to be exactly `count` capital letters
+-- the letters of the text at `key`, which must be exactly `count` capital letters
 unfoldable pub letters_at : Key → ℕ → Members → Result (List ℕ) SheetFault
 letters_at key count table = do
   text ← text_at key table

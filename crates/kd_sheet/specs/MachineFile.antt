@@ -23,31 +23,31 @@ use Rattle.kd_sheet.specs.declared.key.Key.TheVariants as keys
 use Rattle.kd_sheet.specs.declared.fault.SheetFault.{SheetFault}
 use Rattle.kd_sheet.specs.declared.fault.SheetFault.TheVariants.{UnknownModel, BadValue}
 
--- the version of a file, 1 or 2
+-- the version of a machine file, 1 or 2
 unfoldable pub version_in : Members → Result ℕ SheetFault
 version_in table = do
   value ← value_at keys.Version table
   ok_or (number_up_to 2 value) (BadValue keys.Version)
 
--- the model that a file names
+-- the model that a machine file, or a day of a key sheet, names
 unfoldable pub model_in : Members → Result Model SheetFault
 model_in table = do
   name ← text_at keys.Model table
   ok_or (model_by_name name) UnknownModel
 
--- whether a file of `version` may describe a `model`: an M4 needs version 2
+-- whether a machine file of `version` may describe a machine of `model`: the M4 needs version 2
 abbrev pub is_known_in : ℕ → Model → Bool
 is_known_in version M4 = version == 2
 is_known_in version _ = true
 
--- the model of a machine file of `version`
+-- the model that a machine file of `version` names; the fault is `UnknownModel` for an M4 in version 1
 unfoldable pub known_model_in : ℕ → Members → Result Model SheetFault
 known_model_in version table = do
   model ← model_in table
   demand (is_known_in version model) UnknownModel
   Ok model
 
--- the reflector that a file names, if it is one of the model's
+-- the reflector of `model` that a machine file, or a day of a key sheet, names
 unfoldable pub reflector_in : Model → Members → Result Reflector SheetFault
 reflector_in model table = do
   name ← text_at keys.Reflector table
@@ -76,13 +76,13 @@ unfoldable pub parts_in : Model → Members → Result Parts SheetFault
 parts_in M209 table = pin_parts_in table >>= (λ parts. Ok (Pin parts))
 parts_in model table = rotor_parts_in model table >>= (λ parts. Ok (with_cables_in_order (Rotor parts)))
 
--- the machine that a file's table describes, or its first fault
+-- the machine that a machine file's table describes, or the file's first fault
 unfoldable pub machine_in : Members → Result Parts SheetFault
 machine_in table = do
   version ← version_in table
   model ← known_model_in version table
   parts_in model table
 
--- the machine that a file's bytes describe, or the first fault
+-- the machine that a machine file's bytes describe, or the file's first fault
 abbrev pub machine_of : List ℕ → Result Parts SheetFault
 machine_of bytes = document_of bytes >>= machine_in

@@ -24,15 +24,15 @@ use Rattle.kd_sheet.specs.declared.key.Key.TheVariants as keys
 abbrev pub quoted_text : List ℕ → List ℕ
 quoted_text text = codes "\"" ++ text ++ codes "\""
 
--- an array of texts in brackets, with a comma and a space between them
+-- an array: `texts` in double quotes, with a comma and a space between them, and brackets around them all
 abbrev pub array_text : List (List ℕ) → List ℕ
 array_text texts = codes "[" ++ join_by quoted_text (codes ", ") texts ++ codes "]"
 
--- the line of a key and its value
+-- the line that gives `key` the value `value`
 abbrev pub key_line : Key → List ℕ → List ℕ
 key_line key value = key_name key ++ codes " = " ++ value ++ codes "\n"
 
--- the version in which the file of a machine of `model` is written
+-- the version of machine files in which a machine of `model` is written
 abbrev pub file_version : Model → ℕ
 file_version M4 = 2
 file_version _ = 1
@@ -41,30 +41,30 @@ file_version _ = 1
 abbrev pub seat_text : Option Wheel → List ℕ
 seat_text seat = option_map_or wheel_text seat []
 
--- the letters in a cable, as a text
+-- the letters in a cable, as a text of no, one or two letters
 abbrev pub cable_text : Option ℕ × Option ℕ → List ℕ
 cable_text cable = letters_text (cable_letters cable)
 
--- the letter of an effective pin; nothing for another pin
+-- the pin's letter as a text if the pin is effective, otherwise the empty text
 abbrev pub effective_pin_text : ℕ → Bool → List ℕ
 effective_pin_text letter effective = if effective then (letter + 65) ∷ [] else []
 
--- the letters of a wheel's effective pins, in the wheel's own order
+-- the letters of a wheel's effective pins, in the order of the wheel's letters `ring`
 abbrev pub pins_text : List ℕ → List Bool → List ℕ
 pins_text ring pins = flat_map (λ (pin : ℕ × Bool). effective_pin_text pin.0 pin.1) (zip ring pins)
 
--- the letters of the effective pins: one text for each wheel
+-- for each of the six wheels, a text: the letters of the wheel's effective pins
 abbrev pub pin_texts : PinSet → List (List ℕ)
 pin_texts pins =
     pins_text (ring_of 1) pins.w1 ∷ pins_text (ring_of 2) pins.w2 ∷ pins_text (ring_of 3) pins.w3
     ∷ pins_text (ring_of 4) pins.w4 ∷ pins_text (ring_of 5) pins.w5 ∷ pins_text (ring_of 6) pins.w6 ∷ []
 
--- the first two lines of a file: the version and the model
+-- the first two lines of a machine file: the version and the model
 abbrev pub head_file_lines : Model → List (List ℕ)
 head_file_lines model =
     key_line keys.Version (digit_text (file_version model)) ∷ key_line keys.Model (quoted_text (model_text model)) ∷ []
 
--- the other lines of a rotor machine's file
+-- the lines of a rotor machine's file after the first two
 abbrev pub rotor_file_lines : RotorParts → List (List ℕ)
 rotor_file_lines m =
     key_line keys.Reflector (quoted_text (reflector_text m.reflector))
@@ -74,7 +74,7 @@ rotor_file_lines m =
     ∷ key_line keys.Cables (array_text (map cable_text m.cables))
     ∷ []
 
--- the other lines of a Converter's file
+-- the lines of a Converter's file after the first two
 abbrev pub converter_file_lines : PinParts → List (List ℕ)
 converter_file_lines m =
     key_line keys.Letters (quoted_text (letters_text m.letters))

@@ -30,6 +30,6 @@ reflector_by_name model name = find (λ reflector. bytes_eq (reflector_text refl
 unfoldable pub wheel_by_name : List ℕ → Option Wheel
 wheel_by_name name = find (λ wheel. bytes_eq (wheel_text wheel) name) every_wheel
 
--- the standing with this text
+-- the standing that `text` names
 unfoldable pub standing_by_text : List ℕ → Option (Place × Place)
 standing_by_text text = find (λ standing. bytes_eq (standing_text standing) text) standings

@@ -6,16 +6,16 @@ use Rattle.std.specs.List.{list_all, filter_map}
 use Rattle.std.specs.Option.{option_map}
 use Rattle.toml.specs.Data.{Data, integer}
 
--- the value, if it is a whole number from 1 to `last`
+-- the number that a value is, if it is a whole number from 1 to `last`
 abbrev pub number_up_to : ℕ → Data → Option ℕ
 number_up_to last (integer (pos number)) = if nat_le 1 number && nat_le number last then Some number else None
 number_up_to last _ = None
 
--- the letter of an item that is a number from 1 to 26; 1 is A
+-- the letter that an item means, if it is a number from 1 to 26; 1 means A
 abbrev pub letter_of_number : Data → Option ℕ
 letter_of_number item = option_map (λ number. number - 1) (number_up_to 26 item)
 
--- the letters of the items, if these are exactly `count` numbers from 1 to 26
+-- the letters that `items` mean, if they are exactly `count` numbers from 1 to 26
 abbrev pub letters_of_numbers : ℕ → List Data → Option (List ℕ)
 letters_of_numbers count items =
     if length items == count && list_all (λ item. is_some (letter_of_number item)) items

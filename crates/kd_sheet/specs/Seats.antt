@@ -16,21 +16,21 @@ use Rattle.kd_sheet.specs.declared.key.Key.TheVariants as keys
 use Rattle.kd_sheet.specs.declared.fault.SheetFault.{SheetFault}
 use Rattle.kd_sheet.specs.declared.fault.SheetFault.TheVariants.{BadValue, WheelTwice, WheelNotAllowed}
 
--- whether the slots at this key may be empty: a machine file's may, a key sheet's may not
+-- whether slots at `key` may be empty: a machine file's slots may, the slots of a key sheet's day may not
 abbrev pub may_be_empty : Key → Bool
 may_be_empty keys.Slots = true
 may_be_empty _ = false
 
--- whether the slot holds this wheel
+-- whether a slot holds `wheel`; `seat` is the wheel in the slot, or `None`
 abbrev pub holds_wheel : Wheel → Option Wheel → Bool
 holds_wheel wheel seat = option_map_or (same_wheel wheel) seat false
 
--- whether one of the slots holds this wheel
+-- whether one of `slots` holds `wheel`
 unfoldable pub is_seated : List (Option Wheel) → Wheel → Bool
 is_seated slots wheel = list_any (holds_wheel wheel) slots
 
--- The wheel with this name, or a fault. The model has to allow the wheel in the slot to the right of `slots`, and
--- none of `slots` may have it.
+-- The wheel named `name`, or a fault. The model must allow the wheel in the slot to the right of `slots`, and none
+-- of `slots` may hold the wheel.
 unfoldable pub wheel_for : Key → Model → List (Option Wheel) → List ℕ → Result Wheel SheetFault
 wheel_for key model slots name = do
   wheel ← ok_or (wheel_by_name name) (BadValue key)
@@ -38,19 +38,19 @@ wheel_for key model slots name = do
   demand (not (is_seated slots wheel)) WheelTwice
   Ok wheel
 
--- The wheel with this name, for the slot right of `slots`. An empty name leaves the slot empty, if slots at `key`
--- may be empty.
+-- The wheel named `name`, for the slot to the right of `slots`. The empty name means an empty slot, if `key` allows
+-- empty slots.
 unfoldable pub seat_for : Key → Model → List (Option Wheel) → List ℕ → Result (Option Wheel) SheetFault
 seat_for key model slots name =
     if may_be_empty key && length name == 0 then Ok None
     else wheel_for key model slots name >>= (λ wheel. Ok (Some wheel))
 
--- the wheel that an item names, for the slot right of `slots`
+-- the wheel that `item` names, for the slot to the right of `slots`
 unfoldable pub seat_of_item : Key → Model → List (Option Wheel) → Data → Result (Option Wheel) SheetFault
 seat_of_item key model slots item = do
   name ← ok_or (as_str item) (BadValue key)
   seat_for key model slots name
 
--- the wheels in the model's slots, read from an array with an item for each slot
+-- the wheels in the model's slots, from the array at `key`, which has one item for each slot
 unfoldable pub seats_in : Key → Model → Members → Result (List (Option Wheel)) SheetFault
 seats_in key model table = read_each key (slots_of model) (seat_of_item key model) table

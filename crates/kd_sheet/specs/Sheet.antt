@@ -7,7 +7,7 @@ use Rattle.std.specs.Option.{option_and_then}
 use Rattle.kd_state.specs.SameParts.{numbered_item}
 use Rattle.kd_state.specs.SheetDay.{Day, day_number}
 
--- for each number from 1 to 31, the first of `days` with this number
+-- for each number from 1 to 31, the first of `days` with this number, if there is one
 abbrev pub month_of : List Day → List (Option Day)
 month_of days = map (λ number. find (λ day. day_number day == number) days) (range_with_len 1 31)
 
@@ -15,7 +15,7 @@ month_of days = map (λ number. find (λ day. day_number day == number) days) (r
 abbrev pub day_of : List (Option Day) → ℕ → Option Day
 day_of month number = option_and_then (λ day. day) (numbered_item month number)
 
--- The month has a place for each number from 1 to 31, and each day is at its own number.
+-- `month` has 31 places, and each day in `month` is at the place with the day's number.
 pub record IsMonth (month : List (Option Day)) : Type 0 where
   pub count : length month ≡ 31
   pub each : (number : ℕ) (day : Day) → day_of month number ≡ Some day → day_number day ≡ number

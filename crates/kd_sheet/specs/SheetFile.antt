@@ -31,7 +31,7 @@ number_in table = do
   value ← value_at keys.Day table
   ok_or (number_up_to 31 value) (BadValue keys.Day)
 
--- the number of a day, or `DayTwice` if one of `days` has it
+-- the number of a day; the fault is `DayTwice` if one of `days` has the same number
 unfoldable pub new_number_in : List Day → Members → Result ℕ SheetFault
 new_number_in days table = do
   number ← number_in table
@@ -50,7 +50,7 @@ rings_in model table = do
   value ← value_at keys.Rings table
   ok_or (rings_of (slots_of model) value) (BadValue keys.Rings)
 
--- the letters of an item that is a text of three capital letters
+-- the three letters of a group: the item must be a text of three capital letters
 unfoldable pub group_of_item : Data → Option (List ℕ)
 group_of_item item = option_and_then (capital_letters 3) (as_str item)
 
@@ -58,7 +58,7 @@ group_of_item item = option_and_then (capital_letters 3) (as_str item)
 abbrev pub group_for : List (List ℕ) → Data → Result (List ℕ) SheetFault
 group_for earlier item = ok_or (group_of_item item) (BadValue keys.Groups)
 
--- the groups, at most four; there are none if the key is missing
+-- the groups, at most four; there are none if the key `groups` is missing
 unfoldable pub groups_in : Members → Result (List (List ℕ)) SheetFault
 groups_in table = option_map_or (read_up_to keys.Groups 4 group_for) (get_member (key_name keys.Groups) table) (Ok [])
 
@@ -100,26 +100,26 @@ unfoldable pub model_day_in : ℕ → Model → Members → Result Day SheetFaul
 model_day_in number M209 table = pin_day_in number table
 model_day_in number model table = rotor_day_in number model table
 
--- The day that a table describes, or its first fault. If one of `days` has the day's number, this is a fault.
+-- The day that `table` describes, or the first fault. The fault is `DayTwice` if one of `days` has the same number.
 unfoldable pub day_in : List Day → Members → Result Day SheetFault
 day_in days table = do
   number ← new_number_in days table
   model ← model_in table
   model_day_in number model table
 
--- the day that an item describes, or its first fault; `days` are the days of the items before it
+-- the day that `item` describes, or its first fault; `days` are the days of the items before `item`
 unfoldable pub day_for : List Day → Data → Result Day SheetFault
 day_for days item = do
   table ← ok_or (as_table item) (BadValue keys.Day)
   day_in days table
 
--- the month that a sheet's table describes, or its first fault
+-- the month that a key sheet's table describes, or the sheet's first fault
 unfoldable pub sheet_in : Members → Result (List (Option Day)) SheetFault
 sheet_in table = do
   items ← items_at keys.Day table
   days ← read_items day_for items
   Ok (month_of days)
 
--- the month that a sheet's bytes describe, or the first fault
+-- the month that a key sheet's bytes describe, or the sheet's first fault
 abbrev pub sheet_of : List ℕ → Result (List (Option Day)) SheetFault
 sheet_of bytes = document_of bytes >>= sheet_in

@@ -39,7 +39,7 @@ pub fn bars_in(table: &Table) -> Result<[Standing; BARS], SheetFault>
     Ok(bars.into_inner().ok().unwrap())
 }
 
-/// The value of a digit from 0 to 6.
+/// The number that `byte` means, if it is an ASCII digit from 0 to 6.
 fn digit_value(byte: u8) -> Option<u8>
     ensures value { IfSome result (λ number. byte ≡ number + 48) }
     ensures exists { is_some result ≡ is_reading_digit byte }
@@ -50,7 +50,7 @@ fn digit_value(byte: u8) -> Option<u8>
     }
 }
 
-/// Reads `item` as two digits with `-` between them, in either order.
+/// Reads `item` as a reading: two digits from 0 to 6 in either order, with `-` between them.
 #[tactic(auto, unfolding(crate::specs::Bars::row_of_text))]
 fn row_of_item(item: &Value) -> Option<Reading>
     ensures { result ≡ option_and_then row_of_text (as_str (view item.now)) }
@@ -70,7 +70,7 @@ impl FromItem<()> for Reading {
     }
 }
 
-/// Reads the readings that the 27 bars must have on a day of a key sheet.
+/// Reads the rows of a day of a key sheet: the readings that the 27 bars must have.
 #[tactic(auto, unfolding(crate::specs::Bars::rows_in))]
 pub fn rows_in(table: &Table) -> Result<[Reading; BARS], SheetFault>
     ensures { result ≡ rows_in (table_view table.now) }

@@ -20,7 +20,7 @@ use toml::{Table, Value};
 /// The number of cables of a plugboard.
 const CABLES: usize = 13;
 
-/// Two letters that a cable exchanges.
+/// Two letters that a plugged cable exchanges.
 type Pair = (Letter, Letter);
 
 /// The plugged pairs of a day, in the sheet's order.
@@ -43,7 +43,7 @@ fn cable_of_item(item: &Value) -> Option<Cable>
     Some((letters.first().copied(), letters.get(1).copied()))
 }
 
-/// Reads an item as a cable, which shares no letter with the cables before it.
+/// Reads an item as a cable. The cable must share no letter with the cables before it.
 impl FromItem<()> for Cable {
     ghost reading = { λ _. cable_for };
 
@@ -57,7 +57,7 @@ impl FromItem<()> for Cable {
     }
 }
 
-/// `cables`, followed by as many empty ones as make 13 in all.
+/// `cables`, with empty cables appended until there are 13.
 fn fill_up_cables(cables: &[Cable]) -> [Cable; CABLES]
     requires { length cables.now ≤ 13 }
     ensures { result ≡ filled_to_thirteen cables.now }
@@ -91,7 +91,7 @@ fn is_in_pairs(pairs: &[Pair], letter: Letter) -> bool
     }
 }
 
-/// Reads an item as a pair, which shares no letter with the pairs before it.
+/// Reads an item as a pair. The pair must share no letter with the pairs before it.
 impl FromItem<()> for Pair {
     ghost reading = { λ _. pair_for };
 
@@ -105,7 +105,7 @@ impl FromItem<()> for Pair {
     }
 }
 
-/// Reads the day's pairs, at most 13.
+/// Reads a day's pairs, at most 13.
 #[tactic(auto, unfolding(crate::specs::Cables::pairs_in))]
 pub fn pairs_in(table: &Table) -> Result<Pairs, SheetFault>
     ensures { result_map (λ pairs. pairs.items) result ≡ pairs_in (table_view table.now) }

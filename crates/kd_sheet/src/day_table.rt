@@ -1,4 +1,4 @@
-//! Reads one day of a key sheet from its table.
+//! Reads one day of a key sheet from the day's TOML table.
 ghost use Rattle.std.specs.Prelude.{◌≡◌, ◌≤◌, ◌<◌, ◌+◌, ◌++◌, length};
 ghost use Rattle.toml.specs.View.{view, table_view};
 ghost use Rattle.{kd_tables.specs.Tables.{slots_of}, kd_state.specs.SheetDay.{IsDayNumber}};
@@ -22,7 +22,7 @@ use kd_state::{PerSlot, SheetDay, SheetWheel};
 use kd_tables::{Letter, Model, Wheel};
 use toml::{Table, Value};
 
-/// Reads a ring for each slot of `model`: a text of capital letters, or an array of numbers.
+/// Reads a ring for each slot of `model`, from a text of capital letters or from an array of numbers.
 fn rings_of(value: &Value, model: Model) -> Option<PerSlot<Letter>>
     requires { 0 < slots_of model }
     ensures { result ≡ rings_of (slots_of model) (view value.now) }
@@ -83,7 +83,7 @@ fn list_in(table: &Table) -> Result<[Letter; 2], SheetFault>
     letters_of_text(text.as_bytes()).ok_or(SheetFault::BadValue(Key::List))
 }
 
-/// Appends the wheel of each slot, with its ring and its window letter.
+/// Appends the wheel of each slot, with the wheel's ring and window letter.
 fn push_wheels(
     wheels: &mut ArrayVec<SheetWheel, 4>,
     slots: &[Option<Wheel>],
@@ -150,7 +150,7 @@ fn pin_day_in(table: &Table, day: u8) -> Result<SheetDay, SheetFault>
     Ok(SheetDay::pin(day, rows, pins, window, list).unwrap())
 }
 
-/// Reads the day with the number `day`, for a machine of `model`.
+/// Reads day `day` of a key sheet from the day's table, for a machine of `model`.
 #[tactic(auto, unfolding(crate::specs::SheetFile::model_day_in))]
 pub fn model_day_in(table: &Table, day: u8, model: Model) -> Result<SheetDay, SheetFault>
     requires { IsDayNumber day }

@@ -1,4 +1,4 @@
-//! Parses a TOML document, and finds values, texts and arrays in its table.
+//! Parses a TOML document, and finds values, texts and arrays in the document's table.
 ghost use Rattle.std.specs.Prelude.{◌≡◌, map, option_map};
 ghost use Rattle.toml.specs.{Data.{get_member}, View.{view, table_view}};
 ghost use Rattle.kd_sheet.specs.Document.{AgreesOrNoMemory, result_map, document_of, value_at, text_at, items_in};

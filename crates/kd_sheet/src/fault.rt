@@ -1,4 +1,4 @@
-//! SheetFault: why bytes aren't a machine file or a key sheet.
+//! `SheetFault`: why bytes aren't a machine file or a key sheet.
 ghost use Rattle.std.specs.Prelude.{◌≡◌, Some};
 ghost use Rattle.kd_sheet.specs.FaultText.{sheet_fault_text};
 
@@ -7,7 +7,7 @@ use kd_tables::{Refusal, Text};
 use std::fmt;
 use thiserror::Error;
 
-/// Why a file is refused: its first fault, in the order in which its keys are tested.
+/// Why a file is refused: the first fault, in the order in which the file's keys are tested.
 #[derive(Clone, Copy, Debug, PartialEq, Eq, Error)]
 pub enum SheetFault {
     /// The bytes aren't a TOML document.
@@ -18,8 +18,9 @@ pub enum SheetFault {
     Missing(Key),
     /// A key's value is wrong.
     ///
-    /// The value, or an item of it, has the wrong type, form or length; is a number out of range; or doesn't
-    /// name a wheel, or a reflector of the model. Or a letter isn't on its pin wheel, or a pin is named twice.
+    /// The value or one of its items has the wrong type, form or length, or is a number out of range. Or it should
+    /// name a wheel or a reflector of the model, and doesn't. Or a letter isn't on its pin wheel, or a pin is named
+    /// twice.
     BadValue(Key),
     /// A letter occurs twice among the cables, or among the pairs.
     LetterTwice,
@@ -38,7 +39,7 @@ pub enum SheetFault {
 }
 
 impl SheetFault {
-    /// The refusal's number and name, followed by the key, the row or the day that the variant has.
+    /// The refusal's number and name, followed by the variant's key or number, if it has one.
     pub fn text(&self) -> Text
         ensures { result.bytes ≡ sheet_fault_text self.now }
     {

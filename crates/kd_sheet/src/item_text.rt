@@ -1,4 +1,4 @@
-//! How seats (a wheel or none), cables and standings are written as items of an array.
+//! How an array's items are written: a slot's wheel or none, a cable, or a standing.
 ghost use Rattle.std.specs.Prelude.{◌≡◌, ℕ, List};
 ghost use Rattle.{kd_tables.specs.Places.{standing_text}, kd_sheet.specs.MachineText.{cable_text, seat_text}};
 

@@ -1,4 +1,4 @@
-//! Reads the items of an array one after another. How an item is read may depend on the items before it.
+//! Reads the items of an array one after another. The rule for an item may depend on the items before it.
 ghost use Rattle.std.specs.Prelude.{◌≡◌, ◌<◌, ◌≤◌, List, Result, IfOk, map, length};
 ghost use Rattle.toml.specs.{Data.{Data}, View.{view, table_view}};
 ghost use Rattle.kd_sheet.specs.Document.{read_items, read_each, read_up_to, result_map};
@@ -10,11 +10,11 @@ use super::key::Key;
 use arrayvec::ArrayVec;
 use toml::{Table, Value};
 
-/// A type that an item of an array can be read as.
+/// A type whose values can be read from the items of an array.
 ///
-/// `Given` is what reading the item needs besides the items before it: for a wheel, the key and the model.
+/// `Given` is what the rule needs besides the items: for a wheel, the key and the model.
 pub trait FromItem<Given> {
-    /// The rule for reading an item, given the values of the items before it: a value or a fault.
+    /// The rule for an item: from `Given`, the values of the items before, and the item, to a value or a fault.
     ghost reading: { Given → List Self → Data → Result Self SheetFault };
 
     /// Reads `item`. `before` has the values of the items before it.
@@ -41,9 +41,9 @@ fn read_items<T: FromItem<G> + Copy + Default, G, const N: usize>(
     Ok(values)
 }
 
-/// Reads the items of the array at `key`, which must have exactly `count` of them.
+/// Reads the items of the array at `key`, which must have exactly `count` items.
 ///
-/// If it has more or fewer, the fault is `BadValue(key)`.
+/// If it has more or fewer items, the fault is `BadValue(key)`.
 pub fn read_each<T: FromItem<G> + Copy + Default, G, const N: usize>(
     table: &Table,
     key: Key,

@@ -2,17 +2,16 @@
 ghost use Rattle.kd_sheet.specs.Laws.{LegalPartsAreReadBack, WrittenFilesAreReadBack};
 ghost use Rattle.kd_sheet.specs.Laws.{LegalDaysAreDescribed, DaysAreTheEntries};
 
-/// A machine's written file is read as the same machine.
+/// The file written for a machine is read as the same machine.
 ///
-/// The file of legal parts is read as the machine of these parts, with each cable's letters in alphabetical
-/// order.
+/// The file written for legal parts is read as these parts, with each cable's letters in alphabetical order.
 #[tactic(auto, using(crate::proofs::ReadBack::parts_are_read_back))]
 pub fn written_files_are_read_back()
     ensures machines { WrittenFilesAreReadBack }
     ensures parts { LegalPartsAreReadBack }
 {}
 
-/// A day is legal exactly if some entry's table describes it.
+/// A day is legal exactly if some TOML table, as an entry of a key sheet, describes this day.
 ///
 /// Day `number` of a sheet is the day that the entry with this number describes.
 pub fn days_are_the_entries()

@@ -31,7 +31,7 @@ fn push_quoted(text: &mut FileText, value: &str)
     text.push_str("\"");
 }
 
-/// Appends a line whose value is a number of one digit.
+/// Appends the line of `key` with `value`, a number of one digit.
 pub fn push_digit_line(text: &mut FileText, key: Key, value: &str)
     requires { array_string_len text.old + length value.now + 13 ≤ 2048 }
     ensures bytes { text.new.bytes ≡ text.old.bytes ++ key_line key value.now }
@@ -42,7 +42,7 @@ pub fn push_digit_line(text: &mut FileText, key: Key, value: &str)
     text.push_str("\n");
 }
 
-/// Appends a line whose value is a text.
+/// Appends the line of `key` with `value` in double quotes.
 pub fn push_text_line(text: &mut FileText, key: Key, value: &str)
     requires { array_string_len text.old + length value.now + 15 ≤ 2048 }
     ensures bytes { text.new.bytes ≡ text.old.bytes ++ key_line key (quoted_text value.now) }
@@ -53,7 +53,7 @@ pub fn push_text_line(text: &mut FileText, key: Key, value: &str)
     text.push_str("\n");
 }
 
-/// Appends items, each with a comma and a space before it.
+/// Appends the texts of `items` in double quotes, each after a comma and a space.
 fn push_more_items<T: ItemText>(text: &mut FileText, items: &[T])
     requires { array_string_len text.old + 36 * length items.now ≤ 2048 }
     ensures bytes { text.new.bytes ≡ text.old.bytes ++ flat_map
@@ -67,7 +67,7 @@ fn push_more_items<T: ItemText>(text: &mut FileText, items: &[T])
     }
 }
 
-/// Appends items with a comma and a space between them.
+/// Appends the texts of `items` in double quotes, with a comma and a space between them.
 fn push_items<T: ItemText>(text: &mut FileText, items: &[T])
     requires { array_string_len text.old + 36 * length items.now ≤ 2048 }
     ensures bytes { text.new.bytes
@@ -80,7 +80,7 @@ fn push_items<T: ItemText>(text: &mut FileText, items: &[T])
     }
 }
 
-/// Appends a line whose value is an array of texts.
+/// Appends the line of `key` with an array: the texts of `items`.
 pub fn push_list_line<T: ItemText>(text: &mut FileText, key: Key, items: &[T])
     requires { array_string_len text.old + 36 * length items.now + 15 ≤ 2048 }
     ensures bytes { text.new.bytes

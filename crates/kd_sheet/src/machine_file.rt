@@ -34,7 +34,7 @@ pub fn model_in(table: &Table) -> Result<Model, SheetFault>
     Model::from_text(name.as_bytes()).ok_or(SheetFault::UnknownModel)
 }
 
-/// The reflector of `model` with the name `name`.
+/// The reflector of `model` named `name`.
 #[tactic(auto, unfolding(crate::specs::Names::reflector_by_name))]
 fn reflector_by_name(model: Model, name: &str) -> Option<Reflector>
     ensures { result ≡ reflector_by_name model name.now }
@@ -47,7 +47,7 @@ fn reflector_by_name(model: Model, name: &str) -> Option<Reflector>
     None
 }
 
-/// Reads the reflector from its name.
+/// Reads the reflector of `model` from its name.
 #[tactic(auto, unfolding(crate::specs::MachineFile::reflector_in))]
 pub fn reflector_in(table: &Table, model: Model) -> Result<Reflector, SheetFault>
     ensures { result ≡ reflector_in model (table_view table.now) }
@@ -56,7 +56,7 @@ pub fn reflector_in(table: &Table, model: Model) -> Result<Reflector, SheetFault
     reflector_by_name(model, name).ok_or(SheetFault::BadValue(Key::Reflector))
 }
 
-/// Reads a letter for each wheel of the model's box, in box order.
+/// Reads the text at `key`: a letter for each wheel of the model's box, in box order.
 #[tactic(auto, unfolding(crate::specs::Letters::letters_at))]
 fn box_letters_in(table: &Table, key: Key, model: Model) -> Result<PerWheel<Letter>, SheetFault>
     requires { 0 < slots_of model }
@@ -110,7 +110,7 @@ fn parts_in(table: &Table, model: Model) -> Result<Machine, SheetFault>
     }
 }
 
-/// Reads the machine that a file's table describes, or returns the first fault. The M4 needs version 2.
+/// Reads the machine that `table`, a machine file's table, describes, or returns the file's first fault.
 #[tactic(auto, unfolding(crate::specs::MachineFile::machine_in, crate::specs::MachineFile::version_in, crate::specs::MachineFile::known_model_in))]
 fn machine_in(table: &Table) -> Result<Machine, SheetFault>
     ensures { result ≡ machine_in (table_view table.now) }
@@ -124,8 +124,8 @@ fn machine_in(table: &Table) -> Result<Machine, SheetFault>
 
 /// Reads a machine file of version 1 or 2, or returns its first fault. The M4 needs version 2.
 ///
-/// `NoMemory` may be returned in place of any other result. Only parsing the document allocates memory, but the
-/// contract doesn't promise that memory really ran out.
+/// `NoMemory` may replace any other result. In practice it means that memory ran out while the document was parsed;
+/// the contract doesn't say when it comes.
 pub fn read_machine(alloc: Global, bytes: &[u8]) -> Result<Machine, SheetFault>
     ensures { AgreesOrNoMemory result (machine_of bytes.now) }
 {

@@ -17,7 +17,7 @@ use kd_pins::PinSet;
 use kd_tables::{Letter, Ring, place_on_wheel, ring1, ring2, ring3, ring4, ring5, ring6};
 use toml::{Table, Value};
 
-/// Whether each letter is on its wheel: the first on wheel number `wheel`, the next on the next wheel.
+/// Whether wheel number `wheel` has the first of `letters`, the next wheel the second, and so on.
 #[tactic(auto, using(kd_state::proofs::Slots::on_wheels))]
 fn are_on_wheels(wheel: u8, letters: &[Letter]) -> bool
     requires { wheel + length letters.now < 256 }
@@ -32,7 +32,7 @@ fn are_on_wheels(wheel: u8, letters: &[Letter]) -> bool
     }
 }
 
-/// Reads a text of six capital letters, each on its wheel.
+/// Reads six capital letters: the first must be on wheel 1, the second on wheel 2, and so on.
 #[tactic(auto, unfolding(crate::specs::PinWheels::letters_on_wheels))]
 fn letters_on_wheels(text: &[u8]) -> Option<[Letter; 6]>
     ensures { result ≡ letters_on_wheels text.now }
@@ -41,7 +41,7 @@ fn letters_on_wheels(text: &[u8]) -> Option<[Letter; 6]>
     are_on_wheels(1, &letters).then_some(letters)
 }
 
-/// Reads the letters that the six wheels show.
+/// Reads the letters that the six wheels show, from the text at `key`.
 #[tactic(auto, unfolding(crate::specs::PinWheels::shown_letters_in))]
 pub fn shown_letters_in(table: &Table, key: Key) -> Result<[Letter; 6], SheetFault>
     ensures { result ≡ shown_letters_in key (table_view table.now) }
@@ -80,7 +80,7 @@ fn is_pin_text(ring: &[Letter], text: &[u8]) -> bool
     true
 }
 
-/// Whether the pin beside each of `letters` is effective: it is if `text` has the letter.
+/// Whether the pin of each of `letters` is effective: whether `text` has the letter.
 fn pins_of_letters<const N: usize>(letters: &[Letter; N], text: &[u8]) -> [bool; N]
     ensures { result ≡ map (has_capital text.now) letters.now }
 {
@@ -91,7 +91,7 @@ fn pins_of_letters<const N: usize>(letters: &[Letter; N], text: &[u8]) -> [bool;
     found
 }
 
-/// Reads the effective pins of one wheel: `item` is a text of their letters.
+/// Reads the effective pins of one wheel: `item` is a text of these pins' letters.
 #[tactic(auto, unfolding(crate::specs::PinWheels::pins_of_text))]
 fn pins_of_item<const N: usize>(ring: &Ring<N>, item: &Value) -> Option<[bool; N]>
     ensures { result ≡ option_and_then (pins_of_text ring.now) (as_str (view item.now)) }
@@ -113,7 +113,7 @@ pub fn pins_in(table: &Table) -> Result<PinSet, SheetFault>
     pins_of_six(one, two, three, four, five, six).ok_or(SheetFault::BadValue(Key::Pins))
 }
 
-/// Reads the effective pins of the six wheels from one item each.
+/// Reads the effective pins of the six wheels: `one` describes the pins of wheel 1, and so on.
 #[tactic(auto, unfolding(crate::specs::PinWheels::pins_of_item))]
 fn pins_of_six(
     one: &Value,

@@ -11,14 +11,14 @@ use kd_state::PerSlot;
 use kd_tables::{Model, Wheel, allowed};
 use toml::{Table, Value};
 
-/// The wheel with the name `name`.
+/// The wheel named `name`.
 fn wheel_by_name(name: &str) -> Option<Wheel>
     ensures { result ≡ wheel_by_name name.now }
 {
     Wheel::from_text(name.as_bytes())
 }
 
-/// The wheel with the name `name`, if it may be in the slot to the right of `slots`.
+/// The wheel named `name`, if it may be in the slot to the right of `slots`.
 ///
 /// Otherwise the fault is `BadValue(key)`, `WheelNotAllowed` or `WheelTwice`.
 #[tactic(auto, using(crate::proofs::ReadBack::Described::Values::seating), unfolding(crate::specs::Seats::wheel_for))]
@@ -41,7 +41,7 @@ fn wheel_for(
     Ok(wheel)
 }
 
-/// Reads an item as the wheel in the next slot. At the key `slots`, the empty text leaves the slot empty.
+/// Reads an item as the wheel in a slot. At the key `slots`, the empty text means that the slot is empty.
 impl FromItem<(Key, Model)> for Option<Wheel> {
     ghost reading = { λ given. seat_of_item given.0 given.1 };
 

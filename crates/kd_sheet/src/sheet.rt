@@ -9,7 +9,7 @@ use std::marker::Model;
 /// The number of days of the longest month.
 pub(crate) const DAYS: u8 = 31;
 
-/// A key sheet: a month in which some days have an entry. The days are kept in place, without allocation.
+/// A key sheet: a month in which some days have an entry. The days are stored inline, without heap memory.
 #[derive(Drop)]
 pub struct Sheet {
     /// Day `n` is at index `n - 1`.
@@ -54,7 +54,7 @@ impl Sheet {
         days.get_mut(place)?.take()
     }
 
-    /// Puts `day` into the sheet, in place of any day with this number.
+    /// Puts `day` into the sheet. It replaces a day with the same number.
     pub(crate) fn put(&mut self, day: SheetDay)
         ensures { self.new ≡ slice_set self.old (day_number day - 1) (Some day) }
     {

@@ -16,7 +16,7 @@ use kd_state::SheetDay;
 use std::alloc::Global;
 use toml::{Table, Value};
 
-/// Reads a day's number. The fault is `DayTwice` if `sheet` has this day already.
+/// Reads a day's number. The fault is `DayTwice` if `sheet` already has a day with this number.
 #[tactic(auto, using(crate::proofs::ReadBack::Described::day_of_is_some), unfolding(crate::specs::SheetFile::new_number_in, crate::specs::SheetFile::number_in))]
 fn new_number_in(sheet: &Sheet, table: &Table) -> Result<u8, SheetFault>
     ensures value { (days : List Day) → sheet.now ≡ month_of days
@@ -30,7 +30,7 @@ fn new_number_in(sheet: &Sheet, table: &Table) -> Result<u8, SheetFault>
     Ok(number)
 }
 
-/// Reads the day that `item` describes, or returns its first fault. `sheet` has the days read before it.
+/// Reads the day that `item` describes, or returns its first fault. `sheet` has the days of earlier items.
 #[tactic(auto, unfolding(crate::specs::SheetFile::day_for, crate::specs::SheetFile::day_in))]
 fn day_for(sheet: &Sheet, item: &Value) -> Result<SheetDay, SheetFault>
     ensures { (days : List Day) → sheet.now ≡ month_of days → result ≡ day_for days (view item.now) }
@@ -55,8 +55,8 @@ fn month_of_items(items: &[Value]) -> Result<Sheet, SheetFault>
 
 /// Reads a key sheet, or returns its first fault.
 ///
-/// `NoMemory` may be returned in place of any other result. Only parsing the document allocates memory, but the
-/// contract doesn't promise that memory really ran out.
+/// `NoMemory` may replace any other result. In practice it means that memory ran out while the document was parsed;
+/// the contract doesn't say when it comes.
 #[tactic(auto, unfolding(crate::specs::SheetFile::sheet_in))]
 pub fn read_sheet(alloc: Global, bytes: &[u8]) -> Result<Sheet, SheetFault>
     ensures { AgreesOrNoMemory result (sheet_of bytes.now) }

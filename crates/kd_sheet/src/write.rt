@@ -1,4 +1,4 @@
-//! Writes machine files, of rotor machines and of the Converter M-209.
+//! Writes machine files of all models.
 ghost use Rattle.std.specs.{Prelude.{◌≡◌, ◌+◌, ◌<◌, ◌≤◌, ◌||◌, ◌++◌, map, length, is_err, Ok}, List.{concat}};
 ghost use Rattle.arrayvec.specs.ArrayString.{array_string_len};
 ghost use Rattle.kd_tables.specs.{Places.{digit_text}, Writing.{Writes}, Text.{letters_text}};
@@ -39,7 +39,7 @@ fn push_letters_line(text: &mut FileText, key: Key, letters: &[Letter])
     push_text_line(text, key, letters_text(letters).as_str());
 }
 
-/// Appends those of `letters` whose pins are effective.
+/// Appends each of `letters` whose pin, at the same place in `pins`, is effective.
 fn push_pin_letters(text: &mut Item, letters: &[Letter], pins: &[bool])
     requires room { array_string_len text.old + length letters.now ≤ 32 }
     requires pins { length pins.now ≡ length letters.now }
@@ -64,7 +64,7 @@ fn pins_text<const N: usize>(ring: &Ring<N>, pins: &[bool; N]) -> Item
     text
 }
 
-/// Writes the letters of the effective pins: one text for each wheel.
+/// For each of the six wheels, writes the letters of the wheel's effective pins.
 fn pin_texts(pins: &PinSet) -> [Item; 6]
     ensures { map (λ text. text.bytes) result ≡ pin_texts pins.now }
 {
@@ -78,7 +78,7 @@ fn pin_texts(pins: &PinSet) -> [Item; 6]
     ]
 }
 
-/// The version in which a file of `model` is written, as a digit.
+/// The version of machine files in which a machine of `model` is written, as a digit.
 fn file_version(model: Model) -> &'static str
     ensures value { result.now ≡ digit_text (file_version model) }
 {
@@ -88,7 +88,7 @@ fn file_version(model: Model) -> &'static str
     }
 }
 
-/// Writes the first two lines: the version and the model.
+/// Writes the first two lines of a machine file: the version and the model.
 fn head_text(model: Model) -> FileText
     ensures bytes { result.bytes ≡ concat (head_file_lines model) }
     ensures len { array_string_len result ≤ 40 }

@@ -1,4 +1,4 @@
--- Which letters are notches, as a table for one wheel. No public contract cites this file.
+-- At which letters in its window a wheel is at a notch, as a table. No public contract cites this file.
 use Rattle.std.specs.Prelude.{◌≡◌, ℕ, ◌+◌, ◌-◌, ◌<◌, Bool, false, List, length, slice_get, slice_index_or, IsSomeAnd}
 use Rattle.kd_tables.specs.Tables.{is_notch}
 use Rattle.kd_tables.specs.declared.wheel.Wheel.{Wheel}

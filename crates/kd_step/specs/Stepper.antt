@@ -10,7 +10,7 @@ use Rattle.std.specs.Option.{option_map_or}
 use Rattle.kd_tables.specs.Tables.{is_notch}
 use Rattle.kd_tables.specs.declared.wheel.Wheel.{Wheel}
 
--- What contracts say of a stepper: its wheels and the letters in their windows, both in order from the left.
+-- A stepper as contracts see it: its wheels and the letters in their windows, both in order from the left.
 pub record Stepping : Type 0 where
   pub wheels : List Wheel
   pub window : List ℕ
@@ -19,19 +19,19 @@ pub record Stepping : Type 0 where
 abbrev pub next_letter : ℕ → ℕ
 next_letter letter = (letter + 1) % 26
 
--- whether the wheel at `place` is at one of its notches
+-- whether the wheel at `place`, counted from the right from 0, is at one of its notches
 abbrev pub stands_at_notch : List Wheel → List ℕ → ℕ → Bool
 stands_at_notch wheels window place =
     let slot = length window - (place + 1) in
     option_map_or (λ wheel. is_notch wheel (slice_index window slot)) (slice_get wheels slot) false
 
--- `window` with each of its last `count` letters moved on by one
+-- `window` with each of its last `count` letters replaced by the next letter
 abbrev pub with_last_moved : ℕ → List ℕ → List ℕ
 with_last_moved count window = take (length window - count) window
     ++ map next_letter (drop (length window - count) window)
 
--- One step. If the middle wheel is at a notch, the left, middle and right wheels move. Otherwise, if the right wheel
--- is at a notch, the middle and right wheels move. If neither is at a notch, only the right wheel moves.
+-- One step. If the middle wheel is at a notch, the left, middle and right wheels move. Otherwise, if the right
+-- wheel is at a notch, the middle and right wheels move. If neither is at a notch, only the right wheel moves.
 pub record IsStep (wheels : List Wheel) (before after : List ℕ) : Type 0 where
   pub from_middle_notch : IsTrue (stands_at_notch wheels before 1) → after ≡ with_last_moved 3 before
   pub from_right_notch : IsFalse (stands_at_notch wheels before 1) → IsTrue (stands_at_notch wheels before 0)
@@ -65,7 +65,7 @@ ChainsEndInWindowAfter =
     (wheels : List Wheel) (first last : List ℕ) (n : ℕ)
     → LeadsInSteps wheels first n last ↔ (last ≡ window_after wheels first n)
 
--- If the middle wheel shows the same letter after a step as before, so does each wheel but the right one.
+-- If a step doesn't move the middle wheel, it moves only the right wheel.
 abbrev pub SlowWheelsMoveTogether : Type 0
 SlowWheelsMoveTogether =
     (wheels : List Wheel) (before after : List ℕ) → IsStep wheels before after → 3 ≤ length before

@@ -6,7 +6,7 @@ pub fn chains_end_in_window_after()
     ensures { ChainsEndInWindowAfter }
 {}
 
-/// A step that doesn't move the middle wheel moves no wheel but the right one.
+/// If a step doesn't move the middle wheel, it moves only the right wheel.
 pub fn slow_wheels_move_together()
     ensures { SlowWheelsMoveTogether }
 {}

@@ -1,10 +1,10 @@
-//! The notches of a wheel, as a table.
+//! At which letters in its window a wheel is at a notch, as a table.
 ghost use Rattle.std.specs.Prelude.{◌≡◌};
 ghost use Rattle.kd_step.specs.Notches.{IsNotchTable};
 
 use kd_tables::{Letter, Wheel, notched};
 
-/// Tabulates the notches of `wheel`: entry `i` is true if it is at a notch while letter `i` shows.
+/// Tabulates the notches of `wheel`: entry `i` is true if the wheel is at a notch while letter `i` shows.
 pub(crate) fn notches(wheel: Wheel) -> [bool; 26]
     ensures { IsNotchTable wheel result }
 {

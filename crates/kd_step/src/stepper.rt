@@ -11,9 +11,9 @@ use std::marker::Model;
 pub struct Stepper<const S: usize> {
     wheels: [Wheel; S],
     window: [Letter; S],
-    /// The notches of the middle wheel, by the letter in its window.
+    /// Whether the middle wheel is at a notch, for each letter in its window.
     middle: [bool; 26],
-    /// The notches of the right wheel, by the letter in its window.
+    /// Whether the right wheel is at a notch, for each letter in its window.
     right: [bool; 26],
 }
 
@@ -31,7 +31,7 @@ impl<const S: usize> Model for Stepper<S> {
 }
 
 impl<const S: usize> Stepper<S> {
-    /// Creates a stepper of three or four `wheels` that show `window`, both from the left.
+    /// Creates a stepper of three or four `wheels` that show `window`, both in order from the left.
     pub fn new(wheels: [Wheel; S], window: [Letter; S]) -> Self
         requires least { 3 ≤ S }
         requires most { S ≤ 4 }

@@ -4,9 +4,9 @@ ghost use Rattle.std.specs.Prelude.{◌≡◌, ◌<◌, [], ◌∷◌, ◌++◌,
 use arrayvec::ArrayVec;
 use std::marker::Model;
 
-/// The names asked for, in order, and for each whether the file could be read or opened.
+/// The names asked for, in order, each with whether the file could be read or opened.
 ///
-/// No command names more than three files.
+/// There are at most three: no command names more files.
 #[derive(Drop)]
 pub struct Asked<'n> {
     names: ArrayVec<(&'n str, bool), 3>,

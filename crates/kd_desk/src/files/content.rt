@@ -1,4 +1,4 @@
-//! The bytes of a file that is read whole.
+//! The bytes of a file, which is read whole.
 ghost use Rattle.std.specs.Prelude.{◌≡◌, Some};
 ghost use Rattle.kd_tables.specs.Ports.{port};
 ghost use Rattle.kd_desk.specs.Files.{content_of, IsReadWhole};
@@ -8,7 +8,7 @@ use kd_tables::{READ_LIMIT, Source};
 use std::alloc::Global;
 use std::marker::Model;
 
-/// The most bytes that are read at once.
+/// The largest number of bytes that are read at once.
 const CHUNK: usize = 4096;
 
 /// The bytes of a file, at most 1,048,576.
@@ -29,7 +29,7 @@ impl Model for Content {
 }
 
 impl Content {
-    /// Wraps `bytes`; returns `ReadTooLong` if there are more than `READ_LIMIT`.
+    /// Wraps `bytes`; returns `ReadTooLong` if they are more than `READ_LIMIT`.
     pub fn new(bytes: Vec<u8>) -> Result<Self, FileFault>
         ensures { result ≡ content_of (Some bytes.items) }
     {
@@ -49,7 +49,7 @@ impl Content {
 
 /// Reads `source` to its end; returns `ReadTooLong` if it has more than `READ_LIMIT` bytes.
 ///
-/// Reads at most one byte beyond the limit, to see whether there are more.
+/// Reads at most one byte beyond the limit, to see whether the source has more bytes.
 pub fn read_whole<S: Source>(alloc: Global, source: &mut S) -> Result<Content, FileFault>
     ensures { IsReadWhole (port S.remaining S.has_failed source.old source.new) result }
 {

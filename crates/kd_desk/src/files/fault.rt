@@ -1,4 +1,4 @@
-//! FileFault: why a file can't be read or opened.
+//! `FileFault`: why a file can't be read or opened.
 use std::alloc::AllocError;
 use std::io;
 
@@ -7,7 +7,7 @@ use std::io;
 pub enum FileFault {
     /// Memory ran out while the file was read.
     NoMemory,
-    /// There is no such file, or a read failed.
+    /// The file can't be opened, or a read failed.
     Device,
     /// The file has more than 1,048,576 bytes.
     ReadTooLong,

@@ -1,4 +1,4 @@
-//! A source for anything that can be read, such as standard input.
+//! A source that reads from any reader, such as standard input.
 ghost use Rattle.std.specs.Prelude.{◌≡◌, ◌||◌, false, is_err};
 ghost use Rattle.kd_tables.specs.Ports.{Gets};
 
@@ -26,7 +26,7 @@ impl<R: Read + Drop> ReaderSource<R> {
         }
     }
 
-    /// Whether the last failed read failed for lack of memory.
+    /// Whether the last failed read failed because memory ran out.
     pub fn lacks_memory(&self) -> bool
         ensures { result ≡ self.now.lacks_memory }
     {

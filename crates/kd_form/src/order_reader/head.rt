@@ -14,7 +14,7 @@ use kd_state::SheetDay;
 /// Enough bytes for any line of a head, its line end included.
 const LINE: usize = 25;
 
-/// A reader of the head of an order: the lines of keys and the line TEXT.
+/// A reader of an order's head: the lines of keys and the line TEXT.
 #[derive(Drop)]
 pub(crate) struct HeadReader {
     keys: ArrayVec<Keys, 99>,
@@ -22,14 +22,14 @@ pub(crate) struct HeadReader {
     line: ArrayVec<u8, LINE>,
 }
 
-/// What a `HeadReader` found with the byte that it took last.
+/// What a `HeadReader` has found after its last byte.
 #[derive(Clone, Copy)]
 pub(crate) enum HeadStep {
     /// The head isn't complete yet.
     Open,
     /// The head is complete; the text follows.
     Text,
-    /// No order's head goes on with this byte.
+    /// No order has a head that begins with the bytes read.
     Bad,
 }
 
@@ -54,7 +54,7 @@ impl HeadReader {
 
     /// Takes the next byte of the head.
     ///
-    /// Not inlined: otherwise every byte read would pay for this frame.
+    /// Not inlined: otherwise every byte read would pay for this function's stack frame.
     #[inline(never)]
     #[tactic(auto, using(crate::proofs::OrderSteps::line_short))]
     pub(crate) fn take(&mut self, day: &SheetDay, byte: u8) -> HeadStep
@@ -79,7 +79,7 @@ impl HeadReader {
 
 /// Reads the line after `count` lines of keys: returns its keys, or `None` for the line TEXT.
 ///
-/// The first byte decides which of the two is read; after 99 lines of keys, only TEXT is allowed.
+/// The first byte decides whether it is read as keys or as TEXT. After 99 lines of keys, only TEXT is allowed.
 #[tactic(auto, using(crate::proofs::OrderSteps::next_text))]
 fn read_line(day: &SheetDay, count: usize, line: &[u8]) -> Result<Option<Keys>, Unread>
     ensures { MatchResult result
@@ -96,7 +96,7 @@ fn read_line(day: &SheetDay, count: usize, line: &[u8]) -> Result<Option<Keys>, 
     }
 }
 
-/// Whether the first of `bytes` is P, as in a line of keys.
+/// Whether the first of `bytes` is P, the first letter of a line of keys.
 fn is_key_line(bytes: &[u8]) -> bool
     ensures { IsTrue result ↔ (slice_index bytes.now 0 ≡ 80) }
 {

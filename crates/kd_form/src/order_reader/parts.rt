@@ -1,4 +1,4 @@
-//! Collects the letters of an order's text, and makes the parts of the form from them.
+//! Collects the letters of an order's text, and makes the parts of the order's form from them.
 ghost use Rattle.std.specs.Prelude.{◌≡◌, ◌<◌, ◌≤◌, ◌+◌, ◌^◌, List, ℕ, [], ◌∷◌, ◌++◌, length, Some};
 ghost use Rattle.std.specs.Prelude.{slice_get};
 ghost use Rattle.kd_form.specs.declared.keys.Keys.{Keys};
@@ -16,10 +16,10 @@ use arrayvec::ArrayVec;
 use kd_state::SheetDay;
 use kd_tables::Letter;
 
-/// A collector of the letters of an order's text, which makes parts from them.
+/// A collector of the letters of an order's text, which makes the form's parts from them.
 #[derive(Drop)]
 pub(crate) struct PartWriter {
-    /// The letters for the next part, at most `part_size`.
+    /// The letters collected for the next part, at most `part_size`.
     letters: ArrayVec<Letter, 500>,
     /// How many letters the text has so far.
     count: usize,
@@ -53,7 +53,7 @@ impl PartWriter {
         }
     }
 
-    /// Takes the next letter of the text; if the current part is full, first writes that part to `output`.
+    /// Takes the next letter of the text. If the letters collected fill a part, first writes this part to `output`.
     ///
     /// The last part is written only by `end`. Once it is full, further letters are only counted.
     fn take_letter(&mut self, day: &SheetDay, keys: &[Keys], letter: Letter, output: &mut PartText)
@@ -74,7 +74,7 @@ impl PartWriter {
 
     /// Writes the last part to `output`, at the end of the text.
     ///
-    /// Refuses a text without letters, or one that needs more or fewer parts than there are keys.
+    /// Refuses a text without letters, and a text that needs more or fewer parts than the order has lines of keys.
     pub(crate) fn end(
         &mut self,
         day: &SheetDay,
@@ -98,7 +98,7 @@ impl PartWriter {
         Ok(())
     }
 
-    /// Writes the next part to `output`, from the letters collected.
+    /// Writes to `output` the next part, which gets the letters collected.
     fn write_part(&mut self, day: &SheetDay, keys: &[Keys], output: &mut PartText)
         requires keys { AreSuitedKeys day.now keys.now }
         requires another { self.old.written < length keys.now }

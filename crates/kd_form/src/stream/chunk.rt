@@ -11,7 +11,7 @@ use arrayvec::ArrayVec;
 use kd_state::SheetDay;
 use kd_tables::{Sink, Source, put_all};
 
-/// Feeds `bytes` to `reader`, and writes the output of `reader` to `sink`.
+/// Feeds `bytes` to `reader`, and writes the reader's output to `sink`.
 pub(crate) fn feed_all<M: MessageReader, W: Sink>(
     reader: &mut M,
     day: &SheetDay,
@@ -31,7 +31,7 @@ pub(crate) fn feed_all<M: MessageReader, W: Sink>(
     Ok(())
 }
 
-/// Feeds `byte` to `reader`, and writes the output of `reader` to `sink`.
+/// Feeds `byte` to `reader`, and writes the reader's output to `sink`.
 fn feed_one<M: MessageReader, W: Sink>(
     reader: &mut M,
     day: &SheetDay,
@@ -79,7 +79,7 @@ impl<M: MessageReader> ChunkReader<SheetDay> for M {
     }
 }
 
-/// Ends the message: writes the rest of its result, and returns its fault, if it has one.
+/// Ends the message: writes the rest of the message's result, and returns the message's fault, if it has one.
 pub(crate) fn close<Context, M: ChunkReader<Context>, W: Sink>(
     reader: &mut M,
     context: &Context,
@@ -95,7 +95,7 @@ pub(crate) fn close<Context, M: ChunkReader<Context>, W: Sink>(
 
 /// Reads up to `room` bytes from `source`, feeds them to `reader`, and returns their number.
 ///
-/// Zero means that the source is at its end.
+/// The result 0 means that the source is at its end.
 pub(crate) fn read_next<Context, M: ChunkReader<Context>, R: Source, W: Sink>(
     reader: &mut M,
     context: &Context,
@@ -120,7 +120,7 @@ pub(crate) fn read_next<Context, M: ChunkReader<Context>, R: Source, W: Sink>(
     )
 }
 
-/// Reads bytes from `source`, at most as many as fill `buffer`; feeds them to `reader`; returns their number.
+/// Reads from `source` at most the bytes that fill `buffer`, feeds them to `reader`, and returns their number.
 fn read_into<Context, M: ChunkReader<Context>, R: Source, W: Sink>(
     reader: &mut M,
     context: &Context,

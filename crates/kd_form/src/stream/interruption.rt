@@ -1,11 +1,11 @@
-//! Why a message stops before its end: it is refused, or a device failed.
+//! Why reading a message stops before its end: the message is refused, or a device failed.
 use crate::fault::FormFault;
 use kd_tables::Device;
 
-/// Why a message stops before its end.
+/// Why reading a message stops before its end.
 #[derive(Clone, Copy)]
 pub(crate) enum Interruption {
-    /// A read or a write failed.
+    /// A read from the source or a write to the sink failed.
     Device,
     /// The message is refused.
     Refused(FormFault),

@@ -1,4 +1,4 @@
-//! Two traits of message readers: `ChunkReader` takes many bytes at once, `MessageReader` takes one.
+//! Two traits of message readers: `ChunkReader` takes many bytes at once, `MessageReader` one byte.
 ghost use Rattle.std.specs.Prelude.{◌≡◌, ◌≤◌, ◌||◌, List, ℕ, [], length};
 ghost use Rattle.kd_state.specs.SheetDay.{Day};
 ghost use Rattle.kd_tables.specs.Ports.{port};
@@ -13,7 +13,7 @@ use arrayvec::ArrayVec;
 use kd_state::SheetDay;
 use kd_tables::Sink;
 
-/// The most bytes that are read at once.
+/// The largest number of bytes that are read at once.
 pub(crate) const CHUNK: usize = 4096;
 
 /// A reader of one kind of message, chunk by chunk, which works with a day or a machine as its context.
@@ -21,10 +21,10 @@ pub(crate) trait ChunkReader<Context> {
     /// The kind of message.
     ghost message: { Context → Message };
 
-    /// Relates the reader to the bytes that it has read and the result that it has output for them.
+    /// How the reader's state depends on the bytes read so far and the bytes output for them.
     ghost holds: { Context → Self → List ℕ → List ℕ → Type 0 };
 
-    /// Reads the next bytes of the message, and writes their result to `sink`.
+    /// Reads the next bytes of the message, and writes the result's next bytes to `sink`.
     ///
     /// After an error, the reader must not be called again.
     fn read_chunk<W: Sink>(
@@ -39,7 +39,7 @@ pub(crate) trait ChunkReader<Context> {
             bytes.now (port W.taken W.has_failed sink.old sink.new) result }
         ensures failed { W.has_failed sink.new ≡ (W.has_failed sink.old || is_device_interruption result) };
 
-    /// Ends the message, and writes the rest of its result to `sink`.
+    /// Ends the message, and writes the rest of the result to `sink`.
     fn finish<W: Sink>(&mut self, context: &Context, sink: &mut W) -> Result<(), Interruption>
         requires { HasRoom (message context.now) (holds context.now self.old) 0 }
         ensures ended { IsFinishAnswer (message context.now) (holds context.now self.old)
@@ -47,7 +47,7 @@ pub(crate) trait ChunkReader<Context> {
         ensures failed { W.has_failed sink.new ≡ (W.has_failed sink.old || is_device_interruption result) };
 }
 
-/// What a reader outputs after one byte: usually nothing, at most one part.
+/// What a reader outputs after one byte: usually nothing, and at most one part.
 pub(crate) type PartText = ArrayVec<u8, LONGEST>;
 
 /// A reader of one kind of message, byte by byte, which keeps one part at a time.
@@ -55,14 +55,14 @@ pub(crate) trait MessageReader {
     /// The kind of message.
     ghost message: { Day → Message };
 
-    /// Relates the reader to the bytes that it has read and the result that it has output for them.
+    /// How the reader's state depends on the bytes read so far and the bytes output for them.
     ghost holds: { Day → Self → List ℕ → List ℕ → Type 0 };
 
     /// Creates a reader that has read nothing.
     fn start(day: &SheetDay) -> Self
         ensures { HasReadSoFar (message day.now) (holds day.now result) [] [] };
 
-    /// Takes the next byte, and puts into `output` what can be written now.
+    /// Takes the message's next byte, and puts into `output` what can be written now.
     ///
     /// After a fault, the reader must not be called again.
     fn feed(&mut self, day: &SheetDay, byte: u8, output: &mut PartText) -> Result<(), FormFault>
@@ -71,7 +71,7 @@ pub(crate) trait MessageReader {
         ensures { IsFeedAnswer (message day.now) (holds day.now self.old) (holds day.now self.new) byte
             output.new.items result };
 
-    /// Ends the message, and puts the rest of its result into `output`, even if a fault is returned.
+    /// Ends the message, and puts the rest of the result into `output`, even if a fault is returned.
     fn end(&mut self, day: &SheetDay, output: &mut PartText) -> Result<(), FormFault>
         requires room { HasRoom (message day.now) (holds day.now self.old) 0 }
         requires empty { output.old.items ≡ [] }

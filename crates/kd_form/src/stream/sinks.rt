@@ -5,7 +5,7 @@ ghost use Rattle.kd_tables.specs.Ports.{Puts};
 use kd_tables::{Failed, Sink};
 use std::alloc::Global;
 
-/// A sink that keeps all bytes, and fails if there is no memory.
+/// A sink that keeps all bytes in memory. It fails if memory runs out.
 #[derive(Drop)]
 pub(crate) struct BytesSink {
     bytes: Vec<u8>,

@@ -1,4 +1,4 @@
-//! Types one chunk of a text: finds its letters, and enciphers them into the lamps that light up.
+//! Types one chunk of a text: finds the chunk's letters, and the lamps that light up for them.
 ghost use Rattle.std.specs.Bool.{OnTrue};
 ghost use Rattle.std.specs.Prelude.{◌≡◌, All, ◌<◌, ◌≤◌, ◌+◌, ◌++◌, take, length, option_to_list};
 ghost use Rattle.arrayvec.specs.ArrayVec.{array_vec_len};
@@ -22,7 +22,7 @@ fn push_some_letter(letters: &mut ArrayVec<Letter, CHUNK>, letter: Option<Letter
     }
 }
 
-/// Reads `bytes` as capital letters, many at a time; returns false if a byte is something else.
+/// Reads `bytes` as capital letters, many at a time; returns false if some byte isn't a capital letter.
 ///
 /// If the result is false, the contents of `letters` mean nothing.
 fn read_capitals(bytes: &[u8], letters: &mut [Letter]) -> bool
@@ -51,7 +51,7 @@ fn write_letters(letters: &[Letter], bytes: &mut [u8])
 
 /// Collects the letters before the first byte that isn't allowed, and returns the index of this byte.
 ///
-/// If all bytes are allowed, returns their number. On entry, `letters` must be as long as `bytes`.
+/// If all bytes are allowed, returns the number of bytes. On entry, `letters` must be as long as `bytes`.
 fn collect_letters(bytes: &[u8], letters: &mut ArrayVec<Letter, CHUNK>) -> usize
     requires few { length bytes.now ≤ CHUNK }
     requires places { array_vec_len letters.old ≡ length bytes.now }
@@ -74,7 +74,7 @@ fn collect_letters(bytes: &[u8], letters: &mut ArrayVec<Letter, CHUNK>) -> usize
 
 /// Sets the length of `items` to `count`.
 ///
-/// `items` usually has this length already, from the chunk before.
+/// The chunk before usually had the same length, and then nothing is done.
 fn set_length<T: Copy + Default>(items: &mut ArrayVec<T, CHUNK>, count: usize)
     requires { count ≤ CHUNK }
     ensures { array_vec_len items.new ≡ count }
@@ -87,7 +87,7 @@ fn set_length<T: Copy + Default>(items: &mut ArrayVec<T, CHUNK>, count: usize)
 
 /// Types the letters before the first byte that isn't allowed, and returns the index of this byte.
 ///
-/// If all bytes are allowed, returns their number. Replaces `letters` and `lamps`; `lamps` gets the lamps
+/// If all bytes are allowed, returns the number of bytes. `letters` gets the letters typed, and `lamps` the lamps
 /// that light up, as capital letters.
 pub(super) fn type_chunk(
     engine: &mut Engine,
