@@ -5,7 +5,7 @@ use Rattle.kd_card.proofs.Prelude.{ℤ, All, list_all, flat_map, signed_decimal,
 use Rattle.kd_card.proofs.Prelude.{take_all, flat_map-append, AllPass-from_list_all, All-weaker, All-from_recursion}
 use Rattle.kd_card.proofs.Prelude.{flat_map-map, Setting, words_of, line_of, IsWord, IsWithout, IsFirstPart}
 use Rattle.kd_card.proofs.Prelude.{setting_line, list_text, PriceParts, Version, version_of, price_sum, head_words}
-use Rattle.kd_card.proofs.Prelude.{settings_words, price_words, sum_words, lines_text, price_lines, card_text}
+use Rattle.kd_card.proofs.Prelude.{lines_text, price_lines, card_text}
 use Rattle.kd_card.proofs.Prelude.{line_then, HasLineWords, common_steps, lines_split_into_words}
 use Rattle.kd_card.proofs.Prelude.{texts_tell_first_parts, words_make_one_line, map, setting_words, suc, ◌^◌, ◌≤◌, Bool}
 use Rattle.kd_card.proofs.Prelude.{get_or, Option, Some, None, MatchOption, Result, Ok, Err, MatchResult, Decides, Bor}
@@ -17,7 +17,7 @@ use Rattle.kd_card.proofs.Prelude.{IsAscii-signed, ArePricesInRange, codes, zero
 use Rattle.kd_card.proofs.Prelude.{not, pointwise, not-false, Decides-eqb, slice_eq-Decides, err_from_is_err_and, ◌+ℤ◌}
 use Rattle.kd_card.proofs.Prelude.{digits_value, decimal_nonempty, digits_decimal, decimal_digit, first_decimal}
 use Rattle.kd_card.proofs.Prelude.{All-cons, All-append, All-from_get_or, table_rows, ArePrices, Group, Sort}
-use Rattle.kd_card.proofs.Prelude.{CountWrong, BeginsWithHead, kinds_text, row_word, column_word, version_text, IsGroup}
+use Rattle.kd_card.proofs.Prelude.{CountWrong, BeginsWithHead, kinds_text, first_text, column_word, IsGroup, ByNumber}
 use Rattle.kd_card.proofs.Prelude.{IsDigit, IsNumberText, IsNumeral, IsValueAnswer, IsLineAnswer, IsFirstWordAnswer}
 use Rattle.kd_card.proofs.Prelude.{IsPriceLineAnswer, IsGroupAnswer, nil_from_length, numbers_are_words, word_by_bytes}
 use Rattle.kd_card.proofs.Prelude.{word_by_test, ThenNext-Ok, CardFault}
@@ -25,6 +25,15 @@ use Rattle.std.proofs.lemmas.List.Splits.{slice_split_none, slice_split_at, join
 use Rattle.std.{proofs.lemmas.Str.IsUtf8-from_ascii, specs.{Result.{result_ok, IsErrAnd}, Int.Signed.mag}}
 use Rattle.kd_card.specs.Reading.{head_prefix}
 use Rattle.kd_state.specs.SheetDay.{IsDayNumber}
+
+abbrev pub settings_words : ℕ → List (List ℕ)
+settings_words number = codes "SETTINGS" ∷ decimal number ∷ []
+
+abbrev pub price_words : List ℕ → List ℤ → List (List ℕ)
+price_words word prices = word ∷ map signed_decimal prices
+
+abbrev pub sum_words : ℤ → List (List ℕ)
+sum_words sum = codes "SUM" ∷ signed_decimal sum ∷ []
 
 -- ---- writing
 
@@ -290,7 +299,7 @@ head_text version day rest e = rw e (grind arith)
 pub day_unbroken : (day : ℕ) → IsDayNumber day → IsWithout 10 (decimal day)
 day_unbroken day month = let last = month.last in (numbers_are_words day (omega arith)).unbroken
 
-pub first_is_word : (kind : Group) → IsWord (row_word kind) × IsWord (column_word kind)
+pub first_is_word : (kind : Group) → IsWord (first_text ByNumber kind) × IsWord (column_word kind)
 first_is_word kind = grind (arith, word_by_test)
 
 pub prices_are_words : (word : List ℕ) (prices : List ℤ) → IsWord word → ArePricesInRange prices

@@ -7,8 +7,8 @@ use Rattle.kd_card.proofs.Prelude.{IsWord, setting_line, list_text, BeginsWithSe
 use Rattle.kd_card.proofs.Prelude.{PriceParts, Cables, Bars, CableKinds, BarKinds, Version, ByNumber, ByKind, Group}
 use Rattle.kd_card.proofs.Prelude.{OfCables, OfBars, Sort, Trailing, ThenNext, HasFault, GoesOn, Yields, Demands}
 use Rattle.kd_card.proofs.Prelude.{Option, Some, None, kinds_text, AreKinds, version_of, price_sum, cable_sort}
-use Rattle.kd_card.proofs.Prelude.{pair_sort, bar_sort, row_sort, ArePricesInRange, ArePrices, row_word, column_word}
-use Rattle.kd_card.proofs.Prelude.{price_count, settings_words, price_words, sum_words, lines_text, price_lines}
+use Rattle.kd_card.proofs.Prelude.{pair_sort, bar_sort, row_sort, ArePricesInRange, ArePrices, first_text, column_word}
+use Rattle.kd_card.proofs.Prelude.{price_count, lines_text, price_lines}
 use Rattle.kd_card.proofs.Prelude.{card_text, IsGroup, IsCard, line_then, IsValueAnswer, IsFirstWordAnswer}
 use Rattle.kd_card.proofs.Prelude.{BeginsWithHead, BeginsWithAllSettings, IsSettingsAnswer, IsPriceLineAnswer}
 use Rattle.kd_card.proofs.Prelude.{IsByNumberPricesAnswer, BeginsWithWord, EndsGroup, AtOther, IsNextKind, last_of}
@@ -22,7 +22,7 @@ use Rattle.kd_card.specs.{CardFault.parts_by_number, Reading.head_prefix}
 use Rattle.kd_card.proofs.Lines.{line_has_words, value_line, same_words, two_lines, card_and_more, mag-small}
 use Rattle.kd_card.proofs.Lines.{numeral_word, signed_word, head_text, day_unbroken, first_is_word, prices_are_words}
 use Rattle.kd_card.proofs.Lines.{number_text, signed_text, price_sum_is_small, value_says, value_said, same_values}
-use Rattle.kd_card.proofs.Lines.{first_says, HasPrices, line_said, group_said}
+use Rattle.kd_card.proofs.Lines.{first_says, HasPrices, line_said, group_said, settings_words, price_words, sum_words}
 use Rattle.kd_card.proofs.KindWords.{IsSort, cables_are, pairs_are, bars_are, rows_are, kind_is_words, kind_begins}
 use Rattle.kd_card.proofs.KindWords.{end_has_no_next, same_kind}
 use Rattle.kd_card.proofs.KindPrices.{text_of_more_kinds, text_of_two, cables_are_prices, bars_are_prices}
@@ -58,7 +58,7 @@ record AreAllPriceLines (by : Version) (bytes : List ℕ) (prices : PriceParts) 
   are : ArePrices prices
 
 by_number : (group : Group) (rows columns : List ℤ) {bytes middle rest : List ℕ}
-    → HasPrices bytes (row_word group) (price_count group) rows middle
+    → HasPrices bytes (first_text ByNumber group) (price_count group) rows middle
     → HasPrices middle (column_word group) (price_count group) columns rest
     → AreAllPriceLines ByNumber bytes (parts_by_number group rows columns) rest
 by_number group rows columns a b = grind (arith, common_steps, two_lines)
@@ -286,7 +286,7 @@ only_all_prices ByKind line bytes =
 by_number_says : (group : Group) (line : ℕ) {bytes : List ℕ} (rows columns : List ℤ) (rest : List ℕ)
     → ArePricesInRange rows
     → ArePricesInRange columns → length rows ≡ price_count group → length columns ≡ price_count group
-    → bytes ≡ line_then (price_words (row_word group) rows) (line_then (price_words (column_word group) columns) rest)
+    → bytes ≡ line_then (price_words (first_text ByNumber group) rows) (line_then (price_words (column_word group) columns) rest)
     → IsByNumberPricesAnswer line bytes (Ok (parts_by_number group rows columns, rest))
 by_number_says group line rows columns rest a b many also e =
     let second = line_then (price_words (column_word group) columns) rest in
@@ -298,10 +298,10 @@ all_say : (prices : PriceParts) (line : ℕ) {bytes : List ℕ} (rest : List ℕ
     → IsAllPricesAnswer (version_of prices) line bytes (Ok (prices, rest))
 all_say (Cables row col) line rest are ends e =
     by_number_says OfCables line row col rest are.row_reach are.column_reach are.rows are.columns
-    (e ∙ two_lines (price_words (row_word OfCables) row) (price_words (column_word OfCables) col) rest)
+    (e ∙ two_lines (price_words (first_text ByNumber OfCables) row) (price_words (column_word OfCables) col) rest)
 all_say (Bars row col) line rest are ends e =
     by_number_says OfBars line row col rest are.row_reach are.column_reach are.rows are.columns
-    (e ∙ two_lines (price_words (row_word OfBars) row) (price_words (column_word OfBars) col) rest)
+    (e ∙ two_lines (price_words (first_text ByNumber OfBars) row) (price_words (column_word OfBars) col) rest)
 all_say (CableKinds row col) line rest are ends e =
     let groups = (cables_are_prices row.items col.items).0 are in
     let say =

@@ -39,11 +39,10 @@ pub use Rattle.kd_card.specs.CardFault.{HasNoNext, HasLineWords, IsDigit, IsNext
 pub use Rattle.kd_card.specs.CardFault.{IsAllPricesAnswer, IsRestAnswer, IsCardAnswer, IsFirstWordAnswer, IsGroupAnswer}
 pub use Rattle.kd_card.specs.CardFault.{IsGroupsAnswer, IsByKindPricesAnswer, IsKindsOfAnswer, IsLineAnswer, last_of}
 pub use Rattle.kd_card.specs.CardFault.{IsByNumberPricesAnswer, IsPriceLineAnswer, IsPricesAnswer, IsSettingsAnswer}
-pub use Rattle.kd_card.specs.CardFault.{IsValueAnswer, line_then}
-pub use Rattle.kd_card.specs.CardText.{IsCard, IsGroup, card_text, column_word, row_kind_word}
-pub use Rattle.kd_card.specs.CardText.{head_words, lines_text, price_count, price_lines, price_words}
-pub use Rattle.kd_card.specs.CardText.{row_word, settings_words, sum_words, version_text}
-pub use Rattle.kd_card.specs.Kinds.{AreEnds, AreKinds, ComesAfter, HasKindWords, HasText, IsKind, IsOnlyThing}
+pub use Rattle.kd_card.specs.CardFault.{IsValueAnswer, first_text, line_then}
+pub use Rattle.kd_card.specs.CardText.{IsCard, IsGroup, card_text, column_word}
+pub use Rattle.kd_card.specs.CardText.{head_words, lines_text, price_count, price_lines}
+pub use Rattle.kd_card.specs.Kinds.{AreEnds, AreKinds, ComesAfter, ComesBefore, HasKindWords, HasText, IsKind, IsOnlyThing}
 pub use Rattle.kd_card.specs.Kinds.{IsPairInOrder, Sort, bar_sort, cable_sort, counted, kind_words}
 pub use Rattle.kd_card.specs.Kinds.{kinds_text, letters_text, pair_sort, prices_of_kinds, row_sort}
 pub use Rattle.kd_card.specs.Laws.{CardsHaveNoFault, AsFewAreNeeded, FittingPricesBoundLists, NoCardBeginsAnother}
