@@ -4,7 +4,7 @@ use Rattle.kd_card.proofs.Prelude.{ℤ, Option, Some, None, sym, ap, ◌∙◌, 
 use Rattle.kd_card.proofs.Prelude.{All, decimal_injective, signed_decimal_injective, All-append, All-weaker}
 use Rattle.kd_card.proofs.Prelude.{All-from_recursion, Place, place_text, standing_text, IsWord, IsWithout, Sort}
 use Rattle.kd_card.proofs.Prelude.{KindOf, cable_sort, pair_sort, bar_sort, row_sort, kind_words, AreEnds, IsKind}
-use Rattle.kd_card.proofs.Prelude.{ComesAfter, ComesBefore, kinds_text, HasKindWords, HasText, IsOnlyThing, signed_decimal}
+use Rattle.kd_card.proofs.Prelude.{ComesAfter, ThingComesBefore, kinds_text, HasKindWords, HasText, IsOnlyThing, signed_decimal}
 use Rattle.kd_card.proofs.Prelude.{append-nil, HasLineWords, BeginsWithWord, EndsGroup, AtNothing, AtOther, IsNextKind}
 use Rattle.kd_card.proofs.Prelude.{HasNoNext, numbers_are_words, texts_tell_first_parts, word_by_bytes, word_by_test}
 use Rattle.kd_card.proofs.Prelude.{EndsKindsAt, IsBadKindAt, IsKindOfWords, letters_text, cable_letters, column_letters}
@@ -144,7 +144,7 @@ one_word a b = ap (λ words. get_or words 0 []) (same_words a.has b.has).0
 same_after : {K X : Type 0} (sort : Sort K X) (last : Option K) (kind other : K)
     → (sort.kind other).thing ≡ (sort.kind kind).thing → ComesAfter sort last other → ComesAfter sort last kind
 same_after sort None kind other same after = tt
-same_after sort (Some before) kind other same after = subst (ComesBefore sort (sort.kind before).thing) same after
+same_after sort (Some before) kind other same after = subst (ThingComesBefore sort (sort.kind before).thing) same after
 
 module _ {K X : Type 0} {sort : Sort K X} where
   -- The line of a kind begins with the word of its sort.

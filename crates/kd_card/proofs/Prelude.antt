@@ -42,7 +42,7 @@ pub use Rattle.kd_card.specs.CardFault.{IsByNumberPricesAnswer, IsPriceLineAnswe
 pub use Rattle.kd_card.specs.CardFault.{IsValueAnswer, first_text, line_then}
 pub use Rattle.kd_card.specs.CardText.{IsCard, IsGroup, card_text, column_word}
 pub use Rattle.kd_card.specs.CardText.{head_words, lines_text, price_count, price_lines}
-pub use Rattle.kd_card.specs.Kinds.{AreEnds, AreKinds, ComesAfter, ComesBefore, HasKindWords, HasText, IsKind, IsOnlyThing}
+pub use Rattle.kd_card.specs.Kinds.{AreEnds, AreKinds, ComesAfter, ThingComesBefore, HasKindWords, HasText, IsKind, IsOnlyThing}
 pub use Rattle.kd_card.specs.Kinds.{IsPairInOrder, Sort, bar_sort, cable_sort, counted, kind_words}
 pub use Rattle.kd_card.specs.Kinds.{kinds_text, letters_text, pair_sort, prices_of_kinds, row_sort}
 pub use Rattle.kd_card.specs.Laws.{CardsHaveNoFault, AsFewAreNeeded, FittingPricesBoundLists, NoCardBeginsAnother}

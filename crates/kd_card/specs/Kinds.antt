@@ -84,8 +84,8 @@ row_sort = record {
 -- `x` comes before `y` in the order of lines: the first number in which their keys differ is lower in `x`'s key, or
 -- this key has no further number. So a cable without a first letter and a column without a pair come last.
 -- Code: things are compared by derived orders, which the law `ordered` of `Kind` proves equal.
-abbrev pub ComesBefore : {K X : Type 0} → Sort K X → X → X → Type 0
-ComesBefore sort x y = slice_cmp nat_cmp (sort.key x) (sort.key y) ≡ Less
+abbrev pub ThingComesBefore : {K X : Type 0} → Sort K X → X → X → Type 0
+ThingComesBefore sort x y = slice_cmp nat_cmp (sort.key x) (sort.key y) ≡ Less
 
 -- A card may have a kind with this thing (letters, a standing or a reading), and writes the thing as `text`.
 pub record HasText {K X : Type 0} (sort : Sort K X) (text : List ℕ) (thing : X) : Type 0 where
@@ -102,7 +102,7 @@ pub record IsOnlyThing {K X : Type 0} (sort : Sort K X) (text : List ℕ) (thing
 -- If there is a kind `last`, the kind `next` comes after it in the order of a card's lines.
 abbrev pub ComesAfter : {K X : Type 0} → Sort K X → Option K → K → Type 0
 ComesAfter sort None next = Unit {0}
-ComesAfter sort (Some last) next = ComesBefore sort (sort.kind last).thing (sort.kind next).thing
+ComesAfter sort (Some last) next = ThingComesBefore sort (sort.kind last).thing (sort.kind next).thing
 
 -- The kind is valid: its thing satisfies `InForm`, its count is from 1 to 255, and its price from -9999 to 9999.
 pub record IsKind {K X : Type 0} (sort : Sort K X) (kind : K) : Type 0 where

@@ -65,7 +65,7 @@ pub struct KindOf<T> {
 pub trait Kind: Copy + Default {
     ghost use Rattle.std.specs.Prelude.{◌≡◌, ◌↔◌, ◌≤◌, length, List, IsTrue, MatchOption};
     ghost use Rattle.std.specs.declared.cmp.Ordering.TheVariants.{Less};
-    ghost use Rattle.kd_card.specs.Kinds.{Sort, ComesBefore, HasText, IsOnlyThing};
+    ghost use Rattle.kd_card.specs.Kinds.{Sort, ThingComesBefore, HasText, IsOnlyThing};
 
     /// What the cables, columns, bars or rows of one kind have in common.
     type Thing: Thing;
@@ -100,8 +100,8 @@ pub trait Kind: Copy + Default {
             ((thing : Self.Thing) → ¬ (HasText sort text.now thing))
             (IsOnlyThing sort text.now) };
 
-    /// The order that `Ord` gives `Thing` is the order of a card's lines, `sort.ComesBefore`.
-    ghost ordered: { (x y : Self.Thing) → ComesBefore sort x y ↔ (Self.Thing.cmp x y ≡ Less) };
+    /// The order that `Ord` gives `Thing` is the order of a card's lines, `sort.ThingComesBefore`.
+    ghost ordered: { (x y : Self.Thing) → ThingComesBefore sort x y ↔ (Self.Thing.cmp x y ≡ Less) };
 }
 
 impl Kind for CableKind {

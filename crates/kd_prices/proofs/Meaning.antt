@@ -3,7 +3,7 @@ use Rattle.kd_prices.proofs.Prelude.{◌≡◌, ◌↔◌, List, sym, ◌∙◌,
 use Rattle.kd_prices.proofs.Prelude.{ByNumber, version_of, ArePrices, AreModelPrices, AreExpanded, Expands, Same}
 use Rattle.kd_prices.proofs.Prelude.{Expanded, Proves, AreOfOneModel, AreNumbered, AreTakenApart, Sort, AreKinds}
 use Rattle.kd_prices.proofs.Prelude.{AreKindsOf, cable_sort, pair_sort, bar_sort, row_sort, Cables, Bars, CableKinds}
-use Rattle.kd_prices.proofs.Prelude.{BarKinds, Rotor, Pin, OfRotors, OfPins}
+use Rattle.kd_prices.proofs.Prelude.{BarKinds, Rotor, Pin, OfRotors, OfPins, ThingComesBefore}
 use Rattle.kd_prices.specs.Doubt.{BelongTo}
 use Rattle.std.specs.Cmp.{IsTotalOrder}
 use Rattle.std.specs.declared.cmp.Ordering.{Ordering}
@@ -29,7 +29,7 @@ use Rattle.kd_prices.proofs.{OnePrice.prices_alike, Sorted.are_prices_of}
 
 module _ {K X : Type 0} (sort : Sort K X) (cmp : X → X → Ordering) (order : IsTotalOrder cmp)
     (told : (x y : X) → cmp x y ≡ Equal → x ≡ y)
-    (ordered : (x y : X) → sort.ComesBefore x y ↔ (cmp x y ≡ Less)) where
+    (ordered : (x y : X) → ThingComesBefore sort x y ↔ (cmp x y ≡ Less)) where
   one_list : (things : List X) (kinds : List K) (prices others : List ℤ) → AreKinds sort None kinds
       → AreKindsOf sort things prices kinds → AreKindsOf sort things others kinds → prices ≡ others
   one_list things kinds prices others are of also =

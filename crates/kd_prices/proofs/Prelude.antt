@@ -18,7 +18,7 @@ pub use Rattle.std.proofs.lemmas.List.Elements.{All-push, All-same, All-tail, Al
 pub use Rattle.std.proofs.lemmas.Option.{slice_get-get_or, slice_get_past, unwrap_or-slice_get}
 pub use Rattle.std.specs.{List.{All, AllByRecursion}, Prelude.{drop, map, take, ◌↔◌, Err, IfErr, IsOk, Ok, Result}}
 pub use Rattle.kd_card.specs.Kinds.{AreEnds, AreKinds, AreKindsOf, ComesAfter, IsKind, IsPairInOrder, Sort, bar_sort}
-pub use Rattle.kd_card.specs.Kinds.{cable_sort, expansion, pair_sort, row_sort}
+pub use Rattle.kd_card.specs.Kinds.{ThingComesBefore, cable_sort, expansion, pair_sort, row_sort}
 pub use Rattle.kd_card.proofs.Shortest.{no_rotors, proving_cards_are_shortest, proving_prices_are_tight}
 pub use Rattle.kd_card.specs.Prices.{ArePrices, ArePricesTight, ArePricesInRange, PricesFit, column_prices, cost_at}
 pub use Rattle.kd_card.specs.Prices.{table_rows, price_at, price_sum, row_prices, version_of}

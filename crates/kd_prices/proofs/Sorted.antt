@@ -1,7 +1,7 @@
 -- Kinds are in the order of a card's lines exactly if their things ascend in their derived order.
 use Rattle.kd_prices.proofs.Prelude.{◌≡◌, ◌≢◌, ◌↔◌, ℕ, ◌+◌, ◌<◌, ◌≤◌, zero, suc, List, [], ◌∷◌, length, get_or, map}
 use Rattle.kd_prices.proofs.Prelude.{arith, ap, sym, ◌∙◌, subst, ℤ, pos, Option, Some, None, All, unsigned_abs}
-use Rattle.kd_prices.proofs.Prelude.{All-from_get_or, length-map, Sort, KindOf, AreKinds, AreKindsOf, ComesAfter}
+use Rattle.kd_prices.proofs.Prelude.{All-from_get_or, length-map, Sort, KindOf, AreKinds, AreKindsOf, ComesAfter, ThingComesBefore}
 use Rattle.kd_prices.proofs.Prelude.{ArePricesInRange, AreInOrder, ArePricesOf, Ascend, Contains}
 use Rattle.std.specs.Cmp.{IsTotalOrder}
 use Rattle.std.specs.declared.cmp.Ordering.{Ordering}
@@ -15,7 +15,7 @@ use Rattle.kd_prices.proofs.OnePrice.{each_price}
 
 module _ {K X : Type 0} (sort : Sort K X) (cmp : X → X → Ordering) (order : IsTotalOrder cmp)
     (told : (x y : X) → cmp x y ≡ Equal → x ≡ y)
-    (ordered : (x y : X) → sort.ComesBefore x y ↔ (cmp x y ≡ Less)) where
+    (ordered : (x y : X) → ThingComesBefore sort x y ↔ (cmp x y ≡ Less)) where
   pub ascends : (last : Option K) (kinds : List K) → AreKinds sort last kinds
       → Ascend cmp (things_of (map sort.kind kinds))
   ascends last [] are k d inside = absurd (omega arith)
