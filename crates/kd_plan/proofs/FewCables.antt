@@ -6,7 +6,7 @@ unfoldable pub use Sparing.*
 -- spare ones among the first `first`, is `first`.
 all_first : (cables : List Cable) (first : ℕ) → first ≤ length cables
     → ((k : ℕ) → first ≤ k → is_spare_at cables k ≡ true)
-    → spare_count (take first cables) + count_by (λ cable. not (is_spare cable)) cables ≡ first
+    → count_by is_spare (take first cables) + count_by (λ cable. not (is_spare cable)) cables ≡ first
 all_first [] zero few free = refl
 all_first [] (suc first) few free = absurd (omega arith)
 all_first (cable ∷ cables) zero few free =
@@ -17,7 +17,7 @@ all_first (cable ∷ cables) (suc first) few free =
     simp sum_by-cons (grind (arith, nat_tests))
 
 one_spare : (cables : List Cable) (place : ℕ) → place < length cables → is_spare_at cables place ≡ true
-    → 1 ≤ spare_count (take (suc place) cables)
+    → 1 ≤ count_by is_spare (take (suc place) cables)
 one_spare [] place lt h = absurd (omega arith)
 one_spare (cable ∷ cables) zero lt h = simp sum_by-cons (grind (arith, nat_tests))
 one_spare (cable ∷ cables) (suc place) lt h = let rest = one_spare cables place (omega arith) h in simp sum_by-cons

@@ -8,13 +8,13 @@ pub use Rattle.kd_plan.proofs.Planning.Moving.Cables.{All, Cable, Column, In, Is
 pub use Rattle.kd_plan.proofs.Planning.Moving.Cables.{Parts, Pin, PinParts, Put, Rotor, RotorDay, RotorParts, Setting}
 pub use Rattle.kd_plan.proofs.Planning.Moving.Cables.{[], ap, arith, cables_with_columns, cable_letters, column_at}
 pub use Rattle.kd_plan.proofs.Planning.Moving.Cables.{column_letters, count_by, false, filter, is_priced_setting}
-pub use Rattle.kd_plan.proofs.Planning.Moving.Cables.{length, letters_outside, pair_letters_in_order, lines_from}
+pub use Rattle.kd_plan.proofs.Planning.Moving.Cables.{length, letters_outside, pair_in_order, lines_from}
 pub use Rattle.kd_plan.proofs.Planning.Moving.Cables.{cable_moves, nat_lt, nat_tests, not, planned_lines, refl, set}
 pub use Rattle.kd_plan.proofs.Planning.Moving.Cables.{subst, suc, sum_by-cons, sym, true, why_refused, zero, ℕ, ◌+◌}
 pub use Rattle.kd_plan.proofs.Planning.Moving.Cables.{◌-◌, ◌<◌, ◌∙◌, ◌∷◌, ◌≡◌, ◌≤◌}
 pub use Rattle.kd_plan.specs.SparesLast.{SparesComeLast, comes_before, is_spare_at}
 pub use Rattle.kd_plan.specs.FewCables.{FewCablesServe, NamesNoneAbove, UsesNoneAbove}
-pub use Rattle.kd_plan.specs.Spares.{SparesStayFree, is_spare, spare_count, spares_needed}
+pub use Rattle.kd_plan.specs.Spares.{SparesStayFree, is_spare, spares_needed}
 pub use Rattle.kd_plan.specs.declared.cable_lines.CableMove.TheVariants.{Out}
 pub use Rattle.kd_state.proofs.CostTable.{columns_are_the_pairs}
 pub use Rattle.kd_state.proofs.Slots.{numbered_other, IsNumbered-not_none}
