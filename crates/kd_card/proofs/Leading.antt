@@ -21,7 +21,7 @@ use Rattle.kd_state.specs.{Pins.{pin_set, with_pin}}
 use Rattle.kd_state.specs.{SheetDay.{AreLegalSeats, IsLegalPinDay, IsLegalRotorDay, seats_of_wheels}}
 use Rattle.kd_state.specs.{SameParts.has_wheel, declared.sheet_day.rotor_entry.SheetWheel.SheetWheel}
 use Rattle.kd_tables.specs.{Tables.{IsAllowed, box_of}, declared.{reflector.Reflector.Reflector, wheel.Wheel.Wheel}}
-use Rattle.std.proofs.{Common.{find, option_to_list}, lemmas.{Bool.cond_both, Simd.map-map}}
+use Rattle.std.proofs.{Common.{find}, lemmas.{Bool.cond_both, Simd.map-map}}
 use Rattle.std.proofs.lemmas.List.{Quantifiers.all_pairs_remove, Recursion.found_at, map-append, set-get_or, set_at}
 use Rattle.std.proofs.lemmas.List.{FromFn.{fill_by_all, get_or-range_with_len, length-range_with_len}, Sums.fold_push}
 use Rattle.std.proofs.lemmas.{Option.{slice_get-get_or, slice_get-map, slice_get_within}, Slice.Zip.firsts-zip}

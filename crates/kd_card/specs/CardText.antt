@@ -1,5 +1,5 @@
 -- The text of a card: lines that end with LF. Each has words, with one space between two words.
-use Rattle.std.specs.Prelude.{codes, decimal, ◌≡◌, ℕ, ◌≤◌, List, [], ◌∷◌, ◌++◌, length, map, None, All, ℤ}
+use Rattle.std.specs.Prelude.{codes, decimal, ◌≡◌, ℕ, ◌≤◌, List, [], ◌∷◌, ◌++◌, length, map, None, All}
 use Rattle.std.specs.List.{flat_map}
 use Rattle.std.specs.Fmt.{signed_decimal}
 use Rattle.kd_state.specs.declared.setting.Setting.{Setting}
@@ -41,22 +41,17 @@ lines_text lines = flat_map (λ words. line_of words ++ 10 ∷ []) lines
 
 -- the words of each price line: two lines if each cable, pair, bar or row has a price, else one for each kind
 abbrev pub price_lines : PriceParts → List (List (List ℕ))
-price_lines (Cables row col) =
-    (codes "CABLES" ∷ map signed_decimal row) ∷ (codes "PAIRS" ∷ map signed_decimal col) ∷ []
+price_lines (Cables row col) = (codes "CABLES" ∷ map signed_decimal row) ∷ (codes "PAIRS" ∷ map signed_decimal col) ∷ []
 price_lines (Bars row col) = (codes "BARS" ∷ map signed_decimal row) ∷ (codes "ROWS" ∷ map signed_decimal col) ∷ []
 price_lines (CableKinds row col) = map (kind_words cable_sort) row.items ++ map (kind_words pair_sort) col.items
 price_lines (BarKinds row col) = map (kind_words bar_sort) row.items ++ map (kind_words row_sort) col.items
 
 -- the text of a card: first line, settings, number of settings, prices, and sum of prices
 abbrev pub card_text : ℕ → List Setting → PriceParts → List ℕ
-card_text day settings prices =
-    lines_text
-    (head_words (version_of prices) day
-    ∷ map setting_words settings
-    ++ (codes "SETTINGS" ∷ decimal (length settings) ∷ [])
-    ∷ price_lines prices
-    ++ (codes "SUM" ∷ signed_decimal (price_sum prices) ∷ [])
-    ∷ [])
+card_text day settings prices = lines_text (
+    head_words (version_of prices) day ∷ map setting_words settings
+    ++ (codes "SETTINGS" ∷ decimal (length settings) ∷ []) ∷ price_lines prices
+    ++ (codes "SUM" ∷ signed_decimal (price_sum prices) ∷ []) ∷ [])
 
 -- `bytes` are the text of the card with this day, these settings and these prices, all of which are valid.
 pub record IsCard (bytes : List ℕ) (day : ℕ) (settings : List Setting) (prices : PriceParts) : Type 0 where

@@ -37,7 +37,8 @@ IsPairInOrder (Some pair) = (pair.0 < pair.1) × (pair.1 < 26)
 
 -- How a card writes and orders the kinds of one sort: of cables, columns, bars or rows. `word` is the first word of
 -- a kind's line. `kind` is a kind as its thing (letters, standing or reading), count and price. `text` is the text
--- of a thing. On a card, each thing satisfies `InForm`, and the lines are in the order of their things' keys.
+-- of a thing. On a card, each thing satisfies `InForm`, and the lines are in the order of their things' keys. So
+-- a cable without a first letter, and a column without a pair, come last.
 pub record Sort (K X : Type 0) : Type 1 where
   pub word : List ℕ
   pub kind : K → KindOf X
@@ -81,9 +82,8 @@ row_sort = record {
   key = λ reading. reading.0 ∷ reading.1 ∷ [];
 }
 
--- `x` comes before `y` in the order of lines: the first number in which their keys differ is lower in `x`'s key, or
--- this key has no further number. So a cable without a first letter and a column without a pair come last.
--- Code: things are compared by derived orders, which the law `ordered` of `Kind` proves equal.
+-- The thing `x` comes before `y` in the order of lines: the key of `x` comes first in dictionary order.
+-- Code: things are compared by derived orders, which the law `ordered` of `Kind` proves equal to this order.
 abbrev pub ThingComesBefore : {K X : Type 0} → Sort K X → X → X → Type 0
 ThingComesBefore sort x y = slice_cmp nat_cmp (sort.key x) (sort.key y) ≡ Less
 

@@ -33,8 +33,7 @@ slot_seat_line slot z = setting_unless (option_map_or (same_wheel z.1.wheel) z.0
 
 -- the setting RING, if `wheel` is one of the day's wheels and its ring isn't at the day's letter
 abbrev pub wheel_ring_line : RotorParts → List SheetWheel → Wheel → List Setting
-wheel_ring_line m wheels wheel =
-    option_map_or
+wheel_ring_line m wheels wheel = option_map_or
     (λ w. setting_unless (option_map_or (nat_eq w.ring) (ring_at m w.wheel) false) (RingTo w.wheel w.ring))
     (find (λ w. same_wheel wheel w.wheel) wheels) []
 
