@@ -366,8 +366,7 @@ none_wrong : (seen : SheetWheel → Option ℕ) (wanted : SheetWheel → ℕ) (w
     → count_by (λ w. not (option_map_or (nat_eq (wanted w)) (seen w) false)) wheels ≡ 0
 none_wrong seen wanted [] h = refl
 none_wrong seen wanted (w ∷ wheels) h =
-    count_by-cons (λ w. not (option_map_or (nat_eq (wanted w)) (seen w) false)) w wheels
-    ∙ rw (h.0, eq-eqb (wanted w) (wanted w) refl, none_wrong seen wanted wheels h.1) refl
+    grind (arith, common_steps, count_by-cons, eq-eqb, none_wrong seen wanted wheels h.1)
 
 rotor_not_loose : (n : RotorParts) (s : RotorDay) → ReadsAs (Rotor n) (OfRotors s)
     → loose_count (Rotor n) (OfRotors s) ≡ 0

@@ -7,7 +7,8 @@ use Rattle.kd_card.proofs.Prelude.{prices_of_kinds, AreKinds, IsKind, kind_words
 use Rattle.kd_card.proofs.Prelude.{ArePrices, flat_map-append, flat_map-map, line_of, Group, price_count, lines_text}
 use Rattle.kd_card.proofs.Prelude.{IsGroup, line_then, common_steps, take, get_or, subst}
 use Rattle.kd_card.proofs.Prelude.{append_assoc, All, All-cons, IsNextKind, BeginsWithKinds, append-nil, HasNoNext}
-use Rattle.kd_card.proofs.Prelude.{BarKind, CableKind, PairKind, RowKind}
+use Rattle.kd_card.proofs.Prelude.{BarKind, CableKind, PairKind, RowKind, PriceParts, row_prices, column_prices, table_rows}
+use Rattle.kd_card.specs.Prices.{HaveKindsInOrder}
 use Rattle.kd_card.proofs.Lines.{line_and_more, is_line}
 
 module _ {K X : Type 0} (sort : Sort K X) where
@@ -72,39 +73,25 @@ grouped : {K X : Type 0} (sort : Sort K X) (number : ℕ) (kinds : List K) → A
     → length (prices_of_kinds sort kinds) ≡ number → IsGroup sort number kinds
 grouped sort number kinds are count = record { in_order = are; count = sym (length_of_kinds sort kinds) ∙ count }
 
+-- Prices by kind are valid exactly if both groups of kinds are.
+both_valued : {R X C Y : Type 0} (rows : Sort R X) (columns : Sort C Y) (number : ℕ) (xs : List R) (ys : List C)
+    (prices : PriceParts) → row_prices prices ≡ prices_of_kinds rows xs
+    → column_prices prices ≡ prices_of_kinds columns ys → table_rows prices ≡ number
+    → HaveKindsInOrder prices ↔ (AreKinds rows None xs × AreKinds columns None ys)
+    → ArePrices prices ↔ (IsGroup rows number xs × IsGroup columns number ys)
+both_valued rows columns number xs ys prices e d n k = grind (arith, grouped, valued)
+
 pub cables_are_prices : (rows : List CableKind) (columns : List PairKind)
     → ArePrices (CableKinds (record { items = rows }) (record { items = columns }))
     ↔ (IsGroup cable_sort 13 rows × IsGroup pair_sort 13 columns)
-cables_are_prices rows columns = (
-  λ are. (grouped cable_sort 13 rows are.kinds.0 are.rows, grouped pair_sort 13 columns are.kinds.1 are.columns),
-  λ (row, column).
-      let rows_valued = valued cable_sort 13 rows row in
-      let columns_valued = valued pair_sort 13 columns column in
-      record {
-        rows = rows_valued.count;
-        columns = columns_valued.count;
-        row_reach = rows_valued.reach;
-        column_reach = columns_valued.reach;
-        kinds = (row.in_order, column.in_order);
-      },
-)
+cables_are_prices rows columns =
+    both_valued cable_sort pair_sort 13 rows columns _ refl refl refl (λ are. are, λ are. are)
 
 pub bars_are_prices : (rows : List BarKind) (columns : List RowKind)
     → ArePrices (BarKinds (record { items = rows }) (record { items = columns }))
     ↔ (IsGroup bar_sort 27 rows × IsGroup row_sort 27 columns)
-bars_are_prices rows columns = (
-  λ are. (grouped bar_sort 27 rows are.kinds.0 are.rows, grouped row_sort 27 columns are.kinds.1 are.columns),
-  λ (row, column).
-      let rows_valued = valued bar_sort 27 rows row in
-      let columns_valued = valued row_sort 27 columns column in
-      record {
-        rows = rows_valued.count;
-        columns = columns_valued.count;
-        row_reach = rows_valued.reach;
-        column_reach = columns_valued.reach;
-        kinds = (row.in_order, column.in_order);
-      },
-)
+bars_are_prices rows columns =
+    both_valued bar_sort row_sort 27 rows columns _ refl refl refl (λ are. are, λ are. are)
 
 pub some_and_few : (group : Group) → (0 < price_count group) × (price_count group ≤ 27)
 some_and_few group = grind arith
@@ -143,15 +130,7 @@ pub record HasRead {K X : Type 0} (sort : Sort K X) (room line : ℕ) (text rest
 
 pub reads_none : {K X : Type 0} (sort : Sort K X) (room line : ℕ) (text : List ℕ) (kept : List K) → kept ≡ []
     → HasRead sort room line text text None 0 line kept
-reads_none sort room line text kept none = record {
-  read = [];
-  goes_on = λ more end begins. begins;
-  some = omega arith;
-  number_is = omega arith;
-  at_is = omega arith;
-  shorter = omega arith;
-  keeps = λ within. none;
-}
+reads_none sort room line text kept none = grind arith
 
 pub reads_on : {K X : Type 0} {sort : Sort K X} {room line : ℕ} {text rest after : List ℕ} {last : Option K}
     {number at new : ℕ} {kept more : List K} {kind : K}

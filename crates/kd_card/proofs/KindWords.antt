@@ -17,16 +17,10 @@ place_above : (p : Place) → All (λ b. 45 < b) (place_text p)
 place_above p = bytes_above 45 (place_text p) (grind arith)
 
 place_without : (p : Place) → IsWithout 45 (place_text p)
-place_without p =
-    All-weaker (λ b. 45 < b) (λ b. b ≢ 45) (λ b above same. omega (arith, above, same)) (place_text p) (place_above p)
+place_without p = grind (arith, All-weaker, place_above p)
 
 standing_above : (left right : Place) → All (λ b. 32 < b) (standing_text (left, right))
-standing_above left right =
-    let near : (p : Place) → All (λ b. 32 < b) (place_text p) =
-    λ p. All-weaker (λ b. 45 < b) (λ b. 32 < b) (λ b above. omega (arith, above)) (place_text p) (place_above p) in
-    All-append (λ b. 32 < b) (place_text left ++ codes "-") (place_text right)
-    (All-append (λ b. 32 < b) (place_text left) (codes "-") (near left)
-    (All-from_recursion (λ b. 32 < b) (codes "-") (omega arith, tt))) (near right)
+standing_above left right = grind (arith, All-append, All-weaker, place_above, All-from_recursion)
 
 same_ends : (a b c d : Option ℕ) → AreEnds a b → AreEnds c d
     → letters_text (cable_letters (a, b)) ≡ letters_text (cable_letters (c, d))

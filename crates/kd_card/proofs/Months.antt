@@ -293,13 +293,5 @@ cards_are_fewest_in_all (Rotor m) days cards lists machine rotor legal are lead 
     let has = machines_have_all (Rotor m) machine.legal in
     let cables : CostNoMore m.cables m.cables = λ ws size. (ws, IsPermutation-refl ws, omega arith) in
     let near : AgreeButForCables m m = record { first = has; second = has; same = refl; cables = cables } in
-    let none = gaps-self m.rings in
-    let nor = gaps-self m.letters in
-    omega (
-      arith,
-      sum_by-fewest days m m cards lists rotor legal near are lead,
-      sum-map length cards,
-      sum-map length
-          lists,
-    )
+    grind (arith, sum_by-fewest days m m cards lists rotor legal near are lead, sum-map, gaps-self)
 cards_are_fewest_in_all (Pin m) days cards lists machine rotor legal are lead = absurd (rotor refl)

@@ -190,13 +190,7 @@ pub record FreePairing {A B : Type 0} (cost : A → B → ℕ) (rows : List A) (
 module _ {A B : Type 0} (cost : A → B → ℕ) where
   free_of_all : (rows : List A) (ws : List (B × ℤ)) → AllZip (λ row w. cost row w.0 ≡ 0) rows ws
       → pairing_cost cost rows ws ≡ 0
-  free_of_all (row ∷ rows) (w ∷ ws) h =
-      omega (
-        arith,
-        sum_by-cons (λ (pair : A × (B × ℤ)). cost pair.0 pair.1.0) (row, w) (zip rows ws),
-        h.0,
-        free_of_all rows ws h.1,
-      )
+  free_of_all (row ∷ rows) (w ∷ ws) h = grind (arith, sum_by-cons, free_of_all rows ws h.1)
   free_of_all [] ws h = refl
   free_of_all rows ws h = absurd h
 
@@ -402,9 +396,7 @@ AreBounds-prices (Rotor m) (Pin n) (OfPins s) prices settings machine legal are 
 AreBounds-prices (Pin m) (Rotor n) (OfRotors s) prices settings machine legal are kind fits leads reads =
     absurd (no_rotors s.model s.reflector (sym reads.key.model ∙ model_of-list (Pin m) (Rotor n) settings leads)
     legal.reflector)
-AreBounds-prices m (Pin n) (OfRotors s) prices settings machine legal are kind fits leads reads = absurd reads.key
-AreBounds-prices m (Rotor n) (OfPins s) prices settings machine legal are kind fits leads reads = absurd reads.key
-AreBounds-prices m n s prices settings machine legal are kind fits leads reads = absurd kind
+AreBounds-prices m n s prices settings machine legal are kind fits leads reads = grind arith
 
 pub fitting_prices_bound_lists : FittingPricesBoundLists
 fitting_prices_bound_lists m s prices settings machine legal are kind fits reached =
