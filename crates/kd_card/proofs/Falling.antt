@@ -48,9 +48,6 @@ abbrev pub SameBut : ℕ → List ℕ → List ℕ → Type 0
 SameBut x letters others =
     (letter : ℕ) → (has_letter letters letter ≡ has_letter others letter) ⊎ (nat_eq x letter ≡ true)
 
-in_front : (t h g : Bool) → h ≡ (t || g) → (h ≡ g) ⊎ (t ≡ true)
-in_front t h g e = grind arith
-
 one_apart : (x : ℕ) (fewer letters : List ℕ) → IsPermutation letters (x ∷ fewer) → SameBut x letters fewer
 one_apart x fewer letters order letter =
     let back = IsPermutation-sym letters (x ∷ fewer) order in
@@ -59,7 +56,7 @@ one_apart x fewer letters order letter =
       Contains-permutation (x ∷ fewer) letters l back,
     ))
     in
-    in_front (nat_eq x letter) (has_letter letters letter) (has_letter fewer letter) (same letter)
+    grind (arith, same letter)
 
 -- If the cable with number `cable` becomes `new`, its letters stay the same except perhaps `letter`, and `HasCables`
 -- still holds. This is so if the letter is pulled out or put in.
@@ -232,16 +229,12 @@ module _ {X : Type 0} (place target : X → ℕ) where
 abbrev wrong_slot : Option Wheel × SheetWheel → Bool
 wrong_slot slot = not (option_map_or (same_wheel slot.1.wheel) slot.0 false)
 
-empty_wrong : (seated : Option Wheel) (wheel : Wheel) (wanted : SheetWheel)
-    → cond {A = ℕ} (wrong_slot (seated, wanted)) 1 0 ≤ cond {A = ℕ} (wrong_slot (seat_without wheel seated, wanted)) 1 0
-empty_wrong seated wheel wanted = grind (arith, at_most_one)
-
 without_raises : (wheel : Wheel) (slots : List (Option Wheel)) (wheels : List SheetWheel)
     → count_by wrong_slot (zip slots wheels) ≤ count_by wrong_slot (zip (map (seat_without wheel) slots) wheels)
 without_raises wheel [] wheels = omega arith
-without_raises wheel (now ∷ slots) [] = omega arith
+without_raises wheel slots [] = grind arith
 without_raises wheel (now ∷ slots) (wanted ∷ wheels) =
-    grind (arith, common_steps, count_by-cons, empty_wrong, without_raises wheel slots wheels)
+    grind (arith, common_steps, count_by-cons, at_most_one, without_raises wheel slots wheels)
 
 -- No two of the day's wheels have the same place in the box.
 abbrev pub HaveTheirPlaces : Model → List SheetWheel → Type 0
@@ -384,9 +377,7 @@ rotor_not_loose n s h =
     omega (arith, slots, reflector, rings, letters)
 
 no_pin_wrong : (pins : List Bool) → differing_pins (pins, pins) ≡ 0
-no_pin_wrong pins =
-    self_none (λ (pin : Bool × Bool). cond (exactly_one pin.0 pin.1) 1 0)
-    (λ b. ap (λ d. cond d 1 0) (not_differing b)) pins
+no_pin_wrong pins = self_none (λ (pin : Bool × Bool). cond (exactly_one pin.0 pin.1) 1 0) (λ b. grind (arith, not_differing)) pins
 
 pin_not_loose : (n : PinParts) (s : PinDay) → ReadsAs (Pin n) (OfPins s) → loose_count (Pin n) (OfPins s) ≡ 0
 pin_not_loose n s h =

@@ -64,10 +64,7 @@ pub record AreValued (number : ℕ) (prices : List ℤ) : Type 0 where
 
 pub valued : {K X : Type 0} (sort : Sort K X) (number : ℕ) (kinds : List K) → IsGroup sort number kinds
     → AreValued number (prices_of_kinds sort kinds)
-valued sort number kinds group = record {
-  count = length_of_kinds sort kinds ∙ group.count;
-  reach = reach_of_kinds sort None kinds group.in_order;
-}
+valued sort number kinds group = grind (arith, length_of_kinds, reach_of_kinds)
 
 grouped : {K X : Type 0} (sort : Sort K X) (number : ℕ) (kinds : List K) → AreKinds sort None kinds
     → length (prices_of_kinds sort kinds) ≡ number → IsGroup sort number kinds

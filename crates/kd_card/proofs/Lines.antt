@@ -225,8 +225,7 @@ AllByRecursion-prices : (words : List (List ℕ)) → AllByRecursion IsPriceText
     × AllByRecursion (λ price. unsigned_abs price ≤ 9999) prices
 AllByRecursion-prices [] all = ([], refl, tt)
 AllByRecursion-prices (word ∷ words) (is, all) =
-    let rest = AllByRecursion-prices words all in
-    (is.0 ∷ rest.0, cc, (is.1, rest.2))
+    let rest = AllByRecursion-prices words all in (is.0 ∷ rest.0, cc, (is.1, rest.2))
 
 -- ---- prices in a line
 
@@ -275,11 +274,7 @@ pub bytes_are_word : (b : ℕ) (bs : List ℕ) → AllByRecursion (λ c. 32 < c)
 bytes_are_word b bs above = word_by_bytes (b ∷ bs) (λ none. cc) (All-from_recursion (λ c. 32 < c) (b ∷ bs) above)
 
 below_zero : (word : List ℕ) → IsWord word → IsWord (45 ∷ word)
-below_zero word w = record {
-  filled = λ same. cc;
-  spaceless = All-cons (λ b. b ≢ 32) 45 word (λ same. omega (arith, same)) w.spaceless;
-  unbroken = All-cons (λ b. b ≢ 10) 45 word (λ same. omega (arith, same)) w.unbroken;
-}
+below_zero word w = grind (arith, All-cons)
 
 number_word : (text : List ℕ) → IsNumberText text → IsWord text
 number_word text e = grind (arith, word_by_bytes, All-weaker, All-cons)
@@ -288,8 +283,7 @@ pub numeral_word : (signed : Bool) (text : List ℕ) → IsNumeral signed text �
 numeral_word signed text e = grind (arith, number_word, below_zero)
 
 pub signed_word : (z : ℤ) → unsigned_abs z < 2 ^ 64 → IsWord (signed_decimal z)
-signed_word (pos n) small = numbers_are_words n small
-signed_word (negsuc n) small = below_zero (decimal (suc n)) (numbers_are_words (suc n) small)
+signed_word z small = grind (arith, numbers_are_words, below_zero)
 
 -- A card's head is the text before the day, the day, and an LF.
 pub head_text : {front : List ℕ} (version : Version) (day : ℕ) (rest : List ℕ) → front ≡ head_prefix version
@@ -322,8 +316,7 @@ number_by_parts (digit ∷ rest) some digits lead = (
 )
 
 no_leading_zero : (number : ℕ) → number < 2 ^ 64 → get_or (decimal number) 0 0 ≡ 48 → length (decimal number) ≡ 1
-no_leading_zero zero small e = ap length (decimal_digit 0 (omega arith))
-no_leading_zero (suc n) small e = absurd (omega (arith, first_decimal (suc n) (omega arith) small, e))
+no_leading_zero number small e = grind (arith, decimal_digit, first_decimal)
 
 pub number_text : (number : ℕ) → number < 2 ^ 64 → IsNumberText (decimal number)
 number_text number small =
@@ -333,8 +326,7 @@ not_zero : (n : ℕ) → suc n < 2 ^ 64 → decimal (suc n) ≢ codes "0"
 not_zero n small e = omega (arith, first_decimal (suc n) (omega arith) small, ap (λ t. get_or t 0 0) e)
 
 pub signed_text : (z : ℤ) → unsigned_abs z < 2 ^ 64 → IsNumeral true (signed_decimal z)
-signed_text (pos n) small = inl (number_text n small)
-signed_text (negsuc n) small = inr (decimal (suc n), refl, number_text (suc n) small, not_zero n small)
+signed_text z small = grind (arith, number_text, not_zero)
 
 -- ---- a bound of the sum of prices
 

@@ -350,8 +350,7 @@ sum_ends : (sum : ℤ) (rest : List ℕ) → unsigned_abs sum < 2 ^ 64 → (word
     → EndsGroup word (line_then (sum_words sum) rest)
 sum_ends sum rest near word differs =
     let has = value_line (codes "SUM") (signed_decimal sum) rest (word_by_test _ _ refl) (signed_word sum near) refl in
-    AtOther (codes "SUM") (record { behind = signed_decimal sum ∷ []; rest = rest; has = has })
-    (λ same. differs (sym same))
+    AtOther (codes "SUM") (record { behind = _; rest = _; has = has }) (λ same. differs (sym same))
 
 -- ---- the card
 

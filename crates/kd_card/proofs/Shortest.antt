@@ -19,7 +19,7 @@ use Rattle.kd_card.proofs.Prelude.{AreModelPrices, IsSettingNeeded, AreSettingsN
 use Rattle.kd_card.proofs.Prelude.{FittingPricesBoundLists, ProvingCardsAreAsLong, ProvingCardsAreShortest}
 use Rattle.kd_card.proofs.Prelude.{ProvingPricesAreTight, get_or_default, get_or-map, length-zip, get_or-zip}
 use Rattle.kd_card.proofs.Prelude.{AsFewAreNeeded, why_refused, IsPriceTightAt, column_prices, cost_at, table_rows}
-use Rattle.kd_card.proofs.Prelude.{price_at, row_prices, All-from_get_or, Contains-get_or, AllZip-long, length-map}
+use Rattle.kd_card.proofs.Prelude.{common_steps, price_at, row_prices, All-from_get_or, Contains-get_or, AllZip-long, length-map}
 use Rattle.{kd_state.specs.Costs.standings_as, std.proofs.lemmas.List.Edits.length-remove}
 use Rattle.kd_card.proofs.Duality.{pairing_cost, reordered, fold_of_both, prices_moved, fitting_prices, tight_at}
 use Rattle.kd_card.proofs.Duality.{sum_of, prices_with, FitTogether, FitAll}
@@ -33,8 +33,7 @@ none_differ : (xs ys : List ℕ) → ((letter : ℕ) → has_letter xs letter �
     → count_by (λ letter. exactly_one (has_letter xs letter) (has_letter ys letter)) letters ≡ 0
 none_differ xs ys same [] = refl
 none_differ xs ys same (letter ∷ letters) =
-    count_by-cons (λ letter. exactly_one (has_letter xs letter) (has_letter ys letter)) letter letters
-    ∙ rw (same letter, not_differing (has_letter ys letter), none_differ xs ys same letters) refl
+    grind (arith, common_steps, count_by-cons, same letter, not_differing, none_differ xs ys same letters)
 
 abbrev CostsNothing : Option ℕ × Option ℕ → Option (ℕ × ℕ) → Type 0
 CostsNothing cable column = cable_cost cable column ≡ 0
@@ -144,11 +143,10 @@ all_empty : (cables : List (Option ℕ × Option ℕ)) (number : ℕ) → length
     → ((cable : Option ℕ × Option ℕ) → Contains cables cable → cable_letters cable ≢ [] → ⊥)
     → AllZip CostsNothing cables (replicate number None)
 all_empty [] zero e h = tt
-all_empty (cable ∷ cables) (suc number) e h =
-    let here = empty_costs_nothing cable (h cable (zero, omega arith, refl)) in
-    let later = λ (other : Option ℕ × Option ℕ) (among : Contains cables other).
-    h other (Contains-append_right (cable ∷ []) cables other among) in
-    (here, all_empty cables number (omega arith) later)
+all_empty (cable ∷ cables) (suc number) e h = (
+  empty_costs_nothing cable (h cable (zero, omega arith, refl)),
+  all_empty cables number (omega arith) (λ other among. h other (Contains-append_right (cable ∷ []) cables other among)),
+)
 all_empty cables number e h = absurd (omega arith)
 
 -- The cables have an order in which each costs nothing at its column.
@@ -199,8 +197,7 @@ pub with_prices : {A B C : Type 0} (R : A → B → Type 0) (xs : List A) (colum
 with_prices R [] [] prices e h = tt
 with_prices R (x ∷ xs) (column ∷ columns) (price ∷ prices) e h =
     (h.0, with_prices R xs columns prices (omega arith) h.1)
-with_prices R (x ∷ xs) (column ∷ columns) [] e h = absurd (omega arith)
-with_prices R xs columns prices e h = absurd h
+with_prices R xs columns prices e h = grind arith
 
 pub cables_paired : (cables : List (Option ℕ × Option ℕ)) (pairs : List (ℕ × ℕ)) (prices : List ℤ) → HasCables cables
     → AreOnce (letters_in_pairs pairs) → length pairs ≤ 13 → length prices ≡ 13
@@ -267,9 +264,7 @@ module _ (columns : List (Option (ℕ × ℕ) × ℤ)) (rows : List ((ℕ × ℕ
   list_lowers m n [] same h = subst (λ n. left_to_do columns rows m s ≤ left_to_do columns rows n s + 0) (sym h)
       (omega arith)
   list_lowers m n (x ∷ xs) same h =
-      let rest = list_lowers h.0 n xs (ap model_of h.1.made ∙ model_of-changed m x ∙ same) h.2 in
-      let made = ap (λ between. left_to_do columns rows between s) h.1.made in
-      omega (arith, rest, left_to_do-lowered columns rows m s x legal same h.1.allowed)
+      grind (arith, list_lowers h.0 n xs (ap model_of h.1.made ∙ model_of-changed m x ∙ same) h.2, left_to_do-lowered)
 
 -- ---- fitting prices, and an assignment that the settings pay for
 
@@ -324,9 +319,7 @@ module _ {A B : Type 0} (a : A) (b : B) (cost : A → B → ℕ) (rows : List A)
 
   sums : price_sum prices ≡ (sum_of (row_prices prices) +ℤ prices_with beside)
   sums =
-      let same = prices_moved columns (column_prices prices) beside (are.columns ∙ sym columns_count) order in
-      let both = fold_of_both (row_prices prices) (column_prices prices) in
-      omega (arith, ints)
+      grind (arith, ints, prices_moved columns (column_prices prices) beside, fold_of_both)
 
   below : (pos loose +ℤ price_sum prices) ≤ℤ pos lines
   below =
