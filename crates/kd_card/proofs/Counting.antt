@@ -8,8 +8,8 @@ use Rattle.kd_card.proofs.Prelude.{model_of, nat_eq, not, option_map_or, place_i
 use Rattle.kd_card.proofs.Prelude.{refl, ring_at, same_reflector, same_wheel, seconds-zip, subst, suc, sum_by}
 use Rattle.kd_card.proofs.Prelude.{sum_by-append, sum_by-cons, sums_add, sym, true, zero, zip, ℕ, ◌++◌, ◌+◌, ◌∙◌, ◌∷◌}
 use Rattle.kd_card.proofs.Prelude.{◌≡◌, ◌≢◌, ◌≤◌}
-use Rattle.kd_card.specs.Loose.{lines_from, loose_lines, pin_line, pin_wheel_turn_line}
-use Rattle.kd_card.specs.Loose.{wheel_ring_line, slot_seat_line, slot_turn_line, setting_unless, wheel_pin_lines}
+use Rattle.kd_card.specs.Loose.{lines_from, loose_lines, pin_line, pin_wheel_turn_line, wheel_ring_line, slot_seat_line}
+use Rattle.kd_card.specs.Loose.{slot_turn_line, setting_unless, wheel_pin_lines}
 use Rattle.kd_card.specs.Laws.{LooseThingsAreCounted}
 use Rattle.kd_state.proofs.Wheels.{allowed_in_box, has_wheel-Decides, same_wheel-Decides, same_wheel_differs}
 use Rattle.kd_state.specs.{Machine.HasAllPins, Pins.wheel_pins, SheetDay.AreLegalSeats, SheetDay.seats_of_wheels}
@@ -99,7 +99,8 @@ module _ (m : RotorParts) (s : RotorDay) where
   abbrev wrong : SheetWheel → Bool
   wrong w = not (option_map_or (nat_eq w.ring) (ring_at m w.wheel) false)
 
-  counted_rings : AreCounted (flat_map (wheel_ring_line m s.wheels) (box_of m.model)) (count_by (finds_wheel wrong s.wheels) (box_of m.model)) 0
+  counted_rings : AreCounted (flat_map (wheel_ring_line m s.wheels) (box_of m.model))
+      (count_by (finds_wheel wrong s.wheels) (box_of m.model)) 0
   counted_rings =
       rw (lines_of_each (wheel_ring_line m s.wheels) (box_of m.model) 1) (rw sum_none at
       (counted_each (λ n wheel. wheel_ring_line m s.wheels wheel)
@@ -142,7 +143,8 @@ module _ (m : PinParts) (s : PinDay) (machine : HasAllPins m.pins) (legal : HasA
       (counted-append _ _ (counted_wheel 6) none))))) in
       let turns = counted_each pin_wheel_turn_line _ (λ z. 0) (λ n z. counted_loose _ _ refl)
       (zip m.letters s.window) 1 in
-      let all = simp sum_none at (counted-append (lines_from wheel_pin_lines 1 (zip (pins_of m.pins) (pins_of s.pins))) _ pins turns) in
+      let all = simp sum_none at (counted-append (lines_from wheel_pin_lines 1 (zip (pins_of m.pins) (pins_of s.pins)))
+      _ pins turns) in
       record { count = omega (arith, all.count); priced = all.priced }
 
 pub all_counted : (m : Parts) (s : Day) → IsMachine m → IsLegalDay s → model_of m ≡ day_model s

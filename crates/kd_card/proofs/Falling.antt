@@ -7,7 +7,7 @@ use Rattle.kd_card.proofs.Prelude.{Setting, Pull, Put, LugTo, cable_letters, let
 use Rattle.kd_card.proofs.Prelude.{refusal_reasons, why_refused, cable_at, cable_without, cable_with, with_lug}
 use Rattle.kd_card.proofs.Prelude.{machine_after, Leads, exactly_one, one_unless, column_letters, cable_cost}
 use Rattle.kd_card.proofs.Prelude.{lugs_moved, bar_cost, All-set, length-set, numbered_item, common_steps, All}
-use Rattle.kd_card.proofs.Prelude.{no_reason, still_before, IsPermutation, refl, true, ◌||◌, ◌⊎◌, not-false}
+use Rattle.kd_card.proofs.Prelude.{no_reason, still_before, IsPermutation, refl, true, ◌⊎◌, not-false}
 use Rattle.kd_card.proofs.Prelude.{Contains-permutation, IsPermutation-sym, IsDistinct-IsPermutation, IsDistinct-cons}
 use Rattle.kd_card.proofs.Prelude.{IsDistinct-tail, get_or_from_slice_get, IsDistinct, eqb_flips}
 use Rattle.kd_card.proofs.Prelude.{has_letter-AllByRecursion, set_moves, with_moves, without_moves, tests_tell_letters}
@@ -18,10 +18,10 @@ use Rattle.kd_card.proofs.Prelude.{unwrap_or-slice_get, bytes_eq-Decides, Model,
 use Rattle.kd_card.proofs.Prelude.{SeatReflector, RingTo, Turn, PinTo, same_wheel, same_reflector, place_in_box}
 use Rattle.kd_card.proofs.Prelude.{model_of, ring_at, letter_at, wheel_in_slot, seat_without, letters_with, RotorDay}
 use Rattle.kd_card.proofs.Prelude.{PinDay, Day, OfRotors, OfPins, IsLegalDay, day_model, ReadsAs, loose_slots}
-use Rattle.kd_card.proofs.Prelude.{loose_reflector, loose_rings, loose_letters, loose_pins, loose_pin_letters}
-use Rattle.kd_card.proofs.Prelude.{loose_count, is_priced_setting, set_other, days_wheels_have_their_places, is_none}
-use Rattle.kd_state.specs.{Costs.standings_as, declared.sheet_day.rotor_entry.SheetWheel.SheetWheel}
-use Rattle.kd_state.specs.{Pins.wheel_pins, Pins.with_pin}
+use Rattle.kd_card.proofs.Prelude.{loose_reflector, loose_rings, loose_letters, loose_pins, loose_count}
+use Rattle.kd_card.proofs.Prelude.{is_priced_setting, set_other, days_wheels_have_their_places, is_none}
+use Rattle.kd_state.specs.{Costs.standings_as, declared.sheet_day.rotor_entry.SheetWheel.SheetWheel, Pins.wheel_pins}
+use Rattle.kd_state.specs.{Pins.with_pin}
 use Rattle.kd_tables.specs.{declared.lug.Lug.Lug, declared.wheel.Wheel.Wheel, Rings.ring_of, Rings.place_on}
 use Rattle.kd_card.proofs.{Counts.{zip_set, at_most_one, once_in_alphabet}, Duality.pairing_cost}
 use Rattle.kd_pins.specs.{PinWheels.pins_of}
@@ -272,12 +272,7 @@ module _ (columns : List (Option (ℕ × ℕ) × ℤ)) (rows : List ((ℕ × ℕ
       (arith, cables_fall m cable letter _ columns (ChangesCable-pull m cable letter e))
   rotor_lowers (Put cable letter) e = omega
       (arith, cables_fall m cable letter _ columns (ChangesCable-put m cable letter e))
-  rotor_lowers (Seat slot wheel) e =
-      omega (
-        arith,
-        without_raises wheel m.slots s.wheels,
-        zip_set_lowers wrong_slot (map (seat_without wheel) m.slots) s.wheels (slot - 1) (Some wheel),
-      )
+  rotor_lowers (Seat slot wheel) e = grind (arith, common_steps, without_raises, zip_set_lowers)
   rotor_lowers (SeatReflector reflector) e = omega (arith, unless_same_at_most (same_reflector m.reflector s.reflector))
   rotor_lowers (RingTo wheel letter) e =
       omega (
@@ -377,19 +372,11 @@ rotor_not_loose n s h =
     omega (arith, slots, reflector, rings, letters)
 
 no_pin_wrong : (pins : List Bool) → differing_pins (pins, pins) ≡ 0
-no_pin_wrong pins = self_none (λ (pin : Bool × Bool). cond (exactly_one pin.0 pin.1) 1 0) (λ b. grind (arith, not_differing)) pins
+no_pin_wrong pins =
+    self_none (λ (pin : Bool × Bool). cond (exactly_one pin.0 pin.1) 1 0) (λ b. grind (arith, not_differing)) pins
 
 pin_not_loose : (n : PinParts) (s : PinDay) → ReadsAs (Pin n) (OfPins s) → loose_count (Pin n) (OfPins s) ≡ 0
-pin_not_loose n s h =
-    let pins : loose_pins n s ≡ 0 = ap (λ pins. sum (map differing_pins (zip (pins_of pins) (pins_of s.pins))))
-    h.key.pins
-    ∙ sum-map differing_pins (zip (pins_of s.pins) (pins_of s.pins))
-    ∙ self_none differing_pins no_pin_wrong (pins_of s.pins) in
-    let letters : loose_pin_letters n s ≡ 0 =
-    ap (λ letters. count_by (λ (letter : ℕ × ℕ). not (nat_eq letter.0 letter.1)) (zip letters s.window)) h.window
-    ∙ self_none (λ (letter : ℕ × ℕ). cond (not (nat_eq letter.0 letter.1)) 1 0)
-    (λ l. ap (λ b. cond (not b) 1 0) (eq-eqb l l refl)) s.window in
-    omega (arith, pins, letters)
+pin_not_loose n s h = grind (arith, common_steps, sum-map, self_none, no_pin_wrong, nat_eq, eq-eqb)
 
 pub nothing_loose : (n : Parts) (s : Day) → ReadsAs n s → loose_count n s ≡ 0
 nothing_loose n s e = grind (arith, rotor_not_loose, pin_not_loose)

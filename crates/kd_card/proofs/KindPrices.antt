@@ -1,24 +1,20 @@
 -- The prices of kinds: one for each thing, and kinds that are read one after another.
-use Rattle.kd_card.proofs.Prelude.{◌≡◌, ◌↔◌, ℕ, ◌+◌, ◌≤◌, ◌<◌, List, [], ◌∷◌, ◌++◌, length, map, replicate, refl}
-use Rattle.kd_card.proofs.Prelude.{sym, ap, ◌∙◌, length-append, arith, unsigned_abs, Option, Some, None, min, zero, suc}
-use Rattle.kd_card.proofs.Prelude.{length-replicate, All-append, All-nil, All-replicate, CableKinds, ℤ}
-use Rattle.kd_card.proofs.Prelude.{BarKinds, Sort, cable_sort, pair_sort, bar_sort, row_sort, counted}
-use Rattle.kd_card.proofs.Prelude.{prices_of_kinds, AreKinds, IsKind, kind_words, kinds_text, ArePricesInRange}
-use Rattle.kd_card.proofs.Prelude.{ArePrices, flat_map-append, flat_map-map, line_of, Group, price_count, lines_text}
-use Rattle.kd_card.proofs.Prelude.{IsGroup, line_then, common_steps, take, get_or, subst}
-use Rattle.kd_card.proofs.Prelude.{append_assoc, All, All-cons, IsNextKind, BeginsWithKinds, append-nil, HasNoNext}
-use Rattle.kd_card.proofs.Prelude.{BarKind, CableKind, PairKind, RowKind, PriceParts, row_prices, column_prices, table_rows}
+use Rattle.kd_card.proofs.Prelude.{◌≡◌, ◌↔◌, ℕ, ◌+◌, ◌≤◌, ◌<◌, List, [], ◌∷◌, ◌++◌, length, map, refl, sym, ap, ◌∙◌}
+use Rattle.kd_card.proofs.Prelude.{length-append, arith, unsigned_abs, Option, Some, None, min, zero, suc}
+use Rattle.kd_card.proofs.Prelude.{length-replicate, All-append, All-nil, All-replicate, CableKinds, ℤ, BarKinds, Sort}
+use Rattle.kd_card.proofs.Prelude.{cable_sort, pair_sort, bar_sort, row_sort, counted, prices_of_kinds, AreKinds}
+use Rattle.kd_card.proofs.Prelude.{IsKind, kind_words, kinds_text, ArePricesInRange, ArePrices, flat_map-append}
+use Rattle.kd_card.proofs.Prelude.{flat_map-map, line_of, Group, price_count, lines_text, IsGroup, line_then}
+use Rattle.kd_card.proofs.Prelude.{common_steps, take, get_or, subst, append_assoc, All, All-cons, IsNextKind}
+use Rattle.kd_card.proofs.Prelude.{BeginsWithKinds, append-nil, HasNoNext, BarKind, CableKind, PairKind, RowKind}
+use Rattle.kd_card.proofs.Prelude.{PriceParts, row_prices, column_prices, table_rows}
 use Rattle.kd_card.specs.Prices.{HaveKindsInOrder}
 use Rattle.kd_card.proofs.Lines.{line_and_more, is_line}
 
 module _ {K X : Type 0} (sort : Sort K X) where
   pub length_of_kinds : (kinds : List K) → length (prices_of_kinds sort kinds) ≡ counted sort kinds
   length_of_kinds [] = refl
-  length_of_kinds (kind ∷ kinds) =
-      let rest = length_of_kinds kinds in
-      let k = sort.kind kind in
-      let here = length-replicate k.count k.price in
-      omega (arith, length-append (replicate k.count k.price) (prices_of_kinds sort kinds))
+  length_of_kinds (kind ∷ kinds) = grind (arith, common_steps, length-replicate, length-append, length_of_kinds kinds)
 
   pub reach_of_kinds : (last : Option K) (kinds : List K) → AreKinds sort last kinds
       → ArePricesInRange (prices_of_kinds sort kinds)

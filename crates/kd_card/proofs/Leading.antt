@@ -5,17 +5,18 @@ use Rattle.kd_card.proofs.Prelude.{Setting, Some, [], ap, append-nil, append_ass
 use Rattle.kd_card.proofs.Prelude.{cond, days_wheels_have_their_places, eqb-true, false, fold, get_or, get_or-map}
 use Rattle.kd_card.proofs.Prelude.{get_or_at, get_or_from_slice_get, has_letter, is_some, length, length-append}
 use Rattle.kd_card.proofs.Prelude.{length-map, length-set, length-zip, map, option_map_or, place_in_box}
-use Rattle.kd_card.proofs.Prelude.{recursion_from_All, refl, reflectors_of, ring_at, same_reflector, same_wheel, seconds-zip, set, flat_map, SeatReflector}
-use Rattle.kd_card.proofs.Prelude.{set_other, slice_get, subst, suc, sym, true, unwrap_or, why_refused, seat_without}
-use Rattle.kd_card.proofs.Prelude.{zero, zip, ℕ, ◌++◌, ◌+◌, ◌<◌, ◌∙◌, ◌∷◌, ◌≡◌, ◌≢◌}
-use Rattle.kd_card.specs.Loose.{lines_from, loose_lines, pin_line, pin_wheel_turn_line}
-use Rattle.kd_card.specs.Loose.{wheel_ring_line, slot_seat_line, slot_turn_line}
+use Rattle.kd_card.proofs.Prelude.{recursion_from_All, refl, reflectors_of, ring_at, same_reflector, same_wheel}
+use Rattle.kd_card.proofs.Prelude.{seconds-zip, set, flat_map, SeatReflector, set_other, slice_get, subst, suc, sym}
+use Rattle.kd_card.proofs.Prelude.{true, unwrap_or, why_refused, seat_without, zero, zip, ℕ, ◌++◌, ◌+◌, ◌<◌, ◌∙◌, ◌∷◌}
+use Rattle.kd_card.proofs.Prelude.{◌≡◌, ◌≢◌}
+use Rattle.kd_card.specs.Loose.{lines_from, loose_lines, pin_line, pin_wheel_turn_line, wheel_ring_line, slot_seat_line}
+use Rattle.kd_card.specs.Loose.{slot_turn_line}
 use Rattle.kd_state.proofs.Wheels.{has_reflector-Decides, has_wheel-Decides, place_within, same_reflector-Decides}
+use Rattle.kd_state.proofs.Wheels.{same_wheel-Decides, same_wheel_differs, same_wheel_self}
 use Rattle.kd_card.{proofs.Counting.{in_box, lines_of_each}, specs.Loose.{setting_unless, wheel_pin_lines}}
 use Rattle.kd_pins.specs.{PinWheels.pins_of, declared.pin_set.PinSet.PinSet}
 use Rattle.{kd_state.proofs.Slots.{has_letter-Decides, is_some-place_on, set_here}, kd_tables.specs.Rings.place_on}
 use Rattle.{kd_state.proofs.Telling.{Refusing.leads_join, letters_have_places}, std.specs.List.range_with_len}
-use Rattle.kd_state.proofs.Wheels.{same_wheel-Decides, same_wheel_differs, same_wheel_self}
 use Rattle.kd_state.specs.Machine.{AreOnWheels, HasAllPins, IsSeatedAt}
 use Rattle.kd_state.specs.{Pins.{pin_set, with_pin}}
 use Rattle.kd_state.specs.{SheetDay.{AreLegalSeats, IsLegalPinDay, IsLegalRotorDay, seats_of_wheels}}
@@ -89,8 +90,7 @@ module _ {Z : Type 0} (state : List Z → List Z → Parts) (lines : ℕ → Z �
   led_from front (z ∷ zs) number e each =
       let rest = led_from (front ++ z ∷ []) zs (number + 1) (omega (arith, length-append front (z ∷ [])))
       (λ fs bs v d. each fs bs v (sym (append_assoc front (z ∷ []) zs) ∙ d)) in
-      led_append (lines number z) (lines_from lines (number + 1) zs) (rw e (each front zs z refl))
-      (rw append_assoc at rest)
+      grind (arith, append_assoc, led_append)
 
   pub things_led : (zs : List Z) → ((front back : List Z) (z : Z) → zs ≡ front ++ z ∷ back → LeadsOn front z back)
       → Led (state [] zs) (lines_from lines 1 zs) (state zs [])
@@ -209,7 +209,8 @@ module _ (m : RotorParts) (s : RotorDay) (machine : IsMachine (Rotor m)) (legal 
   places_differ : AllPairs (λ (w v : SheetWheel). place w ≢ place v) s.wheels
   places_differ = days_wheels_have_their_places m.model s.wheels are_seated
 
-  seats_lead : Led (Rotor m) (lines_from slot_seat_line 1 (zip m.slots s.wheels)) (with_slots m (seats_of_wheels s.wheels))
+  seats_lead : Led (Rotor m) (lines_from slot_seat_line 1 (zip m.slots s.wheels))
+      (with_slots m (seats_of_wheels s.wheels))
   seats_lead =
       seats_led m [] m.slots s.wheels 1 refl (grind (arith, length-map))
       (λ k n wheel e at. rw e (are_seated.allowed k wheel at))
@@ -259,7 +260,8 @@ module _ (m : RotorParts) (s : RotorDay) (machine : IsMachine (Rotor m)) (legal 
       (has_wheel-Decides (box_of m.model) w.wheel).1 (rw (← same) (length front, lt, is)) in
       rw (e, same, placed, at) (grind (arith, led_unless, set_at, eqb-true, has, placed))
 
-  rings_lead : Led (with_rings m.rings) (flat_map (wheel_ring_line m s.wheels) (box_of m.model)) (with_rings (map ring_then (box_of m.model)))
+  rings_lead : Led (with_rings m.rings) (flat_map (wheel_ring_line m s.wheels) (box_of m.model))
+      (with_rings (map ring_then (box_of m.model)))
   rings_lead =
       rw (lines_of_each (wheel_ring_line m s.wheels) (box_of m.model) 1)
       (cells_led with_rings ring_now ring_then (λ n wheel. wheel_ring_line m s.wheels wheel)
@@ -309,10 +311,7 @@ module _ (m : RotorParts) (s : RotorDay) (machine : IsMachine (Rotor m)) (legal 
       rw fold_push (grind (arith, led_unless, here, left, set_same, eqb-true)))
 
   pub rotors_led : Led (Rotor m) (loose_lines (Rotor m) (OfRotors s)) (Rotor turned_all)
-  rotors_led =
-      let reflector = reflector_led m (seats_of_wheels s.wheels) s.reflector
-      (subst (λ model. Contains (reflectors_of model) s.reflector) (sym same) legal.reflector) in
-      led_append _ _ (led_append _ _ (led_append _ _ seats_lead reflector) rings_lead) turns_lead
+  rotors_led = grind (arith, common_steps, reflector_led, led_append, seats_lead, rings_lead, turns_lead)
 
   -- After all these settings, each of the day's wheels has the day's ring and the day's letter.
   pub shown : (k : ℕ) (d : SheetWheel) → k < length s.wheels → let w = get_or s.wheels k d in

@@ -5,22 +5,22 @@ use Rattle.kd_card.proofs.Prelude.{ℤ, All, list_all, flat_map, signed_decimal,
 use Rattle.kd_card.proofs.Prelude.{take_all, flat_map-append, AllPass-from_list_all, All-weaker, All-from_recursion}
 use Rattle.kd_card.proofs.Prelude.{flat_map-map, Setting, words_of, line_of, IsWord, IsWithout, IsFirstPart}
 use Rattle.kd_card.proofs.Prelude.{setting_line, list_text, PriceParts, Version, version_of, price_sum, head_words}
-use Rattle.kd_card.proofs.Prelude.{lines_text, price_lines, card_text}
-use Rattle.kd_card.proofs.Prelude.{line_then, HasLineWords, common_steps, lines_split_into_words}
-use Rattle.kd_card.proofs.Prelude.{texts_tell_first_parts, words_make_one_line, map, setting_words, suc, ◌^◌, ◌≤◌, Bool}
-use Rattle.kd_card.proofs.Prelude.{get_or, Option, Some, None, MatchOption, Result, Ok, Err, MatchResult, Decides, Bor}
-use Rattle.kd_card.proofs.Prelude.{◌↔◌, IsTrue, is_some, subst, pos, negsuc, unsigned_abs, FitsSigned, w16, to_z, of_z}
-use Rattle.kd_card.proofs.Prelude.{then_some, IsUtf8, ParsesSigned, AllByRecursion, false≢true, fits_signed_from_abs}
-use Rattle.kd_card.proofs.Prelude.{to_z-of_z, get_or-map, length-map, recursion_from_All, All-map, IsPriceText}
-use Rattle.kd_card.proofs.Prelude.{IsPricesAnswer, BadLine, PriceMissing, HasFault, GoesOn, parse-signed_decimal}
-use Rattle.kd_card.proofs.Prelude.{IsAscii-signed, ArePricesInRange, codes, zero, ◌+◌, ◌*◌, inl, inr, fold, decimal}
-use Rattle.kd_card.proofs.Prelude.{not, pointwise, not-false, Decides-eqb, slice_eq-Decides, err_from_is_err_and, ◌+ℤ◌}
-use Rattle.kd_card.proofs.Prelude.{digits_value, decimal_nonempty, digits_decimal, decimal_digit, first_decimal}
-use Rattle.kd_card.proofs.Prelude.{All-cons, All-append, All-from_get_or, table_rows, ArePrices, Group, Sort}
-use Rattle.kd_card.proofs.Prelude.{CountWrong, BeginsWithHead, kinds_text, first_text, column_word, IsGroup, ByNumber}
-use Rattle.kd_card.proofs.Prelude.{IsDigit, IsNumberText, IsNumeral, IsValueAnswer, IsLineAnswer, IsFirstWordAnswer}
-use Rattle.kd_card.proofs.Prelude.{IsPriceLineAnswer, IsGroupAnswer, nil_from_length, numbers_are_words, word_by_bytes}
-use Rattle.kd_card.proofs.Prelude.{word_by_test, ThenNext-Ok, CardFault}
+use Rattle.kd_card.proofs.Prelude.{lines_text, price_lines, card_text, line_then, HasLineWords, common_steps}
+use Rattle.kd_card.proofs.Prelude.{lines_split_into_words, texts_tell_first_parts, words_make_one_line, map}
+use Rattle.kd_card.proofs.Prelude.{setting_words, suc, ◌^◌, ◌≤◌, Bool, get_or, Option, Some, None, MatchOption, Result}
+use Rattle.kd_card.proofs.Prelude.{Ok, Err, MatchResult, Decides, Bor, ◌↔◌, IsTrue, is_some, subst, pos, negsuc}
+use Rattle.kd_card.proofs.Prelude.{unsigned_abs, FitsSigned, w16, to_z, of_z, then_some, IsUtf8, ParsesSigned}
+use Rattle.kd_card.proofs.Prelude.{AllByRecursion, false≢true, fits_signed_from_abs, to_z-of_z, get_or-map, length-map}
+use Rattle.kd_card.proofs.Prelude.{recursion_from_All, All-map, IsPriceText, IsPricesAnswer, BadLine, PriceMissing}
+use Rattle.kd_card.proofs.Prelude.{HasFault, GoesOn, parse-signed_decimal, IsAscii-signed, ArePricesInRange, codes}
+use Rattle.kd_card.proofs.Prelude.{zero, ◌+◌, ◌*◌, inl, inr, fold, decimal, not, pointwise, not-false, Decides-eqb}
+use Rattle.kd_card.proofs.Prelude.{slice_eq-Decides, err_from_is_err_and, ◌+ℤ◌, digits_value, decimal_nonempty}
+use Rattle.kd_card.proofs.Prelude.{digits_decimal, decimal_digit, first_decimal, All-cons, All-append, All-from_get_or}
+use Rattle.kd_card.proofs.Prelude.{table_rows, ArePrices, Group, Sort, CountWrong, BeginsWithHead, kinds_text}
+use Rattle.kd_card.proofs.Prelude.{first_text, column_word, IsGroup, ByNumber, IsDigit, IsNumberText, IsNumeral}
+use Rattle.kd_card.proofs.Prelude.{IsValueAnswer, IsLineAnswer, IsFirstWordAnswer, IsPriceLineAnswer, IsGroupAnswer}
+use Rattle.kd_card.proofs.Prelude.{nil_from_length, numbers_are_words, word_by_bytes, word_by_test, ThenNext-Ok}
+use Rattle.kd_card.proofs.Prelude.{CardFault}
 use Rattle.std.proofs.lemmas.List.Splits.{slice_split_none, slice_split_at, join_with_byte-slice_split}
 use Rattle.std.{proofs.lemmas.Str.IsUtf8-from_ascii, specs.{Result.{result_ok, IsErrAnd}, Int.Signed.mag}}
 use Rattle.kd_card.specs.Reading.{head_prefix}
@@ -112,9 +112,7 @@ value_split text front behind (Some found) e first =
 -- ---- texts without LF
 
 pub bytes_above : (low : ℕ) (text : List ℕ) → list_all (ltb low) text ≡ true → All (λ b. low < b) text
-bytes_above low text e =
-    All-weaker (λ b. ltb low b ≡ true) (λ b. low < b) (λ b. ltb-true low b) text
-    (AllPass-from_list_all (ltb low) text e)
+bytes_above low text e = grind (arith, common_steps, All-weaker, ltb-true, AllPass-from_list_all)
 
 -- ---- the words of a line
 
@@ -138,10 +136,7 @@ some_bytes {rest} has none = omega (arith, ap length (sym has.first.joined ∙ n
 
 pub same_words : {bytes rest more : List ℕ} {words others : List (List ℕ)} → HasLineWords bytes words rest
     → HasLineWords bytes others more → (words ≡ others) × (rest ≡ more)
-same_words a b =
-    let joined = sym a.first.joined ∙ b.first.joined in
-    let parts = texts_tell_first_parts 10 a.line b.line _ _ a.first.without b.first.without joined in
-    (sym a.parts ∙ ap words_of parts.0 ∙ b.parts, parts.1)
+same_words a b = grind (arith, common_steps, texts_tell_first_parts)
 
 pub line_has_words : {bytes : List ℕ} (words : List (List ℕ)) (rest : List ℕ) → words ≢ [] → All IsWord words
     → bytes ≡ line_then words rest → HasLineWords bytes words rest
@@ -358,9 +353,7 @@ pub same_values : {bytes : List ℕ} (front : List ℕ) {value other rest more :
     → IsWithout 10 other
     → bytes ≡ front ++ value ++ 10 ∷ rest → bytes ≡ front ++ other ++ 10 ∷ more → (value ≡ other) × (rest ≡ more)
 same_values front {value} {other} {rest} {more} free clear e d =
-    texts_tell_first_parts 10 value other rest more free clear
-    (append_cancel_left front (value ++ 10 ∷ rest) (other ++ 10 ∷ more)
-    (sym (append_assoc front value (10 ∷ rest)) ∙ sym e ∙ d ∙ append_assoc front other (10 ∷ more)))
+    grind (arith, common_steps, texts_tell_first_parts, append_cancel_left, append_assoc)
 
 -- ---- a first word, and prices
 

@@ -191,7 +191,8 @@ module _ (s : RotorDay) (legal : IsLegalRotorDay s) (o : RotorParts) (reads : Re
       → left_for ws m ≤ left_for ws n + length xs
   left_for-list ws m n [] same leads = subst (λ n. left_for ws m ≤ left_for ws n + 0) (sym leads) (omega arith)
   left_for-list ws m n (x ∷ xs) same leads =
-      grind (arith, left_for-list ws leads.0 n xs (ap model_of leads.1.made ∙ model_of-changed m x ∙ same) leads.2, left_for-changed ws m x same leads.1.allowed)
+      let rest = left_for-list ws leads.0 n xs (ap model_of leads.1.made ∙ model_of-changed m x ∙ same) leads.2 in
+      grind (arith, left_for-changed)
 
   -- A needed setting lowers `loose_for` by at least one, unless it changes a cable.
   loose_for-needed : (m : Parts) (x : Setting) → model_of m ≡ s.model → IsSettingNeeded m (OfRotors s) x

@@ -19,7 +19,8 @@ use Rattle.kd_card.proofs.Prelude.{AreModelPrices, IsSettingNeeded, AreSettingsN
 use Rattle.kd_card.proofs.Prelude.{FittingPricesBoundLists, ProvingCardsAreAsLong, ProvingCardsAreShortest}
 use Rattle.kd_card.proofs.Prelude.{ProvingPricesAreTight, get_or_default, get_or-map, length-zip, get_or-zip}
 use Rattle.kd_card.proofs.Prelude.{AsFewAreNeeded, why_refused, IsPriceTightAt, column_prices, cost_at, table_rows}
-use Rattle.kd_card.proofs.Prelude.{common_steps, price_at, row_prices, All-from_get_or, Contains-get_or, AllZip-long, length-map}
+use Rattle.kd_card.proofs.Prelude.{common_steps, price_at, row_prices, All-from_get_or, Contains-get_or, AllZip-long}
+use Rattle.kd_card.proofs.Prelude.{length-map}
 use Rattle.{kd_state.specs.Costs.standings_as, std.proofs.lemmas.List.Edits.length-remove}
 use Rattle.kd_card.proofs.Duality.{pairing_cost, reordered, fold_of_both, prices_moved, fitting_prices, tight_at}
 use Rattle.kd_card.proofs.Duality.{sum_of, prices_with, FitTogether, FitAll}
@@ -40,22 +41,14 @@ CostsNothing cable column = cable_cost cable column ≡ 0
 
 -- A letter that a list contains occurs in it at least once.
 times-positive : (letters : List ℕ) (letter : ℕ) → Contains letters letter → 1 ≤ times letter letters
-times-positive letters letter there =
-    let here = ap (λ b. cond {A = ℕ} b 1 0) (eq-eqb letter (get_or letters there.0 letter) (sym there.2)) in
-    omega (arith, get_or-le-sum_by (λ other. cond (nat_eq letter other) 1 0) letters there.0 letter there.1)
+times-positive letters letter there = grind (arith, common_steps, eq-eqb, get_or-le-sum_by, nat_eq)
 
 -- How often a letter occurs in the things of a list.
 module _ {X : Type 0} (letters_of : X → List ℕ) where
   times-flat_map : (letter : ℕ) (xs : List X)
       → times letter (flat_map letters_of xs) ≡ sum_by (λ x. times letter (letters_of x)) xs
   times-flat_map letter [] = refl
-  times-flat_map letter (x ∷ xs) =
-      omega (
-        arith,
-        times-append letter (letters_of x) (flat_map letters_of xs),
-        sum_by-cons (λ x. times letter (letters_of x)) x xs,
-        times-flat_map letter xs,
-      )
+  times-flat_map letter (x ∷ xs) = grind (arith, common_steps, times-append, sum_by-cons, times-flat_map letter xs)
 
   -- If no letter occurs twice in a list of things, none occurs twice in another order of the list.
   once_moved : (xs ys : List X) → IsPermutation xs ys → AreOnce (flat_map letters_of xs)
@@ -145,7 +138,8 @@ all_empty : (cables : List (Option ℕ × Option ℕ)) (number : ℕ) → length
 all_empty [] zero e h = tt
 all_empty (cable ∷ cables) (suc number) e h = (
   empty_costs_nothing cable (h cable (zero, omega arith, refl)),
-  all_empty cables number (omega arith) (λ other among. h other (Contains-append_right (cable ∷ []) cables other among)),
+  all_empty cables number (omega arith)
+      (λ other among. h other (Contains-append_right (cable ∷ []) cables other among)),
 )
 all_empty cables number e h = absurd (omega arith)
 
@@ -427,15 +421,9 @@ module _ (s : Day) (legal : IsLegalDay s) where
       → loose_count m s + priced_count xs ≤ loose_count n s + length xs
   no_fewer m n [] same leads = subst (λ n. loose_count m s + 0 ≤ loose_count n s + 0) (sym leads) (omega arith)
   no_fewer m n (x ∷ xs) same leads =
-      let rest = no_fewer (machine_after m x) n xs (model_of-changed m x ∙ same)
-      (subst (λ between. Leads between xs n) leads.1.made leads.2) in
-      omega (
-        arith,
-        rest,
-        loose_falls m x same leads.1.allowed,
-        count_by-cons is_priced_setting x xs,
-        cond-one_or_other (is_priced_setting x),
-      )
+      let after = subst (λ between. Leads between xs n) leads.1.made leads.2 in
+      let rest = no_fewer (machine_after m x) n xs (model_of-changed m x ∙ same) after in
+      grind (arith, common_steps, loose_falls, count_by-cons, cond-one_or_other)
 
   needed_in_turn : (m n : Parts) (xs : List Setting) → model_of m ≡ day_model s → Leads m xs n → loose_count n s ≡ 0
       → length xs ≤ loose_count m s + priced_count xs → AreSettingsNeeded m s xs
@@ -455,10 +443,7 @@ as_few_are_needed m s settings legal same reached few =
     needed_in_turn s legal m reached.0 settings same reached.1 (nothing_loose reached.0 s reached.2) few
 
 pub proving_cards_are_as_long : ProvingCardsAreAsLong
-proving_cards_are_as_long m s settings prices h =
-    let whole = needed_all m h.leads.0 s settings h.leads.1 h.needed in
-    let none = nothing_loose h.leads.0 s h.leads.2 in
-    omega (arith, ints)
+proving_cards_are_as_long m s settings prices h = grind (arith, common_steps, ints, needed_all, nothing_loose)
 
 pub proving_cards_are_shortest : ProvingCardsAreShortest
 proving_cards_are_shortest m s settings prices machine legal are_prices h others reached =

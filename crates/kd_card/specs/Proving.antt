@@ -1,7 +1,7 @@
 -- A card that proves itself: its settings lead the machine to the day, and its prices show that no shorter list
 -- does.
-use Rattle.std.specs.Prelude.{◌≡◌, ℕ, ◌+◌, ◌≤◌, Bool, true, false, List, [], ◌∷◌, length, map, option_map, count_by, pos}
-use Rattle.std.specs.Prelude.{IsFalse, Option}
+use Rattle.std.specs.Prelude.{◌≡◌, ℕ, ◌+◌, ◌≤◌, Bool, true, false, List, [], ◌∷◌, length, map, option_map, pos}
+use Rattle.std.specs.Prelude.{IsFalse, count_by, Option}
 use Rattle.kd_tables.specs.Places.{smaller_first}
 use Rattle.kd_state.specs.declared.machine.parts.Parts.{Parts}
 use Rattle.kd_state.specs.declared.machine.parts.Parts.TheVariants.{Rotor, Pin}
