@@ -193,8 +193,7 @@ module _ {X : Type 0} (place target : X → ℕ) where
   wrong letters x = not (option_map_or (nat_eq (target x)) (slice_get letters (place x)) false)
 
   same_elsewhere : (letters : List ℕ) (p l : ℕ) (x : X) → place x ≢ p → wrong (set letters p l) x ≡ wrong letters x
-  same_elsewhere letters p l x away =
-      ap (λ seen. not (option_map_or (nat_eq (target x)) seen false)) (set_other letters p (place x) l away)
+  same_elsewhere letters p l x away = grind (arith, common_steps, nat_eq, set_other)
 
   other_places : (letters : List ℕ) (p l : ℕ) (xs : List X) → AllByRecursion (λ y. place y ≢ p) xs
       → count_by (wrong (set letters p l)) xs ≡ count_by (wrong letters) xs
@@ -372,8 +371,7 @@ rotor_not_loose n s h =
     omega (arith, slots, reflector, rings, letters)
 
 no_pin_wrong : (pins : List Bool) → differing_pins (pins, pins) ≡ 0
-no_pin_wrong pins =
-    self_none (λ (pin : Bool × Bool). cond (exactly_one pin.0 pin.1) 1 0) (λ b. grind (arith, not_differing)) pins
+no_pin_wrong pins = grind (arith, common_steps, self_none, not_differing)
 
 pin_not_loose : (n : PinParts) (s : PinDay) → ReadsAs (Pin n) (OfPins s) → loose_count (Pin n) (OfPins s) ≡ 0
 pin_not_loose n s h = grind (arith, common_steps, sum-map, self_none, no_pin_wrong, nat_eq, eq-eqb)

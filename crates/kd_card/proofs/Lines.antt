@@ -106,8 +106,7 @@ pub value_split : (text front behind : List ℕ) (r : Option (Bor (List ℕ) × 
 value_split text front behind None e none = λ value rest free d.
     let same : front ++ behind ≡ front ++ (value ++ 10 ∷ rest) = sym e ∙ d ∙ append_assoc front value (10 ∷ rest) in
     no_first_part (record { joined = append_cancel_left front behind (value ++ 10 ∷ rest) same; without = free }) none
-value_split text front behind (Some found) e first =
-    (e ∙ ap (λ b. front ++ b) first.joined ∙ sym (append_assoc front found.0.now (10 ∷ found.1.now)), first.without)
+value_split text front behind (Some found) e first = grind (arith, common_steps, append_assoc)
 
 -- ---- texts without LF
 

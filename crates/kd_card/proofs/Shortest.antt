@@ -255,8 +255,7 @@ model_of-list m n (x ∷ xs) h = model_of-list h.0 n xs h.2 ∙ ap model_of h.1.
 module _ (columns : List (Option (ℕ × ℕ) × ℤ)) (rows : List ((ℕ × ℕ) × ℤ)) (s : Day) (legal : IsLegalDay s) where
   list_lowers : (m n : Parts) (xs : List Setting) → model_of m ≡ day_model s → Leads m xs n
       → left_to_do columns rows m s ≤ left_to_do columns rows n s + length xs
-  list_lowers m n [] same h = subst (λ n. left_to_do columns rows m s ≤ left_to_do columns rows n s + 0) (sym h)
-      (omega arith)
+  list_lowers m n [] same h = grind (arith, common_steps)
   list_lowers m n (x ∷ xs) same h =
       grind (arith, list_lowers h.0 n xs (ap model_of h.1.made ∙ model_of-changed m x ∙ same) h.2, left_to_do-lowered)
 
@@ -352,8 +351,7 @@ module _ {A B : Type 0} (a : A) (b : B) (cost : A → B → ℕ) (rows : List A)
 -- ---- machines and days
 
 pub no_rotors : (model : Model) (reflector : Reflector) → model ≡ M209 → Contains (reflectors_of model) reflector → ⊥
-no_rotors model reflector e h =
-    let none = subst (λ model. Contains (reflectors_of model) reflector) e h in omega (arith, none.1)
+no_rotors model reflector e h = grind (arith, common_steps)
 
 AreBounds-prices : (m n : Parts) (s : Day) (prices : PriceParts) (settings : List Setting) → IsMachine m → IsLegalDay s
     → ArePrices prices
@@ -378,11 +376,9 @@ AreBounds-prices (Pin m) (Pin n) (OfPins s) (Bars row column) settings machine l
     (length settings) at_first.count legal.count are fits pairing.beside pairing.order
     (omega (arith, falling, pairing.free, nothing_loose (Pin n) (OfPins s) reads))
 AreBounds-prices (Rotor m) (Pin n) (OfPins s) prices settings machine legal are kind fits leads reads =
-    absurd (no_rotors m.model m.reflector (sym (model_of-list (Rotor m) (Pin n) settings leads))
-    machine.legal.reflector)
+    grind (arith, common_steps, no_rotors, model_of-list)
 AreBounds-prices (Pin m) (Rotor n) (OfRotors s) prices settings machine legal are kind fits leads reads =
-    absurd (no_rotors s.model s.reflector (sym reads.key.model ∙ model_of-list (Pin m) (Rotor n) settings leads)
-    legal.reflector)
+    grind (arith, common_steps, no_rotors, model_of-list)
 AreBounds-prices m n s prices settings machine legal are kind fits leads reads = grind arith
 
 pub fitting_prices_bound_lists : FittingPricesBoundLists
@@ -399,9 +395,8 @@ needed_all : (m n : Parts) (s : Day) (xs : List Setting) → Leads m xs n → Ar
     → loose_count m s + priced_count xs ≡ loose_count n s + length xs
 needed_all m n s [] leads needed = subst (λ n. loose_count m s + 0 ≡ loose_count n s + 0) (sym leads) refl
 needed_all m n s (x ∷ xs) leads needed =
-    let rest = needed_all (machine_after m x) n s xs (subst (λ between. Leads between xs n) leads.1.made leads.2)
-    needed.1 in
-    omega (arith, needed_one m s x (is_priced_setting x) refl needed.0, count_by-cons is_priced_setting x xs, rest)
+    grind (arith, common_steps, needed_one, count_by-cons,
+    needed_all (machine_after m x) n s xs (subst (λ between. Leads between xs n) leads.1.made leads.2) needed.1)
 
 -- Up to `loose_falls`: a setting that changes no cable and no bar lowers the number of loose things by at most one.
 cond-one_or_other : (b : Bool) → cond {A = ℕ} b 1 0 + cond {A = ℕ} b 0 1 ≡ 1
@@ -439,8 +434,7 @@ module _ (s : Day) (legal : IsLegalDay s) where
       )
 
 pub as_few_are_needed : AsFewAreNeeded
-as_few_are_needed m s settings legal same reached few =
-    needed_in_turn s legal m reached.0 settings same reached.1 (nothing_loose reached.0 s reached.2) few
+as_few_are_needed m s settings legal same reached few = grind (arith, common_steps, needed_in_turn, nothing_loose)
 
 pub proving_cards_are_as_long : ProvingCardsAreAsLong
 proving_cards_are_as_long m s settings prices h = grind (arith, common_steps, ints, needed_all, nothing_loose)
