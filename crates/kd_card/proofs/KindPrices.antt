@@ -8,7 +8,7 @@ use Rattle.kd_card.proofs.Prelude.{flat_map-map, line_of, Group, price_count, li
 use Rattle.kd_card.proofs.Prelude.{common_steps, take, get_or, subst, append_assoc, All, All-cons, IsNextKind}
 use Rattle.kd_card.proofs.Prelude.{BeginsWithKinds, append-nil, HasNoNext, BarKind, CableKind, PairKind, RowKind}
 use Rattle.kd_card.proofs.Prelude.{PriceParts, row_prices, column_prices, table_rows}
-use Rattle.kd_card.specs.Prices.{HaveKindsInOrder}
+use Rattle.kd_card.specs.{Prices.HaveKindsInOrder, Reading.AreFewKinds}
 use Rattle.kd_card.proofs.Lines.{line_and_more, is_line}
 
 module _ {K X : Type 0} (sort : Sort K X) where
@@ -45,11 +45,12 @@ module _ {K X : Type 0} (sort : Sort K X) where
   counted_within (first ∷ kinds) zero inside is = let same = ap (λ (k : K). (sort.kind k).count) is in omega arith
   counted_within (first ∷ kinds) (suc i) inside is = omega (arith, counted_within kinds i (omega arith) is)
 
-pub group_fits : {K X : Type 0} {sort : Sort K X} {number : ℕ} {kinds : List K} → IsGroup sort number kinds
-    → All (IsKind sort) kinds × (length kinds ≤ number)
-group_fits {sort} {kinds} group =
+few_of_group : {K X : Type 0} (sort : Sort K X) (number : ℕ) (kinds : List K) → number ≤ 27
+    → IsGroup sort number kinds → AreFewKinds sort kinds
+few_of_group sort number kinds few group =
     let count = group.count in
-    (all_kinds sort None kinds group.in_order, omega (arith, few_kinds sort None kinds group.in_order))
+    let many = few_kinds sort None kinds group.in_order in
+    record { valid = all_kinds sort None kinds group.in_order; few = omega arith }
 
 -- ---- valid prices by kind
 
@@ -86,12 +87,32 @@ pub bars_are_prices : (rows : List BarKind) (columns : List RowKind)
 bars_are_prices rows columns =
     both_valued bar_sort row_sort 27 rows columns _ refl refl refl (λ are. are, λ are. are)
 
+-- Valid prices by kind have at most 27 kinds of rows, and at most 27 kinds of columns.
+pub few_cables : (rows : List CableKind) (columns : List PairKind)
+    → ArePrices (CableKinds (record { items = rows }) (record { items = columns }))
+    → AreFewKinds cable_sort rows × AreFewKinds pair_sort columns
+few_cables rows columns are =
+    let groups = (cables_are_prices rows columns).0 are in
+    (few_of_group cable_sort 13 rows (omega arith) groups.0, few_of_group pair_sort 13 columns (omega arith) groups.1)
+
+pub few_bars : (rows : List BarKind) (columns : List RowKind)
+    → ArePrices (BarKinds (record { items = rows }) (record { items = columns }))
+    → AreFewKinds bar_sort rows × AreFewKinds row_sort columns
+few_bars rows columns are =
+    let groups = (bars_are_prices rows columns).0 are in
+    (few_of_group bar_sort 27 rows (omega arith) groups.0, few_of_group row_sort 27 columns (omega arith) groups.1)
+
 pub some_and_few : (group : Group) → (0 < price_count group) × (price_count group ≤ 27)
 some_and_few group = grind arith
 
 pub text_of_two : {R X C Y : Type 0} (rows : Sort R X) (columns : Sort C Y) (xs : List R) (ys : List C)
     → lines_text (map (kind_words rows) xs ++ map (kind_words columns) ys) ≡ kinds_text rows xs ++ kinds_text columns ys
 text_of_two rows columns xs ys = grind (arith, flat_map-append, flat_map-map)
+
+pub groups_joined : {R X C Y : Type 0} (rows : Sort R X) (columns : Sort C Y) (front : List ℕ) (xs : List R) (ys : List C)
+    → (front ++ kinds_text rows xs) ++ kinds_text columns ys
+    ≡ front ++ lines_text (map (kind_words rows) xs ++ map (kind_words columns) ys)
+groups_joined rows columns front xs ys = rw text_of_two (append_assoc front (kinds_text rows xs) (kinds_text columns ys))
 
 -- ---- kinds that are read
 

@@ -395,8 +395,13 @@ needed_all : (m n : Parts) (s : Day) (xs : List Setting) → Leads m xs n → Ar
     → loose_count m s + priced_count xs ≡ loose_count n s + length xs
 needed_all m n s [] leads needed = subst (λ n. loose_count m s + 0 ≡ loose_count n s + 0) (sym leads) refl
 needed_all m n s (x ∷ xs) leads needed =
-    grind (arith, common_steps, needed_one, count_by-cons,
-    needed_all (machine_after m x) n s xs (subst (λ between. Leads between xs n) leads.1.made leads.2) needed.1)
+    grind (
+      arith,
+      common_steps,
+      needed_one,
+      count_by-cons,
+      needed_all (machine_after m x) n s xs (subst (λ between. Leads between xs n) leads.1.made leads.2) needed.1,
+    )
 
 -- Up to `loose_falls`: a setting that changes no cable and no bar lowers the number of loose things by at most one.
 cond-one_or_other : (b : Bool) → cond {A = ℕ} b 1 0 + cond {A = ℕ} b 0 1 ≡ 1

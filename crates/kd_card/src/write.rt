@@ -9,9 +9,12 @@ ghost use Rattle.kd_state.specs.SheetDay.{IsDayNumber};
 ghost use Rattle.kd_card.specs.Prices.{ArePricesInRange, ArePrices};
 ghost use Rattle.kd_card.specs.CardText.{card_text, head_words, lines_text, price_lines, IsCard};
 ghost use Rattle.kd_card.specs.CardFault.{line_then};
+ghost use Rattle.kd_card.specs.Kinds.{kind_words};
+ghost use Rattle.kd_card.specs.Reading.{AreFewKinds};
 
 use super::card::Card;
 use super::kind_text::push_kinds;
+use super::kinds::Kind;
 use super::prices::{PriceParts, Prices, Version};
 use arrayvec::ArrayString;
 use itoa::Buffer;
@@ -112,14 +115,28 @@ fn push_prices<const N: usize>(text: &mut ArrayString<N>, prices: &Prices)
             push_price_line(text, "ROWS", &rows);
         }
         PriceParts::CableKinds(cables, pairs) => {
-            push_kinds(text, cables.as_slice());
-            push_kinds(text, pairs.as_slice());
+            push_groups(text, cables.as_slice(), pairs.as_slice());
         }
-        PriceParts::BarKinds(bars, rows) => {
-            push_kinds(text, bars.as_slice());
-            push_kinds(text, rows.as_slice());
-        }
+        PriceParts::BarKinds(bars, rows) => push_groups(text, bars.as_slice(), rows.as_slice()),
     }
+}
+
+/// Appends a line for each kind of `rows`, and then for each kind of `columns`.
+#[tactic(auto, using(crate::proofs::KindPrices::groups_joined))]
+fn push_groups<R: Kind, C: Kind, const N: usize>(
+    text: &mut ArrayString<N>,
+    rows: &[R],
+    columns: &[C],
+)
+    requires room { array_string_len text.old + 1404 ≤ N }
+    requires rows { AreFewKinds R.sort rows.now }
+    requires columns { AreFewKinds C.sort columns.now }
+    ensures bytes { let lines = map (kind_words R.sort) rows.now ++ map (kind_words C.sort) columns.now in
+        text.new.bytes ≡ text.old.bytes ++ lines_text lines }
+    ensures len { array_string_len text.new ≤ array_string_len text.old + 1404 }
+{
+    push_kinds(text, rows);
+    push_kinds(text, columns);
 }
 
 /// Appends a line: `word`, and then `prices`, each after a space.
