@@ -109,10 +109,11 @@ pub text_of_two : {R X C Y : Type 0} (rows : Sort R X) (columns : Sort C Y) (xs 
     → lines_text (map (kind_words rows) xs ++ map (kind_words columns) ys) ≡ kinds_text rows xs ++ kinds_text columns ys
 text_of_two rows columns xs ys = grind (arith, flat_map-append, flat_map-map)
 
-pub groups_joined : {R X C Y : Type 0} (rows : Sort R X) (columns : Sort C Y) (front : List ℕ) (xs : List R) (ys : List C)
+pub groups_joined : {R X C Y : Type 0} (rows : Sort R X) (columns : Sort C Y) (front : List ℕ) (xs : List R)
+    (ys : List C)
     → (front ++ kinds_text rows xs) ++ kinds_text columns ys
     ≡ front ++ lines_text (map (kind_words rows) xs ++ map (kind_words columns) ys)
-groups_joined rows columns front xs ys = rw text_of_two (append_assoc front (kinds_text rows xs) (kinds_text columns ys))
+groups_joined rows columns front xs ys = rw text_of_two (append_assoc front (kinds_text rows xs) _)
 
 -- ---- kinds that are read
 

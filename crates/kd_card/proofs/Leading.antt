@@ -88,14 +88,9 @@ module _ {Z : Type 0} (state : List Z → List Z → Parts) (lines : ℕ → Z �
       → Led (state front zs) (lines_from lines number zs) (state (front ++ zs) [])
   led_from front [] number e each = rw append-nil (led_none refl)
   led_from front (z ∷ zs) number e each =
-      grind (
-        arith,
-        common_steps,
-        length-append,
-        append_assoc,
-        led_append,
-        led_from (front ++ z ∷ []) zs (number + 1) (omega (arith, length-append front (z ∷ []))) (λ fs bs v d. each fs bs v (sym (append_assoc front (z ∷ []) zs) ∙ d)),
-      )
+      let rest = led_from (front ++ z ∷ []) zs (number + 1) (omega (arith, length-append front (z ∷ [])))
+      (λ fs bs v d. each fs bs v (sym (append_assoc front (z ∷ []) zs) ∙ d)) in
+      grind (arith, append_assoc, led_append)
 
   pub things_led : (zs : List Z) → ((front back : List Z) (z : Z) → zs ≡ front ++ z ∷ back → LeadsOn front z back)
       → Led (state [] zs) (lines_from lines 1 zs) (state zs [])

@@ -60,9 +60,7 @@ set_within : (number : ℕ) (m : RotorParts) (cable : ℕ) (ends : Cable) → Us
     → is_none (numbered_item m.cables cable) ≡ false
     → UsesNoneAbove number (Rotor (record m { cables = set m.cables (cable - 1) ends }))
 set_within number m cable ends none within there other above =
-    let same = numbered_other m.cables cable other ends (IsNumbered-not_none m.cables cable (None, None) there).first
-    (omega arith) in
-    ap (λ ends. is_spare (unwrap_or ends (None, None))) same ∙ none other above
+    grind (arith, common_steps, numbered_other, IsNumbered-not_none)
 
 -- Let each legal setting that satisfies `Bound` also satisfy `Says`, and let the machine still satisfy `Keeps` after
 -- it. Then this holds also for a list of settings that all satisfy `Bound`.

@@ -58,7 +58,8 @@ put_lines : (P : Setting → Type 0) (number : ℕ) (cable : Cable) (column : Co
     → All P (cable_moves In number (cable, column))
 put_lines P number cable None h = All-nil P
 put_lines P number cable (Some pair) h =
-    All-map P (λ letter. Put number letter) (letters_outside (column_letters (pair_in_order (Some pair))) (cable_letters cable))
+    All-map P (λ letter. Put number letter)
+    (letters_outside (column_letters (pair_in_order (Some pair))) (cable_letters cable))
     (λ k d lt. h pair refl _)
 
 -- Letters are put only into cables that become pairs.
