@@ -127,9 +127,7 @@ impl Kind for CableKind {
         }
     }
 
-    fn parts(&self) -> KindOf<Ends>
-        ensures { result ≡ cable_sort.kind self.now }
-    {
+    fn parts(&self) -> KindOf<Ends> {
         KindOf {
             thing: Ends::new(self.ends),
             count: self.count,
@@ -191,9 +189,7 @@ impl Kind for PairKind {
         }
     }
 
-    fn parts(&self) -> KindOf<Column>
-        ensures { result ≡ pair_sort.kind self.now }
-    {
+    fn parts(&self) -> KindOf<Column> {
         KindOf {
             thing: Column::new(self.pair),
             count: self.count,
@@ -250,9 +246,7 @@ impl Kind for BarKind {
         }
     }
 
-    fn parts(&self) -> KindOf<Standing>
-        ensures { result ≡ bar_sort.kind self.now }
-    {
+    fn parts(&self) -> KindOf<Standing> {
         KindOf {
             thing: self.standing,
             count: self.count,
@@ -298,9 +292,7 @@ impl Kind for RowKind {
         }
     }
 
-    fn parts(&self) -> KindOf<Reading>
-        ensures { result ≡ row_sort.kind self.now }
-    {
+    fn parts(&self) -> KindOf<Reading> {
         KindOf {
             thing: self.reading,
             count: self.count,

@@ -28,13 +28,10 @@ pub fn rotor_settings(machine: &Machine, parts: &RotorParts, entry: &RotorEntry)
 {
     let wheels = entry.wheels.as_slice();
     let reflector = entry.reflector;
+    let setting = Setting::SeatReflector { reflector };
     let mut settings = ArrayVec::new();
     push_seats(&mut settings, 1, parts.slots.as_slice(), wheels);
-    push_unless(
-        &mut settings,
-        parts.reflector == reflector,
-        Setting::SeatReflector { reflector },
-    );
+    push_unless(&mut settings, parts.reflector == reflector, setting);
     push_rings(&mut settings, machine, parts, parts.model.wheels(), wheels);
     push_turns(&mut settings, machine, parts, 1, wheels);
     settings
@@ -54,11 +51,8 @@ fn push_seats(settings: &mut Settings, number: u8, slots: &[Option<Wheel>], whee
         && let [wanted, wheels @ ..] = wheels
     {
         let (slot, wheel) = (number, wanted.wheel);
-        push_unless(
-            settings,
-            *seated == Some(wheel),
-            Setting::Seat { slot, wheel },
-        );
+        let is_seated = *seated == Some(wheel);
+        push_unless(settings, is_seated, Setting::Seat { slot, wheel });
         push_seats(settings, number + 1, slots, wheels);
     }
 }
@@ -102,11 +96,8 @@ fn push_turns(
 {
     if let [SheetWheel { wheel, letter, .. }, rest @ ..] = wheels {
         let (slot, letter) = (number, *letter);
-        push_unless(
-            settings,
-            machine.letter(*wheel) == Some(letter),
-            Setting::Turn { slot, letter },
-        );
+        let is_turned = machine.letter(*wheel) == Some(letter);
+        push_unless(settings, is_turned, Setting::Turn { slot, letter });
         push_turns(settings, machine, parts, number + 1, rest);
     }
 }
@@ -128,14 +119,8 @@ fn push_ring(settings: &mut Settings, machine: &Machine, wanted: Option<SheetWhe
     ensures few { array_vec_len settings.new ≤ array_vec_len settings.old + 1 }
 {
     if let Some(SheetWheel { wheel, ring, .. }) = wanted {
-        let is_set = machine.ring(wheel) == Some(ring);
-        push_unless(
-            settings,
-            is_set,
-            Setting::RingTo {
-                wheel,
-                letter: ring,
-            },
-        );
+        let letter = ring;
+        let is_set = machine.ring(wheel) == Some(letter);
+        push_unless(settings, is_set, Setting::RingTo { wheel, letter });
     }
 }
