@@ -1,11 +1,11 @@
 -- The cost of an assignment falls by at most one with each setting that changes a cable or a bar. Any other
 -- setting lowers the number of loose things by at most one.
-use Rattle.kd_card.proofs.Prelude.{count_by-cons, six_lists, ◌≡◌, ℕ, suc, ◌+◌, ◌-◌, ◌≤◌, nat_eq, min, Bool, false, inl}
-use Rattle.kd_card.proofs.Prelude.{inr, List, [], ◌∷◌, get_or, set, map, fold, count_by, Option, None, unwrap_or, ℤ}
-use Rattle.kd_card.proofs.Prelude.{sym, ◌∙◌, subst, arith, length, Place, alphabet, RotorParts, Parts, Rotor, Pin}
-use Rattle.kd_card.proofs.Prelude.{Setting, Pull, Put, LugTo, cable_letters, letters_in_cables, IsLegal, has_letter}
-use Rattle.kd_card.proofs.Prelude.{refusal_reasons, why_refused, cable_at, cable_without, cable_with, with_lug}
-use Rattle.kd_card.proofs.Prelude.{machine_after, Leads, exactly_one, one_unless, column_letters, cable_cost}
+use Rattle.kd_card.proofs.Prelude.{rules, count_by-cons, six_lists, ◌≡◌, ℕ, suc, ◌+◌, ◌-◌, ◌≤◌, nat_eq, min, Bool}
+use Rattle.kd_card.proofs.Prelude.{false, inl, inr, List, [], ◌∷◌, get_or, set, map, fold, count_by, Option, None}
+use Rattle.kd_card.proofs.Prelude.{unwrap_or, ℤ, sym, ◌∙◌, subst, arith, length, Place, alphabet, RotorParts, Parts}
+use Rattle.kd_card.proofs.Prelude.{Rotor, Pin, Setting, Pull, Put, LugTo, cable_letters, letters_in_cables, IsLegal}
+use Rattle.kd_card.proofs.Prelude.{has_letter, refusal_reasons, why_refused, cable_at, cable_without, cable_with}
+use Rattle.kd_card.proofs.Prelude.{with_lug, machine_after, Leads, exactly_one, one_unless, column_letters, cable_cost}
 use Rattle.kd_card.proofs.Prelude.{lugs_moved, bar_cost, All-set, length-set, numbered_item, common_steps, All}
 use Rattle.kd_card.proofs.Prelude.{no_reason, still_before, IsPermutation, refl, true, ◌⊎◌, not-false}
 use Rattle.kd_card.proofs.Prelude.{Contains-permutation, IsPermutation-sym, IsDistinct-IsPermutation, IsDistinct-cons}
@@ -71,12 +71,7 @@ ChangesCable-letters : (m : RotorParts) (cable letter : ℕ) (new : Option ℕ �
     → (slice_get m.cables (cable - 1) ≡ Some (cable_at m cable) → IsDistinct nat_eq (letters_in_cables m.cables)
     → IsDistinct nat_eq (letters_in_cables (set m.cables (cable - 1) new))) → ChangesCable m cable letter new
 ChangesCable-letters m cable letter new some same keeps =
-    let there = (IsNumbered-not_none m.cables cable (None, None) some).here in
-    record {
-      here = get_or_from_slice_get m.cables (cable - 1) (cable_at m cable) (cable_at m cable) there;
-      same = same;
-      keeps = λ h. record { count = length-set m.cables (cable - 1) new ∙ h.count; apart = keeps there h.apart };
-    }
+    search (rules, IsNumbered-not_none, get_or_from_slice_get, length-set)
 
 pub ChangesCable-pull : (m : RotorParts) (cable letter : ℕ) → why_refused (Rotor m) (Pull cable letter) ≡ None
     → ChangesCable m cable letter (cable_without letter (cable_at m cable))

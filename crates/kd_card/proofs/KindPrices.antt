@@ -1,6 +1,6 @@
 -- The prices of kinds: one for each thing, and kinds that are read one after another.
-use Rattle.kd_card.proofs.Prelude.{◌≡◌, ◌↔◌, ℕ, ◌+◌, ◌≤◌, ◌<◌, List, [], ◌∷◌, ◌++◌, length, map, refl, sym, ap, ◌∙◌}
-use Rattle.kd_card.proofs.Prelude.{length-append, arith, unsigned_abs, Option, Some, None, min, zero, suc}
+use Rattle.kd_card.proofs.Prelude.{rules, ◌≡◌, ◌↔◌, ℕ, ◌+◌, ◌≤◌, ◌<◌, List, [], ◌∷◌, ◌++◌, length, map, refl, sym, ap}
+use Rattle.kd_card.proofs.Prelude.{◌∙◌, length-append, arith, unsigned_abs, Option, Some, None, min, zero, suc}
 use Rattle.kd_card.proofs.Prelude.{length-replicate, All-append, All-nil, All-replicate, CableKinds, ℤ, BarKinds, Sort}
 use Rattle.kd_card.proofs.Prelude.{cable_sort, pair_sort, bar_sort, row_sort, counted, prices_of_kinds, AreKinds}
 use Rattle.kd_card.proofs.Prelude.{IsKind, kind_words, kinds_text, ArePricesInRange, ArePrices, flat_map-append}
@@ -47,10 +47,7 @@ module _ {K X : Type 0} (sort : Sort K X) where
 
 few_of_group : {K X : Type 0} (sort : Sort K X) (number : ℕ) (kinds : List K) → number ≤ 27
     → IsGroup sort number kinds → AreFewKinds sort kinds
-few_of_group sort number kinds few group =
-    let count = group.count in
-    let many = few_kinds sort None kinds group.in_order in
-    record { valid = all_kinds sort None kinds group.in_order; few = omega arith }
+few_of_group sort number kinds few group = search (rules, few_kinds, all_kinds)
 
 -- ---- valid prices by kind
 

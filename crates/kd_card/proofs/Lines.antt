@@ -1,14 +1,14 @@
 -- Lines of words as they are written and split, texts of prices, and what the lines of a card have.
-use Rattle.kd_card.proofs.Prelude.{IsNumeralModel-digits, ◌≡◌, ◌≢◌, ℕ, ◌<◌, true, false, eqb, ltb, List, [], ◌∷◌, ◌++◌}
-use Rattle.kd_card.proofs.Prelude.{length, refl, sym, ap, ◌∙◌, append_assoc, length-append, append_cancel_left, arith}
-use Rattle.kd_card.proofs.Prelude.{ℤ, All, list_all, flat_map, signed_decimal, ne_eqb, ltb-true, append-nil, get_or_at}
-use Rattle.kd_card.proofs.Prelude.{take_all, flat_map-append, AllPass-from_list_all, All-weaker, All-from_recursion}
-use Rattle.kd_card.proofs.Prelude.{flat_map-map, Setting, words_of, line_of, IsWord, IsWithout, IsFirstPart}
-use Rattle.kd_card.proofs.Prelude.{setting_line, list_text, PriceParts, Version, version_of, price_sum, head_words}
-use Rattle.kd_card.proofs.Prelude.{lines_text, price_lines, card_text, line_then, HasLineWords, common_steps}
-use Rattle.kd_card.proofs.Prelude.{lines_split_into_words, texts_tell_first_parts, words_make_one_line, map}
-use Rattle.kd_card.proofs.Prelude.{setting_words, suc, ◌^◌, ◌≤◌, Bool, get_or, Option, Some, None, MatchOption, Result}
-use Rattle.kd_card.proofs.Prelude.{Ok, Err, MatchResult, Decides, Bor, ◌↔◌, IsTrue, is_some, subst, pos, negsuc}
+use Rattle.kd_card.proofs.Prelude.{rules, IsNumeralModel-digits, ◌≡◌, ◌≢◌, ℕ, ◌<◌, true, false, eqb, ltb, List, [], ◌∷◌}
+use Rattle.kd_card.proofs.Prelude.{◌++◌, length, refl, sym, ap, ◌∙◌, append_assoc, length-append, append_cancel_left}
+use Rattle.kd_card.proofs.Prelude.{arith, ℤ, All, list_all, flat_map, signed_decimal, ne_eqb, ltb-true, append-nil}
+use Rattle.kd_card.proofs.Prelude.{get_or_at, take_all, flat_map-append, AllPass-from_list_all, All-weaker}
+use Rattle.kd_card.proofs.Prelude.{All-from_recursion, flat_map-map, Setting, words_of, line_of, IsWord, IsWithout}
+use Rattle.kd_card.proofs.Prelude.{IsFirstPart, setting_line, list_text, PriceParts, Version, version_of, price_sum}
+use Rattle.kd_card.proofs.Prelude.{head_words, lines_text, price_lines, card_text, line_then, HasLineWords}
+use Rattle.kd_card.proofs.Prelude.{common_steps, lines_split_into_words, texts_tell_first_parts, words_make_one_line}
+use Rattle.kd_card.proofs.Prelude.{map, setting_words, suc, ◌^◌, ◌≤◌, Bool, get_or, Option, Some, None, MatchOption}
+use Rattle.kd_card.proofs.Prelude.{Result, Ok, Err, MatchResult, Decides, Bor, ◌↔◌, IsTrue, is_some, subst, pos, negsuc}
 use Rattle.kd_card.proofs.Prelude.{unsigned_abs, FitsSigned, w16, to_z, of_z, then_some, IsUtf8, ParsesSigned}
 use Rattle.kd_card.proofs.Prelude.{AllByRecursion, false≢true, fits_signed_from_abs, to_z-of_z, get_or-map, length-map}
 use Rattle.kd_card.proofs.Prelude.{recursion_from_All, All-map, IsPriceText, IsPricesAnswer, BadLine, PriceMissing}
@@ -209,10 +209,7 @@ not_at words i d inside none all =
     (all i d.now (omega (arith, inside, length-map words (λ (word : Bor (List ℕ)). word.now)))))
 
 pub all_price_texts : (prices : List ℤ) → ArePricesInRange prices → All IsPriceText (map signed_decimal prices)
-all_price_texts prices reach =
-    All-map IsPriceText signed_decimal prices
-    (All-weaker (λ price. unsigned_abs price ≤ 9999) (λ price. IsPriceText (signed_decimal price))
-    (λ price within. (price, within, refl)) prices reach)
+all_price_texts prices reach = search (rules, All-map, All-weaker, unsigned_abs)
 
 AllByRecursion-prices : (words : List (List ℕ)) → AllByRecursion IsPriceText words
     → (prices : List ℤ) × (words ≡ map signed_decimal prices)
