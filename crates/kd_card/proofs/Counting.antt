@@ -8,15 +8,16 @@ use Rattle.kd_card.proofs.Prelude.{model_of, nat_eq, not, option_map_or, place_i
 use Rattle.kd_card.proofs.Prelude.{refl, ring_at, same_reflector, same_wheel, seconds-zip, subst, suc, sum_by}
 use Rattle.kd_card.proofs.Prelude.{sum_by-append, sum_by-cons, sums_add, sym, true, zero, zip, ℕ, ◌++◌, ◌+◌, ◌∙◌, ◌∷◌}
 use Rattle.kd_card.proofs.Prelude.{◌≡◌, ◌≢◌, ◌≤◌}
-use Rattle.kd_card.specs.Loose.{lines_from, loose_lines, pin_lines, wheel_pin_line, pin_wheel_turn_line, ring_lines}
-use Rattle.kd_card.specs.Loose.{wheel_ring_line, slot_seat_line, slot_turn_line, setting_unless, wheel_pin_lines}
+use Rattle.kd_card.specs.Loose.{lines_from, loose_lines, pin_line, pin_wheel_turn_line, wheel_ring_line, slot_seat_line}
+use Rattle.kd_card.specs.Loose.{slot_turn_line, setting_unless, wheel_pin_lines}
 use Rattle.kd_card.specs.Laws.{LooseThingsAreCounted}
 use Rattle.kd_state.proofs.Wheels.{allowed_in_box, has_wheel-Decides, same_wheel-Decides, same_wheel_differs}
 use Rattle.kd_state.specs.{Machine.HasAllPins, Pins.wheel_pins, SheetDay.AreLegalSeats, SheetDay.seats_of_wheels}
 use Rattle.kd_state.specs.declared.sheet_day.rotor_entry.SheetWheel.{SheetWheel}
 use Rattle.std.specs.List.{list_any}
+use Rattle.kd_pins.specs.PinWheels.{pins_of}
 use Rattle.kd_tables.specs.{Rings.ring_of, Tables.box_of, declared.wheel.Wheel.Wheel}
-use Rattle.std.proofs.Common.{◌&&◌, false, find, flat_map, option_to_list}
+use Rattle.std.proofs.Common.{◌&&◌, false, find, flat_map}
 use Rattle.std.proofs.lemmas.{List.Folds.fold-map, List.Sums.sum_by-le, Option.slice_get-get_or, Option.slice_get-map}
 
 -- `lines` are `loose` settings for loose things and `cost` priced ones, which change a cable or a bar.
@@ -30,7 +31,7 @@ counted-append xs ys h k = grind (arith, length-append, sum_by-append)
 
 -- the setting for a thing counts as one if the thing is loose, and is left out otherwise
 counted_loose : (so : Bool) (x : Setting) → is_priced_setting x ≡ false
-    → AreCounted (option_to_list (setting_unless so x)) (cond (not so) 1 0) 0
+    → AreCounted (setting_unless so x) (cond (not so) 1 0) 0
 counted_loose so x e = grind arith
 
 -- the settings for all items of a numbered list are as many as those for each item, added up
@@ -99,7 +100,8 @@ module _ (m : RotorParts) (s : RotorDay) where
   abbrev wrong : SheetWheel → Bool
   wrong w = not (option_map_or (nat_eq w.ring) (ring_at m w.wheel) false)
 
-  counted_rings : AreCounted (ring_lines m s.wheels) (count_by (finds_wheel wrong s.wheels) (box_of m.model)) 0
+  counted_rings : AreCounted (flat_map (wheel_ring_line m s.wheels) (box_of m.model))
+      (count_by (finds_wheel wrong s.wheels) (box_of m.model)) 0
   counted_rings =
       rw (lines_of_each (wheel_ring_line m s.wheels) (box_of m.model) 1) (rw sum_none at
       (counted_each (λ n wheel. wheel_ring_line m s.wheels wheel)
@@ -123,16 +125,16 @@ module _ (m : RotorParts) (s : RotorDay) where
 -- PIN for all pins: each wheel has a pin for each of its letters, both in the machine and on the day.
 module _ (m : PinParts) (s : PinDay) (machine : HasAllPins m.pins) (legal : HasAllPins s.pins) where
   counted_wheel : (number : ℕ) → let present = wheel_pins m.pins number in let wanted = wheel_pins s.pins number in
-      AreCounted (wheel_pin_lines number (ring_of number) present wanted)
+      AreCounted (wheel_pin_lines number (present, wanted))
       (count_by (λ (pin : Bool × Bool). exactly_one pin.0 pin.1) (zip present wanted)) 0
   counted_wheel number =
       let pins = zip (wheel_pins m.pins number) (wheel_pins s.pins number) in
       let differs = λ (pin : Bool × Bool). cond {A = ℕ} (exactly_one pin.0 pin.1) 1 0 in
-      let all = rw sum_none at (counted_each (λ n cell. wheel_pin_line number cell) (λ cell. differs cell.1) (λ z. 0)
+      let all = rw sum_none at (counted_each (λ n cell. pin_line number cell) (λ cell. differs cell.1) (λ z. 0)
       (λ n cell. grind (arith, counted_loose)) (zip (ring_of number) pins) 1) in
       let size = length-zip (wheel_pins m.pins number) (wheel_pins s.pins number) in
       let each = beside_each differs (ring_of number) pins (omega (arith, size, machine number, legal number)) in
-      rw (lines_of_each (wheel_pin_line number) (zip (ring_of number) pins) 1, ← each) all
+      rw (lines_of_each (pin_line number) (zip (ring_of number) pins) 1, ← each) all
 
   pin_counted : AreCounted (loose_lines (Pin m) (OfPins s)) (loose_count (Pin m) (OfPins s)) 0
   pin_counted =
@@ -142,7 +144,8 @@ module _ (m : PinParts) (s : PinDay) (machine : HasAllPins m.pins) (legal : HasA
       (counted-append _ _ (counted_wheel 6) none))))) in
       let turns = counted_each pin_wheel_turn_line _ (λ z. 0) (λ n z. counted_loose _ _ refl)
       (zip m.letters s.window) 1 in
-      let all = simp sum_none at (counted-append (pin_lines m.pins s.pins) _ pins turns) in
+      let all = simp sum_none at (counted-append (lines_from wheel_pin_lines 1 (zip (pins_of m.pins) (pins_of s.pins)))
+      _ pins turns) in
       record { count = omega (arith, all.count); priced = all.priced }
 
 pub all_counted : (m : Parts) (s : Day) → IsMachine m → IsLegalDay s → model_of m ≡ day_model s

@@ -12,10 +12,8 @@ at_most_one b = grind arith
 pub zip_set : {X Y : Type 0} (f : X × Y → ℕ) (xs : List X) (ys : List Y) (i : ℕ) (v d : X)
     → ((y : Y) → f (get_or xs i d, y) ≤ f (v, y) + 1)
     → sum_by f (zip xs ys) ≤ sum_by f (zip (set xs i v) ys) + 1
-zip_set f (x ∷ xs) (y ∷ ys) zero v d h =
-    omega (arith, h y, sum_by-cons f (x, y) (zip xs ys), sum_by-cons f (v, y) (zip xs ys))
-zip_set f (x ∷ xs) (y ∷ ys) (suc i) v d h =
-    omega (arith, sum_by-cons f (x, y) (zip xs ys), sum_by-cons f (x, y) (zip (set xs i v) ys), zip_set f xs ys i v d h)
+zip_set f (x ∷ xs) (y ∷ ys) zero v d h = grind (arith, common_steps, sum_by-cons)
+zip_set f (x ∷ xs) (y ∷ ys) (suc i) v d h = grind (arith, common_steps, sum_by-cons, zip_set f xs ys i v d h)
 zip_set f xs ys i v d h = omega arith
 
 -- how often the letter occurs

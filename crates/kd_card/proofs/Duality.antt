@@ -1,9 +1,9 @@
 -- Prices that fit bound the cost of each assignment of rows to columns from below.
-use Rattle.kd_card.proofs.Prelude.{◌≡◌, ℕ, zero, suc, ◌<◌, List, [], ◌∷◌, ◌++◌, length, get_or, set, map, zip, fold, ℤ}
-use Rattle.kd_card.proofs.Prelude.{pos, ◌+ℤ◌, ◌≤ℤ◌, ◌∙◌, ap, IsPermutation, refl, arith, All, AllZip, ints, fold-append}
-use Rattle.kd_card.proofs.Prelude.{sum_by-cons, sum_by-IsPermutation, IsPermutation-keeps, IsPermutation-refl}
-use Rattle.kd_card.proofs.Prelude.{IsPermutation-trans, IsPermutation-swap, AllZip-long, All-head, All-tail}
-use Rattle.kd_card.proofs.Prelude.{IsPermutation-map, seconds-zip}
+use Rattle.kd_card.proofs.Prelude.{common_steps, ◌≡◌, ℕ, zero, suc, ◌<◌, List, [], ◌∷◌, ◌++◌, length, get_or, set, map}
+use Rattle.kd_card.proofs.Prelude.{zip, fold, ℤ, pos, ◌+ℤ◌, ◌≤ℤ◌, ◌∙◌, ap, IsPermutation, refl, arith, All, AllZip}
+use Rattle.kd_card.proofs.Prelude.{ints, fold-append, sum_by-cons, sum_by-IsPermutation, IsPermutation-keeps}
+use Rattle.kd_card.proofs.Prelude.{IsPermutation-refl, IsPermutation-trans, IsPermutation-swap, AllZip-long, All-head}
+use Rattle.kd_card.proofs.Prelude.{All-tail, IsPermutation-map, seconds-zip}
 use Rattle.std.specs.List as lists
 use borrow.Author.Differences.{up, down}
 
@@ -18,11 +18,7 @@ fold_from start (x ∷ xs) = let e = fold_from (start +ℤ x) xs in omega (arith
 
 pub fold_of_both : (rows columns : List ℤ)
     → fold (λ sum price. sum +ℤ price) (pos 0) (rows ++ columns) ≡ (sum_of rows +ℤ sum_of columns)
-fold_of_both rows columns =
-    let both = fold-append (λ sum price. sum +ℤ price) (pos 0) rows columns in
-    let first = fold_from (pos 0) rows in
-    let second = fold_from (fold (λ sum price. sum +ℤ price) (pos 0) rows) columns in
-    omega (arith, ints)
+fold_of_both rows columns = grind (arith, common_steps, ints, fold-append, fold_from)
 
 sum_of-parts : (xs : List ℤ) → (sum_of xs +ℤ pos (lists.sum_by down xs)) ≡ pos (lists.sum_by up xs)
 sum_of-parts [] = refl
@@ -69,10 +65,7 @@ module _ {A C : Type 0} (R : A → C → Type 0) where
       → AllZip R (lists.swap xs i j) (lists.swap zs i j)
   side_by_side-swap [] zs i j e d g = absurd (omega arith)
   side_by_side-swap (x ∷ xs) [] i j e d g = absurd g
-  side_by_side-swap (x ∷ xs) (z ∷ zs) i j e d g =
-      side_by_side-set (set (x ∷ xs) i (get_or (x ∷ xs) j x)) (set (z ∷ zs) i (get_or (z ∷ zs) j z)) j _ _
-      (side_by_side-set (x ∷ xs) (z ∷ zs) i _ _ g (side_by_side_at (x ∷ xs) (z ∷ zs) j x z g d))
-      (side_by_side_at (x ∷ xs) (z ∷ zs) i x z g e)
+  side_by_side-swap (x ∷ xs) (z ∷ zs) i j e d g = grind (arith, common_steps, side_by_side-set, side_by_side_at)
 
   -- If the first list is reordered, the second one can be reordered in the same way.
   pub reordered : (xs others : List A) (ys : List C) → IsPermutation xs others → AllZip R xs ys → Reordered ys others

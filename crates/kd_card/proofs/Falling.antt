@@ -1,13 +1,13 @@
 -- The cost of an assignment falls by at most one with each setting that changes a cable or a bar. Any other
 -- setting lowers the number of loose things by at most one.
-use Rattle.kd_card.proofs.Prelude.{count_by-cons, six_lists, ◌≡◌, ℕ, suc, ◌+◌, ◌-◌, ◌≤◌, nat_eq, min, Bool, false, inl}
-use Rattle.kd_card.proofs.Prelude.{inr, List, [], ◌∷◌, get_or, set, map, fold, count_by, Option, None, unwrap_or, ℤ}
-use Rattle.kd_card.proofs.Prelude.{sym, ◌∙◌, subst, arith, length, Place, alphabet, RotorParts, Parts, Rotor, Pin}
-use Rattle.kd_card.proofs.Prelude.{Setting, Pull, Put, LugTo, cable_letters, letters_in_cables, IsLegal, has_letter}
-use Rattle.kd_card.proofs.Prelude.{refusal_reasons, why_refused, cable_at, cable_without, cable_with, with_lug}
-use Rattle.kd_card.proofs.Prelude.{machine_after, Leads, exactly_one, one_unless, column_letters, cable_cost}
+use Rattle.kd_card.proofs.Prelude.{rules, count_by-cons, six_lists, ◌≡◌, ℕ, suc, ◌+◌, ◌-◌, ◌≤◌, nat_eq, min, Bool}
+use Rattle.kd_card.proofs.Prelude.{false, inl, inr, List, [], ◌∷◌, get_or, set, map, fold, count_by, Option, None}
+use Rattle.kd_card.proofs.Prelude.{unwrap_or, ℤ, sym, ◌∙◌, subst, arith, length, Place, alphabet, RotorParts, Parts}
+use Rattle.kd_card.proofs.Prelude.{Rotor, Pin, Setting, Pull, Put, LugTo, cable_letters, letters_in_cables, IsLegal}
+use Rattle.kd_card.proofs.Prelude.{has_letter, refusal_reasons, why_refused, cable_at, cable_without, cable_with}
+use Rattle.kd_card.proofs.Prelude.{with_lug, machine_after, Leads, exactly_one, one_unless, column_letters, cable_cost}
 use Rattle.kd_card.proofs.Prelude.{lugs_moved, bar_cost, All-set, length-set, numbered_item, common_steps, All}
-use Rattle.kd_card.proofs.Prelude.{no_reason, still_before, IsPermutation, refl, true, ◌||◌, ◌⊎◌, not-false}
+use Rattle.kd_card.proofs.Prelude.{no_reason, still_before, IsPermutation, refl, true, ◌⊎◌, not-false}
 use Rattle.kd_card.proofs.Prelude.{Contains-permutation, IsPermutation-sym, IsDistinct-IsPermutation, IsDistinct-cons}
 use Rattle.kd_card.proofs.Prelude.{IsDistinct-tail, get_or_from_slice_get, IsDistinct, eqb_flips}
 use Rattle.kd_card.proofs.Prelude.{has_letter-AllByRecursion, set_moves, with_moves, without_moves, tests_tell_letters}
@@ -47,9 +47,6 @@ abbrev pub SameBut : ℕ → List ℕ → List ℕ → Type 0
 SameBut x letters others =
     (letter : ℕ) → (has_letter letters letter ≡ has_letter others letter) ⊎ (nat_eq x letter ≡ true)
 
-in_front : (t h g : Bool) → h ≡ (t || g) → (h ≡ g) ⊎ (t ≡ true)
-in_front t h g e = grind arith
-
 one_apart : (x : ℕ) (fewer letters : List ℕ) → IsPermutation letters (x ∷ fewer) → SameBut x letters fewer
 one_apart x fewer letters order letter =
     let back = IsPermutation-sym letters (x ∷ fewer) order in
@@ -58,7 +55,7 @@ one_apart x fewer letters order letter =
       Contains-permutation (x ∷ fewer) letters l back,
     ))
     in
-    in_front (nat_eq x letter) (has_letter letters letter) (has_letter fewer letter) (same letter)
+    grind (arith, same letter)
 
 -- If the cable with number `cable` becomes `new`, its letters stay the same except perhaps `letter`, and `HasCables`
 -- still holds. This is so if the letter is pulled out or put in.
@@ -73,12 +70,7 @@ ChangesCable-letters : (m : RotorParts) (cable letter : ℕ) (new : Option ℕ �
     → (slice_get m.cables (cable - 1) ≡ Some (cable_at m cable) → IsDistinct nat_eq (letters_in_cables m.cables)
     → IsDistinct nat_eq (letters_in_cables (set m.cables (cable - 1) new))) → ChangesCable m cable letter new
 ChangesCable-letters m cable letter new some same keeps =
-    let there = (IsNumbered-not_none m.cables cable (None, None) some).here in
-    record {
-      here = get_or_from_slice_get m.cables (cable - 1) (cable_at m cable) (cable_at m cable) there;
-      same = same;
-      keeps = λ h. record { count = length-set m.cables (cable - 1) new ∙ h.count; apart = keeps there h.apart };
-    }
+    search (rules, IsNumbered-not_none, get_or_from_slice_get, length-set)
 
 pub ChangesCable-pull : (m : RotorParts) (cable letter : ℕ) → why_refused (Rotor m) (Pull cable letter) ≡ None
     → ChangesCable m cable letter (cable_without letter (cable_at m cable))
@@ -195,8 +187,7 @@ module _ {X : Type 0} (place target : X → ℕ) where
   wrong letters x = not (option_map_or (nat_eq (target x)) (slice_get letters (place x)) false)
 
   same_elsewhere : (letters : List ℕ) (p l : ℕ) (x : X) → place x ≢ p → wrong (set letters p l) x ≡ wrong letters x
-  same_elsewhere letters p l x away =
-      ap (λ seen. not (option_map_or (nat_eq (target x)) seen false)) (set_other letters p (place x) l away)
+  same_elsewhere letters p l x away = grind (arith, common_steps, nat_eq, set_other)
 
   other_places : (letters : List ℕ) (p l : ℕ) (xs : List X) → AllByRecursion (λ y. place y ≢ p) xs
       → count_by (wrong (set letters p l)) xs ≡ count_by (wrong letters) xs
@@ -234,16 +225,12 @@ wrong_slot slot = not (option_map_or (same_wheel slot.1.wheel) slot.0 false)
 abbrev pub loose_slots : List (Option Wheel) → RotorDay → ℕ
 loose_slots slots s = count_by wrong_slot (zip slots s.wheels)
 
-empty_wrong : (seated : Option Wheel) (wheel : Wheel) (wanted : SheetWheel)
-    → cond {A = ℕ} (wrong_slot (seated, wanted)) 1 0 ≤ cond {A = ℕ} (wrong_slot (seat_without wheel seated, wanted)) 1 0
-empty_wrong seated wheel wanted = grind (arith, at_most_one)
-
 without_raises : (wheel : Wheel) (slots : List (Option Wheel)) (wheels : List SheetWheel)
     → count_by wrong_slot (zip slots wheels) ≤ count_by wrong_slot (zip (map (seat_without wheel) slots) wheels)
 without_raises wheel [] wheels = omega arith
-without_raises wheel (now ∷ slots) [] = omega arith
+without_raises wheel slots [] = grind arith
 without_raises wheel (now ∷ slots) (wanted ∷ wheels) =
-    grind (arith, common_steps, count_by-cons, empty_wrong, without_raises wheel slots wheels)
+    grind (arith, common_steps, count_by-cons, at_most_one, without_raises wheel slots wheels)
 
 -- No two of the day's wheels have the same place in the box.
 abbrev pub HaveTheirPlaces : Model → List SheetWheel → Type 0
@@ -281,12 +268,7 @@ module _ (columns : List (Option (ℕ × ℕ) × ℤ)) (rows : List ((ℕ × ℕ
       (arith, cables_fall m cable letter _ columns (ChangesCable-pull m cable letter e))
   rotor_lowers (Put cable letter) e = omega
       (arith, cables_fall m cable letter _ columns (ChangesCable-put m cable letter e))
-  rotor_lowers (Seat slot wheel) e =
-      omega (
-        arith,
-        without_raises wheel m.slots s.wheels,
-        zip_set_lowers wrong_slot (map (seat_without wheel) m.slots) s.wheels (slot - 1) (Some wheel),
-      )
+  rotor_lowers (Seat slot wheel) e = grind (arith, common_steps, without_raises, zip_set_lowers)
   rotor_lowers (SeatReflector reflector) e = omega (arith, unless_same_at_most (same_reflector m.reflector s.reflector))
   rotor_lowers (RingTo wheel letter) e =
       omega (
@@ -371,8 +353,7 @@ none_wrong : (seen : SheetWheel → Option ℕ) (wanted : SheetWheel → ℕ) (w
     → count_by (λ w. not (option_map_or (nat_eq (wanted w)) (seen w) false)) wheels ≡ 0
 none_wrong seen wanted [] h = refl
 none_wrong seen wanted (w ∷ wheels) h =
-    count_by-cons (λ w. not (option_map_or (nat_eq (wanted w)) (seen w) false)) w wheels
-    ∙ rw (h.0, eq-eqb (wanted w) (wanted w) refl, none_wrong seen wanted wheels h.1) refl
+    grind (arith, common_steps, count_by-cons, eq-eqb, none_wrong seen wanted wheels h.1)
 
 rotor_not_loose : (n : RotorParts) (s : RotorDay) → ReadsAs (Rotor n) (OfRotors s)
     → loose_count (Rotor n) (OfRotors s) ≡ 0
@@ -390,20 +371,10 @@ rotor_not_loose n s h =
     omega (arith, slots, reflector, rings, letters)
 
 no_pin_wrong : (pins : List Bool) → differing_pins (pins, pins) ≡ 0
-no_pin_wrong pins =
-    self_none (λ (pin : Bool × Bool). cond (exactly_one pin.0 pin.1) 1 0)
-    (λ b. ap (λ d. cond d 1 0) (not_differing b)) pins
+no_pin_wrong pins = grind (arith, common_steps, self_none, not_differing)
 
 pin_not_loose : (n : PinParts) (s : PinDay) → ReadsAs (Pin n) (OfPins s) → loose_count (Pin n) (OfPins s) ≡ 0
-pin_not_loose n s h =
-    let pins : loose_pins n.pins s.pins ≡ 0 = ap (λ pins. loose_pins pins s.pins) h.key.0
-    ∙ sum-map differing_pins (zip (pins_of s.pins) (pins_of s.pins))
-    ∙ self_none differing_pins no_pin_wrong (pins_of s.pins) in
-    let letters : count_by (λ letter. not (nat_eq letter.0 letter.1)) (zip n.letters s.window) ≡ 0 =
-    ap (λ letters. count_by (λ (letter : ℕ × ℕ). not (nat_eq letter.0 letter.1)) (zip letters s.window)) h.window
-    ∙ self_none (λ (letter : ℕ × ℕ). cond (not (nat_eq letter.0 letter.1)) 1 0)
-    (λ l. ap (λ b. cond (not b) 1 0) (eq-eqb l l refl)) s.window in
-    omega (arith, pins, letters)
+pin_not_loose n s h = grind (arith, common_steps, sum-map, self_none, no_pin_wrong, nat_eq, eq-eqb)
 
 pub nothing_loose : (n : Parts) (s : Day) → ReadsAs n s → loose_count n s ≡ 0
 nothing_loose n s e = grind (arith, rotor_not_loose, pin_not_loose)

@@ -1,23 +1,20 @@
 -- The prices of kinds: one for each thing, and kinds that are read one after another.
-use Rattle.kd_card.proofs.Prelude.{◌≡◌, ◌↔◌, ℕ, ◌+◌, ◌≤◌, ◌<◌, List, [], ◌∷◌, ◌++◌, length, map, replicate, refl}
-use Rattle.kd_card.proofs.Prelude.{sym, ap, ◌∙◌, length-append, arith, unsigned_abs, Option, Some, None, min, zero, suc}
-use Rattle.kd_card.proofs.Prelude.{length-replicate, All-append, All-nil, All-replicate, CableKinds, ℤ}
-use Rattle.kd_card.proofs.Prelude.{BarKinds, Sort, cable_sort, pair_sort, bar_sort, row_sort, counted}
-use Rattle.kd_card.proofs.Prelude.{prices_of_kinds, AreKinds, IsKind, kind_words, kinds_text, ArePricesInRange}
-use Rattle.kd_card.proofs.Prelude.{ArePrices, flat_map-append, flat_map-map, line_of, Group, price_count, lines_text}
-use Rattle.kd_card.proofs.Prelude.{IsGroup, line_then, common_steps, take, get_or, subst}
-use Rattle.kd_card.proofs.Prelude.{append_assoc, All, All-cons, IsNextKind, BeginsWithKinds, append-nil, HasNoNext}
-use Rattle.kd_card.proofs.Prelude.{BarKind, CableKind, PairKind, RowKind}
+use Rattle.kd_card.proofs.Prelude.{rules, ◌≡◌, ◌↔◌, ℕ, ◌+◌, ◌≤◌, ◌<◌, List, [], ◌∷◌, ◌++◌, length, map, refl, sym, ap}
+use Rattle.kd_card.proofs.Prelude.{◌∙◌, length-append, arith, unsigned_abs, Option, Some, None, min, zero, suc}
+use Rattle.kd_card.proofs.Prelude.{length-replicate, All-append, All-nil, All-replicate, CableKinds, ℤ, BarKinds, Sort}
+use Rattle.kd_card.proofs.Prelude.{cable_sort, pair_sort, bar_sort, row_sort, counted, prices_of_kinds, AreKinds}
+use Rattle.kd_card.proofs.Prelude.{IsKind, kind_words, kinds_text, ArePricesInRange, ArePrices, flat_map-append}
+use Rattle.kd_card.proofs.Prelude.{flat_map-map, line_of, Group, price_count, lines_text, IsGroup, line_then}
+use Rattle.kd_card.proofs.Prelude.{common_steps, take, get_or, subst, append_assoc, All, All-cons, IsNextKind}
+use Rattle.kd_card.proofs.Prelude.{BeginsWithKinds, append-nil, HasNoNext, BarKind, CableKind, PairKind, RowKind}
+use Rattle.kd_card.proofs.Prelude.{PriceParts, row_prices, column_prices, table_rows}
+use Rattle.kd_card.specs.{Prices.HaveKindsInOrder, Reading.AreFewKinds}
 use Rattle.kd_card.proofs.Lines.{line_and_more, is_line}
 
 module _ {K X : Type 0} (sort : Sort K X) where
   pub length_of_kinds : (kinds : List K) → length (prices_of_kinds sort kinds) ≡ counted sort kinds
   length_of_kinds [] = refl
-  length_of_kinds (kind ∷ kinds) =
-      let rest = length_of_kinds kinds in
-      let k = sort.kind kind in
-      let here = length-replicate k.count k.price in
-      omega (arith, length-append (replicate k.count k.price) (prices_of_kinds sort kinds))
+  length_of_kinds (kind ∷ kinds) = grind (arith, common_steps, length-replicate, length-append, length_of_kinds kinds)
 
   pub reach_of_kinds : (last : Option K) (kinds : List K) → AreKinds sort last kinds
       → ArePricesInRange (prices_of_kinds sort kinds)
@@ -48,11 +45,9 @@ module _ {K X : Type 0} (sort : Sort K X) where
   counted_within (first ∷ kinds) zero inside is = let same = ap (λ (k : K). (sort.kind k).count) is in omega arith
   counted_within (first ∷ kinds) (suc i) inside is = omega (arith, counted_within kinds i (omega arith) is)
 
-pub group_fits : {K X : Type 0} {sort : Sort K X} {number : ℕ} {kinds : List K} → IsGroup sort number kinds
-    → All (IsKind sort) kinds × (length kinds ≤ number)
-group_fits {sort} {kinds} group =
-    let count = group.count in
-    (all_kinds sort None kinds group.in_order, omega (arith, few_kinds sort None kinds group.in_order))
+few_of_group : {K X : Type 0} (sort : Sort K X) (number : ℕ) (kinds : List K) → number ≤ 27
+    → IsGroup sort number kinds → AreFewKinds sort kinds
+few_of_group sort number kinds few group = search (rules, few_kinds, all_kinds)
 
 -- ---- valid prices by kind
 
@@ -63,48 +58,46 @@ pub record AreValued (number : ℕ) (prices : List ℤ) : Type 0 where
 
 pub valued : {K X : Type 0} (sort : Sort K X) (number : ℕ) (kinds : List K) → IsGroup sort number kinds
     → AreValued number (prices_of_kinds sort kinds)
-valued sort number kinds group = record {
-  count = length_of_kinds sort kinds ∙ group.count;
-  reach = reach_of_kinds sort None kinds group.in_order;
-}
+valued sort number kinds group = grind (arith, length_of_kinds, reach_of_kinds)
 
 grouped : {K X : Type 0} (sort : Sort K X) (number : ℕ) (kinds : List K) → AreKinds sort None kinds
     → length (prices_of_kinds sort kinds) ≡ number → IsGroup sort number kinds
 grouped sort number kinds are count = record { in_order = are; count = sym (length_of_kinds sort kinds) ∙ count }
 
+-- Prices by kind are valid exactly if both groups of kinds are.
+both_valued : {R X C Y : Type 0} (rows : Sort R X) (columns : Sort C Y) (number : ℕ) (xs : List R) (ys : List C)
+    (prices : PriceParts) → row_prices prices ≡ prices_of_kinds rows xs
+    → column_prices prices ≡ prices_of_kinds columns ys → table_rows prices ≡ number
+    → HaveKindsInOrder prices ↔ (AreKinds rows None xs × AreKinds columns None ys)
+    → ArePrices prices ↔ (IsGroup rows number xs × IsGroup columns number ys)
+both_valued rows columns number xs ys prices e d n k = grind (arith, grouped, valued)
+
 pub cables_are_prices : (rows : List CableKind) (columns : List PairKind)
     → ArePrices (CableKinds (record { items = rows }) (record { items = columns }))
     ↔ (IsGroup cable_sort 13 rows × IsGroup pair_sort 13 columns)
-cables_are_prices rows columns = (
-  λ are. (grouped cable_sort 13 rows are.kinds.0 are.rows, grouped pair_sort 13 columns are.kinds.1 are.columns),
-  λ (row, column).
-      let rows_valued = valued cable_sort 13 rows row in
-      let columns_valued = valued pair_sort 13 columns column in
-      record {
-        rows = rows_valued.count;
-        columns = columns_valued.count;
-        row_reach = rows_valued.reach;
-        column_reach = columns_valued.reach;
-        kinds = (row.in_order, column.in_order);
-      },
-)
+cables_are_prices rows columns =
+    both_valued cable_sort pair_sort 13 rows columns _ refl refl refl (λ are. are, λ are. are)
 
 pub bars_are_prices : (rows : List BarKind) (columns : List RowKind)
     → ArePrices (BarKinds (record { items = rows }) (record { items = columns }))
     ↔ (IsGroup bar_sort 27 rows × IsGroup row_sort 27 columns)
-bars_are_prices rows columns = (
-  λ are. (grouped bar_sort 27 rows are.kinds.0 are.rows, grouped row_sort 27 columns are.kinds.1 are.columns),
-  λ (row, column).
-      let rows_valued = valued bar_sort 27 rows row in
-      let columns_valued = valued row_sort 27 columns column in
-      record {
-        rows = rows_valued.count;
-        columns = columns_valued.count;
-        row_reach = rows_valued.reach;
-        column_reach = columns_valued.reach;
-        kinds = (row.in_order, column.in_order);
-      },
-)
+bars_are_prices rows columns =
+    both_valued bar_sort row_sort 27 rows columns _ refl refl refl (λ are. are, λ are. are)
+
+-- Valid prices by kind have at most 27 kinds of rows, and at most 27 kinds of columns.
+pub few_cables : (rows : List CableKind) (columns : List PairKind)
+    → ArePrices (CableKinds (record { items = rows }) (record { items = columns }))
+    → AreFewKinds cable_sort rows × AreFewKinds pair_sort columns
+few_cables rows columns are =
+    let groups = (cables_are_prices rows columns).0 are in
+    (few_of_group cable_sort 13 rows (omega arith) groups.0, few_of_group pair_sort 13 columns (omega arith) groups.1)
+
+pub few_bars : (rows : List BarKind) (columns : List RowKind)
+    → ArePrices (BarKinds (record { items = rows }) (record { items = columns }))
+    → AreFewKinds bar_sort rows × AreFewKinds row_sort columns
+few_bars rows columns are =
+    let groups = (bars_are_prices rows columns).0 are in
+    (few_of_group bar_sort 27 rows (omega arith) groups.0, few_of_group row_sort 27 columns (omega arith) groups.1)
 
 pub some_and_few : (group : Group) → (0 < price_count group) × (price_count group ≤ 27)
 some_and_few group = grind arith
@@ -112,6 +105,12 @@ some_and_few group = grind arith
 pub text_of_two : {R X C Y : Type 0} (rows : Sort R X) (columns : Sort C Y) (xs : List R) (ys : List C)
     → lines_text (map (kind_words rows) xs ++ map (kind_words columns) ys) ≡ kinds_text rows xs ++ kinds_text columns ys
 text_of_two rows columns xs ys = grind (arith, flat_map-append, flat_map-map)
+
+pub groups_joined : {R X C Y : Type 0} (rows : Sort R X) (columns : Sort C Y) (front : List ℕ) (xs : List R)
+    (ys : List C)
+    → (front ++ kinds_text rows xs) ++ kinds_text columns ys
+    ≡ front ++ lines_text (map (kind_words rows) xs ++ map (kind_words columns) ys)
+groups_joined rows columns front xs ys = rw text_of_two (append_assoc front (kinds_text rows xs) _)
 
 -- ---- kinds that are read
 
@@ -143,15 +142,7 @@ pub record HasRead {K X : Type 0} (sort : Sort K X) (room line : ℕ) (text rest
 
 pub reads_none : {K X : Type 0} (sort : Sort K X) (room line : ℕ) (text : List ℕ) (kept : List K) → kept ≡ []
     → HasRead sort room line text text None 0 line kept
-reads_none sort room line text kept none = record {
-  read = [];
-  goes_on = λ more end begins. begins;
-  some = omega arith;
-  number_is = omega arith;
-  at_is = omega arith;
-  shorter = omega arith;
-  keeps = λ within. none;
-}
+reads_none sort room line text kept none = grind arith
 
 pub reads_on : {K X : Type 0} {sort : Sort K X} {room line : ℕ} {text rest after : List ℕ} {last : Option K}
     {number at new : ℕ} {kept more : List K} {kind : K}

@@ -1,13 +1,14 @@
 -- The words of a kind's line determine what its things have in common, their number and their price.
-use Rattle.kd_card.proofs.Prelude.{same_place, codes, ◌≡◌, ◌≢◌, ℕ, ◌<◌, List, [], ◌∷◌, ◌++◌, get_or, drop, subst, refl}
-use Rattle.kd_card.proofs.Prelude.{ℤ, Option, Some, None, sym, ap, ◌∙◌, append_assoc, length-append, arith, decimal}
-use Rattle.kd_card.proofs.Prelude.{All, decimal_injective, signed_decimal_injective, All-append, All-weaker}
+use Rattle.kd_card.proofs.Prelude.{common_steps, ◌≡◌, ◌≢◌, ℕ, ◌<◌, List, [], ◌∷◌, ◌++◌, get_or, drop, subst, refl, ℤ}
+use Rattle.kd_card.proofs.Prelude.{Option, Some, None, sym, ap, ◌∙◌, append_assoc, length-append, arith, decimal, All}
+use Rattle.kd_card.proofs.Prelude.{decimal_injective, signed_decimal_injective, All-append, All-weaker}
 use Rattle.kd_card.proofs.Prelude.{All-from_recursion, Place, place_text, standing_text, IsWord, IsWithout, Sort}
 use Rattle.kd_card.proofs.Prelude.{KindOf, cable_sort, pair_sort, bar_sort, row_sort, kind_words, AreEnds, IsKind}
-use Rattle.kd_card.proofs.Prelude.{ComesAfter, kinds_text, HasKindWords, HasText, IsOnlyThing, signed_decimal}
-use Rattle.kd_card.proofs.Prelude.{append-nil, HasLineWords, BeginsWithWord, EndsGroup, AtNothing, AtOther, IsNextKind}
-use Rattle.kd_card.proofs.Prelude.{HasNoNext, numbers_are_words, texts_tell_first_parts, word_by_bytes, word_by_test}
-use Rattle.kd_card.proofs.Prelude.{EndsKindsAt, IsBadKindAt, IsKindOfWords, letters_text, cable_letters, column_letters}
+use Rattle.kd_card.proofs.Prelude.{ComesAfter, ThingComesBefore, kinds_text, HasKindWords, HasText, IsOnlyThing}
+use Rattle.kd_card.proofs.Prelude.{signed_decimal, append-nil, HasLineWords, BeginsWithWord, EndsGroup, AtNothing}
+use Rattle.kd_card.proofs.Prelude.{AtOther, IsNextKind, HasNoNext, numbers_are_words, texts_tell_first_parts}
+use Rattle.kd_card.proofs.Prelude.{word_by_bytes, word_by_test, EndsKindsAt, IsBadKindAt, IsKindOfWords, letters_text}
+use Rattle.kd_card.proofs.Prelude.{cable_letters, column_letters}
 use Rattle.kd_tables.specs.Places.{reading_text}
 use Rattle.kd_card.proofs.Lines.{bytes_above, same_words, some_bytes, bytes_are_word, signed_word, mag-small}
 
@@ -17,16 +18,10 @@ place_above : (p : Place) → All (λ b. 45 < b) (place_text p)
 place_above p = bytes_above 45 (place_text p) (grind arith)
 
 place_without : (p : Place) → IsWithout 45 (place_text p)
-place_without p =
-    All-weaker (λ b. 45 < b) (λ b. b ≢ 45) (λ b above same. omega (arith, above, same)) (place_text p) (place_above p)
+place_without p = grind (arith, All-weaker, place_above p)
 
 standing_above : (left right : Place) → All (λ b. 32 < b) (standing_text (left, right))
-standing_above left right =
-    let near : (p : Place) → All (λ b. 32 < b) (place_text p) =
-    λ p. All-weaker (λ b. 45 < b) (λ b. 32 < b) (λ b above. omega (arith, above)) (place_text p) (place_above p) in
-    All-append (λ b. 32 < b) (place_text left ++ codes "-") (place_text right)
-    (All-append (λ b. 32 < b) (place_text left) (codes "-") (near left)
-    (All-from_recursion (λ b. 32 < b) (codes "-") (omega arith, tt))) (near right)
+standing_above left right = grind (arith, All-append, All-weaker, place_above, All-from_recursion)
 
 same_ends : (a b c d : Option ℕ) → AreEnds a b → AreEnds c d
     → letters_text (cable_letters (a, b)) ≡ letters_text (cable_letters (c, d))
@@ -38,31 +33,19 @@ same_pair a b e = grind arith
 
 same_standing : (a b c d : Place) → standing_text (a, b) ≡ standing_text (c, d)
     → ◌≡◌ {A = Place × Place} (a, b) (c, d)
-same_standing a b c d e =
-    let parts = texts_tell_first_parts 45 (place_text a) (place_text c) _ _ (place_without a) (place_without c)
-    (sym (append_assoc (place_text a) (codes "-") (place_text b)) ∙ e
-    ∙ append_assoc (place_text c) (codes "-") (place_text d)) in
-    let left = same_place a c parts.0 in
-    let right = same_place b d parts.1 in
-    cc
+same_standing a b c d e = grind (arith, common_steps, texts_tell_first_parts, place_without, append_assoc)
 
 same_reading : (x y : ℕ × ℕ) → reading_text x ≡ reading_text y → x ≡ y
 same_reading (a, b) (c, d) e = grind arith
 
 pub one_cable : (text : List ℕ) (x : Option ℕ × Option ℕ) → HasText cable_sort text x → IsOnlyThing cable_sort text x
-one_cable text (a, b) has = record {
-  has = has;
-  only = λ (c, d) other. same_ends c d a b other.form has.form (other.written ∙ sym has.written);
-}
+one_cable text (a, b) has = grind (arith, common_steps, same_ends)
 
 pub one_pair : (text : List ℕ) (x : Option (ℕ × ℕ)) → HasText pair_sort text x → IsOnlyThing pair_sort text x
 one_pair text x has = record { has = has; only = λ y other. same_pair y x (other.written ∙ sym has.written) }
 
 pub one_standing : (text : List ℕ) (x : Place × Place) → HasText bar_sort text x → IsOnlyThing bar_sort text x
-one_standing text (a, b) has = record {
-  has = has;
-  only = λ (c, d) other. same_standing c d a b (other.written ∙ sym has.written);
-}
+one_standing text (a, b) has = grind (arith, common_steps, same_standing)
 
 pub one_reading : (text : List ℕ) (x : ℕ × ℕ) → HasText row_sort text x → IsOnlyThing row_sort text x
 one_reading text x has = record { has = has; only = λ y other. same_reading y x (other.written ∙ sym has.written) }
@@ -76,45 +59,22 @@ pub record IsSort {K X : Type 0} (sort : Sort K X) : Type 0 where
   pub same : (k l : K) → sort.kind k ≡ sort.kind l → k ≡ l
 
 pub cables_are : IsSort cable_sort
-cables_are = record {
-  word = grind (arith, word_by_test);
-  text = λ (a, b). grind (arith, bytes_are_word, word_by_bytes);
-  only = one_cable;
-  same = λ k l e. grind arith;
-}
+cables_are = grind (arith, common_steps, word_by_test, bytes_are_word, word_by_bytes, one_cable)
 
 pub pairs_are : IsSort pair_sort
-pairs_are = record {
-  word = grind (arith, word_by_test);
-  text = λ pair. grind (arith, bytes_are_word, word_by_bytes);
-  only = one_pair;
-  same = λ k l e. grind arith;
-}
+pairs_are = grind (arith, common_steps, word_by_test, bytes_are_word, word_by_bytes, one_pair)
 
 pub bars_are : IsSort bar_sort
-bars_are = record {
-  word = grind (arith, word_by_test);
-  text = λ (a, b). grind (arith, word_by_bytes, length-append, standing_above);
-  only = one_standing;
-  same = λ k l e. grind arith;
-}
+bars_are = grind (arith, common_steps, word_by_test, word_by_bytes, length-append, standing_above, one_standing)
 
 pub rows_are : IsSort row_sort
-rows_are = record {
-  word = grind (arith, word_by_test);
-  text = λ (a, b). grind (arith, bytes_are_word, word_by_bytes);
-  only = one_reading;
-  same = λ k l e. grind arith;
-}
+rows_are = grind (arith, common_steps, word_by_test, bytes_are_word, word_by_bytes, one_reading)
 
 -- ---- the words of a line
 
 module _ {K X : Type 0} {sort : Sort K X} (is : IsSort sort) where
   pub kind_is_words : (kind : K) → IsKind sort kind → All IsWord (kind_words sort kind)
-  kind_is_words kind good =
-      let word = is.word in
-      let text = is.text (sort.kind kind).thing in
-      grind (arith, All-from_recursion, numbers_are_words, signed_word)
+  kind_is_words kind good = grind (arith, common_steps, All-from_recursion, numbers_are_words, signed_word)
 
   pub same_kind : (kind other : K) → IsKind sort kind → IsKind sort other
       → kind_words sort kind ≡ kind_words sort other
@@ -144,7 +104,7 @@ one_word a b = ap (λ words. get_or words 0 []) (same_words a.has b.has).0
 same_after : {K X : Type 0} (sort : Sort K X) (last : Option K) (kind other : K)
     → (sort.kind other).thing ≡ (sort.kind kind).thing → ComesAfter sort last other → ComesAfter sort last kind
 same_after sort None kind other same after = tt
-same_after sort (Some before) kind other same after = subst (sort.ComesBefore (sort.kind before).thing) same after
+same_after sort (Some before) kind other same after = subst (ThingComesBefore sort (sort.kind before).thing) same after
 
 module _ {K X : Type 0} {sort : Sort K X} where
   -- The line of a kind begins with the word of its sort.
@@ -194,13 +154,7 @@ module _ {K X : Type 0} {sort : Sort K X} where
 
 pub no_count : {K X : Type 0} (sort : Sort K X) (thing count price : List ℕ) → decimal 0 ≡ count
     → (kind : K) → ¬ (HasKindWords sort (sort.word ∷ thing ∷ count ∷ price ∷ []) kind)
-no_count sort thing count price zero kind has =
-    let some = has.good.some in
-    let most = has.good.most in
-    let is : (sort.kind kind).count ≡ 0 =
-    decimal_injective (sort.kind kind).count 0 (omega arith) (omega arith)
-    (ap (λ w. get_or w 2 []) has.written ∙ sym zero) in
-    omega arith
+no_count sort thing count price zero kind has = grind (arith, common_steps, decimal_injective)
 
 -- ---- writing a line
 

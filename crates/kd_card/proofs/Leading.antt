@@ -5,25 +5,25 @@ use Rattle.kd_card.proofs.Prelude.{Setting, Some, [], ap, append-nil, append_ass
 use Rattle.kd_card.proofs.Prelude.{cond, days_wheels_have_their_places, eqb-true, false, fold, get_or, get_or-map}
 use Rattle.kd_card.proofs.Prelude.{get_or_at, get_or_from_slice_get, has_letter, is_some, length, length-append}
 use Rattle.kd_card.proofs.Prelude.{length-map, length-set, length-zip, map, option_map_or, place_in_box}
-use Rattle.kd_card.proofs.Prelude.{recursion_from_All, refl, reflectors_of, ring_at, same_wheel, seconds-zip, set}
-use Rattle.kd_card.proofs.Prelude.{set_other, slice_get, subst, suc, sym, true, unwrap_or, why_refused, seat_without}
-use Rattle.kd_card.proofs.Prelude.{zero, zip, ℕ, ◌++◌, ◌+◌, ◌<◌, ◌∙◌, ◌∷◌, ◌≡◌, ◌≢◌}
-use Rattle.kd_card.specs.Loose.{lines_from, loose_lines, pin_lines, wheel_pin_line, pin_turn_lines, pin_wheel_turn_line}
-use Rattle.kd_card.specs.Loose.{reflector_lines, ring_lines, wheel_ring_line, seat_lines, slot_seat_line, turn_lines}
+use Rattle.kd_card.proofs.Prelude.{recursion_from_All, refl, reflectors_of, ring_at, same_reflector, same_wheel}
+use Rattle.kd_card.proofs.Prelude.{seconds-zip, set, flat_map, SeatReflector, set_other, slice_get, subst, suc, sym}
+use Rattle.kd_card.proofs.Prelude.{true, unwrap_or, why_refused, seat_without, zero, zip, ℕ, ◌++◌, ◌+◌, ◌<◌, ◌∙◌, ◌∷◌}
+use Rattle.kd_card.proofs.Prelude.{◌≡◌, ◌≢◌}
+use Rattle.kd_card.specs.Loose.{lines_from, loose_lines, pin_line, pin_wheel_turn_line, wheel_ring_line, slot_seat_line}
 use Rattle.kd_card.specs.Loose.{slot_turn_line}
 use Rattle.kd_state.proofs.Wheels.{has_reflector-Decides, has_wheel-Decides, place_within, same_reflector-Decides}
+use Rattle.kd_state.proofs.Wheels.{same_wheel-Decides, same_wheel_differs, same_wheel_self}
 use Rattle.kd_card.{proofs.Counting.{in_box, lines_of_each}, specs.Loose.{setting_unless, wheel_pin_lines}}
 use Rattle.kd_pins.specs.{PinWheels.pins_of, declared.pin_set.PinSet.PinSet}
 use Rattle.{kd_state.proofs.Slots.{has_letter-Decides, is_some-place_on, set_here}, kd_tables.specs.Rings.place_on}
 use Rattle.{kd_state.proofs.Telling.{Refusing.leads_join, letters_have_places}, std.specs.List.range_with_len}
-use Rattle.kd_state.proofs.Wheels.{same_wheel-Decides, same_wheel_differs, same_wheel_self}
 use Rattle.kd_state.specs.Machine.{AreOnWheels, HasAllPins, IsSeatedAt}
 use Rattle.kd_state.specs.{Pins.{pin_set, with_pin}}
 use Rattle.kd_state.specs.{SheetDay.{AreLegalSeats, IsLegalPinDay, IsLegalRotorDay, seats_of_wheels}}
 use Rattle.kd_state.specs.declared.sheet_day.rotor_entry.SheetWheel.{SheetWheel}
 use Rattle.std.specs.List.{list_any}
 use Rattle.kd_tables.specs.{Tables.{IsAllowed, box_of}, declared.{reflector.Reflector.Reflector, wheel.Wheel.Wheel}}
-use Rattle.std.proofs.{Common.{find, option_to_list}, lemmas.{Bool.cond_both, Simd.map-map}}
+use Rattle.std.proofs.{Common.{find}, lemmas.{Bool.cond_both, Simd.map-map}}
 use Rattle.std.proofs.lemmas.List.{Quantifiers.all_pairs_remove, Recursion.found_at, map-append, set-get_or, set_at}
 use Rattle.std.proofs.lemmas.List.{FromFn.{fill_by_all, get_or-range_with_len, length-range_with_len}, Sums.fold_push}
 use Rattle.std.proofs.lemmas.{Option.{slice_get-get_or, slice_get-map, slice_get_within}, Slice.Zip.firsts-zip}
@@ -74,7 +74,7 @@ led_append xs ys first second = record { leads = leads_join _ _ _ xs ys first.le
 -- The setting for a thing leads from `m` to `n`; it is left out if the thing is right already (`so`).
 pub led_unless : (so : Bool) (m n : Parts) (x : Setting) → (so ≡ true → n ≡ m) → (so ≡ false → machine_after m x ≡ n)
     → (so ≡ false → why_refused m x ≡ None)
-    → Led m (option_to_list (setting_unless so x)) n
+    → Led m (setting_unless so x) n
 led_unless true m n x same made allowed = led_none (same refl)
 led_unless false m n x same made allowed = led_cons (allowed refl) (made refl) (led_none refl)
 
@@ -91,8 +91,7 @@ module _ {Z : Type 0} (state : List Z → List Z → Parts) (lines : ℕ → Z �
   led_from front (z ∷ zs) number e each =
       let rest = led_from (front ++ z ∷ []) zs (number + 1) (omega (arith, length-append front (z ∷ [])))
       (λ fs bs v d. each fs bs v (sym (append_assoc front (z ∷ []) zs) ∙ d)) in
-      led_append (lines number z) (lines_from lines (number + 1) zs) (rw e (each front zs z refl))
-      (rw append_assoc at rest)
+      grind (arith, append_assoc, led_append)
 
   pub things_led : (zs : List Z) → ((front back : List Z) (z : Z) → zs ≡ front ++ z ∷ back → LeadsOn front z back)
       → Led (state [] zs) (lines_from lines 1 zs) (state zs [])
@@ -187,7 +186,7 @@ module _ (m : RotorParts) where
 
   -- REFLECTOR leads to a machine with the day's reflector.
   reflector_led : (slots : List (Option Wheel)) (reflector : Reflector) → Contains (reflectors_of m.model) reflector
-      → Led (with_slots slots) (reflector_lines m.reflector reflector)
+      → Led (with_slots slots) (setting_unless (same_reflector m.reflector reflector) (SeatReflector reflector))
       (Rotor (record m { slots = slots; reflector = reflector }))
   reflector_led slots reflector h = grind (arith, has_reflector-Decides, led_unless, same_reflector-Decides)
 
@@ -211,7 +210,8 @@ module _ (m : RotorParts) (s : RotorDay) (machine : IsMachine (Rotor m)) (legal 
   places_differ : AllPairs (λ (w v : SheetWheel). place w ≢ place v) s.wheels
   places_differ = days_wheels_have_their_places m.model s.wheels are_seated
 
-  seats_lead : Led (Rotor m) (seat_lines m s.wheels) (with_slots m (seats_of_wheels s.wheels))
+  seats_lead : Led (Rotor m) (lines_from slot_seat_line 1 (zip m.slots s.wheels))
+      (with_slots m (seats_of_wheels s.wheels))
   seats_lead =
       seats_led m [] m.slots s.wheels 1 refl (grind (arith, length-map))
       (λ k n wheel e at. rw e (are_seated.allowed k wheel at))
@@ -261,7 +261,8 @@ module _ (m : RotorParts) (s : RotorDay) (machine : IsMachine (Rotor m)) (legal 
       (has_wheel-Decides (box_of m.model) w.wheel).1 (rw (← same) (length front, lt, is)) in
       rw (e, same, placed, at) (grind (arith, led_unless, set_at, eqb-true, has, placed))
 
-  rings_lead : Led (with_rings m.rings) (ring_lines m s.wheels) (with_rings (map ring_then (box_of m.model)))
+  rings_lead : Led (with_rings m.rings) (flat_map (wheel_ring_line m s.wheels) (box_of m.model))
+      (with_rings (map ring_then (box_of m.model)))
   rings_lead =
       rw (lines_of_each (wheel_ring_line m s.wheels) (box_of m.model) 1)
       (cells_led with_rings ring_now ring_then (λ n wheel. wheel_ring_line m s.wheels wheel)
@@ -301,7 +302,7 @@ module _ (m : RotorParts) (s : RotorDay) (machine : IsMachine (Rotor m)) (legal 
   abbrev pub turned_all : RotorParts
   turned_all = turned (fold turn m.letters s.wheels)
 
-  turns_lead : Led (Rotor (turned m.letters)) (turn_lines m s.wheels) (Rotor turned_all)
+  turns_lead : Led (Rotor (turned m.letters)) (lines_from (slot_turn_line m) 1 s.wheels) (Rotor turned_all)
   turns_lead =
       things_led (λ front back. Rotor (turned (fold turn m.letters front))) (slot_turn_line m) s.wheels
       (λ front back w e.
@@ -311,10 +312,7 @@ module _ (m : RotorParts) (s : RotorDay) (machine : IsMachine (Rotor m)) (legal 
       rw fold_push (grind (arith, led_unless, here, left, set_same, eqb-true)))
 
   pub rotors_led : Led (Rotor m) (loose_lines (Rotor m) (OfRotors s)) (Rotor turned_all)
-  rotors_led =
-      let reflector = reflector_led m (seats_of_wheels s.wheels) s.reflector
-      (subst (λ model. Contains (reflectors_of model) s.reflector) (sym same) legal.reflector) in
-      led_append _ _ (led_append _ _ (led_append _ _ seats_lead reflector) rings_lead) turns_lead
+  rotors_led = grind (arith, common_steps, reflector_led, led_append, seats_lead, rings_lead, turns_lead)
 
   -- After all these settings, each of the day's wheels has the day's ring and the day's letter.
   pub shown : (k : ℕ) (d : SheetWheel) → k < length s.wheels → let w = get_or s.wheels k d in
@@ -378,14 +376,14 @@ module _ (m : PinParts) where
         (ap pin_set (set_at front pins back (done ++ effective ∷ rest) _ (omega arith)))
 
     one_pin : (done rest : List Bool) (w : Cell) → place_on (ring_of number) w.0 ≡ Some (length done)
-        → Led (with_wheel (done ++ w.1.0 ∷ rest)) (wheel_pin_line number w) (with_wheel (done ++ w.1.1 ∷ rest))
+        → Led (with_wheel (done ++ w.1.0 ∷ rest)) (pin_line number w) (with_wheel (done ++ w.1.1 ∷ rest))
     one_pin done rest w placed =
         let has : has_letter (ring_of number) w.0 ≡ true =
         sym (is_some-place_on (ring_of number) w.0) ∙ ap is_some placed in
         grind (arith, led_unless, pin_made done rest w.1.0 w.1.1 w.0 placed)
 
     wheel_led : (now day : List Bool) → length now ≡ length (ring_of number) → length day ≡ length (ring_of number)
-        → Led (with_wheel now) (wheel_pin_lines number (ring_of number) now day) (with_wheel day)
+        → Led (with_wheel now) (wheel_pin_lines number (now, day)) (with_wheel day)
     wheel_led now day e d =
         let ring = ring_of number in
         let cells = zip ring (zip now day) in
@@ -394,18 +392,18 @@ module _ (m : PinParts) where
         second_map (λ (pin : Bool × Bool). pin.0) ring (zip now day) size ∙ firsts-zip now day (d ∙ sym e) in
         let after =
         second_map (λ (pin : Bool × Bool). pin.1) ring (zip now day) size ∙ seconds-zip now day (d ∙ sym e) in
-        rw (lines_of_each (wheel_pin_line number) cells 1)
-        (cells_led with_wheel (λ (w : Cell). w.1.0) (λ w. w.1.1) (λ n w. wheel_pin_line number w) cells before after
+        rw (lines_of_each (pin_line number) cells 1)
+        (cells_led with_wheel (λ (w : Cell). w.1.0) (λ w. w.1.1) (λ n w. pin_line number w) cells before after
         (λ fs bs w is.
         let at = rw (firsts-zip ring (zip now day) size) at (seam_map (λ (w : Cell). w.0) cells fs bs w is) in
         one_pin _ _ w (rw length-map (has_place number (length fs) w.0 at))))
 
   pins_lead : (day : PinSet) → HasAllPins m.pins → HasAllPins day
-      → Led (Pin m) (pin_lines m.pins day) (Pin (record m { pins = day }))
+      → Led (Pin m) (lines_from wheel_pin_lines 1 (zip (pins_of m.pins) (pins_of day))) (Pin (record m { pins = day }))
   pins_lead day has due =
       let wheels = zip (pins_of m.pins) (pins_of day) in
       cells_led with_pins (λ (z : TwoPins). z.0) (λ z. z.1)
-      (λ n z. wheel_pin_lines n (ring_of n) z.0 z.1) wheels refl refl (λ fs bs z e.
+      wheel_pin_lines wheels refl refl (λ fs bs z e.
       let now = ap (λ found. unwrap_or found []) (seam_map (λ (z : TwoPins). z.0) wheels fs bs z e) in
       let wanted = ap (λ found. unwrap_or found []) (seam_map (λ (z : TwoPins). z.1) wheels fs bs z e) in
       let six : length fs + length bs ≡ 5 = omega (arith, ap length e, length-append fs (z ∷ bs)) in
@@ -422,7 +420,7 @@ module _ (m : PinParts) where
   turn_led front back z on = grind (arith, eqb-true, has_letter-Decides, led_unless, seam_get, set_at)
 
   pin_turns_lead : (window : List ℕ) → length m.letters ≡ 6 → AreOnWheels window
-      → Led (with_shown m.letters) (pin_turn_lines m.letters window) (with_shown window)
+      → Led (with_shown m.letters) (lines_from pin_wheel_turn_line 1 (zip m.letters window)) (with_shown window)
   pin_turns_lead window size on =
       let zs = zip m.letters window in
       let due = seconds-zip m.letters window (on.count ∙ sym size) in

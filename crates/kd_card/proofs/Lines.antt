@@ -1,30 +1,39 @@
 -- Lines of words as they are written and split, texts of prices, and what the lines of a card have.
-use Rattle.kd_card.proofs.Prelude.{IsNumeralModel-digits, ◌≡◌, ◌≢◌, ℕ, ◌<◌, true, false, eqb, ltb, List, [], ◌∷◌, ◌++◌}
-use Rattle.kd_card.proofs.Prelude.{length, refl, sym, ap, ◌∙◌, append_assoc, length-append, append_cancel_left, arith}
-use Rattle.kd_card.proofs.Prelude.{ℤ, All, list_all, flat_map, signed_decimal, ne_eqb, ltb-true, append-nil, get_or_at}
-use Rattle.kd_card.proofs.Prelude.{take_all, flat_map-append, AllPass-from_list_all, All-weaker, All-from_recursion}
-use Rattle.kd_card.proofs.Prelude.{flat_map-map, Setting, words_of, line_of, IsWord, IsWithout, IsFirstPart}
-use Rattle.kd_card.proofs.Prelude.{setting_line, list_text, PriceParts, Version, version_of, price_sum, head_words}
-use Rattle.kd_card.proofs.Prelude.{settings_words, price_words, sum_words, lines_text, price_lines, card_text}
-use Rattle.kd_card.proofs.Prelude.{line_then, HasLineWords, common_steps, lines_split_into_words}
-use Rattle.kd_card.proofs.Prelude.{texts_tell_first_parts, words_make_one_line, map, setting_words, suc, ◌^◌, ◌≤◌, Bool}
-use Rattle.kd_card.proofs.Prelude.{get_or, Option, Some, None, MatchOption, Result, Ok, Err, MatchResult, Decides, Bor}
-use Rattle.kd_card.proofs.Prelude.{◌↔◌, IsTrue, is_some, subst, pos, negsuc, unsigned_abs, FitsSigned, w16, to_z, of_z}
-use Rattle.kd_card.proofs.Prelude.{then_some, IsUtf8, ParsesSigned, AllByRecursion, false≢true, fits_signed_from_abs}
-use Rattle.kd_card.proofs.Prelude.{to_z-of_z, get_or-map, length-map, recursion_from_All, All-map, IsPriceText}
-use Rattle.kd_card.proofs.Prelude.{IsPricesAnswer, BadLine, PriceMissing, HasFault, GoesOn, parse-signed_decimal}
-use Rattle.kd_card.proofs.Prelude.{IsAscii-signed, ArePricesInRange, codes, zero, ◌+◌, ◌*◌, inl, inr, fold, decimal}
-use Rattle.kd_card.proofs.Prelude.{not, pointwise, not-false, Decides-eqb, slice_eq-Decides, err_from_is_err_and, ◌+ℤ◌}
-use Rattle.kd_card.proofs.Prelude.{digits_value, decimal_nonempty, digits_decimal, decimal_digit, first_decimal}
-use Rattle.kd_card.proofs.Prelude.{All-cons, All-append, All-from_get_or, table_rows, ArePrices, Group, Sort}
-use Rattle.kd_card.proofs.Prelude.{CountWrong, BeginsWithHead, kinds_text, row_word, column_word, version_text, IsGroup}
-use Rattle.kd_card.proofs.Prelude.{IsDigit, IsNumberText, IsNumeral, IsValueAnswer, IsLineAnswer, IsFirstWordAnswer}
-use Rattle.kd_card.proofs.Prelude.{IsPriceLineAnswer, IsGroupAnswer, nil_from_length, numbers_are_words, word_by_bytes}
-use Rattle.kd_card.proofs.Prelude.{word_by_test, ThenNext-Ok, CardFault}
+use Rattle.kd_card.proofs.Prelude.{rules, IsNumeralModel-digits, ◌≡◌, ◌≢◌, ℕ, ◌<◌, true, false, eqb, ltb, List, [], ◌∷◌}
+use Rattle.kd_card.proofs.Prelude.{◌++◌, length, refl, sym, ap, ◌∙◌, append_assoc, length-append, append_cancel_left}
+use Rattle.kd_card.proofs.Prelude.{arith, ℤ, All, list_all, flat_map, signed_decimal, ne_eqb, ltb-true, append-nil}
+use Rattle.kd_card.proofs.Prelude.{get_or_at, take_all, flat_map-append, AllPass-from_list_all, All-weaker}
+use Rattle.kd_card.proofs.Prelude.{All-from_recursion, flat_map-map, Setting, words_of, line_of, IsWord, IsWithout}
+use Rattle.kd_card.proofs.Prelude.{IsFirstPart, setting_line, list_text, PriceParts, Version, version_of, price_sum}
+use Rattle.kd_card.proofs.Prelude.{head_words, lines_text, price_lines, card_text, line_then, HasLineWords}
+use Rattle.kd_card.proofs.Prelude.{common_steps, lines_split_into_words, texts_tell_first_parts, words_make_one_line}
+use Rattle.kd_card.proofs.Prelude.{map, setting_words, suc, ◌^◌, ◌≤◌, Bool, get_or, Option, Some, None, MatchOption}
+use Rattle.kd_card.proofs.Prelude.{Result, Ok, Err, MatchResult, Decides, Bor, ◌↔◌, IsTrue, is_some, subst, pos, negsuc}
+use Rattle.kd_card.proofs.Prelude.{unsigned_abs, FitsSigned, w16, to_z, of_z, then_some, IsUtf8, ParsesSigned}
+use Rattle.kd_card.proofs.Prelude.{AllByRecursion, false≢true, fits_signed_from_abs, to_z-of_z, get_or-map, length-map}
+use Rattle.kd_card.proofs.Prelude.{recursion_from_All, All-map, IsPriceText, IsPricesAnswer, BadLine, PriceMissing}
+use Rattle.kd_card.proofs.Prelude.{HasFault, GoesOn, parse-signed_decimal, IsAscii-signed, ArePricesInRange, codes}
+use Rattle.kd_card.proofs.Prelude.{zero, ◌+◌, ◌*◌, inl, inr, fold, decimal, not, pointwise, not-false, Decides-eqb}
+use Rattle.kd_card.proofs.Prelude.{slice_eq-Decides, err_from_is_err_and, ◌+ℤ◌, digits_value, decimal_nonempty}
+use Rattle.kd_card.proofs.Prelude.{digits_decimal, decimal_digit, first_decimal, All-cons, All-append, All-from_get_or}
+use Rattle.kd_card.proofs.Prelude.{table_rows, ArePrices, Group, Sort, CountWrong, BeginsWithHead, kinds_text}
+use Rattle.kd_card.proofs.Prelude.{first_text, column_word, IsGroup, ByNumber, IsDigit, IsNumberText, IsNumeral}
+use Rattle.kd_card.proofs.Prelude.{IsValueAnswer, IsLineAnswer, IsFirstWordAnswer, IsPriceLineAnswer, IsGroupAnswer}
+use Rattle.kd_card.proofs.Prelude.{nil_from_length, numbers_are_words, word_by_bytes, word_by_test, ThenNext-Ok}
+use Rattle.kd_card.proofs.Prelude.{CardFault}
 use Rattle.std.proofs.lemmas.List.Splits.{slice_split_none, slice_split_at, join_with_byte-slice_split}
 use Rattle.std.{proofs.lemmas.Str.IsUtf8-from_ascii, specs.{Result.{result_ok, IsErrAnd}, Int.Signed.mag}}
 use Rattle.kd_card.specs.Reading.{head_prefix}
 use Rattle.kd_state.specs.SheetDay.{IsDayNumber}
+
+abbrev pub settings_words : ℕ → List (List ℕ)
+settings_words number = codes "SETTINGS" ∷ decimal number ∷ []
+
+abbrev pub price_words : List ℕ → List ℤ → List (List ℕ)
+price_words word prices = word ∷ map signed_decimal prices
+
+abbrev pub sum_words : ℤ → List (List ℕ)
+sum_words sum = codes "SUM" ∷ signed_decimal sum ∷ []
 
 -- ---- writing
 
@@ -97,15 +106,12 @@ pub value_split : (text front behind : List ℕ) (r : Option (Bor (List ℕ) × 
 value_split text front behind None e none = λ value rest free d.
     let same : front ++ behind ≡ front ++ (value ++ 10 ∷ rest) = sym e ∙ d ∙ append_assoc front value (10 ∷ rest) in
     no_first_part (record { joined = append_cancel_left front behind (value ++ 10 ∷ rest) same; without = free }) none
-value_split text front behind (Some found) e first =
-    (e ∙ ap (λ b. front ++ b) first.joined ∙ sym (append_assoc front found.0.now (10 ∷ found.1.now)), first.without)
+value_split text front behind (Some found) e first = grind (arith, common_steps, append_assoc)
 
 -- ---- texts without LF
 
 pub bytes_above : (low : ℕ) (text : List ℕ) → list_all (ltb low) text ≡ true → All (λ b. low < b) text
-bytes_above low text e =
-    All-weaker (λ b. ltb low b ≡ true) (λ b. low < b) (λ b. ltb-true low b) text
-    (AllPass-from_list_all (ltb low) text e)
+bytes_above low text e = grind (arith, common_steps, All-weaker, ltb-true, AllPass-from_list_all)
 
 -- ---- the words of a line
 
@@ -129,10 +135,7 @@ some_bytes {rest} has none = omega (arith, ap length (sym has.first.joined ∙ n
 
 pub same_words : {bytes rest more : List ℕ} {words others : List (List ℕ)} → HasLineWords bytes words rest
     → HasLineWords bytes others more → (words ≡ others) × (rest ≡ more)
-same_words a b =
-    let joined = sym a.first.joined ∙ b.first.joined in
-    let parts = texts_tell_first_parts 10 a.line b.line _ _ a.first.without b.first.without joined in
-    (sym a.parts ∙ ap words_of parts.0 ∙ b.parts, parts.1)
+same_words a b = grind (arith, common_steps, texts_tell_first_parts)
 
 pub line_has_words : {bytes : List ℕ} (words : List (List ℕ)) (rest : List ℕ) → words ≢ [] → All IsWord words
     → bytes ≡ line_then words rest → HasLineWords bytes words rest
@@ -206,18 +209,14 @@ not_at words i d inside none all =
     (all i d.now (omega (arith, inside, length-map words (λ (word : Bor (List ℕ)). word.now)))))
 
 pub all_price_texts : (prices : List ℤ) → ArePricesInRange prices → All IsPriceText (map signed_decimal prices)
-all_price_texts prices reach =
-    All-map IsPriceText signed_decimal prices
-    (All-weaker (λ price. unsigned_abs price ≤ 9999) (λ price. IsPriceText (signed_decimal price))
-    (λ price within. (price, within, refl)) prices reach)
+all_price_texts prices reach = search (rules, All-map, All-weaker, unsigned_abs)
 
 AllByRecursion-prices : (words : List (List ℕ)) → AllByRecursion IsPriceText words
     → (prices : List ℤ) × (words ≡ map signed_decimal prices)
     × AllByRecursion (λ price. unsigned_abs price ≤ 9999) prices
 AllByRecursion-prices [] all = ([], refl, tt)
 AllByRecursion-prices (word ∷ words) (is, all) =
-    let rest = AllByRecursion-prices words all in
-    (is.0 ∷ rest.0, cc, (is.1, rest.2))
+    let rest = AllByRecursion-prices words all in (is.0 ∷ rest.0, cc, (is.1, rest.2))
 
 -- ---- prices in a line
 
@@ -266,11 +265,7 @@ pub bytes_are_word : (b : ℕ) (bs : List ℕ) → AllByRecursion (λ c. 32 < c)
 bytes_are_word b bs above = word_by_bytes (b ∷ bs) (λ none. cc) (All-from_recursion (λ c. 32 < c) (b ∷ bs) above)
 
 below_zero : (word : List ℕ) → IsWord word → IsWord (45 ∷ word)
-below_zero word w = record {
-  filled = λ same. cc;
-  spaceless = All-cons (λ b. b ≢ 32) 45 word (λ same. omega (arith, same)) w.spaceless;
-  unbroken = All-cons (λ b. b ≢ 10) 45 word (λ same. omega (arith, same)) w.unbroken;
-}
+below_zero word w = grind (arith, All-cons)
 
 number_word : (text : List ℕ) → IsNumberText text → IsWord text
 number_word text e = grind (arith, word_by_bytes, All-weaker, All-cons)
@@ -279,8 +274,7 @@ pub numeral_word : (signed : Bool) (text : List ℕ) → IsNumeral signed text �
 numeral_word signed text e = grind (arith, number_word, below_zero)
 
 pub signed_word : (z : ℤ) → unsigned_abs z < 2 ^ 64 → IsWord (signed_decimal z)
-signed_word (pos n) small = numbers_are_words n small
-signed_word (negsuc n) small = below_zero (decimal (suc n)) (numbers_are_words (suc n) small)
+signed_word z small = grind (arith, numbers_are_words, below_zero)
 
 -- A card's head is the text before the day, the day, and an LF.
 pub head_text : {front : List ℕ} (version : Version) (day : ℕ) (rest : List ℕ) → front ≡ head_prefix version
@@ -290,7 +284,7 @@ head_text version day rest e = rw e (grind arith)
 pub day_unbroken : (day : ℕ) → IsDayNumber day → IsWithout 10 (decimal day)
 day_unbroken day month = let last = month.last in (numbers_are_words day (omega arith)).unbroken
 
-pub first_is_word : (kind : Group) → IsWord (row_word kind) × IsWord (column_word kind)
+pub first_is_word : (kind : Group) → IsWord (first_text ByNumber kind) × IsWord (column_word kind)
 first_is_word kind = grind (arith, word_by_test)
 
 pub prices_are_words : (word : List ℕ) (prices : List ℤ) → IsWord word → ArePricesInRange prices
@@ -313,8 +307,7 @@ number_by_parts (digit ∷ rest) some digits lead = (
 )
 
 no_leading_zero : (number : ℕ) → number < 2 ^ 64 → get_or (decimal number) 0 0 ≡ 48 → length (decimal number) ≡ 1
-no_leading_zero zero small e = ap length (decimal_digit 0 (omega arith))
-no_leading_zero (suc n) small e = absurd (omega (arith, first_decimal (suc n) (omega arith) small, e))
+no_leading_zero number small e = grind (arith, decimal_digit, first_decimal)
 
 pub number_text : (number : ℕ) → number < 2 ^ 64 → IsNumberText (decimal number)
 number_text number small =
@@ -324,8 +317,7 @@ not_zero : (n : ℕ) → suc n < 2 ^ 64 → decimal (suc n) ≢ codes "0"
 not_zero n small e = omega (arith, first_decimal (suc n) (omega arith) small, ap (λ t. get_or t 0 0) e)
 
 pub signed_text : (z : ℤ) → unsigned_abs z < 2 ^ 64 → IsNumeral true (signed_decimal z)
-signed_text (pos n) small = inl (number_text n small)
-signed_text (negsuc n) small = inr (decimal (suc n), refl, number_text (suc n) small, not_zero n small)
+signed_text z small = grind (arith, number_text, not_zero)
 
 -- ---- a bound of the sum of prices
 
@@ -357,9 +349,7 @@ pub same_values : {bytes : List ℕ} (front : List ℕ) {value other rest more :
     → IsWithout 10 other
     → bytes ≡ front ++ value ++ 10 ∷ rest → bytes ≡ front ++ other ++ 10 ∷ more → (value ≡ other) × (rest ≡ more)
 same_values front {value} {other} {rest} {more} free clear e d =
-    texts_tell_first_parts 10 value other rest more free clear
-    (append_cancel_left front (value ++ 10 ∷ rest) (other ++ 10 ∷ more)
-    (sym (append_assoc front value (10 ∷ rest)) ∙ sym e ∙ d ∙ append_assoc front other (10 ∷ more)))
+    grind (arith, common_steps, texts_tell_first_parts, append_cancel_left, append_assoc)
 
 -- ---- a first word, and prices
 

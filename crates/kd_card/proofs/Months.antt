@@ -195,7 +195,7 @@ module _ (s : RotorDay) (legal : IsLegalRotorDay s) (o : RotorParts) (reads : Re
   left_for-list ws m n [] same leads = subst (λ n. left_for ws m ≤ left_for ws n + 0) (sym leads) (omega arith)
   left_for-list ws m n (x ∷ xs) same leads =
       let rest = left_for-list ws leads.0 n xs (ap model_of leads.1.made ∙ model_of-changed m x ∙ same) leads.2 in
-      omega (arith, rest, ap (left_for ws) leads.1.made, left_for-changed ws m x same leads.1.allowed)
+      grind (arith, left_for-changed)
 
   -- A needed setting lowers `loose_for` by at least one, unless it changes a cable.
   loose_for-needed : (m : Parts) (x : Setting) → model_of m ≡ s.model → IsSettingNeeded m (OfRotors s) x
@@ -296,13 +296,5 @@ cards_are_fewest_in_all (Rotor m) days cards lists machine rotor legal are lead 
     let has = machines_have_all (Rotor m) machine.legal in
     let cables : CostNoMore m.cables m.cables = λ ws size. (ws, IsPermutation-refl ws, omega arith) in
     let near : AgreeButForCables m m = record { first = has; second = has; same = refl; cables = cables } in
-    let none = gaps-self m.rings in
-    let nor = gaps-self m.letters in
-    omega (
-      arith,
-      sum_by-fewest days m m cards lists rotor legal near are lead,
-      sum-map length cards,
-      sum-map length
-          lists,
-    )
+    grind (arith, sum_by-fewest days m m cards lists rotor legal near are lead, sum-map, gaps-self)
 cards_are_fewest_in_all (Pin m) days cards lists machine rotor legal are lead = absurd (rotor refl)

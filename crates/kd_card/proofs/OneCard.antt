@@ -7,22 +7,21 @@ use Rattle.kd_card.proofs.Prelude.{IsWord, setting_line, list_text, BeginsWithSe
 use Rattle.kd_card.proofs.Prelude.{PriceParts, Cables, Bars, CableKinds, BarKinds, Version, ByNumber, ByKind, Group}
 use Rattle.kd_card.proofs.Prelude.{OfCables, OfBars, Sort, Trailing, ThenNext, HasFault, GoesOn, Yields, Demands}
 use Rattle.kd_card.proofs.Prelude.{Option, Some, None, kinds_text, AreKinds, version_of, price_sum, cable_sort}
-use Rattle.kd_card.proofs.Prelude.{pair_sort, bar_sort, row_sort, ArePricesInRange, ArePrices, row_word, column_word}
-use Rattle.kd_card.proofs.Prelude.{price_count, settings_words, price_words, sum_words, lines_text, price_lines}
-use Rattle.kd_card.proofs.Prelude.{card_text, IsGroup, IsCard, line_then, IsValueAnswer, IsFirstWordAnswer}
-use Rattle.kd_card.proofs.Prelude.{BeginsWithHead, BeginsWithAllSettings, IsSettingsAnswer, IsPriceLineAnswer}
-use Rattle.kd_card.proofs.Prelude.{IsByNumberPricesAnswer, BeginsWithWord, EndsGroup, AtOther, IsNextKind, last_of}
-use Rattle.kd_card.proofs.Prelude.{IsGroupAnswer, IsGroupsAnswer, IsKindsOfAnswer, IsAllPricesAnswer, IsRestAnswer}
-use Rattle.kd_card.proofs.Prelude.{IsCardAnswer, TextsTellCards, NoCardBeginsAnother, CardsHaveNoFault, OneCardFault}
-use Rattle.kd_card.proofs.Prelude.{common_steps, word_by_test, BeginsWithKinds, CardsAreSaid, HasOneAnswer}
-use Rattle.kd_card.proofs.Prelude.{HasOneAnswer-Demands, HasOneAnswer-Finds, HasOneAnswer-Yields}
-use Rattle.kd_card.proofs.Prelude.{HasOneAnswer-FindsAlways, HasOneAnswer-ThenNext, ThenNext-Ok, Yields-Ok, CardFault}
-use Rattle.kd_card.proofs.Prelude.{head_words, kind_words}
+use Rattle.kd_card.proofs.Prelude.{pair_sort, bar_sort, row_sort, ArePricesInRange, ArePrices, first_text, column_word}
+use Rattle.kd_card.proofs.Prelude.{price_count, lines_text, price_lines, card_text, IsGroup, IsCard, line_then}
+use Rattle.kd_card.proofs.Prelude.{IsValueAnswer, IsFirstWordAnswer, BeginsWithHead, BeginsWithAllSettings}
+use Rattle.kd_card.proofs.Prelude.{IsSettingsAnswer, IsPriceLineAnswer, IsByNumberPricesAnswer, BeginsWithWord}
+use Rattle.kd_card.proofs.Prelude.{EndsGroup, AtOther, IsNextKind, last_of, IsGroupAnswer, IsGroupsAnswer}
+use Rattle.kd_card.proofs.Prelude.{IsKindsOfAnswer, IsAllPricesAnswer, IsRestAnswer, IsCardAnswer, TextsTellCards}
+use Rattle.kd_card.proofs.Prelude.{NoCardBeginsAnother, CardsHaveNoFault, OneCardFault, common_steps, word_by_test}
+use Rattle.kd_card.proofs.Prelude.{BeginsWithKinds, CardsAreSaid, HasOneAnswer, HasOneAnswer-Demands}
+use Rattle.kd_card.proofs.Prelude.{HasOneAnswer-Finds, HasOneAnswer-Yields, HasOneAnswer-FindsAlways}
+use Rattle.kd_card.proofs.Prelude.{HasOneAnswer-ThenNext, ThenNext-Ok, Yields-Ok, CardFault, head_words, kind_words}
 use Rattle.kd_card.specs.{CardFault.parts_by_number, Reading.head_prefix}
 use Rattle.kd_card.proofs.Lines.{line_has_words, value_line, same_words, two_lines, card_and_more, mag-small}
 use Rattle.kd_card.proofs.Lines.{numeral_word, signed_word, head_text, day_unbroken, first_is_word, prices_are_words}
 use Rattle.kd_card.proofs.Lines.{number_text, signed_text, price_sum_is_small, value_says, value_said, same_values}
-use Rattle.kd_card.proofs.Lines.{first_says, HasPrices, line_said, group_said}
+use Rattle.kd_card.proofs.Lines.{first_says, HasPrices, line_said, group_said, settings_words, price_words, sum_words}
 use Rattle.kd_card.proofs.KindWords.{IsSort, cables_are, pairs_are, bars_are, rows_are, kind_is_words, kind_begins}
 use Rattle.kd_card.proofs.KindWords.{end_has_no_next, same_kind}
 use Rattle.kd_card.proofs.KindPrices.{text_of_more_kinds, text_of_two, cables_are_prices, bars_are_prices}
@@ -58,7 +57,7 @@ record AreAllPriceLines (by : Version) (bytes : List ℕ) (prices : PriceParts) 
   are : ArePrices prices
 
 by_number : (group : Group) (rows columns : List ℤ) {bytes middle rest : List ℕ}
-    → HasPrices bytes (row_word group) (price_count group) rows middle
+    → HasPrices bytes (first_text ByNumber group) (price_count group) rows middle
     → HasPrices middle (column_word group) (price_count group) columns rest
     → AreAllPriceLines ByNumber bytes (parts_by_number group rows columns) rest
 by_number group rows columns a b = grind (arith, common_steps, two_lines)
@@ -70,15 +69,7 @@ pub groups_said : {R X C Y : Type 0} (rows : Sort R X) (columns : Sort C Y) (num
     → (bytes ≡ lines_text (map (kind_words rows) x.0 ++ map (kind_words columns) x.1) ++ x.2)
     × IsGroup rows number x.0 × IsGroup columns number x.1
 groups_said {R} {C} rows columns number line {bytes} x says =
-    let first = ThenNext-Ok says in
-    let second = ThenNext-Ok first.next in
-    let a = group_said _ first.found first.says in
-    let b = group_said _ second.found second.says in
-    let parts = append_assoc (kinds_text rows first.found.0) (kinds_text columns second.found.0) second.found.1 in
-    let lines = text_of_two rows columns first.found.0 second.found.0 in
-    subst (λ (y : List R × List C × List ℕ).
-    (bytes ≡ lines_text (map (kind_words rows) y.0 ++ map (kind_words columns) y.1) ++ y.2)
-    × IsGroup rows number y.0 × IsGroup columns number y.1) (sym (Yields-Ok second.next)) (cc, a.group, b.group)
+    grind (arith, common_steps, ThenNext-Ok, group_said, append_assoc, text_of_two, Yields-Ok)
 
 of_kinds : (group : Group) (line : ℕ) {bytes : List ℕ} (x : PriceParts × List ℕ)
     → IsKindsOfAnswer group line bytes (Ok x)
@@ -110,9 +101,7 @@ all_said ByNumber line {bytes} x says =
     let b = line_said _ _ columns.found columns.says in
     subst (λ (y : PriceParts × List ℕ). AreAllPriceLines ByNumber bytes y.0 y.1) (sym (Yields-Ok columns.next))
     (by_number rows.found.0 rows.found.1 columns.found.1 a b)
-all_said ByKind line {bytes} x says =
-    let first = ThenNext-Ok says in
-    of_kinds first.found.0 line x first.next
+all_said ByKind line {bytes} x says = grind (arith, common_steps, ThenNext-Ok, of_kinds)
 
 pub up_to_settings : {bytes : List ℕ} {version : Version} {day : ℕ} {body : List ℕ} {xs : List Setting} {rest : List ℕ}
     {number : ℕ}
@@ -286,7 +275,8 @@ only_all_prices ByKind line bytes =
 by_number_says : (group : Group) (line : ℕ) {bytes : List ℕ} (rows columns : List ℤ) (rest : List ℕ)
     → ArePricesInRange rows
     → ArePricesInRange columns → length rows ≡ price_count group → length columns ≡ price_count group
-    → bytes ≡ line_then (price_words (row_word group) rows) (line_then (price_words (column_word group) columns) rest)
+    → bytes ≡ line_then (price_words (first_text ByNumber group) rows)
+    (line_then (price_words (column_word group) columns) rest)
     → IsByNumberPricesAnswer line bytes (Ok (parts_by_number group rows columns, rest))
 by_number_says group line rows columns rest a b many also e =
     let second = line_then (price_words (column_word group) columns) rest in
@@ -298,10 +288,10 @@ all_say : (prices : PriceParts) (line : ℕ) {bytes : List ℕ} (rest : List ℕ
     → IsAllPricesAnswer (version_of prices) line bytes (Ok (prices, rest))
 all_say (Cables row col) line rest are ends e =
     by_number_says OfCables line row col rest are.row_reach are.column_reach are.rows are.columns
-    (e ∙ two_lines (price_words (row_word OfCables) row) (price_words (column_word OfCables) col) rest)
+    (e ∙ two_lines (price_words (first_text ByNumber OfCables) row) (price_words (column_word OfCables) col) rest)
 all_say (Bars row col) line rest are ends e =
     by_number_says OfBars line row col rest are.row_reach are.column_reach are.rows are.columns
-    (e ∙ two_lines (price_words (row_word OfBars) row) (price_words (column_word OfBars) col) rest)
+    (e ∙ two_lines (price_words (first_text ByNumber OfBars) row) (price_words (column_word OfBars) col) rest)
 all_say (CableKinds row col) line rest are ends e =
     let groups = (cables_are_prices row.items col.items).0 are in
     let say =
@@ -350,8 +340,7 @@ sum_ends : (sum : ℤ) (rest : List ℕ) → unsigned_abs sum < 2 ^ 64 → (word
     → EndsGroup word (line_then (sum_words sum) rest)
 sum_ends sum rest near word differs =
     let has = value_line (codes "SUM") (signed_decimal sum) rest (word_by_test _ _ refl) (signed_word sum near) refl in
-    AtOther (codes "SUM") (record { behind = signed_decimal sum ∷ []; rest = rest; has = has })
-    (λ same. differs (sym same))
+    AtOther (codes "SUM") (record { behind = _; rest = _; has = has }) (λ same. differs (sym same))
 
 -- ---- the card
 

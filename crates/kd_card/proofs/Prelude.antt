@@ -1,5 +1,9 @@
 -- The definitions and lemmas that most proofs of this crate use.
 pub use Rattle.std.proofs.lemmas.{Grind.common_steps, List.Concat.flat_map-append, Result.err_from_is_err_and}
+pub use Rattle.std.proofs.lemmas.{Bool.Decides.Decides-eqb, Bool.Decides.eqb_tells, Int.fits_signed_from_abs, Int.ints}
+pub use Rattle.std.proofs.lemmas.{Int.to_z-of_z, List.Folds.flat_map-map, Option.get_or_from_slice_get}
+pub use Rattle.std.proofs.lemmas.{Option.unwrap_or-slice_get, Slice.Eq.bytes_eq-Decides, Slice.Eq.slice_eq-Decides}
+pub use Rattle.std.proofs.lemmas.{Map.Made.Contains-tail, Map.Made.IsDistinct-from_count}
 pub use Rattle.std.proofs.Common.{AllPairs, Bool, Bor, Contains, Decides, Err, FitsSigned, IsPermutation, IsTrue, List}
 pub use Rattle.std.proofs.Common.{MatchOption, MatchResult, None, Ok, Option, Result, Some, [], ap, append_assoc, arith}
 pub use Rattle.std.proofs.Common.{codes, cond, count_by, decimal, drop, eqb, false, fold, get_or, inl, inr, is_none}
@@ -9,10 +13,6 @@ pub use Rattle.std.proofs.Common.{unsigned_abs, unwrap_or, w16, w32, zero, zip, 
 pub use Rattle.std.proofs.Common.{◌^◌, ◌||◌, ◌↔◌, ◌∙◌, ◌∷◌, ◌≡◌, ◌≢◌, ◌≤ℤ◌, ◌≤◌, ◌⊎◌}
 pub use Rattle.std.proofs.Math.Seq.{drop-cons}
 pub use Rattle.std.proofs.lemmas.Bool.{cases_eq, eq-eqb, eqb-true, false≢true, ltb-true, ne_eqb, not-false}
-pub use Rattle.std.proofs.lemmas.{Bool.Decides.Decides-eqb, Bool.Decides.eqb_tells, Int.fits_signed_from_abs, Int.ints}
-pub use Rattle.std.proofs.lemmas.{Int.to_z-of_z, List.Folds.flat_map-map, Option.get_or_from_slice_get}
-pub use Rattle.std.proofs.lemmas.{Option.unwrap_or-slice_get, Slice.Eq.bytes_eq-Decides, Slice.Eq.slice_eq-Decides}
-pub use Rattle.std.proofs.lemmas.{Map.Made.Contains-tail, Map.Made.IsDistinct-from_count}
 pub use Rattle.std.proofs.lemmas.Fmt.{IsAscii-signed, decimal_digit, decimal_injective, decimal_nonempty}
 pub use Rattle.std.proofs.lemmas.Fmt.{digits_decimal, first_decimal, parse-signed_decimal, signed_decimal_injective}
 pub use Rattle.std.proofs.lemmas.List.{append-nil, append_cancel_left, get_or-map, get_or_at, get_or_default}
@@ -30,21 +30,20 @@ pub use Rattle.std.proofs.lemmas.List.Sums.{AllPass-from_list_all, fold-append, 
 pub use Rattle.std.proofs.lemmas.List.Sums.{sum_by-append, sum_by-cons}
 pub use Rattle.std.proofs.lemmas.Map.Keys.{IsDistinct-IsPermutation, IsDistinct-cons, IsDistinct-head, IsDistinct-tail}
 pub use Rattle.std.proofs.lemmas.Slice.Zip.{AllZip-long, get_or-zip, length-zip, seconds-zip}
-pub use Rattle.std.specs.{Bool.then_some, Fmt.signed_decimal, Str.IsUtf8, Str.bytes_eq}
+pub use Rattle.std.specs.{Bool.then_some, Fmt.signed_decimal, Str.IsUtf8, Str.bytes_eq, Option.option_map_or}
+pub use Rattle.std.specs.{Option.option_copied, Str.Parse.ParsesSigned, Str.Parse.digits_value}
 pub use Rattle.std.specs.List.{All, AllByRecursion, AllZip, IsDistinct, flat_map, list_all, sum_by}
-pub use Rattle.std.specs.{Option.option_map_or, Option.option_copied, Str.Parse.ParsesSigned, Str.Parse.digits_value}
 pub use Rattle.arrayvec.specs.ArrayString.{array_string_len}
 pub use Rattle.kd_card.specs.CardFault.{AtNothing, AtOther, BeginsWithHead, BeginsWithKinds, BeginsWithWord, EndsGroup}
 pub use Rattle.kd_card.specs.CardFault.{HasNoNext, HasLineWords, IsDigit, IsNextKind, IsNumberText, IsNumeral}
 pub use Rattle.kd_card.specs.CardFault.{IsAllPricesAnswer, IsRestAnswer, IsCardAnswer, IsFirstWordAnswer, IsGroupAnswer}
 pub use Rattle.kd_card.specs.CardFault.{IsGroupsAnswer, IsByKindPricesAnswer, IsKindsOfAnswer, IsLineAnswer, last_of}
 pub use Rattle.kd_card.specs.CardFault.{IsByNumberPricesAnswer, IsPriceLineAnswer, IsPricesAnswer, IsSettingsAnswer}
-pub use Rattle.kd_card.specs.CardFault.{IsValueAnswer, line_then}
-pub use Rattle.kd_card.specs.CardText.{IsCard, IsGroup, card_text, column_word, row_kind_word}
-pub use Rattle.kd_card.specs.CardText.{head_words, lines_text, price_count, price_lines, price_words}
-pub use Rattle.kd_card.specs.CardText.{row_word, settings_words, sum_words, version_text}
-pub use Rattle.kd_card.specs.Kinds.{AreEnds, AreKinds, ComesAfter, HasKindWords, HasText, IsKind, IsOnlyThing}
-pub use Rattle.kd_card.specs.Kinds.{IsPairInOrder, Sort, bar_sort, cable_sort, counted, kind_words}
+pub use Rattle.kd_card.specs.CardFault.{IsValueAnswer, first_text, line_then}
+pub use Rattle.kd_card.specs.CardText.{IsCard, IsGroup, card_text, column_word, head_words, lines_text, price_count}
+pub use Rattle.kd_card.specs.CardText.{price_lines}
+pub use Rattle.kd_card.specs.Kinds.{AreEnds, AreKinds, ComesAfter, ThingComesBefore, HasKindWords, HasText, IsKind}
+pub use Rattle.kd_card.specs.Kinds.{IsOnlyThing, IsPairInOrder, Sort, bar_sort, cable_sort, counted, kind_words}
 pub use Rattle.kd_card.specs.Kinds.{kinds_text, letters_text, pair_sort, prices_of_kinds, row_sort}
 pub use Rattle.kd_card.specs.Laws.{CardsHaveNoFault, AsFewAreNeeded, FittingPricesBoundLists, NoCardBeginsAnother}
 pub use Rattle.kd_card.specs.Laws.{OneCardFault, ProvingCardsAreAsLong, ProvingCardsAreShortest, ProvingPricesAreTight}
@@ -59,8 +58,8 @@ pub use Rattle.kd_state.specs.FirstFaults.{HasOneAnswer-FindsAlways, HasOneAnswe
 pub use Rattle.kd_card.specs.declared.fault.CardFault.TheVariants.{BadHead, BadLine, CountWrong, PriceMissing, TooMany}
 pub use Rattle.kd_card.specs.declared.fault.CardFault.TheVariants.{Trailing}
 pub use Rattle.kd_card.specs.declared.group.Group.{Group}
-pub use Rattle.kd_card.specs.declared.kinds.{BarKind.BarKind, CableKind.CableKind, KindOf.KindOf}
-pub use Rattle.kd_card.specs.declared.kinds.{PairKind.PairKind, RowKind.RowKind}
+pub use Rattle.kd_card.specs.declared.kinds.{BarKind.BarKind, CableKind.CableKind, KindOf.KindOf, PairKind.PairKind}
+pub use Rattle.kd_card.specs.declared.kinds.{RowKind.RowKind}
 pub use Rattle.kd_card.specs.declared.group.Group.TheVariants.{OfBars, OfCables}
 pub use Rattle.kd_card.specs.declared.prices.{PriceParts.PriceParts, Version.Version}
 pub use Rattle.kd_card.specs.declared.prices.PriceParts.TheVariants.{BarKinds, Bars, CableKinds, Cables}

@@ -19,7 +19,8 @@ use Rattle.kd_card.proofs.Prelude.{AreModelPrices, IsSettingNeeded, AreSettingsN
 use Rattle.kd_card.proofs.Prelude.{FittingPricesBoundLists, ProvingCardsAreAsLong, ProvingCardsAreShortest}
 use Rattle.kd_card.proofs.Prelude.{ProvingPricesAreTight, get_or_default, get_or-map, length-zip, get_or-zip}
 use Rattle.kd_card.proofs.Prelude.{AsFewAreNeeded, why_refused, IsPriceTightAt, column_prices, cost_at, table_rows}
-use Rattle.kd_card.proofs.Prelude.{price_at, row_prices, All-from_get_or, Contains-get_or, AllZip-long, length-map}
+use Rattle.kd_card.proofs.Prelude.{common_steps, price_at, row_prices, All-from_get_or, Contains-get_or, AllZip-long}
+use Rattle.kd_card.proofs.Prelude.{length-map}
 use Rattle.{kd_state.specs.Costs.standings_as, std.proofs.lemmas.List.Edits.length-remove}
 use Rattle.kd_card.proofs.Duality.{pairing_cost, reordered, fold_of_both, prices_moved, fitting_prices, tight_at}
 use Rattle.kd_card.proofs.Duality.{sum_of, prices_with, FitTogether, FitAll}
@@ -33,30 +34,21 @@ none_differ : (xs ys : List ℕ) → ((letter : ℕ) → has_letter xs letter �
     → count_by (λ letter. exactly_one (has_letter xs letter) (has_letter ys letter)) letters ≡ 0
 none_differ xs ys same [] = refl
 none_differ xs ys same (letter ∷ letters) =
-    count_by-cons (λ letter. exactly_one (has_letter xs letter) (has_letter ys letter)) letter letters
-    ∙ rw (same letter, not_differing (has_letter ys letter), none_differ xs ys same letters) refl
+    grind (arith, common_steps, count_by-cons, same letter, not_differing, none_differ xs ys same letters)
 
 abbrev CostsNothing : Option ℕ × Option ℕ → Option (ℕ × ℕ) → Type 0
 CostsNothing cable column = cable_cost cable column ≡ 0
 
 -- A letter that a list contains occurs in it at least once.
 times-positive : (letters : List ℕ) (letter : ℕ) → Contains letters letter → 1 ≤ times letter letters
-times-positive letters letter there =
-    let here = ap (λ b. cond {A = ℕ} b 1 0) (eq-eqb letter (get_or letters there.0 letter) (sym there.2)) in
-    omega (arith, get_or-le-sum_by (λ other. cond (nat_eq letter other) 1 0) letters there.0 letter there.1)
+times-positive letters letter there = grind (arith, common_steps, eq-eqb, get_or-le-sum_by, nat_eq)
 
 -- How often a letter occurs in the things of a list.
 module _ {X : Type 0} (letters_of : X → List ℕ) where
   times-flat_map : (letter : ℕ) (xs : List X)
       → times letter (flat_map letters_of xs) ≡ sum_by (λ x. times letter (letters_of x)) xs
   times-flat_map letter [] = refl
-  times-flat_map letter (x ∷ xs) =
-      omega (
-        arith,
-        times-append letter (letters_of x) (flat_map letters_of xs),
-        sum_by-cons (λ x. times letter (letters_of x)) x xs,
-        times-flat_map letter xs,
-      )
+  times-flat_map letter (x ∷ xs) = grind (arith, common_steps, times-append, sum_by-cons, times-flat_map letter xs)
 
   -- If no letter occurs twice in a list of things, none occurs twice in another order of the list.
   once_moved : (xs ys : List X) → IsPermutation xs ys → AreOnce (flat_map letters_of xs)
@@ -144,11 +136,11 @@ all_empty : (cables : List (Option ℕ × Option ℕ)) (number : ℕ) → length
     → ((cable : Option ℕ × Option ℕ) → Contains cables cable → cable_letters cable ≢ [] → ⊥)
     → AllZip CostsNothing cables (replicate number None)
 all_empty [] zero e h = tt
-all_empty (cable ∷ cables) (suc number) e h =
-    let here = empty_costs_nothing cable (h cable (zero, omega arith, refl)) in
-    let later = λ (other : Option ℕ × Option ℕ) (among : Contains cables other).
-    h other (Contains-append_right (cable ∷ []) cables other among) in
-    (here, all_empty cables number (omega arith) later)
+all_empty (cable ∷ cables) (suc number) e h = (
+  empty_costs_nothing cable (h cable (zero, omega arith, refl)),
+  all_empty cables number (omega arith)
+      (λ other among. h other (Contains-append_right (cable ∷ []) cables other among)),
+)
 all_empty cables number e h = absurd (omega arith)
 
 -- The cables have an order in which each costs nothing at its column.
@@ -190,13 +182,7 @@ pub record FreePairing {A B : Type 0} (cost : A → B → ℕ) (rows : List A) (
 module _ {A B : Type 0} (cost : A → B → ℕ) where
   free_of_all : (rows : List A) (ws : List (B × ℤ)) → AllZip (λ row w. cost row w.0 ≡ 0) rows ws
       → pairing_cost cost rows ws ≡ 0
-  free_of_all (row ∷ rows) (w ∷ ws) h =
-      omega (
-        arith,
-        sum_by-cons (λ (pair : A × (B × ℤ)). cost pair.0 pair.1.0) (row, w) (zip rows ws),
-        h.0,
-        free_of_all rows ws h.1,
-      )
+  free_of_all (row ∷ rows) (w ∷ ws) h = grind (arith, sum_by-cons, free_of_all rows ws h.1)
   free_of_all [] ws h = refl
   free_of_all rows ws h = absurd h
 
@@ -205,8 +191,7 @@ pub with_prices : {A B C : Type 0} (R : A → B → Type 0) (xs : List A) (colum
 with_prices R [] [] prices e h = tt
 with_prices R (x ∷ xs) (column ∷ columns) (price ∷ prices) e h =
     (h.0, with_prices R xs columns prices (omega arith) h.1)
-with_prices R (x ∷ xs) (column ∷ columns) [] e h = absurd (omega arith)
-with_prices R xs columns prices e h = absurd h
+with_prices R xs columns prices e h = grind arith
 
 pub cables_paired : (cables : List (Option ℕ × Option ℕ)) (pairs : List (ℕ × ℕ)) (prices : List ℤ) → HasCables cables
     → AreOnce (letters_in_pairs pairs) → length pairs ≤ 13 → length prices ≡ 13
@@ -267,12 +252,9 @@ model_of-list m n (x ∷ xs) h = model_of-list h.0 n xs h.2 ∙ ap model_of h.1.
 module _ (columns : List (Option (ℕ × ℕ) × ℤ)) (rows : List ((ℕ × ℕ) × ℤ)) (s : Day) (legal : IsLegalDay s) where
   list_lowers : (m n : Parts) (xs : List Setting) → model_of m ≡ day_model s → Leads m xs n
       → left_to_do columns rows m s ≤ left_to_do columns rows n s + length xs
-  list_lowers m n [] same h = subst (λ n. left_to_do columns rows m s ≤ left_to_do columns rows n s + 0) (sym h)
-      (omega arith)
+  list_lowers m n [] same h = grind (arith, common_steps)
   list_lowers m n (x ∷ xs) same h =
-      let rest = list_lowers h.0 n xs (ap model_of h.1.made ∙ model_of-changed m x ∙ same) h.2 in
-      let made = ap (λ between. left_to_do columns rows between s) h.1.made in
-      omega (arith, rest, left_to_do-lowered columns rows m s x legal same h.1.allowed)
+      grind (arith, list_lowers h.0 n xs (ap model_of h.1.made ∙ model_of-changed m x ∙ same) h.2, left_to_do-lowered)
 
 -- ---- fitting prices, and an assignment that the settings pay for
 
@@ -327,9 +309,7 @@ module _ {A B : Type 0} (a : A) (b : B) (cost : A → B → ℕ) (rows : List A)
 
   sums : price_sum prices ≡ (sum_of (row_prices prices) +ℤ prices_with beside)
   sums =
-      let same = prices_moved columns (column_prices prices) beside (are.columns ∙ sym columns_count) order in
-      let both = fold_of_both (row_prices prices) (column_prices prices) in
-      omega (arith, ints)
+      grind (arith, ints, prices_moved columns (column_prices prices) beside, fold_of_both)
 
   below : (pos loose +ℤ price_sum prices) ≤ℤ pos lines
   below =
@@ -368,8 +348,7 @@ module _ {A B : Type 0} (a : A) (b : B) (cost : A → B → ℕ) (rows : List A)
 -- ---- machines and days
 
 pub no_rotors : (model : Model) (reflector : Reflector) → model ≡ M209 → Contains (reflectors_of model) reflector → ⊥
-no_rotors model reflector e h =
-    let none = subst (λ model. Contains (reflectors_of model) reflector) e h in omega (arith, none.1)
+no_rotors model reflector e h = grind (arith, common_steps)
 
 AreBounds-prices : (m n : Parts) (s : Day) (prices : PriceParts) (settings : List Setting) → IsMachine m → IsLegalDay s
     → ArePrices prices
@@ -394,14 +373,10 @@ AreBounds-prices (Pin m) (Pin n) (OfPins s) (Bars row column) settings machine l
     (length settings) at_first.count legal.count are fits pairing.beside pairing.order
     (omega (arith, falling, pairing.free, nothing_loose (Pin n) (OfPins s) reads))
 AreBounds-prices (Rotor m) (Pin n) (OfPins s) prices settings machine legal are kind fits leads reads =
-    absurd (no_rotors m.model m.reflector (sym (model_of-list (Rotor m) (Pin n) settings leads))
-    machine.legal.reflector)
+    grind (arith, common_steps, no_rotors, model_of-list)
 AreBounds-prices (Pin m) (Rotor n) (OfRotors s) prices settings machine legal are kind fits leads reads =
-    absurd (no_rotors s.model s.reflector (sym reads.key.model ∙ model_of-list (Pin m) (Rotor n) settings leads)
-    legal.reflector)
-AreBounds-prices m (Pin n) (OfRotors s) prices settings machine legal are kind fits leads reads = absurd reads.key
-AreBounds-prices m (Rotor n) (OfPins s) prices settings machine legal are kind fits leads reads = absurd reads.key
-AreBounds-prices m n s prices settings machine legal are kind fits leads reads = absurd kind
+    grind (arith, common_steps, no_rotors, model_of-list)
+AreBounds-prices m n s prices settings machine legal are kind fits leads reads = grind arith
 
 pub fitting_prices_bound_lists : FittingPricesBoundLists
 fitting_prices_bound_lists m s prices settings machine legal are kind fits reached =
@@ -417,9 +392,13 @@ needed_all : (m n : Parts) (s : Day) (xs : List Setting) → Leads m xs n → Ar
     → loose_count m s + priced_count xs ≡ loose_count n s + length xs
 needed_all m n s [] leads needed = subst (λ n. loose_count m s + 0 ≡ loose_count n s + 0) (sym leads) refl
 needed_all m n s (x ∷ xs) leads needed =
-    let rest = needed_all (machine_after m x) n s xs (subst (λ between. Leads between xs n) leads.1.made leads.2)
-    needed.1 in
-    omega (arith, needed_one m s x (is_priced_setting x) refl needed.0, count_by-cons is_priced_setting x xs, rest)
+    grind (
+      arith,
+      common_steps,
+      needed_one,
+      count_by-cons,
+      needed_all (machine_after m x) n s xs (subst (λ between. Leads between xs n) leads.1.made leads.2) needed.1,
+    )
 
 -- Up to `loose_falls`: a setting that changes no cable and no bar lowers the number of loose things by at most one.
 cond-one_or_other : (b : Bool) → cond {A = ℕ} b 1 0 + cond {A = ℕ} b 0 1 ≡ 1
@@ -439,15 +418,9 @@ module _ (s : Day) (legal : IsLegalDay s) where
       → loose_count m s + priced_count xs ≤ loose_count n s + length xs
   no_fewer m n [] same leads = subst (λ n. loose_count m s + 0 ≤ loose_count n s + 0) (sym leads) (omega arith)
   no_fewer m n (x ∷ xs) same leads =
-      let rest = no_fewer (machine_after m x) n xs (model_of-changed m x ∙ same)
-      (subst (λ between. Leads between xs n) leads.1.made leads.2) in
-      omega (
-        arith,
-        rest,
-        loose_falls m x same leads.1.allowed,
-        count_by-cons is_priced_setting x xs,
-        cond-one_or_other (is_priced_setting x),
-      )
+      let after = subst (λ between. Leads between xs n) leads.1.made leads.2 in
+      let rest = no_fewer (machine_after m x) n xs (model_of-changed m x ∙ same) after in
+      grind (arith, common_steps, loose_falls, count_by-cons, cond-one_or_other)
 
   needed_in_turn : (m n : Parts) (xs : List Setting) → model_of m ≡ day_model s → Leads m xs n → loose_count n s ≡ 0
       → length xs ≤ loose_count m s + priced_count xs → AreSettingsNeeded m s xs
@@ -463,14 +436,10 @@ module _ (s : Day) (legal : IsLegalDay s) where
       )
 
 pub as_few_are_needed : AsFewAreNeeded
-as_few_are_needed m s settings legal same reached few =
-    needed_in_turn s legal m reached.0 settings same reached.1 (nothing_loose reached.0 s reached.2) few
+as_few_are_needed m s settings legal same reached few = grind (arith, common_steps, needed_in_turn, nothing_loose)
 
 pub proving_cards_are_as_long : ProvingCardsAreAsLong
-proving_cards_are_as_long m s settings prices h =
-    let whole = needed_all m h.leads.0 s settings h.leads.1 h.needed in
-    let none = nothing_loose h.leads.0 s h.leads.2 in
-    omega (arith, ints)
+proving_cards_are_as_long m s settings prices h = grind (arith, common_steps, ints, needed_all, nothing_loose)
 
 pub proving_cards_are_shortest : ProvingCardsAreShortest
 proving_cards_are_shortest m s settings prices machine legal are_prices h others reached =

@@ -19,7 +19,7 @@ use Rattle.kd_state.specs.FirstFaults.{AnswerRule, ◌>>=◌, Yields, Finds, Dem
 use Rattle.kd_card.specs.Kinds.{Sort, cable_sort, pair_sort, bar_sort, row_sort, kind_words, kinds_text, counted}
 use Rattle.kd_card.specs.Kinds.{IsKind, AreKinds, ComesAfter}
 use Rattle.kd_card.specs.Prices.{price_sum, ArePricesInRange}
-use Rattle.kd_card.specs.CardText.{row_word, column_word, row_kind_word, price_count, head_words, price_lines}
+use Rattle.kd_card.specs.CardText.{column_word, price_count, head_words, price_lines}
 
 -- ---- numbers and prices as they are written
 
@@ -99,8 +99,10 @@ IsCountAnswer number bytes = IsValueAnswer false (codes "SETTINGS ") (decimal nu
 
 -- the first word of a card's first price line
 abbrev pub first_text : Version → Group → List ℕ
-first_text ByNumber group = row_word group
-first_text ByKind group = row_kind_word group
+first_text ByNumber OfCables = codes "CABLES"
+first_text ByNumber OfBars = codes "BARS"
+first_text ByKind OfCables = cable_sort.word
+first_text ByKind OfBars = bar_sort.word
 
 -- The result of reading `words` as `number` prices: the prices, or a fault. If a word isn't a price, the fault is
 -- `BadLine line`; if there are more or fewer prices, it is `PriceMissing`.

@@ -1,5 +1,5 @@
 -- The text of a card: lines that end with LF. Each has words, with one space between two words.
-use Rattle.std.specs.Prelude.{codes, decimal, ◌≡◌, ℕ, ◌≤◌, List, [], ◌∷◌, ◌++◌, length, map, None, All, ℤ}
+use Rattle.std.specs.Prelude.{codes, decimal, ◌≡◌, ℕ, ◌≤◌, List, [], ◌∷◌, ◌++◌, length, map, None, All}
 use Rattle.std.specs.List.{flat_map}
 use Rattle.std.specs.Fmt.{signed_decimal}
 use Rattle.kd_state.specs.declared.setting.Setting.{Setting}
@@ -15,19 +15,10 @@ use Rattle.kd_card.specs.declared.group.Group.TheVariants.{OfCables, OfBars}
 use Rattle.kd_card.specs.Kinds.{Sort, kind_words, cable_sort, pair_sort, bar_sort, row_sort, counted, AreKinds}
 use Rattle.kd_card.specs.Prices.{version_of, price_sum, ArePrices}
 
--- the first words of a card's two price lines, if each cable, pair, nothing, bar or row has its own price
-abbrev pub row_word : Group → List ℕ
-row_word OfCables = codes "CABLES"
-row_word OfBars = codes "BARS"
-
+-- the first word of a card's second price line, if each cable, pair, nothing, bar or row has its own price
 abbrev pub column_word : Group → List ℕ
 column_word OfCables = codes "PAIRS"
 column_word OfBars = codes "ROWS"
-
--- the first word of the line of each kind of cables, or of each kind of bars
-abbrev pub row_kind_word : Group → List ℕ
-row_kind_word OfCables = cable_sort.word
-row_kind_word OfBars = bar_sort.word
 
 -- the number of rows of the table of costs, which is also its number of columns
 abbrev pub price_count : Group → ℕ
@@ -39,25 +30,10 @@ pub record IsGroup {K X : Type 0} (sort : Sort K X) (number : ℕ) (kinds : List
   pub in_order : AreKinds sort None kinds
   pub count : counted sort kinds ≡ number
 
--- the second word of a card's first line: 1 if each cable, pair, bar or row has a price, 2 if each kind has one
-abbrev pub version_text : Version → List ℕ
-version_text ByNumber = codes "1"
-version_text ByKind = codes "2"
-
+-- the words of a card's first line: 1 if each cable, pair, bar or row has a price, 2 if each kind has one
 abbrev pub head_words : Version → ℕ → List (List ℕ)
-head_words version day = codes "CARD" ∷ version_text version ∷ codes "DAY" ∷ decimal day ∷ []
-
--- the words of the line after the settings, which has the number of settings
-abbrev pub settings_words : ℕ → List (List ℕ)
-settings_words number = codes "SETTINGS" ∷ decimal number ∷ []
-
--- the words of a price line: `word`, and then the prices
-abbrev pub price_words : List ℕ → List ℤ → List (List ℕ)
-price_words word prices = word ∷ map signed_decimal prices
-
--- the words of a card's last line, which has the sum of all prices
-abbrev pub sum_words : ℤ → List (List ℕ)
-sum_words sum = codes "SUM" ∷ signed_decimal sum ∷ []
+head_words ByNumber day = codes "CARD" ∷ codes "1" ∷ codes "DAY" ∷ decimal day ∷ []
+head_words ByKind day = codes "CARD" ∷ codes "2" ∷ codes "DAY" ∷ decimal day ∷ []
 
 -- the text of `lines`: for each line, its words with a space between two words, and then LF
 abbrev pub lines_text : List (List (List ℕ)) → List ℕ
@@ -65,23 +41,17 @@ lines_text lines = flat_map (λ words. line_of words ++ 10 ∷ []) lines
 
 -- the words of each price line: two lines if each cable, pair, bar or row has a price, else one for each kind
 abbrev pub price_lines : PriceParts → List (List (List ℕ))
-price_lines (Cables row col) = price_words (row_word OfCables) row ∷ price_words (column_word OfCables) col ∷ []
-price_lines (Bars row col) = price_words (row_word OfBars) row ∷ price_words (column_word OfBars) col ∷ []
+price_lines (Cables row col) = (codes "CABLES" ∷ map signed_decimal row) ∷ (codes "PAIRS" ∷ map signed_decimal col) ∷ []
+price_lines (Bars row col) = (codes "BARS" ∷ map signed_decimal row) ∷ (codes "ROWS" ∷ map signed_decimal col) ∷ []
 price_lines (CableKinds row col) = map (kind_words cable_sort) row.items ++ map (kind_words pair_sort) col.items
 price_lines (BarKinds row col) = map (kind_words bar_sort) row.items ++ map (kind_words row_sort) col.items
 
--- the words of each line of a card: first line, settings, number of settings, prices, and sum of prices
-abbrev pub card_lines : ℕ → List Setting → PriceParts → List (List (List ℕ))
-card_lines day settings prices =
-    head_words (version_of prices) day
-    ∷ map setting_words settings
-    ++ settings_words (length settings)
-    ∷ price_lines prices
-    ++ sum_words (price_sum prices)
-    ∷ []
-
+-- the text of a card: first line, settings, number of settings, prices, and sum of prices
 abbrev pub card_text : ℕ → List Setting → PriceParts → List ℕ
-card_text day settings prices = lines_text (card_lines day settings prices)
+card_text day settings prices = lines_text (
+    head_words (version_of prices) day ∷ map setting_words settings
+    ++ (codes "SETTINGS" ∷ decimal (length settings) ∷ []) ∷ price_lines prices
+    ++ (codes "SUM" ∷ signed_decimal (price_sum prices) ∷ []) ∷ [])
 
 -- `bytes` are the text of the card with this day, these settings and these prices, all of which are valid.
 pub record IsCard (bytes : List ℕ) (day : ℕ) (settings : List Setting) (prices : PriceParts) : Type 0 where

@@ -1,12 +1,13 @@
 -- Kinds. A kind stands for equal cables, columns, bars or rows: it has their number, and the price of each.
 use Rattle.std.specs.Prelude.{codes, decimal, ◌≡◌, ℕ, ◌+◌, ◌<◌, ◌≤◌, List, [], ◌∷◌, ◌++◌, length, map, replicate}
-use Rattle.std.specs.Prelude.{flat_map, ℤ, unsigned_abs, Option, Some, None, ◌⊎◌, IsPermutation, zip}
+use Rattle.std.specs.Prelude.{flat_map, ℤ, unsigned_abs, Option, Some, None, is_some, IsPermutation, zip}
+use Rattle.std.specs.{Cmp.Lexicographic.slice_cmp, Ordering.nat_cmp, declared.cmp.Ordering.TheVariants.Less}
 use Rattle.std.specs.Fmt.{signed_decimal}
 use Rattle.kd_tables.specs.declared.place.Place.{Place}
-use Rattle.kd_tables.specs.Places.{standing_text, reading_text, IsBefore, IsReading}
+use Rattle.kd_tables.specs.Places.{standing_text, reading_text, place_rank, IsBefore, IsReading}
 use Rattle.kd_state.specs.Words.{letter_text, line_of}
 use Rattle.kd_state.specs.Machine.{cable_letters}
-use Rattle.kd_state.specs.Costs.{column_letters}
+use Rattle.kd_state.specs.Costs.{column_letters, one_unless}
 use Rattle.kd_card.specs.declared.kinds.KindOf.{KindOf}
 use Rattle.kd_card.specs.declared.kinds.CableKind.{CableKind}
 use Rattle.kd_card.specs.declared.kinds.PairKind.{PairKind}
@@ -14,39 +15,6 @@ use Rattle.kd_card.specs.declared.kinds.BarKind.{BarKind}
 use Rattle.kd_card.specs.declared.kinds.RowKind.{RowKind}
 
 -- ---- things: a cable's letters, a column's pair, a bar's standing, a row's reading
-
--- The order of readings, and of pairs of letters: by the first number, then by the second number. The numbers of
--- letters are their places in the alphabet, counted from 0.
--- Code: readings are compared by the derived order of `Reading`.
-abbrev pub NumbersComeBefore : ℕ × ℕ → ℕ × ℕ → Type 0
-NumbersComeBefore x y = (x.0 < y.0) ⊎ ((x.0 ≡ y.0) × (x.1 < y.1))
-
--- The order of cables is the dictionary order of their letters; a cable without a first letter comes last.
--- `SecondComesBefore` compares the second letters.
--- Code: cables are compared by the derived order of `Ends`; the law `ordered` of `Kind` proves both orders equal.
-abbrev pub SecondComesBefore : Option ℕ → Option ℕ → Type 0
-SecondComesBefore None None = ⊥
-SecondComesBefore None (Some other) = Unit {0}
-SecondComesBefore (Some letter) None = ⊥
-SecondComesBefore (Some letter) (Some other) = letter < other
-
-abbrev pub EndsComeBefore : Option ℕ × Option ℕ → Option ℕ × Option ℕ → Type 0
-EndsComeBefore (None, second) (None, other) = SecondComesBefore second other
-EndsComeBefore (None, second) (Some first, other) = ⊥
-EndsComeBefore (Some first, second) (None, other) = Unit {0}
-EndsComeBefore (Some one, second) (Some two, other) = (one < two) ⊎ ((one ≡ two) × SecondComesBefore second other)
-
--- The order of columns: pairs in dictionary order, and then columns without a pair.
--- Code: columns are compared by the derived order of `Column`.
-abbrev pub PairComesBefore : Option (ℕ × ℕ) → Option (ℕ × ℕ) → Type 0
-PairComesBefore None other = ⊥
-PairComesBefore (Some pair) None = Unit {0}
-PairComesBefore (Some pair) (Some other) = NumbersComeBefore pair other
-
--- The order of standings: by the left lug's place, then by the right lug's place.
--- Code: standings are compared by the derived order of `Standing`.
-abbrev pub StandingComesBefore : Place × Place → Place × Place → Type 0
-StandingComesBefore x y = IsBefore x.0 y.0 ⊎ ((x.0 ≡ y.0) × IsBefore x.1 y.1)
 
 -- the text of a cable's or a column's letters in the line of its kind: the letters, or `-` if there are none
 abbrev pub letters_text : List ℕ → List ℕ
@@ -69,13 +37,14 @@ IsPairInOrder (Some pair) = (pair.0 < pair.1) × (pair.1 < 26)
 
 -- How a card writes and orders the kinds of one sort: of cables, columns, bars or rows. `word` is the first word of
 -- a kind's line. `kind` is a kind as its thing (letters, standing or reading), count and price. `text` is the text
--- of a thing. On a card, each thing satisfies `InForm`, and the lines are in the order `ComesBefore`.
+-- of a thing. On a card, each thing satisfies `InForm`, and the lines are in the order of their things' keys. So
+-- a cable without a first letter, and a column without a pair, come last.
 pub record Sort (K X : Type 0) : Type 1 where
   pub word : List ℕ
   pub kind : K → KindOf X
   pub text : X → List ℕ
   pub InForm : X → Type 0
-  pub ComesBefore : X → X → Type 0
+  pub key : X → List ℕ
 
 abbrev pub cable_sort : Sort CableKind (Option ℕ × Option ℕ)
 cable_sort = record {
@@ -83,7 +52,7 @@ cable_sort = record {
   kind = λ k. record { thing = k.ends; count = k.count; price = k.price };
   text = λ ends. letters_text (cable_letters ends);
   InForm = λ ends. AreEnds ends.0 ends.1;
-  ComesBefore = EndsComeBefore;
+  key = λ ends. one_unless (is_some ends.0) ∷ cable_letters ends;
 }
 
 abbrev pub pair_sort : Sort PairKind (Option (ℕ × ℕ))
@@ -92,7 +61,7 @@ pair_sort = record {
   kind = λ k. record { thing = k.pair; count = k.count; price = k.price };
   text = λ pair. letters_text (column_letters pair);
   InForm = IsPairInOrder;
-  ComesBefore = PairComesBefore;
+  key = λ pair. one_unless (is_some pair) ∷ column_letters pair;
 }
 
 abbrev pub bar_sort : Sort BarKind (Place × Place)
@@ -101,7 +70,7 @@ bar_sort = record {
   kind = λ k. record { thing = k.standing; count = k.count; price = k.price };
   text = standing_text;
   InForm = λ standing. IsBefore standing.0 standing.1;
-  ComesBefore = StandingComesBefore;
+  key = λ standing. place_rank standing.0 ∷ place_rank standing.1 ∷ [];
 }
 
 abbrev pub row_sort : Sort RowKind (ℕ × ℕ)
@@ -110,8 +79,13 @@ row_sort = record {
   kind = λ k. record { thing = k.reading; count = k.count; price = k.price };
   text = reading_text;
   InForm = IsReading;
-  ComesBefore = NumbersComeBefore;
+  key = λ reading. reading.0 ∷ reading.1 ∷ [];
 }
+
+-- The thing `x` comes before `y` in the order of lines: the key of `x` comes first in dictionary order.
+-- Code: things are compared by derived orders, which the law `ordered` of `Kind` proves equal to this order.
+abbrev pub ThingComesBefore : {K X : Type 0} → Sort K X → X → X → Type 0
+ThingComesBefore sort x y = slice_cmp nat_cmp (sort.key x) (sort.key y) ≡ Less
 
 -- A card may have a kind with this thing (letters, a standing or a reading), and writes the thing as `text`.
 pub record HasText {K X : Type 0} (sort : Sort K X) (text : List ℕ) (thing : X) : Type 0 where
@@ -128,7 +102,7 @@ pub record IsOnlyThing {K X : Type 0} (sort : Sort K X) (text : List ℕ) (thing
 -- If there is a kind `last`, the kind `next` comes after it in the order of a card's lines.
 abbrev pub ComesAfter : {K X : Type 0} → Sort K X → Option K → K → Type 0
 ComesAfter sort None next = Unit {0}
-ComesAfter sort (Some last) next = sort.ComesBefore (sort.kind last).thing (sort.kind next).thing
+ComesAfter sort (Some last) next = ThingComesBefore sort (sort.kind last).thing (sort.kind next).thing
 
 -- The kind is valid: its thing satisfies `InForm`, its count is from 1 to 255, and its price from -9999 to 9999.
 pub record IsKind {K X : Type 0} (sort : Sort K X) (kind : K) : Type 0 where

@@ -1,14 +1,14 @@
--- The order that `Ord` gives standings is `StandingComesBefore`: by the left lug's place, then by the right lug's.
+-- The order that `Ord` gives standings is that of their kinds' lines: by the left lug's place, then by the right lug's.
 -- Standings that compare as equal are the same.
-use Rattle.std.specs.Prelude.{◌≡◌, ◌↔◌, ◌⊎◌}
+use Rattle.std.specs.Prelude.{◌≡◌, ◌↔◌}
 use Rattle.std.proofs.Common.{arith}
-use Rattle.std.specs.Ordering.{ordering_then}
+use Rattle.std.specs.Ordering.{ordering_then, nat_cmp}
 use Rattle.std.specs.declared.cmp.Ordering.{Ordering}
 use Rattle.std.specs.declared.cmp.Ordering.TheVariants.{Less, Equal}
 use Rattle.kd_tables.specs.declared.place.Place.{Place}
-use Rattle.kd_tables.specs.Places.{IsBefore}
+use Rattle.kd_tables.specs.Places.{place_rank}
 use Rattle.kd_tables.specs.contracts.place.PlaceOrd.TheImpl as places
-use Rattle.kd_card.specs.Kinds.{StandingComesBefore}
+use Rattle.kd_card.specs.Kinds.{ThingComesBefore, bar_sort}
 
 abbrev place_cmp : Place → Place → Ordering
 place_cmp p q = places.ghosts.cmp p q
@@ -16,11 +16,8 @@ place_cmp p q = places.ghosts.cmp p q
 same_place : (p q : Place) → place_cmp p q ≡ Equal → p ≡ q
 same_place p q e = grind arith
 
-equal_place : (p q : Place) → p ≡ q → place_cmp p q ≡ Equal
-equal_place p q e = grind arith
-
-place_before : (p q : Place) → (place_cmp p q ≡ Less) ↔ IsBefore p q
-place_before p q = grind arith
+place_cmp-ranks : (p q : Place) → place_cmp p q ≡ nat_cmp (place_rank p) (place_rank q)
+place_cmp-ranks p q = grind arith
 
 abbrev pub standing_cmp : Place × Place → Place × Place → Ordering
 standing_cmp x y = ordering_then (place_cmp x.0 y.0) (place_cmp x.1 y.1)
@@ -28,8 +25,8 @@ standing_cmp x y = ordering_then (place_cmp x.0 y.0) (place_cmp x.1 y.1)
 both_equal : (a b : Ordering) → ordering_then a b ≡ Equal → (a ≡ Equal) × (b ≡ Equal)
 both_equal a b e = grind arith
 
-then_less : (a b : Ordering) → (ordering_then a b ≡ Less) ↔ ((a ≡ Less) ⊎ ((a ≡ Equal) × (b ≡ Less)))
-then_less a b = grind arith
+then_equal : (a : Ordering) → ordering_then a Equal ≡ a
+then_equal a = grind arith
 
 pub standings_told_apart : (x y : Place × Place) → standing_cmp x y ≡ Equal → x ≡ y
 standings_told_apart (a, b) (c, d) e =
@@ -38,6 +35,5 @@ standings_told_apart (a, b) (c, d) e =
     let right = same_place b d both.1 in
     cc
 
-pub standings_ordered : (x y : Place × Place) → StandingComesBefore x y ↔ (standing_cmp x y ≡ Less)
-standings_ordered x y =
-    grind (arith, then_less, place_before x.0 y.0, place_before x.1 y.1, same_place x.0 y.0, equal_place x.0 y.0)
+pub standings_ordered : (x y : Place × Place) → ThingComesBefore bar_sort x y ↔ (standing_cmp x y ≡ Less)
+standings_ordered x y = grind (arith, then_equal, place_cmp-ranks x.0 y.0, place_cmp-ranks x.1 y.1)

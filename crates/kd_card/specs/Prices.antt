@@ -11,10 +11,9 @@ use Rattle.kd_card.specs.Kinds.{cable_sort, pair_sort, bar_sort, row_sort, price
 
 -- whether prices are by number (one for each cable, pair, nothing, bar or row) or by kind (one for each kind)
 abbrev pub version_of : PriceParts → Version
-version_of (Cables row col) = ByNumber
-version_of (Bars row col) = ByNumber
 version_of (CableKinds row col) = ByKind
 version_of (BarKinds row col) = ByKind
+version_of _ = ByNumber
 
 -- a price for each row of the table of costs, a cable or a bar; if kinds have the prices, kind after kind
 abbrev pub row_prices : PriceParts → List ℤ
@@ -23,8 +22,7 @@ row_prices (Bars row col) = row
 row_prices (CableKinds row col) = prices_of_kinds cable_sort row.items
 row_prices (BarKinds row col) = prices_of_kinds bar_sort row.items
 
--- a price for each column of the table of costs, a pair, a nothing or a row of the sheet; if kinds have the prices,
--- kind after kind
+-- a price for each column of the table of costs: each pair and nothing, or each row of the sheet; kinds in order
 abbrev pub column_prices : PriceParts → List ℤ
 column_prices (Cables row col) = col
 column_prices (Bars row col) = col
@@ -34,9 +32,8 @@ column_prices (BarKinds row col) = prices_of_kinds row_sort col.items
 -- the number of rows of the table of costs, which is also its number of columns
 abbrev pub table_rows : PriceParts → ℕ
 table_rows (Cables row col) = 13
-table_rows (Bars row col) = 27
 table_rows (CableKinds row col) = 13
-table_rows (BarKinds row col) = 27
+table_rows _ = 27
 
 -- All prices are from -9999 to 9999.
 abbrev pub ArePricesInRange : List ℤ → Type 0
@@ -44,10 +41,9 @@ ArePricesInRange prices = All (λ price. unsigned_abs price ≤ 9999) prices
 
 -- If each kind has a price, the kinds of rows and the kinds of columns are valid and strictly ascending.
 abbrev pub HaveKindsInOrder : PriceParts → Type 0
-HaveKindsInOrder (Cables row col) = Unit {0}
-HaveKindsInOrder (Bars row col) = Unit {0}
 HaveKindsInOrder (CableKinds row col) = AreKinds cable_sort None row.items × AreKinds pair_sort None col.items
 HaveKindsInOrder (BarKinds row col) = AreKinds bar_sort None row.items × AreKinds row_sort None col.items
+HaveKindsInOrder _ = Unit {0}
 
 -- The prices are valid: one for each row and column of the table of costs, from -9999 to 9999. All kinds are valid.
 pub record ArePrices (prices : PriceParts) : Type 0 where
@@ -65,8 +61,7 @@ cost_at costs i j = slice_index (slice_index_or costs i []) j
 abbrev pub price_at : List ℤ → ℕ → ℤ
 price_at prices i = slice_index_or prices i (pos 0)
 
--- The prices of row `i` and column `j` add up to at most the cost where they meet. `PricesFit`: this holds for each
--- row and each column.
+-- The prices of row `i` and column `j` (`PricesFit`: of each row and column) add up to at most the cost there.
 abbrev pub PricesFitAt : List (List ℕ) → PriceParts → ℕ → ℕ → Type 0
 PricesFitAt costs prices i j =
     (price_at (row_prices prices) i +ℤ price_at (column_prices prices) j) ≤ℤ pos (cost_at costs i j)

@@ -1,12 +1,12 @@
 -- A card that proves itself: its settings lead the machine to the day, and its prices show that no shorter list
 -- does.
-use Rattle.std.specs.Prelude.{◌≡◌, ℕ, ◌+◌, ◌≤◌, Bool, true, false, List, [], ◌∷◌, length, map, count_by, pos}
-use Rattle.std.specs.Prelude.{IsFalse, Option, Some, None}
+use Rattle.std.specs.Prelude.{◌≡◌, ℕ, ◌+◌, ◌≤◌, Bool, true, false, List, [], ◌∷◌, length, map, option_map, pos}
+use Rattle.std.specs.Prelude.{IsFalse, count_by, Option}
 use Rattle.kd_tables.specs.Places.{smaller_first}
 use Rattle.kd_state.specs.declared.machine.parts.Parts.{Parts}
 use Rattle.kd_state.specs.declared.machine.parts.Parts.TheVariants.{Rotor, Pin}
 use Rattle.kd_state.specs.declared.setting.Setting.{Setting}
-use Rattle.kd_state.specs.declared.setting.Setting.TheVariants.{Pull, Put, Seat, SeatReflector, RingTo, Turn, PinTo}
+use Rattle.kd_state.specs.declared.setting.Setting.TheVariants.{Pull, Put}
 use Rattle.kd_state.specs.declared.setting.Setting.TheVariants.{LugTo}
 use Rattle.kd_state.specs.Machine.{model_of}
 use Rattle.kd_state.specs.Setting.{Leads, machine_after}
@@ -19,8 +19,7 @@ use Rattle.kd_card.specs.declared.prices.Version.TheVariants.{ByNumber}
 use Rattle.kd_card.specs.Kinds.{cable_sort, pair_sort, bar_sort, row_sort, AreKindsOf}
 use Rattle.kd_card.specs.Prices.{version_of, price_sum, PricesFit, ArePrices}
 
--- Each cable and column has a price if the machine is a rotor machine. Each bar and row has a price if it is a
--- Converter M-209.
+-- The prices are by number: of each cable and column of a rotor machine, or of each bar and row of a Converter M-209.
 abbrev pub AreModelPrices : Parts → PriceParts → Type 0
 AreModelPrices (Rotor m) (Cables row col) = Unit {0}
 AreModelPrices (Pin m) (Bars row col) = Unit {0}
@@ -31,11 +30,7 @@ abbrev pub is_priced_setting : Setting → Bool
 is_priced_setting (Pull cable letter) = true
 is_priced_setting (Put cable letter) = true
 is_priced_setting (LugTo bar lug place) = true
-is_priced_setting (Seat slot wheel) = false
-is_priced_setting (SeatReflector reflector) = false
-is_priced_setting (RingTo wheel letter) = false
-is_priced_setting (Turn slot letter) = false
-is_priced_setting (PinTo wheel letter effective) = false
+is_priced_setting _ = false
 
 -- the number of settings that change a cable or a bar
 abbrev pub priced_count : List Setting → ℕ
@@ -56,11 +51,9 @@ LeadsToTheDay m s settings = (n : Parts) × Leads m settings n × ReadsAs n s
 
 -- ---- prices by kind mean prices by number
 
--- a pair with its letters in alphabetical order; and the columns of a day's table of costs, with all their pairs in
--- this form (`columns_in_order`)
+-- a column with the letters of its pair in alphabetical order; and all columns of a day's table of costs in this form
 abbrev pub pair_in_order : Option (ℕ × ℕ) → Option (ℕ × ℕ)
-pair_in_order None = None
-pair_in_order (Some pair) = Some (smaller_first pair.0 pair.1)
+pair_in_order column = option_map (λ pair. smaller_first pair.0 pair.1) column
 
 abbrev pub columns_in_order : List (ℕ × ℕ) → List (Option (ℕ × ℕ))
 columns_in_order pairs = map pair_in_order (columns_of pairs)
@@ -82,9 +75,8 @@ pub data Expands (m : Parts) (s : Day) (prices numbered : PriceParts) : Type 0 w
 
 -- ---- the card proves itself
 
--- A card by number proves itself: the settings lead the machine to the day, and each of them is needed. The prices
--- fit the table of costs, and their sum is the number of settings that change a cable or a bar. By number, each
--- cable and column, or each bar and row, has its own price.
+-- A card by number proves itself: its settings lead the machine to the day, and each of them is needed. Its prices
+-- fit the table of costs, and their sum is the number of settings that change a cable or a bar.
 pub record ProvesByNumber (m : Parts) (s : Day) (settings : List Setting) (prices : PriceParts) : Type 0 where
   pub model : model_of m ≡ day_model s
   pub kind : AreModelPrices m prices

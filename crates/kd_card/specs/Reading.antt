@@ -1,11 +1,11 @@
 -- What the private steps of reading a card find, and the first line's text before the day. No contract of a public
 -- function cites these definitions.
-use Rattle.std.specs.Prelude.{codes, ◌≡◌, ◌≤◌, ℕ, ℤ, unsigned_abs, List, [], Option, Some, None}
+use Rattle.std.specs.Prelude.{codes, ◌≡◌, ◌≤◌, ℕ, ℤ, unsigned_abs, All, List, [], length, Option, Some, None}
 use Rattle.std.specs.Fmt.{signed_decimal}
 use Rattle.kd_state.specs.Words.{words_of}
 use Rattle.kd_card.specs.declared.prices.Version.{Version}
 use Rattle.kd_card.specs.declared.prices.Version.TheVariants.{ByNumber, ByKind}
-use Rattle.kd_card.specs.Kinds.{Sort, HasKindWords}
+use Rattle.kd_card.specs.Kinds.{Sort, IsKind, HasKindWords}
 use Rattle.kd_card.specs.CardFault.{EndsGroup, HasNoNext}
 
 -- the words of a line after its first word; the argument is the line's text after its first space, if any
@@ -36,3 +36,8 @@ pub record IsBadKindAt {K X : Type 0} (sort : Sort K X) (last : Option K) (bytes
 pub record IsKindOfWords {K X : Type 0} (sort : Sort K X) (words : List (List ℕ)) (kind : K) : Type 0 where
   pub has : HasKindWords sort words kind
   pub only : (other : K) → HasKindWords sort words other → (sort.kind other).thing ≡ (sort.kind kind).thing
+
+-- At most 27 kinds, each of them valid.
+pub record AreFewKinds {K X : Type 0} (sort : Sort K X) (kinds : List K) : Type 0 where
+  pub valid : All (IsKind sort) kinds
+  pub few : length kinds ≤ 27

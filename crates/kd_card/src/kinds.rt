@@ -65,7 +65,7 @@ pub struct KindOf<T> {
 pub trait Kind: Copy + Default {
     ghost use Rattle.std.specs.Prelude.{◌≡◌, ◌↔◌, ◌≤◌, length, List, IsTrue, MatchOption};
     ghost use Rattle.std.specs.declared.cmp.Ordering.TheVariants.{Less};
-    ghost use Rattle.kd_card.specs.Kinds.{Sort, HasText, IsOnlyThing};
+    ghost use Rattle.kd_card.specs.Kinds.{Sort, ThingComesBefore, HasText, IsOnlyThing};
 
     /// What the cables, columns, bars or rows of one kind have in common.
     type Thing: Thing;
@@ -100,8 +100,8 @@ pub trait Kind: Copy + Default {
             ((thing : Self.Thing) → ¬ (HasText sort text.now thing))
             (IsOnlyThing sort text.now) };
 
-    /// The order that `Ord` gives `Thing` is the order of a card's lines, `sort.ComesBefore`.
-    ghost ordered: { (x y : Self.Thing) → sort.ComesBefore x y ↔ (Self.Thing.cmp x y ≡ Less) };
+    /// The order that `Ord` gives `Thing` is the order of a card's lines, `sort.ThingComesBefore`.
+    ghost ordered: { (x y : Self.Thing) → ThingComesBefore sort x y ↔ (Self.Thing.cmp x y ≡ Less) };
 }
 
 impl Kind for CableKind {
@@ -127,9 +127,7 @@ impl Kind for CableKind {
         }
     }
 
-    fn parts(&self) -> KindOf<Ends>
-        ensures { result ≡ cable_sort.kind self.now }
-    {
+    fn parts(&self) -> KindOf<Ends> {
         KindOf {
             thing: Ends::new(self.ends),
             count: self.count,
@@ -191,9 +189,7 @@ impl Kind for PairKind {
         }
     }
 
-    fn parts(&self) -> KindOf<Column>
-        ensures { result ≡ pair_sort.kind self.now }
-    {
+    fn parts(&self) -> KindOf<Column> {
         KindOf {
             thing: Column::new(self.pair),
             count: self.count,
@@ -250,9 +246,7 @@ impl Kind for BarKind {
         }
     }
 
-    fn parts(&self) -> KindOf<Standing>
-        ensures { result ≡ bar_sort.kind self.now }
-    {
+    fn parts(&self) -> KindOf<Standing> {
         KindOf {
             thing: self.standing,
             count: self.count,
@@ -298,9 +292,7 @@ impl Kind for RowKind {
         }
     }
 
-    fn parts(&self) -> KindOf<Reading>
-        ensures { result ≡ row_sort.kind self.now }
-    {
+    fn parts(&self) -> KindOf<Reading> {
         KindOf {
             thing: self.reading,
             count: self.count,

@@ -21,7 +21,7 @@ mod write;
 pub use card::Card;
 pub use fault::CardFault;
 pub use kinds::{BarKind, CableKind, Kind, KindOf, PairKind, RowKind};
-pub use line::push_some_setting;
+pub use line::push_unless;
 pub use loose::loose_count;
 pub use pin_lines::pin_settings;
 pub use prices::{PriceParts, Prices, Version, sum_of_prices};

@@ -1,17 +1,17 @@
-//! Appends one setting, or none, to the settings of a card.
+//! Appends a setting to the settings of a card, unless it isn't needed.
 ghost use Rattle.std.specs.Prelude.{◌≡◌, ◌+◌, ◌≤◌, ◌++◌};
-ghost use Rattle.std.specs.Option.{option_to_list};
 ghost use Rattle.arrayvec.specs.ArrayVec.{array_vec_len};
+ghost use Rattle.kd_card.specs.Loose.{setting_unless};
 
 use kd_state::{Setting, Settings};
 
-/// Appends the setting `line`, unless it is `None`.
-pub fn push_some_setting(settings: &mut Settings, line: Option<Setting>)
+/// Appends `setting`, unless `so` is true, which says that the thing is as the day says already.
+pub fn push_unless(settings: &mut Settings, so: bool, setting: Setting)
     requires { array_vec_len settings.old + 1 ≤ 192 }
-    ensures items { settings.new.items ≡ settings.old.items ++ option_to_list line }
+    ensures items { settings.new.items ≡ settings.old.items ++ setting_unless so setting }
     ensures few { array_vec_len settings.new ≤ array_vec_len settings.old + 1 }
 {
-    if let Some(line) = line {
-        settings.push(line);
+    if !so {
+        settings.push(setting);
     }
 }

@@ -1,14 +1,13 @@
 //! The settings that a Converter M-209 needs for pins and for the letters that its wheels show.
-ghost use Rattle.std.specs.Prelude.{◌≡◌, ◌+◌, ◌<◌, ◌≤◌, ◌++◌, not, nat_eq, length, zip};
+ghost use Rattle.std.specs.Prelude.{◌≡◌, ◌+◌, ◌<◌, ◌≤◌, ◌++◌, flat_map, length, zip};
 ghost use Rattle.arrayvec.specs.ArrayVec.{array_vec_len};
-ghost use Rattle.kd_state.specs.Costs.{exactly_one};
+ghost use Rattle.kd_pins.specs.PinWheels.{pins_of};
 ghost use Rattle.kd_state.specs.declared.machine.parts.Parts.TheVariants.{Pin};
 ghost use Rattle.kd_state.specs.SheetDay.{OfPins};
 ghost use Rattle.kd_state.specs.Entry.{pin_values};
-ghost use Rattle.kd_card.specs.Loose.{setting_unless, lines_from, wheel_pin_lines, pin_lines, pin_wheel_turn_line};
-ghost use Rattle.kd_card.specs.Loose.{loose_lines};
+ghost use Rattle.kd_card.specs.Loose.{lines_from, pin_line, wheel_pin_lines, pin_wheel_turn_line, loose_lines};
 
-use super::line::push_some_setting;
+use super::line::push_unless;
 use arrayvec::ArrayVec;
 use kd_pins::PinSet;
 use kd_state::{PinEntry, PinParts, Setting, Settings};
@@ -30,7 +29,8 @@ pub fn pin_settings(parts: &PinParts, entry: &PinEntry) -> Settings
 /// Appends the setting PIN for each pin whose state in `present` isn't the state in `wanted`, wheel by wheel.
 fn push_pins(settings: &mut Settings, present: &PinSet, wanted: &PinSet)
     requires { array_vec_len settings.old + 131 ≤ 192 }
-    ensures items { settings.new.items ≡ settings.old.items ++ pin_lines present.now wanted.now }
+    ensures items { settings.new.items ≡ settings.old.items
+        ++ lines_from wheel_pin_lines 1 (zip (pins_of present.now) (pins_of wanted.now)) }
     ensures few { array_vec_len settings.new ≤ array_vec_len settings.old + 131 }
 {
     push_wheel_pins(settings, 1, &ring1().letters(), &present.w1, &wanted.w1);
@@ -54,7 +54,8 @@ fn push_pin_turns(settings: &mut Settings, number: u8, letters: &[Letter], windo
     if let [present, letters @ ..] = letters
         && let [wanted, window @ ..] = window
     {
-        push_some_setting(settings, pin_turn_line(number, *present, *wanted));
+        let (slot, letter) = (number, *wanted);
+        push_unless(settings, *present == letter, Setting::Turn { slot, letter });
         push_pin_turns(settings, number + 1, letters, window);
     }
 }
@@ -69,33 +70,20 @@ fn push_wheel_pins(
 )
     requires { array_vec_len settings.old + length ring.now ≤ 192 }
     ensures items { settings.new.items ≡ settings.old.items
-        ++ wheel_pin_lines wheel ring.now present.now wanted.now }
+        ++ flat_map (pin_line wheel) (zip ring.now (zip present.now wanted.now)) }
     ensures few { array_vec_len settings.new ≤ array_vec_len settings.old + length ring.now }
 {
     if let [letter, ring @ ..] = ring
         && let [now, present @ ..] = present
         && let [due, wanted @ ..] = wanted
     {
-        push_some_setting(settings, pin_line(wheel, *letter, *now, *due));
+        let (letter, effective) = (*letter, *due);
+        let setting = Setting::PinTo {
+            wheel,
+            letter,
+            effective,
+        };
+        push_unless(settings, *now == effective, setting);
         push_wheel_pins(settings, wheel, ring, present, wanted);
     }
-}
-
-/// The setting PIN for one pin, or `None` if its state `present` is the wanted state `effective` already.
-fn pin_line(wheel: u8, letter: Letter, present: bool, effective: bool) -> Option<Setting>
-    ensures { let so = not (exactly_one present effective) in
-        result ≡ setting_unless so (Setting.PinTo wheel letter effective) }
-{
-    (present != effective).then_some(Setting::PinTo {
-        wheel,
-        letter,
-        effective,
-    })
-}
-
-/// The setting TURN for one pin wheel, or `None` if the wheel shows `letter` already.
-fn pin_turn_line(slot: u8, present: Letter, letter: Letter) -> Option<Setting>
-    ensures { result ≡ setting_unless (nat_eq present letter) (Setting.Turn slot letter) }
-{
-    (present != letter).then_some(Setting::Turn { slot, letter })
 }

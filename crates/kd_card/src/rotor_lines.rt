@@ -1,20 +1,20 @@
 //! The settings that a rotor machine needs for wheels, reflector, rings and window letters.
-ghost use Rattle.std.specs.Prelude.{◌≡◌, ◌+◌, ◌<◌, ◌≤◌, ◌++◌, false, nat_eq, length, find, flat_map};
-ghost use Rattle.std.specs.Prelude.{option_and_then, zip};
+ghost use Rattle.std.specs.Prelude.{◌≡◌, ◌+◌, ◌<◌, ◌≤◌, ◌++◌, [], false, nat_eq, length, find, flat_map};
+ghost use Rattle.std.specs.Prelude.{zip};
 ghost use Rattle.std.specs.Option.{option_map_or};
 ghost use Rattle.arrayvec.specs.ArrayVec.{array_vec_len};
 ghost use Rattle.kd_state.specs.declared.machine.parts.Parts.TheVariants.{Rotor};
-ghost use Rattle.kd_state.specs.SameParts.{same_wheel, same_reflector};
-ghost use Rattle.kd_state.specs.Machine.{machine_ring, machine_letter};
+ghost use Rattle.kd_state.specs.SameParts.{same_wheel};
+ghost use Rattle.kd_state.specs.Machine.{machine_ring};
 ghost use Rattle.kd_state.specs.SheetDay.{OfRotors};
 ghost use Rattle.kd_state.specs.Entry.{rotor_values};
 ghost use Rattle.kd_card.specs.Loose.{setting_unless, lines_from, slot_seat_line, wheel_ring_line, slot_turn_line};
 ghost use Rattle.kd_card.specs.Loose.{loose_lines};
 
-use super::line::push_some_setting;
+use super::line::push_unless;
 use arrayvec::ArrayVec;
 use kd_state::{Machine, RotorEntry, RotorParts, Setting, Settings, SheetWheel};
-use kd_tables::{Reflector, Wheel};
+use kd_tables::Wheel;
 
 /// Lists a setting for each slot, reflector, ring and letter of a rotor machine that isn't as on the day.
 ///
@@ -27,10 +27,11 @@ pub fn rotor_settings(machine: &Machine, parts: &RotorParts, entry: &RotorEntry)
     ensures few { length result.items ≤ 19 }
 {
     let wheels = entry.wheels.as_slice();
-    let reflector = reflector_line(parts.reflector, entry.reflector);
+    let reflector = entry.reflector;
+    let setting = Setting::SeatReflector { reflector };
     let mut settings = ArrayVec::new();
     push_seats(&mut settings, 1, parts.slots.as_slice(), wheels);
-    push_some_setting(&mut settings, reflector);
+    push_unless(&mut settings, parts.reflector == reflector, setting);
     push_rings(&mut settings, machine, parts, parts.model.wheels(), wheels);
     push_turns(&mut settings, machine, parts, 1, wheels);
     settings
@@ -49,7 +50,9 @@ fn push_seats(settings: &mut Settings, number: u8, slots: &[Option<Wheel>], whee
     if let [seated, slots @ ..] = slots
         && let [wanted, wheels @ ..] = wheels
     {
-        push_some_setting(settings, seat_line(number, *seated, wanted.wheel));
+        let (slot, wheel) = (number, wanted.wheel);
+        let is_seated = *seated == Some(wheel);
+        push_unless(settings, is_seated, Setting::Seat { slot, wheel });
         push_seats(settings, number + 1, slots, wheels);
     }
 }
@@ -69,7 +72,7 @@ fn push_rings(
     ensures few { array_vec_len settings.new ≤ array_vec_len settings.old + length boxed.now }
 {
     if let [wheel, rest @ ..] = boxed {
-        push_some_setting(settings, ring_line(machine, find_wheel(wheels, *wheel)));
+        push_ring(settings, machine, find_wheel(wheels, *wheel));
         push_rings(settings, machine, parts, rest, wheels);
     }
 }
@@ -91,26 +94,12 @@ fn push_turns(
         ++ lines_from (slot_turn_line parts.now) number wheels.now }
     ensures few { array_vec_len settings.new ≤ array_vec_len settings.old + length wheels.now }
 {
-    if let [wheel, rest @ ..] = wheels {
-        push_some_setting(settings, turn_line(machine, number, *wheel));
+    if let [SheetWheel { wheel, letter, .. }, rest @ ..] = wheels {
+        let (slot, letter) = (number, *letter);
+        let is_turned = machine.letter(*wheel) == Some(letter);
+        push_unless(settings, is_turned, Setting::Turn { slot, letter });
         push_turns(settings, machine, parts, number + 1, rest);
     }
-}
-
-/// The setting SEAT for one slot, or `None` if `wheel` is in this slot already.
-fn seat_line(slot: u8, seated: Option<Wheel>, wheel: Wheel) -> Option<Setting>
-    ensures { let so = option_map_or (same_wheel wheel) seated false in
-        result ≡ setting_unless so (Setting.Seat slot wheel) }
-{
-    (seated != Some(wheel)).then_some(Setting::Seat { slot, wheel })
-}
-
-/// The setting REFLECTOR, or `None` if `reflector` is in the machine already.
-fn reflector_line(present: Reflector, reflector: Reflector) -> Option<Setting>
-    ensures { let so = same_reflector present reflector in
-        result ≡ setting_unless so (Setting.SeatReflector reflector) }
-{
-    (present != reflector).then_some(Setting::SeatReflector { reflector })
 }
 
 /// Finds `wheel` among the day's wheels `wheels`, each of which has its ring's letter and its window letter.
@@ -120,23 +109,18 @@ fn find_wheel(wheels: &[SheetWheel], wheel: Wheel) -> Option<SheetWheel>
     wheels.iter().copied().find(|seated| wheel == seated.wheel)
 }
 
-/// The setting RING for the day's wheel `wanted`, or `None` if this is `None` or its ring is at the day's letter.
-fn ring_line(machine: &Machine, wanted: Option<SheetWheel>) -> Option<Setting>
-    ensures { result ≡ option_and_then (λ seated.
+/// Appends the setting RING for the day's wheel `wanted`, unless this is `None` or its ring is set already.
+fn push_ring(settings: &mut Settings, machine: &Machine, wanted: Option<SheetWheel>)
+    requires { array_vec_len settings.old + 1 ≤ 192 }
+    ensures items { let lines = option_map_or (λ seated.
         let so = option_map_or (nat_eq seated.ring) (machine_ring machine.now seated.wheel) false in
-        setting_unless so (Setting.RingTo seated.wheel seated.ring)) wanted }
+        setting_unless so (Setting.RingTo seated.wheel seated.ring)) wanted [] in
+        settings.new.items ≡ settings.old.items ++ lines }
+    ensures few { array_vec_len settings.new ≤ array_vec_len settings.old + 1 }
 {
-    let seated = wanted?;
-    let (wheel, letter) = (seated.wheel, seated.ring);
-    (machine.ring(wheel) != Some(letter)).then_some(Setting::RingTo { wheel, letter })
-}
-
-/// The setting TURN, or `None` if the day's wheel `wanted` is turned to the day's letter already.
-fn turn_line(machine: &Machine, slot: u8, wanted: SheetWheel) -> Option<Setting>
-    ensures { let shown = machine_letter machine.now wanted.wheel in
-        let so = option_map_or (nat_eq wanted.letter) shown false in
-        result ≡ setting_unless so (Setting.Turn slot wanted.letter) }
-{
-    let SheetWheel { wheel, letter, .. } = wanted;
-    (machine.letter(wheel) != Some(letter)).then_some(Setting::Turn { slot, letter })
+    if let Some(SheetWheel { wheel, ring, .. }) = wanted {
+        let letter = ring;
+        let is_set = machine.ring(wheel) == Some(letter);
+        push_unless(settings, is_set, Setting::RingTo { wheel, letter });
+    }
 }

@@ -1,17 +1,20 @@
 //! Writes the text of a card to a sink.
 ghost use Rattle.std.specs.Prelude.{◌≡◌, ◌+◌, ◌*◌, ◌≤◌, ◌||◌, [], ◌∷◌, ◌++◌, length, is_err, unsigned_abs, All};
+ghost use Rattle.std.specs.Prelude.{codes, decimal, map};
 ghost use Rattle.std.specs.Fmt.{signed_decimal};
 ghost use Rattle.arrayvec.specs.ArrayString.{array_string_len};
 ghost use Rattle.kd_tables.specs.Writing.{Writes};
 ghost use Rattle.kd_state.specs.Line.{list_text, IsSettingInRange};
 ghost use Rattle.kd_state.specs.SheetDay.{IsDayNumber};
 ghost use Rattle.kd_card.specs.Prices.{ArePricesInRange, ArePrices};
-ghost use Rattle.kd_card.specs.CardText.{card_text, head_words, settings_words, price_words};
-ghost use Rattle.kd_card.specs.CardText.{sum_words, lines_text, price_lines, IsCard};
+ghost use Rattle.kd_card.specs.CardText.{card_text, head_words, lines_text, price_lines, IsCard};
 ghost use Rattle.kd_card.specs.CardFault.{line_then};
+ghost use Rattle.kd_card.specs.Kinds.{kind_words};
+ghost use Rattle.kd_card.specs.Reading.{AreFewKinds};
 
 use super::card::Card;
 use super::kind_text::push_kinds;
+use super::kinds::Kind;
 use super::prices::{PriceParts, Prices, Version};
 use arrayvec::ArrayString;
 use itoa::Buffer;
@@ -87,7 +90,7 @@ fn push_setting<const N: usize>(text: &mut ArrayString<N>, setting: &Setting)
 /// Appends the line `SETTINGS` with `count`, the number of settings.
 fn push_count<const N: usize>(text: &mut ArrayString<N>, count: usize)
     requires { array_string_len text.old + 30 ≤ N }
-    ensures bytes { text.new.bytes ≡ text.old.bytes ++ line_then (settings_words count) [] }
+    ensures bytes { text.new.bytes ≡ text.old.bytes ++ line_then (codes "SETTINGS" ∷ decimal count ∷ []) [] }
     ensures len { array_string_len text.new ≤ array_string_len text.old + 30 }
 {
     let mut buffer = Buffer::new();
@@ -112,14 +115,28 @@ fn push_prices<const N: usize>(text: &mut ArrayString<N>, prices: &Prices)
             push_price_line(text, "ROWS", &rows);
         }
         PriceParts::CableKinds(cables, pairs) => {
-            push_kinds(text, cables.as_slice());
-            push_kinds(text, pairs.as_slice());
+            push_groups(text, cables.as_slice(), pairs.as_slice());
         }
-        PriceParts::BarKinds(bars, rows) => {
-            push_kinds(text, bars.as_slice());
-            push_kinds(text, rows.as_slice());
-        }
+        PriceParts::BarKinds(bars, rows) => push_groups(text, bars.as_slice(), rows.as_slice()),
     }
+}
+
+/// Appends a line for each kind of `rows`, and then for each kind of `columns`.
+#[tactic(auto, using(crate::proofs::KindPrices::groups_joined))]
+fn push_groups<R: Kind, C: Kind, const N: usize>(
+    text: &mut ArrayString<N>,
+    rows: &[R],
+    columns: &[C],
+)
+    requires room { array_string_len text.old + 1404 ≤ N }
+    requires rows { AreFewKinds R.sort rows.now }
+    requires columns { AreFewKinds C.sort columns.now }
+    ensures bytes { let lines = map (kind_words R.sort) rows.now ++ map (kind_words C.sort) columns.now in
+        text.new.bytes ≡ text.old.bytes ++ lines_text lines }
+    ensures len { array_string_len text.new ≤ array_string_len text.old + 1404 }
+{
+    push_kinds(text, rows);
+    push_kinds(text, columns);
 }
 
 /// Appends a line: `word`, and then `prices`, each after a space.
@@ -127,7 +144,7 @@ fn push_price_line<const N: usize>(text: &mut ArrayString<N>, word: &str, prices
     requires room { array_string_len text.old + length word.now + 7 * length prices.now + 1 ≤ N }
     requires reach { ArePricesInRange prices.now }
     ensures bytes { text.new.bytes
-        ≡ text.old.bytes ++ line_then (price_words word.now prices.now) [] }
+        ≡ text.old.bytes ++ line_then (word.now ∷ map signed_decimal prices.now) [] }
     ensures len { array_string_len text.new
         ≤ array_string_len text.old + length word.now + 7 * length prices.now + 1 }
 {
@@ -153,7 +170,7 @@ fn push_price<const N: usize>(text: &mut ArrayString<N>, price: i16)
 /// Appends the line `SUM` with `sum`, the sum of all prices.
 fn push_sum<const N: usize>(text: &mut ArrayString<N>, sum: i32)
     requires { array_string_len text.old + 16 ≤ N }
-    ensures bytes { text.new.bytes ≡ text.old.bytes ++ line_then (sum_words sum) [] }
+    ensures bytes { text.new.bytes ≡ text.old.bytes ++ line_then (codes "SUM" ∷ signed_decimal sum ∷ []) [] }
     ensures len { array_string_len text.new ≤ array_string_len text.old + 16 }
 {
     let mut buffer = Buffer::new();

@@ -10,6 +10,7 @@ use Rattle.kd_desk.specs.{Laws.{MonthsAreFewest, MonthsSetTheMachine}, Ports.Wri
 use Rattle.kd_desk.specs.Month.{AreWritten, HasDayOf, HasPapers, HasPapersInTurn, Papers, SetTheMachine, sink_with}
 use Rattle.kd_desk.specs.Month.{success, AreCardsOf, AreDaysOf, SetTheMachineInTurn}
 use Rattle.kd_card.{proofs.Months.cards_are_fewest_in_all, specs.Months.{DayAfterDay, IsProvedCard}}
+use Rattle.kd_card.specs.declared.prices.PriceParts.TheVariants.{Cables}
 use Rattle.kd_sheet.proofs.ReadBack.Described.{machine_of-IsMachine, sheet_of-legal}
 use Rattle.{kd_prices.specs.KindCards.IsByKind, kd_state.proofs.Telling.Refusing.{leads_to_one, lists_keep_machines}}
 use Rattle.kd_sheet.specs.{Laws.WrittenFilesAreReadBack, MachineText.machine_text, declared.fault.SheetFault.SheetFault}
@@ -37,7 +38,9 @@ IsCarried-applied m bytes sink applies = grind (arith)
 begins_as_card-card : (text : List ℕ) (day : ℕ) (settings : List Setting) (prices : PriceParts)
     → IsCard text day settings prices
     → IsTrue (begins_as_card text)
-begins_as_card-card text day settings prices card = subst (λ bytes. IsTrue (begins_as_card bytes)) (sym card.text) refl
+begins_as_card-card text day settings (Cables row col) card =
+    subst (λ bytes. IsTrue (begins_as_card bytes)) (sym card.text) refl
+begins_as_card-card text day settings _ card = subst (λ bytes. IsTrue (begins_as_card bytes)) (sym card.text) refl
 
 settings_of : (text : List ℕ) (day : ℕ) (settings : List Setting) (prices : PriceParts)
     → IsCard text day settings prices → AreSettings text settings

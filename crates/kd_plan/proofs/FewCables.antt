@@ -6,7 +6,7 @@ unfoldable pub use Sparing.*
 -- spare ones among the first `first`, is `first`.
 all_first : (cables : List Cable) (first : ℕ) → first ≤ length cables
     → ((k : ℕ) → first ≤ k → is_spare_at cables k ≡ true)
-    → spare_count (take first cables) + count_by (λ cable. not (is_spare cable)) cables ≡ first
+    → count_by is_spare (take first cables) + count_by (λ cable. not (is_spare cable)) cables ≡ first
 all_first [] zero few free = refl
 all_first [] (suc first) few free = absurd (omega arith)
 all_first (cable ∷ cables) zero few free =
@@ -17,7 +17,7 @@ all_first (cable ∷ cables) (suc first) few free =
     simp sum_by-cons (grind (arith, nat_tests))
 
 one_spare : (cables : List Cable) (place : ℕ) → place < length cables → is_spare_at cables place ≡ true
-    → 1 ≤ spare_count (take (suc place) cables)
+    → 1 ≤ count_by is_spare (take (suc place) cables)
 one_spare [] place lt h = absurd (omega arith)
 one_spare (cable ∷ cables) zero lt h = simp sum_by-cons (grind (arith, nat_tests))
 one_spare (cable ∷ cables) (suc place) lt h = let rest = one_spare cables place (omega arith) h in simp sum_by-cons
@@ -60,9 +60,7 @@ set_within : (number : ℕ) (m : RotorParts) (cable : ℕ) (ends : Cable) → Us
     → is_none (numbered_item m.cables cable) ≡ false
     → UsesNoneAbove number (Rotor (record m { cables = set m.cables (cable - 1) ends }))
 set_within number m cable ends none within there other above =
-    let same = numbered_other m.cables cable other ends (IsNumbered-not_none m.cables cable (None, None) there).first
-    (omega arith) in
-    ap (λ ends. is_spare (unwrap_or ends (None, None))) same ∙ none other above
+    grind (arith, common_steps, numbered_other, IsNumbered-not_none)
 
 -- Let each legal setting that satisfies `Bound` also satisfy `Says`, and let the machine still satisfy `Keeps` after
 -- it. Then this holds also for a list of settings that all satisfy `Bound`.

@@ -12,9 +12,6 @@ use Rattle.kd_state.specs.SheetDay.{Day, OfRotors, OfPins}
 abbrev pub is_spare : Option ℕ × Option ℕ → Bool
 is_spare cable = is_none cable.0 && is_none cable.1
 
-abbrev pub spare_count : List (Option ℕ × Option ℕ) → ℕ
-spare_count cables = count_by is_spare cables
-
 -- the number of spare cables that the pairs need: the number of pairs minus that of cables in use, but at least 0
 abbrev pub spares_needed : List (Option ℕ × Option ℕ) → List (ℕ × ℕ) → ℕ
 spares_needed cables pairs = length pairs - count_by (λ cable. not (is_spare cable)) cables
@@ -24,6 +21,6 @@ spares_needed cables pairs = length pairs - count_by (λ cable. not (is_spare ca
 abbrev pub SparesStayFree : Parts → Day → List Setting → Type 0
 SparesStayFree (Rotor m) (OfRotors s) settings =
     (cable letter : ℕ) → Contains settings (Put cable letter) → IsTrue (is_spare (cable_at m cable))
-    → spare_count (take cable m.cables) ≤ spares_needed m.cables s.pairs
+    → count_by is_spare (take cable m.cables) ≤ spares_needed m.cables s.pairs
 SparesStayFree (Pin m) (OfPins s) settings = Unit {0}
 SparesStayFree _ _ settings = ⊥

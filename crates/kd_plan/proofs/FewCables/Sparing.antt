@@ -9,7 +9,7 @@ unfoldable pub use Exchanging.*
 pairs-counted : (cables : List Cable) (to : List ℕ) (pairs first : ℕ) → length cables ≡ length to
     → ((k : ℕ) → k < length to → is_spare_at cables k ≡ false → get_or to k 0 < pairs)
     → ((k : ℕ) → k < length to → k < first → get_or to k 0 < pairs)
-    → count_by (λ cable. not (is_spare cable)) cables + spare_count (take first cables)
+    → count_by (λ cable. not (is_spare cable)) cables + count_by is_spare (take first cables)
     ≤ count_by (λ j. nat_lt j pairs) to
 pairs-counted [] to pairs zero size used low = omega arith
 pairs-counted [] to pairs (suc first) size used low = omega arith
@@ -40,7 +40,7 @@ few_spares : (cables : List Cable) (pairs : List (ℕ × ℕ)) (to : List ℕ) �
     → IsOneToOne to
     → SparesComeLast cables (length pairs) to → (number place : ℕ) → number ≡ suc place → place < 13
     → get_or to place 0 < length pairs
-    → is_spare_at cables place ≡ true → spare_count (take number cables) ≤ spares_needed cables pairs
+    → is_spare_at cables place ≡ true → count_by is_spare (take number cables) ≤ spares_needed cables pairs
 few_spares cables pairs to many size once last number place next lt taken spare =
     let before = λ (k : ℕ) (lt' : k < 13). last place k lt spare taken lt' in
     let all = pairs-counted cables to (length pairs) number (omega arith)
@@ -58,7 +58,8 @@ put_lines : (P : Setting → Type 0) (number : ℕ) (cable : Cable) (column : Co
     → All P (cable_moves In number (cable, column))
 put_lines P number cable None h = All-nil P
 put_lines P number cable (Some pair) h =
-    All-map P (λ letter. Put number letter) (letters_outside (pair_letters_in_order (Some pair)) (cable_letters cable))
+    All-map P (λ letter. Put number letter)
+    (letters_outside (column_letters (pair_in_order (Some pair))) (cable_letters cable))
     (λ k d lt. h pair refl _)
 
 -- Letters are put only into cables that become pairs.
@@ -94,7 +95,7 @@ All-unpriced P h (x ∷ xs) none =
 
 -- what each setting satisfies if the settings leave spare cables free
 abbrev pub LeavesSpares : RotorParts → RotorDay → Setting → Type 0
-LeavesSpares m s (Put cable letter) = IsTrue (is_spare (cable_at m cable)) → spare_count (take cable m.cables) ≤
+LeavesSpares m s (Put cable letter) = IsTrue (is_spare (cable_at m cable)) → count_by is_spare (take cable m.cables) ≤
     spares_needed m.cables s.pairs
 LeavesSpares m s _ = Unit {0}
 

@@ -8,13 +8,13 @@ pub use Rattle.kd_plan.proofs.Planning.Moving.Cables.{All, Cable, Column, In, Is
 pub use Rattle.kd_plan.proofs.Planning.Moving.Cables.{Parts, Pin, PinParts, Put, Rotor, RotorDay, RotorParts, Setting}
 pub use Rattle.kd_plan.proofs.Planning.Moving.Cables.{[], ap, arith, cables_with_columns, cable_letters, column_at}
 pub use Rattle.kd_plan.proofs.Planning.Moving.Cables.{column_letters, count_by, false, filter, is_priced_setting}
-pub use Rattle.kd_plan.proofs.Planning.Moving.Cables.{length, letters_outside, pair_letters_in_order, lines_from}
-pub use Rattle.kd_plan.proofs.Planning.Moving.Cables.{cable_moves, nat_lt, nat_tests, not, planned_lines, refl, set}
+pub use Rattle.kd_plan.proofs.Planning.Moving.Cables.{length, letters_outside, pair_in_order, lines_from, cable_moves}
+pub use Rattle.kd_plan.proofs.Planning.Moving.Cables.{common_steps, nat_lt, nat_tests, not, planned_lines, refl, set}
 pub use Rattle.kd_plan.proofs.Planning.Moving.Cables.{subst, suc, sum_by-cons, sym, true, why_refused, zero, ℕ, ◌+◌}
 pub use Rattle.kd_plan.proofs.Planning.Moving.Cables.{◌-◌, ◌<◌, ◌∙◌, ◌∷◌, ◌≡◌, ◌≤◌}
 pub use Rattle.kd_plan.specs.SparesLast.{SparesComeLast, comes_before, is_spare_at}
 pub use Rattle.kd_plan.specs.FewCables.{FewCablesServe, NamesNoneAbove, UsesNoneAbove}
-pub use Rattle.kd_plan.specs.Spares.{SparesStayFree, is_spare, spare_count, spares_needed}
+pub use Rattle.kd_plan.specs.Spares.{SparesStayFree, is_spare, spares_needed}
 pub use Rattle.kd_plan.specs.declared.cable_lines.CableMove.TheVariants.{Out}
 pub use Rattle.kd_state.proofs.CostTable.{columns_are_the_pairs}
 pub use Rattle.kd_state.proofs.Slots.{numbered_other, IsNumbered-not_none}
@@ -80,12 +80,7 @@ lies_in_exactly_one cable column letter =
 -- Two cables cost no more after the exchange: `cable` becomes the pair, and `spare` the column without a pair.
 cable_cost-exchanged : (spare cable : Cable) (column : Column) → is_spare spare ≡ true
     → cable_cost spare None + cable_cost cable column ≤ cable_cost spare column + cable_cost cable None
-cable_cost-exchanged (None, None) cable column h =
-    sums_within (λ y. cond (lies_in_exactly_one (None, None) None y) 1 0)
-    (λ y. cond (lies_in_exactly_one cable column y) 1 0)
-    (λ y. cond (lies_in_exactly_one (None, None) column y) 1 0) (λ y. cond (lies_in_exactly_one cable None y) 1 0)
-    (λ y. cond-exchanged _ _)
-    alphabet
+cable_cost-exchanged (None, None) cable column h = grind (arith, common_steps, sums_within, cond-exchanged)
 cable_cost-exchanged _ cable column h = absurd (cc)
 
 abbrev cable_of : List Cable → ℕ → Cable
@@ -93,10 +88,7 @@ cable_of cables place = get_or cables place (None, None)
 
 cost_is : (cables : List Cable) (pairs : List (ℕ × ℕ)) (i j : ℕ) → i < length cables → j < 13
     → cost_at (cable_costs cables pairs) i j ≡ cable_cost (cable_of cables i) (column_at pairs j)
-cost_is cables pairs i j lt within =
-    let wide : j < length (columns_of pairs) = simp (length-append, length-map, length-replicate) (omega arith) in
-    let line = get_or-map (λ cable. map (cable_cost cable) (columns_of pairs)) cables i (None, None) [] lt in
-    grind (arith, line, get_or-map (cable_cost (cable_of cables i)) (columns_of pairs) j None 0 wide)
+cost_is cables pairs i j lt within = grind (arith, common_steps, length-append, length-replicate, get_or-map)
 
 pub costs_no_more : (cables : List Cable) (pairs : List (ℕ × ℕ)) (xs ys : List ℕ) (spare place : ℕ)
     → length cables ≡ 13 → length xs ≡ 13 → IsOneToOne xs → SwappedAt xs ys spare place → spare < 13 → place < 13
@@ -129,9 +121,4 @@ pub still_free : (cables : List Cable) (xs ys : List ℕ) (pairs spare place : �
     → ((k : ℕ) → suc spare ≤ k → k < 13 → is_spare_at cables k ≡ true → pairs ≤ get_or xs k 0)
     → (k : ℕ) → spare ≤ k → k < 13 → is_spare_at cables k ≡ true → pairs ≤ get_or ys k 0
 still_free cables xs ys pairs spare place swapped before none free k low high empty =
-    elim (cases_eq k spare) [
-      | inl e ↦ omega (arith, ap (λ j. get_or ys j 0) e, swapped.0 0)
-      | inr other ↦
-          let apart : k ≢ place = λ e. let also = ap (λ j. is_spare_at cables j) e in grind (arith, nat_tests) in
-          omega (arith, swapped.2 k 0 other apart, free k (omega arith) high empty)
-    ]
+    grind (arith, common_steps, cases_eq)
