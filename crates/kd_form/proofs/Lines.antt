@@ -1,6 +1,6 @@
 -- Prefixes of a list up to an item with a property, plain text, and the lines of an order's head.
 use Rattle.{std.specs.Cmp.Lexicographic.pointwise_decides, kd_state.specs.Machine.AreLetters}
-use Rattle.kd_form.specs.declared.pattern_line.Unread.TheVariants.{Incomplete, Mismatch}
+use Rattle.kd_form.specs.declared.pattern_line.PatternFault.TheVariants.{Incomplete, Mismatch}
 pub use Rattle.kd_form.proofs.Prelude.{err_is, ◌≡◌, ◌≢◌, ℕ, ◌+◌, ◌≤◌, ◌<◌, true, List, [], ◌∷◌, ◌++◌, refl, subst}
 pub use Rattle.kd_form.proofs.Prelude.{length-append, arith, take, ap, ◌∙◌, length, sym, codes, All, nat_le, IsTrue}
 pub use Rattle.kd_form.proofs.Prelude.{is_text_byte, list_all, nat_tests, take_all, length-take, AllPass-from_list_all}
@@ -9,9 +9,9 @@ pub use Rattle.kd_form.proofs.Prelude.{line_of, IsWithout, Option, option_to_lis
 pub use Rattle.kd_form.proofs.Prelude.{Rotor, Pin, key_words, common_steps, zero, suc, inl, inr, false, get_or, drop}
 pub use Rattle.kd_form.proofs.Prelude.{replicate, append_assoc, length-drop, ◌==◌, AllWithin, cases_Bool, get_or-take}
 pub use Rattle.kd_form.proofs.Prelude.{take-append-drop, length-replicate, length-take-le, append-nil, drop_more}
-pub use Rattle.kd_form.proofs.Prelude.{All-nil, All-replicate, All-take, All-drop, Unread, IsLineWithEnd, IsKeyLine}
+pub use Rattle.kd_form.proofs.Prelude.{All-nil, All-replicate, All-take, All-drop, PatternFault, IsLineWithEnd, IsKeyLine}
 pub use Rattle.kd_form.proofs.Prelude.{filled_pattern, blank_count, fits_mark, letters_for_mark, IsFilledLine}
-pub use Rattle.kd_form.proofs.Prelude.{IsPatternLine, AreLettersAppended, IsUnread, Result, Ok, Err, MatchResult, Day}
+pub use Rattle.kd_form.proofs.Prelude.{IsPatternLine, AreLettersAppended, IsPatternFault, Result, Ok, Err, MatchResult, Day}
 pub use Rattle.kd_form.proofs.Prelude.{OfRotors, OfPins, AreKeys, blank_places, rotor_pattern, key_pattern, key_letters}
 pub use Rattle.kd_form.proofs.Prelude.{IsAnyKeyLine, FormFault, KeysSuitDay, IsKeysFault, IsFirstKeysFault}
 pub use Rattle.kd_form.proofs.Prelude.{BeginsWithKeys, nil_from_length, false≢true}
@@ -91,7 +91,7 @@ AreLetters-nil : AreLetters 0 []
 AreLetters-nil = record { count = refl; within = All-nil (λ l. l < 26) }
 
 -- the empty list is a proper prefix of a line that fits the pattern: the line with the letter A at each `_`
-pub line_open : (pattern bytes : List ℕ) → length bytes ≡ 0 → IsUnread (IsPatternLine pattern) bytes Incomplete
+pub line_open : (pattern bytes : List ℕ) → length bytes ≡ 0 → IsPatternFault (IsPatternLine pattern) bytes Incomplete
 line_open pattern bytes none =
     let others : List ℕ = replicate (blank_count pattern) 0 in
     let text : List ℕ = filled_pattern pattern others ++ 10 ∷ [] in
@@ -107,15 +107,15 @@ line_open pattern bytes none =
 
 -- if the first byte doesn't fit its mark, no line of the pattern begins with the bytes
 pub line_off : (mark byte : ℕ) (marks rest pattern bytes : List ℕ) → pattern ≡ mark ∷ marks → bytes ≡ byte ∷ rest
-    → fits_mark mark byte ≡ false → IsUnread (IsPatternLine pattern) bytes Mismatch
+    → fits_mark mark byte ≡ false → IsPatternFault (IsPatternLine pattern) bytes Mismatch
 line_off mark byte marks rest pattern bytes first next unfit = grind (arith, false≢true, line_less)
 
 -- if a byte fits its mark, the answer for the rest of the line is the answer for the whole line
-pub line_on : (mark byte : ℕ) (marks rest pattern bytes old now new : List ℕ) (answer : Result (Unit {0}) Unread)
+pub line_on : (mark byte : ℕ) (marks rest pattern bytes old now new : List ℕ) (answer : Result (Unit {0}) PatternFault)
     → pattern ≡ mark ∷ marks → bytes ≡ byte ∷ rest → fits_mark mark byte ≡ true
     → now ≡ old ++ letters_for_mark mark byte
-    → MatchResult answer (λ _. AreLettersAppended marks rest now new) (IsUnread (IsPatternLine marks) rest)
-    → MatchResult answer (λ _. AreLettersAppended pattern bytes old new) (IsUnread (IsPatternLine pattern) bytes)
+    → MatchResult answer (λ _. AreLettersAppended marks rest now new) (IsPatternFault (IsPatternLine marks) rest)
+    → MatchResult answer (λ _. AreLettersAppended pattern bytes old new) (IsPatternFault (IsPatternLine pattern) bytes)
 line_on mark byte marks rest pattern bytes old now new (Ok done) first next fit put (more, line, is) =
     grind (arith, line_more, append_assoc)
 line_on mark byte marks rest pattern bytes old now new (Err Incomplete) first next fit put
@@ -129,10 +129,10 @@ line_on mark byte marks rest pattern bytes old now new (Err Mismatch) first next
     rw (first, next) (λ more line. none more (line_less mark byte marks line.0 (rest ++ more) line.1).1)
 
 -- at the end of the pattern, the answer depends on whether the bytes are a line end
-pub line_ends : (pattern bytes letters : List ℕ) (answer : Result (Unit {0}) Unread) → length pattern ≡ 0
-    → MatchResult answer (λ _. IsLineWithEnd [] bytes) (IsUnread (IsLineWithEnd []) bytes)
+pub line_ends : (pattern bytes letters : List ℕ) (answer : Result (Unit {0}) PatternFault) → length pattern ≡ 0
+    → MatchResult answer (λ _. IsLineWithEnd [] bytes) (IsPatternFault (IsLineWithEnd []) bytes)
     → MatchResult answer (λ _. AreLettersAppended pattern bytes letters letters)
-    (IsUnread (IsPatternLine pattern) bytes)
+    (IsPatternFault (IsPatternLine pattern) bytes)
 line_ends [] bytes letters (Ok done) none ended = grind (arith, AreLetters-nil, append-nil)
 line_ends [] bytes letters (Err Incomplete) none (more, some, ended) = grind (arith, AreLetters-nil)
 line_ends [] bytes letters (Err Mismatch) none off = λ more line. off more line.1.ended
@@ -140,7 +140,7 @@ line_ends (mark ∷ pattern) bytes letters answer none told = absurd (omega arit
 
 -- the empty list, and CR alone, are proper prefixes of a line end
 pub end_open : (bytes : List ℕ) → length bytes < 2 → (1 ≤ length bytes → get_or bytes 0 0 ≡ 13)
-    → IsUnread (IsLineWithEnd []) bytes Incomplete
+    → IsPatternFault (IsLineWithEnd []) bytes Incomplete
 end_open [] few first = (10 ∷ [], (λ none. cc), inl refl)
 end_open (a ∷ bytes) few first = (10 ∷ [], (λ none. cc), inr (grind (arith, nil_from_length bytes)))
 
@@ -201,8 +201,8 @@ as_key_line s line is = grind (arith, keys_exist s is.0 is.1.are_letters, key_li
 pub as_form_line : (s : Day) (line : List ℕ) → IsAnyKeyLine s line → IsPatternLine (key_pattern s) line
 as_form_line s line is = (key_letters is.keys, grind (arith, rotor_blanks, letters_joined, All-cons, key_line))
 
-pub keys_broken : (s : Day) (bytes : List ℕ) (why : Unread) → IsUnread (IsPatternLine (key_pattern s)) bytes why
-    → IsUnread (IsAnyKeyLine s) bytes why
+pub keys_broken : (s : Day) (bytes : List ℕ) (why : PatternFault) → IsPatternFault (IsPatternLine (key_pattern s)) bytes why
+    → IsPatternFault (IsAnyKeyLine s) bytes why
 keys_broken s bytes Incomplete (more, some, line) = (more, some, as_key_line s (bytes ++ more) line)
 keys_broken s bytes Mismatch none = λ more line. none more (as_form_line s (bytes ++ more) line)
 

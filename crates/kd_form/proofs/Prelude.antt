@@ -41,7 +41,7 @@ pub use Rattle.kd_form.specs.{OnTheKey.{IsKeyFault, OffKey}}
 pub use Rattle.kd_form.specs.Making.{IsPartMade, IsPartTextMade, KeysSuitDay, cipher_from, enciphered_choice}
 pub use Rattle.kd_form.specs.Making.{fill_last_group, list_letters, part_size, pin_indicators, pin_letters}
 pub use Rattle.kd_form.specs.Making.{rotor_letters}
-pub use Rattle.kd_form.specs.Order.{BeginsWithKeys, IsUnread, IsAnyOrderHead, IsLineWithEnd, IsOrderHead}
+pub use Rattle.kd_form.specs.Order.{BeginsWithKeys, IsPatternFault, IsAnyOrderHead, IsLineWithEnd, IsOrderHead}
 pub use Rattle.kd_form.specs.Order.{IsOrderHeadFault, IsKeyLine, IsOrder}
 pub use Rattle.kd_form.specs.Part.{Part, words_after_spaces, body_text, fraction_text, letter_groups, heading_words}
 pub use Rattle.kd_form.specs.Part.{indicator_words, part_text, pieces, line_then}
@@ -69,7 +69,7 @@ pub use Rattle.kd_form.specs.Typing.{IsAllowedUpTo, IsTextFault, HasTyped, IsTyp
 pub use Rattle.kd_form.specs.Typing.{typed_letters}
 pub use Rattle.kd_form.specs.declared.{fault.FormFault.FormFault, heading.{Heading.Heading, Indicator.Indicator}}
 pub use Rattle.kd_form.specs.declared.keys.{Keys.{Keys, TheVariants.{Pin, Rotor}}, PinKeys.PinKeys}
-pub use Rattle.kd_form.specs.declared.pattern_line.Unread.{Unread}
+pub use Rattle.kd_form.specs.declared.pattern_line.PatternFault.{PatternFault}
 pub use Rattle.kd_form.specs.declared.fault.FormFault.TheVariants.{BadByte, BadHeading, EmptyText, NotReady, PartKeys}
 pub use Rattle.kd_form.specs.declared.fault.FormFault.TheVariants.{PartOrder}
 pub use Rattle.kd_state.proofs.Lines.{IsNumeralModel-digits, lines_split_into_words, numbers_are_words}
