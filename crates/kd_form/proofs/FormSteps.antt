@@ -14,7 +14,7 @@ pub use Rattle.kd_form.proofs.Prelude.{IsRefusedForGood, NoHeading, form_message
 pub use Rattle.kd_form.proofs.Prelude.{HasReadSoFar, PartsProperty, ReadsPartsTo, IsFormReadTo, IsPartFaultForGood}
 pub use Rattle.kd_form.proofs.Prelude.{IsPartFaultAtEnd, AreAllPartsRead, IsLastPart, AtPart, cut_at_headings, parts_of}
 pub use Rattle.kd_form.proofs.Prelude.{PartStart, first_part_start, next_part_start, HasTail, reader_place, map-append}
-pub use Rattle.kd_form.proofs.Prelude.{plaintext_byte, blank_of, BadHeading, BadByte, false≢true, All-take}
+pub use Rattle.kd_form.proofs.Prelude.{plaintext_byte, space_letter, BadHeading, BadByte, false≢true, All-take}
 use Rattle.kd_form.specs.declared.{part_body.PartBody.PartBody}
 use Rattle.kd_form.specs.declared.{form_reader.{FormReader.FormReader, FormStage.FormStage}}
 pub use Rattle.kd_form.proofs.Headings.{at_most, has_byte, one_heading, begins_there, as_parts, BeginsHeading-digit}
@@ -213,7 +213,7 @@ module _ {s : Day} {r : FormReader} {form text : List ℕ} (h : HoldsForm s r fo
   reaches B more made letters parts are reads given = (
     h.letters ++ letters,
     grind (arith, h.cuts more, reads_then s here B first_part_start h.parts parts h.letters letters),
-    cc (h.is, given, map-append (plaintext_byte (blank_of s)) h.letters letters),
+    cc (h.is, given, map-append (plaintext_byte (space_letter s)) h.letters letters),
   )
 
   pub ends_so : (B : PartsProperty) (letters made : List ℕ) → ReadsPartsTo s B here (h.last ∷ []) letters
@@ -397,7 +397,7 @@ module _ {s : Day} {r : FormReader} {form text : List ℕ} (h : HoldsForm s r fo
           begun = inr (grind (arith, h.begun, begins_there s whole b.heading _ has, begins_more h.front whole));
           first = λ same. absurd (omega (arith, same, there.numbered, there.holds.is_heading.number.first));
           read = grind (arith, reads_then, first_part_start, read, length-append, append-nil);
-          is = cc (h.is, given, map-append (plaintext_byte (blank_of s)) h.letters one);
+          is = cc (h.is, given, map-append (plaintext_byte (space_letter s)) h.letters one);
           counted = omega (arith, h.counted, length-append form (byte ∷ []));
           stage = grind (arith, All-push, head_unbroken, BeginsHeading-digit);
         }

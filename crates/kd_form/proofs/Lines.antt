@@ -60,9 +60,9 @@ pub whole_line : (n : ℕ) (part line : List ℕ) → line ≡ take n part → l
 whole_line n part line kept short = kept ∙ take_all n part (omega (arith, ap length kept, length-take n part))
 
 -- the letters of a text are the letter of its first byte, if any, and the letters of the rest
-pub letters_first : (blank : Option ℕ) (byte : ℕ) (text : List ℕ)
-    → letters_from blank (byte ∷ text) ≡ option_to_list (letter_of_byte blank byte) ++ letters_from blank text
-letters_first blank byte text = grind arith
+pub letters_first : (for_space : Option ℕ) (byte : ℕ) (text : List ℕ)
+    → letters_from for_space (byte ∷ text) ≡ option_to_list (letter_of_byte for_space byte) ++ letters_from for_space text
+letters_first for_space byte text = grind arith
 
 -- the bytes are allowed in a text
 abbrev pub AreAllowed : List ℕ → Type 0

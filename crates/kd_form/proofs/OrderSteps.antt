@@ -12,7 +12,7 @@ pub use Rattle.kd_form.proofs.Prelude.{IsFreshWriter, IsOpen, IsOrderRead, IsSta
 pub use Rattle.kd_form.proofs.Prelude.{IsPatternLine, IsPatternFault, key_pattern, key_words, line_of, IsLineWithEnd}
 pub use Rattle.kd_form.proofs.Prelude.{IsKeyLine, BeginsWithKeys, IsAnyOrderHead, IsOrderHead, IsOrder}
 pub use Rattle.kd_form.proofs.Prelude.{IsOrderHeadFault, is_text_byte, FormFault, IsRefused, IsMessageAnswer}
-pub use Rattle.kd_form.proofs.Prelude.{HasReadSoFar, IsAnyKeyLine, common_steps, BadByte, HeadCutShort, blank_of}
+pub use Rattle.kd_form.proofs.Prelude.{HasReadSoFar, IsAnyKeyLine, common_steps, BadByte, HeadCutShort, space_letter}
 pub use Rattle.kd_form.proofs.Prelude.{All-push, filter_map-append, ◌-◌, cases_lt, drop_at, le_of_mul-le-mul_left}
 pub use Rattle.kd_form.proofs.Prelude.{take_at}
 use Rattle.std.proofs.lemmas.{Grind.div_ceil_times, Option.slice_get_within, Option.get_or_from_slice_get}
@@ -158,9 +158,9 @@ module _ {s : Day} {keys : List Keys} {line order : List ℕ} (is : IsHeadBegun 
 
 -- -------- the faults that the reader of an order has found, and what is sent by then
 
-pub letters_few : (blank : Option ℕ) (text : List ℕ) → length (letters_from blank text) ≤ length text
-letters_few blank [] = omega arith
-letters_few blank (byte ∷ text) = grind (arith, letters_first, letters_few blank text, length-append)
+pub letters_few : (for_space : Option ℕ) (text : List ℕ) → length (letters_from for_space text) ≤ length text
+letters_few for_space [] = omega arith
+letters_few for_space (byte ∷ text) = grind (arith, letters_first, letters_few for_space text, length-append)
 
 module _ {s : Day} where
   pub is_longer : {order head text : List ℕ} {keys : List Keys} (more : List ℕ) → IsOrder s order keys head text

@@ -56,7 +56,7 @@ pub use Rattle.kd_form.specs.SendSteps.{IsOrderRead, IsStageRead, IsTextRead}
 pub use Rattle.kd_form.specs.SendStream.{IsWritableCount, IsSentBefore, order_message}
 pub use Rattle.kd_form.specs.Sending.{ArePartTextsMade, HeadCutShort, InHead, InKeys, InParts, InText, IsFirstBadByteAt}
 pub use Rattle.kd_form.specs.Sending.{IsFirstKeysFault, IsFormOf, IsKeysFault, IsSendFault, IsSendable, NoLetter}
-pub use Rattle.kd_form.specs.Sending.{IsOrderFaultForGood, blank_of, letter_of_byte, letters_from, parts_needed}
+pub use Rattle.kd_form.specs.Sending.{IsOrderFaultForGood, space_letter, letter_of_byte, letters_from, parts_needed}
 pub use Rattle.kd_form.specs.Sending.{text_letters}
 pub use Rattle.kd_form.specs.StreamSteps.{AtSource, IsCloseAnswer, IsFinishAnswer, HasBeenEnded, IsFeedAllAnswer}
 pub use Rattle.kd_form.specs.StreamSteps.{HasRoom, HasReadSoFar, InFeeding, IsFed, IsChunkRead, IsReadStopped}
