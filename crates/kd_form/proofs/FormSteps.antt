@@ -6,14 +6,15 @@ pub use Rattle.kd_form.proofs.Prelude.{take-append_seam, cases_lt, cases_eq, app
 pub use Rattle.kd_form.proofs.Prelude.{take-append-le, length-take, length-take-le, filter_map-append, All-nil}
 pub use Rattle.kd_form.proofs.Prelude.{All-push, ArrayVec, is_text_byte, Day, line_of, IsFirstPart, FormFault, Heading}
 pub use Rattle.kd_form.proofs.Prelude.{IsLineText, heading_words, letter_of_byte, letters_from, IsHeading}
-pub use Rattle.kd_form.proofs.Prelude.{BeginsHeading, Result, HasFault, GoesOn, IsBodyAnswer, HasHeading, IsExpectedCount, IsEarlyFault}
+pub use Rattle.kd_form.proofs.Prelude.{BeginsHeading, Result, HasFault, GoesOn, IsBodyAnswer, HasHeading, IsExpectedCount}
+pub use Rattle.kd_form.proofs.Prelude.{IsEarlyFault}
 pub use Rattle.kd_form.proofs.Prelude.{InHeading, InNumber, InBody, IsPartFault, HoldsBody, IsBodyPlaintext}
 pub use Rattle.kd_form.proofs.Prelude.{HasBegunHeading, HoldsPart, HoldsStage, HoldsForm, IsHeadingFault}
 pub use Rattle.kd_form.proofs.Prelude.{HeadingMissing, HeadingOfOther, IsPartRead, PartOrder, plaintext_bytes}
 pub use Rattle.kd_form.proofs.Prelude.{IsRefusedForGood, NoHeading, form_message, IsRefused, IsMessageAnswer}
 pub use Rattle.kd_form.proofs.Prelude.{HasReadSoFar, PartsProperty, ReadsPartsTo, IsFormReadTo, IsPartFaultForGood}
 pub use Rattle.kd_form.proofs.Prelude.{IsPartFaultAtEnd, AreAllPartsRead, IsLastPart, AtPart, cut_at_headings, parts_of}
-pub use Rattle.kd_form.proofs.Prelude.{PartStart, first_part_start, next_part_start, HasTail, reader_place, map-append}
+pub use Rattle.kd_form.proofs.Prelude.{PartStart, first_part_start, next_part_start, HasTail, current_part_start, map-append}
 pub use Rattle.kd_form.proofs.Prelude.{plaintext_byte, space_letter, BadHeading, BadByte, false≢true, All-take}
 use Rattle.kd_form.specs.declared.{part_body.PartBody.PartBody}
 use Rattle.kd_form.specs.declared.{form_reader.{FormReader.FormReader, FormStage.FormStage}}
@@ -101,7 +102,8 @@ are_shown others kept shown letters more few size is cut = elim (cases_lt 525 (l
   | inr short ↦ inl (grind (arith, take_all 525 (letters ++ more), take-append_seam letters, length-append letters))
 ]
 
-pub body_told : (s : Day) (h : Heading) (others : ℕ) (kept shown letters more : List ℕ) (v : Result (List ℕ) FormFault) → IsHeading s h
+pub body_told : (s : Day) (h : Heading) (others : ℕ) (kept shown letters more : List ℕ) (v : Result (List ℕ) FormFault)
+    → IsHeading s h
     → others ≤ 4 → length more ≡ others → kept ≡ take 525 (letters ++ more) → shown ≡ take (length kept - others) kept
     → IsBodyAnswer s h.part h shown v → IsBodyAnswer s h.part h letters v
 body_told s h others kept shown letters more v is few size kept_is cut told =
@@ -117,7 +119,8 @@ body_told s h others kept shown letters more v is few size kept_is cut told =
 
 -- -------- a whole part
 
-body_heading : {s : Day} {b : PartBody} {part body : List ℕ} → HoldsBody s b part body → HasHeading s part b.heading body
+body_heading : {s : Day} {b : PartBody} {part body : List ℕ} → HoldsBody s b part body
+    → HasHeading s part b.heading body
 body_heading holds = grind arith
 
 -- `P` holds of the body's letters if the last `others` letters read belong to the next heading
@@ -202,7 +205,7 @@ module _ {s : Day} {number : ℕ} {expected : Option ℕ} {part : List ℕ} wher
 
 module _ {s : Day} {r : FormReader} {form text : List ℕ} (h : HoldsForm s r form text) where
   abbrev pub here : PartStart
-  here = reader_place r h.front
+  here = current_part_start r h.front
 
   -- if the last part, with more bytes, is read until the parts left satisfy `B`, so is the whole form with these
   -- bytes

@@ -61,7 +61,8 @@ whole_line n part line kept short = kept ∙ take_all n part (omega (arith, ap l
 
 -- the letters of a text are the letter of its first byte, if any, and the letters of the rest
 pub letters_first : (for_space : Option ℕ) (byte : ℕ) (text : List ℕ)
-    → letters_from for_space (byte ∷ text) ≡ option_to_list (letter_of_byte for_space byte) ++ letters_from for_space text
+    → letters_from for_space (byte ∷ text)
+    ≡ option_to_list (letter_of_byte for_space byte) ++ letters_from for_space text
 letters_first for_space byte text = grind arith
 
 -- the bytes are allowed in a text
@@ -189,8 +190,11 @@ keys_exist (OfRotors s) letters are =
     let slots : ℕ = length s.wheels in
     let (start, others) = letters_cut slots (slots + (2 + 3)) letters (rw (rotor_blanks slots) at are) in
     let (key, last) = letters_cut slots (2 + 3) (drop slots letters) others in
-    let (fillers, group) = letters_cut 2 3 (drop slots (drop slots letters)) last in
-    (Rotor _, record { ground_setting = start; message_key = key; fillers = fillers; group = group }, simp take-append-drop)
+    let (fillers, group) = letters_cut 2 3 (drop slots (drop slots letters)) last in (
+      Rotor _,
+      record { ground_setting = start; message_key = key; fillers = fillers; group = group },
+      simp take-append-drop,
+    )
 keys_exist (OfPins s) [] are = absurd (omega (arith, are.count))
 keys_exist (OfPins s) (l ∷ letters) are =
     (Pin (record { chosen = l; external = letters }), grind (arith, letters_cut 1 6 (l ∷ letters), All-head), refl)
@@ -201,8 +205,8 @@ as_key_line s line is = grind (arith, keys_exist s is.0 is.1.are_letters, key_li
 pub as_form_line : (s : Day) (line : List ℕ) → IsAnyKeyLine s line → IsPatternLine (key_pattern s) line
 as_form_line s line is = (key_letters is.keys, grind (arith, rotor_blanks, letters_joined, All-cons, key_line))
 
-pub keys_broken : (s : Day) (bytes : List ℕ) (why : PatternFault) → IsPatternFault (IsPatternLine (key_pattern s)) bytes why
-    → IsPatternFault (IsAnyKeyLine s) bytes why
+pub keys_broken : (s : Day) (bytes : List ℕ) (why : PatternFault)
+    → IsPatternFault (IsPatternLine (key_pattern s)) bytes why → IsPatternFault (IsAnyKeyLine s) bytes why
 keys_broken s bytes Incomplete (more, some, line) = (more, some, as_key_line s (bytes ++ more) line)
 keys_broken s bytes Mismatch none = λ more line. none more (as_form_line s (bytes ++ more) line)
 

@@ -295,7 +295,7 @@ part_gives_back (OfRotors s) part parts (Rotor k) piece made legal are suits fra
     let day : Day = OfRotors s in
     let enciphered : List ℕ = cipher_from day k.message_key piece in
     let count : length (rotor_letters day k piece) ≡ 5 + length piece =
-    omega (arith, length-append {A = ℕ}, enciphered_length day k.message_key piece, are.fillers.count, are.group.count) in
+    simp length-append (omega (arith, enciphered_length day k.message_key piece, are.fillers, are.group)) in
     let key : cipher_from day k.ground_setting (cipher_from day k.ground_setting k.message_key) ≡ k.message_key =
     twice_on_key day k.ground_setting k.message_key legal are.message_key.within in
     let text : cipher_from day k.message_key enciphered

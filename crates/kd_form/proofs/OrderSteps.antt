@@ -209,8 +209,8 @@ module _ {s : Day} where
       → IsStageRead s stage h w order sent → IsOpen (order_message s) order sent
   open_yet stages.Head h w order sent (head, nothing, fresh) = record {
     unrefused = λ fault. nothing_stands_yet s order fault (head_cut head);
-    written = stream.NothingSent (λ keys front text is suited. no_head_fault s order keys front text _ is (head_cut head))
-        nothing;
+    written = stream.NothingSent
+        (λ keys front text is suited. no_head_fault s order keys front text _ is (head_cut head)) nothing;
   }
   open_yet stages.Text h w order sent text = record {
     unrefused = λ fault. nothing_stands s order _ text.head text.text fault text.sendable;

@@ -25,7 +25,7 @@ pub use Rattle.kd_form.specs.FormParts.{AreFewLetters, AreHeadingWords, BeginsHe
 pub use Rattle.kd_form.specs.FormParts.{IsHeading, IsLetterCount, IsLineText, WithoutReturn, cut_at_headings, parts_of}
 pub use Rattle.kd_form.specs.FormReading.{FitsHeadingAt, HasBegunHeading, HasTail, HoldsBody, HoldsForm, HoldsPart}
 pub use Rattle.kd_form.specs.FormReading.{HoldsStage, IsAtPartStart, IsBodyPlaintext, IsHeadingFault, HeadingMissing}
-pub use Rattle.kd_form.specs.FormReading.{HeadingOfOther, reader_place}
+pub use Rattle.kd_form.specs.FormReading.{HeadingOfOther, current_part_start}
 pub use Rattle.kd_form.specs.FormText.{AtPart, IsPartFaultAtEnd, AreAllPartsRead, IsLastPart, IsFormReadTo}
 pub use Rattle.kd_form.specs.FormText.{IsReceiveFault, IsRefusedForGood, IsTextOf, NoHeading, PartsProperty, PartStart}
 pub use Rattle.kd_form.specs.FormText.{ReadsPartsTo, IsPartFaultForGood, first_part_start, form_message, plaintext_byte}
