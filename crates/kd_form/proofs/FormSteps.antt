@@ -1,20 +1,20 @@
 -- What the reader of a form holds after one more byte, and its answer at the end.
 pub use Rattle.kd_form.proofs.Prelude.{err_is, [], ◌≡◌, ◌≢◌, ◌⊎◌, inl, inr, ℕ, ◌+◌, ◌-◌, ◌≤◌, List, ◌∷◌, ◌++◌, length}
 pub use Rattle.kd_form.proofs.Prelude.{take, refl, sym, ap, subst, ◌∙◌, append_assoc, length-append, Ok, Err, arith}
-pub use Rattle.kd_form.proofs.Prelude.{codes, All, IsTrue, Option, Some, None, MatchOption, option_to_list}
+pub use Rattle.kd_form.proofs.Prelude.{codes, All, IsTrue, Option, Some, None, MatchOption, option_to_list, map-append}
 pub use Rattle.kd_form.proofs.Prelude.{take-append_seam, cases_lt, cases_eq, append-nil, take_all, take-take}
 pub use Rattle.kd_form.proofs.Prelude.{take-append-le, length-take, length-take-le, filter_map-append, All-nil}
 pub use Rattle.kd_form.proofs.Prelude.{All-push, ArrayVec, is_text_byte, Day, line_of, IsFirstPart, FormFault, Heading}
 pub use Rattle.kd_form.proofs.Prelude.{IsLineText, heading_words, letter_of_byte, letters_from, IsHeading}
-pub use Rattle.kd_form.proofs.Prelude.{BeginsHeading, Result, HasFault, GoesOn, IsBodyAnswer, HasHeading, IsExpectedCount}
-pub use Rattle.kd_form.proofs.Prelude.{IsEarlyFault}
+pub use Rattle.kd_form.proofs.Prelude.{BeginsHeading, Result, HasFault, GoesOn, IsBodyAnswer, HasHeading}
+pub use Rattle.kd_form.proofs.Prelude.{IsEarlyFault, IsExpectedCount}
 pub use Rattle.kd_form.proofs.Prelude.{InHeading, InNumber, InBody, IsPartFault, HoldsBody, IsBodyPlaintext}
 pub use Rattle.kd_form.proofs.Prelude.{HasBegunHeading, HoldsPart, HoldsStage, HoldsForm, IsHeadingFault}
 pub use Rattle.kd_form.proofs.Prelude.{HeadingMissing, HeadingOfOther, IsPartRead, PartOrder, plaintext_bytes}
 pub use Rattle.kd_form.proofs.Prelude.{IsRefusedForGood, NoHeading, form_message, IsRefused, IsMessageAnswer}
 pub use Rattle.kd_form.proofs.Prelude.{HasReadSoFar, PartsProperty, ReadsPartsTo, IsFormReadTo, IsPartFaultForGood}
 pub use Rattle.kd_form.proofs.Prelude.{IsPartFaultAtEnd, AreAllPartsRead, IsLastPart, AtPart, cut_at_headings, parts_of}
-pub use Rattle.kd_form.proofs.Prelude.{PartStart, first_part_start, next_part_start, HasTail, current_part_start, map-append}
+pub use Rattle.kd_form.proofs.Prelude.{PartStart, first_part_start, next_part_start, HasTail, current_part_start}
 pub use Rattle.kd_form.proofs.Prelude.{plaintext_byte, space_letter, BadHeading, BadByte, false≢true, All-take}
 use Rattle.kd_form.specs.declared.{part_body.PartBody.PartBody}
 use Rattle.kd_form.specs.declared.{form_reader.{FormReader.FormReader, FormStage.FormStage}}

@@ -84,9 +84,7 @@ module _ (s : Day) where
 
   pub ends_at : (fault : FormFault) (p : PartStart) (parts : List (List ℕ)) → IsPartFaultAtEnd s fault p parts
       → AnswersAt (Err fault) p parts
-  ends_at fault p [] (is, count, due, few) = (count, due, inl (λ all. omega (arith, all, few), ap Err is))
-  ends_at fault p (part ∷ []) refused = (fault, refused, refl)
-  ends_at fault p (part ∷ next ∷ others) none = absurd none
+  ends_at fault p parts told = grind arith
 
 -- ---- the part
 
