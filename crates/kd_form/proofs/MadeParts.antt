@@ -54,11 +54,6 @@ pub own_at_first : (s : Day) (key : EngineKey) → key ≡ sheet_key s → IsTur
 own_at_first (OfRotors s) key is = (_, is)
 own_at_first (OfPins s) key is = (_, is)
 
-pub own_when_turned : (s : Day) (key : EngineKey) (window : List ℕ) → IsTurnedFrom s key
-    → (key_with_window key window ≡ key_with_window (sheet_key s) window)
-    × (IsWindow key window ≡ IsWindow (sheet_key s) window)
-own_when_turned s key window turned = grind arith
-
 pub own_when_left : (s : Day) (key left : EngineKey) (window : List ℕ) (count : ℕ) → IsTurnedFrom s key
     → left ≡ engine_key_after (key_with_window key window) count → IsTurnedFrom s left
 own_when_left (OfRotors s) key left window count (shown, is) left_is = grind arith
