@@ -1,20 +1,21 @@
 -- What the reader of a form holds after one more byte, and its answer at the end.
 pub use Rattle.kd_form.proofs.Prelude.{err_is, [], ◌≡◌, ◌≢◌, ◌⊎◌, inl, inr, ℕ, ◌+◌, ◌-◌, ◌≤◌, List, ◌∷◌, ◌++◌, length}
 pub use Rattle.kd_form.proofs.Prelude.{take, refl, sym, ap, subst, ◌∙◌, append_assoc, length-append, Ok, Err, arith}
-pub use Rattle.kd_form.proofs.Prelude.{codes, All, IsTrue, Option, Some, None, MatchOption, option_to_list}
+pub use Rattle.kd_form.proofs.Prelude.{codes, All, IsTrue, Option, Some, None, MatchOption, option_to_list, map-append}
 pub use Rattle.kd_form.proofs.Prelude.{take-append_seam, cases_lt, cases_eq, append-nil, take_all, take-take}
 pub use Rattle.kd_form.proofs.Prelude.{take-append-le, length-take, length-take-le, filter_map-append, All-nil}
 pub use Rattle.kd_form.proofs.Prelude.{All-push, ArrayVec, is_text_byte, Day, line_of, IsFirstPart, FormFault, Heading}
 pub use Rattle.kd_form.proofs.Prelude.{IsLineText, heading_words, letter_of_byte, letters_from, IsHeading}
-pub use Rattle.kd_form.proofs.Prelude.{BeginsHeading, Result, HasFault, GoesOn, IsBodyAnswer, HasHeading, IsExpectedCount, IsEarlyFault}
+pub use Rattle.kd_form.proofs.Prelude.{BeginsHeading, Result, HasFault, GoesOn, IsBodyAnswer, HasHeading}
+pub use Rattle.kd_form.proofs.Prelude.{IsEarlyFault, IsExpectedCount}
 pub use Rattle.kd_form.proofs.Prelude.{InHeading, InNumber, InBody, IsPartFault, HoldsBody, IsBodyPlaintext}
 pub use Rattle.kd_form.proofs.Prelude.{HasBegunHeading, HoldsPart, HoldsStage, HoldsForm, IsHeadingFault}
 pub use Rattle.kd_form.proofs.Prelude.{HeadingMissing, HeadingOfOther, IsPartRead, PartOrder, plaintext_bytes}
 pub use Rattle.kd_form.proofs.Prelude.{IsRefusedForGood, NoHeading, form_message, IsRefused, IsMessageAnswer}
 pub use Rattle.kd_form.proofs.Prelude.{HasReadSoFar, PartsProperty, ReadsPartsTo, IsFormReadTo, IsPartFaultForGood}
 pub use Rattle.kd_form.proofs.Prelude.{IsPartFaultAtEnd, AreAllPartsRead, IsLastPart, AtPart, cut_at_headings, parts_of}
-pub use Rattle.kd_form.proofs.Prelude.{PartStart, first_part_start, next_part_start, HasTail, reader_place, map-append}
-pub use Rattle.kd_form.proofs.Prelude.{plaintext_byte, blank_of, BadHeading, BadByte, false≢true, All-take}
+pub use Rattle.kd_form.proofs.Prelude.{PartStart, first_part_start, next_part_start, HasTail, current_part_start}
+pub use Rattle.kd_form.proofs.Prelude.{plaintext_byte, space_letter, BadHeading, BadByte, false≢true, All-take}
 use Rattle.kd_form.specs.declared.{part_body.PartBody.PartBody}
 use Rattle.kd_form.specs.declared.{form_reader.{FormReader.FormReader, FormStage.FormStage}}
 pub use Rattle.kd_form.proofs.Headings.{at_most, has_byte, one_heading, begins_there, as_parts, BeginsHeading-digit}
@@ -101,7 +102,8 @@ are_shown others kept shown letters more few size is cut = elim (cases_lt 525 (l
   | inr short ↦ inl (grind (arith, take_all 525 (letters ++ more), take-append_seam letters, length-append letters))
 ]
 
-pub body_told : (s : Day) (h : Heading) (others : ℕ) (kept shown letters more : List ℕ) (v : Result (List ℕ) FormFault) → IsHeading s h
+pub body_told : (s : Day) (h : Heading) (others : ℕ) (kept shown letters more : List ℕ) (v : Result (List ℕ) FormFault)
+    → IsHeading s h
     → others ≤ 4 → length more ≡ others → kept ≡ take 525 (letters ++ more) → shown ≡ take (length kept - others) kept
     → IsBodyAnswer s h.part h shown v → IsBodyAnswer s h.part h letters v
 body_told s h others kept shown letters more v is few size kept_is cut told =
@@ -117,7 +119,8 @@ body_told s h others kept shown letters more v is few size kept_is cut told =
 
 -- -------- a whole part
 
-body_heading : {s : Day} {b : PartBody} {part body : List ℕ} → HoldsBody s b part body → HasHeading s part b.heading body
+body_heading : {s : Day} {b : PartBody} {part body : List ℕ} → HoldsBody s b part body
+    → HasHeading s part b.heading body
 body_heading holds = grind arith
 
 -- `P` holds of the body's letters if the last `others` letters read belong to the next heading
@@ -202,7 +205,7 @@ module _ {s : Day} {number : ℕ} {expected : Option ℕ} {part : List ℕ} wher
 
 module _ {s : Day} {r : FormReader} {form text : List ℕ} (h : HoldsForm s r form text) where
   abbrev pub here : PartStart
-  here = reader_place r h.front
+  here = current_part_start r h.front
 
   -- if the last part, with more bytes, is read until the parts left satisfy `B`, so is the whole form with these
   -- bytes
@@ -213,7 +216,7 @@ module _ {s : Day} {r : FormReader} {form text : List ℕ} (h : HoldsForm s r fo
   reaches B more made letters parts are reads given = (
     h.letters ++ letters,
     grind (arith, h.cuts more, reads_then s here B first_part_start h.parts parts h.letters letters),
-    cc (h.is, given, map-append (plaintext_byte (blank_of s)) h.letters letters),
+    cc (h.is, given, map-append (plaintext_byte (space_letter s)) h.letters letters),
   )
 
   pub ends_so : (B : PartsProperty) (letters made : List ℕ) → ReadsPartsTo s B here (h.last ∷ []) letters
@@ -397,7 +400,7 @@ module _ {s : Day} {r : FormReader} {form text : List ℕ} (h : HoldsForm s r fo
           begun = inr (grind (arith, h.begun, begins_there s whole b.heading _ has, begins_more h.front whole));
           first = λ same. absurd (omega (arith, same, there.numbered, there.holds.is_heading.number.first));
           read = grind (arith, reads_then, first_part_start, read, length-append, append-nil);
-          is = cc (h.is, given, map-append (plaintext_byte (blank_of s)) h.letters one);
+          is = cc (h.is, given, map-append (plaintext_byte (space_letter s)) h.letters one);
           counted = omega (arith, h.counted, length-append form (byte ∷ []));
           stage = grind (arith, All-push, head_unbroken, BeginsHeading-digit);
         }

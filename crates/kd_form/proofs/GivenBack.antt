@@ -10,7 +10,7 @@ pub use Rattle.kd_form.proofs.Prelude.{WithoutReturn, cut_at_headings, common_st
 pub use Rattle.kd_form.proofs.Prelude.{Option, IfSome, cases_lt, take_all, drop_all, length-take, length-take-le}
 pub use Rattle.kd_form.proofs.Prelude.{IsLegalDay, Keys, plaintext_with_end, sent_letters, AreKeys}
 pub use Rattle.kd_form.proofs.Prelude.{FormsGiveTheirOrders, KeysSuitDay, part_size, fill_last_group, IsBodyAnswer, Ok}
-pub use Rattle.kd_form.proofs.Prelude.{IsPartRead, blank_of, text_letters, ArePartTextsMade, ReadsPartsTo}
+pub use Rattle.kd_form.proofs.Prelude.{IsPartRead, space_letter, text_letters, ArePartTextsMade, ReadsPartsTo}
 pub use Rattle.kd_form.proofs.Prelude.{first_part_start, AreAllPartsRead, IsExpectedCount, take-append_seam, All-more}
 pub use Rattle.kd_form.proofs.Prelude.{GoesOn}
 use Rattle.kd_form.proofs.Headings.{allowed_one, at_cut, cut_behind, ended_heading, has_byte, plain_heading}
@@ -148,11 +148,11 @@ part_is_first s made rest others is are follows =
 
 -- -------- the form that an order becomes gives the order's letters back
 
-letters_from-within : (blank : Option ℕ) (text : List ℕ) → IfSome blank (λ letter. letter < 26)
-    → All (λ letter. letter < 26) (letters_from blank text)
-letters_from-within blank [] less = All-nil (λ letter. letter < 26)
-letters_from-within blank (byte ∷ text) less = grind
-    (arith, All-cons {X = ℕ}, letters_from, letters_from-within blank text less)
+letters_from-within : (for_space : Option ℕ) (text : List ℕ) → IfSome for_space (λ letter. letter < 26)
+    → All (λ letter. letter < 26) (letters_from for_space text)
+letters_from-within for_space [] less = All-nil (λ letter. letter < 26)
+letters_from-within for_space (byte ∷ text) less = grind
+    (arith, All-cons {X = ℕ}, letters_from, letters_from-within for_space text less)
 
 -- after whole groups, filling the rest fills the whole text
 filled_behind : (front rest : List ℕ) → length front % 5 ≡ 0
@@ -254,7 +254,7 @@ forms_give_their_orders s order form given legal is due =
     let back : AreGivenBack s 1 (length is.keys) (length is.keys) (pieces (part_size s) letters) form =
     parts_are_given_back s 1 (length is.keys) is.keys (pieces (part_size s) letters) form legal
     (all_of_the_day _ s is.keys is.head order_is.is_head.lines) is.sendable.suited
-    (are_pieces s letters (letters_from-within (blank_of s) is.text (grind arith))) (omega arith)
+    (are_pieces s letters (letters_from-within (space_letter s) is.text (grind arith))) (omega arith)
     (omega arith) order_is.is_head.few is.made in
     let some : back.texts ≢ [] =
     grind (arith, common_steps, more_pieces, size_some, is.some, back.counted, is.counted) in

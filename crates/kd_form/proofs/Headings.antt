@@ -337,17 +337,15 @@ are_small s h is = omega (arith, is.number.in_order, is.number.few, at_most s h.
 
 ruleset as_words = (word_by_bytes, AreBytesFrom-weaker, letters_from, fraction_from, numbers_are_words)
 
-line_words : (s : Day) (found : Option ℕ) (h : Heading) (line : List ℕ)
-    → MatchOption found (IsConverterDay s) (IsRotorDayWith s)
-    → IsHeading s h → line_of (heading_words h) ≡ line → words_of line ≡ heading_words h
-line_words s found h line has is same =
-    ap words_of (sym same) ∙ lines_split_into_words (heading_words h) (λ none. cc)
-    (grind (arith, common_steps, are_small, as_words, length-append {A = ℕ}, All-cons, All-nil))
+module _ (s : Day) (found : Option ℕ) (h : Heading) (line : List ℕ)
+    (has : MatchOption found (IsConverterDay s) (IsRotorDayWith s)) (is : IsHeading s h) where
+  line_words : line_of (heading_words h) ≡ line → words_of line ≡ heading_words h
+  line_words same =
+      ap words_of (sym same) ∙ lines_split_into_words (heading_words h) (λ none. cc)
+      (grind (arith, common_steps, are_small, as_words, length-append {A = ℕ}, All-cons, All-nil))
 
-pub too_many_words : (s : Day) (found : Option ℕ) (h : Heading) (line : List ℕ)
-    → MatchOption found (IsConverterDay s) (IsRotorDayWith s)
-    → IsHeading s h → 5 < length (words_of line) → line_of (heading_words h) ≢ line
-too_many_words s found h line has is many same = grind (arith, ap length (line_words s found h line has is same))
+  pub too_many_words : 5 < length (words_of line) → line_of (heading_words h) ≢ line
+  too_many_words many same = grind (arith, ap length (line_words same))
 
 -- the answer is the heading that the line has, or `None` if the line isn't a heading
 abbrev IsHeadingAnswer : Day → Option Heading → List ℕ → Type 0

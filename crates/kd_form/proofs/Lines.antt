@@ -1,7 +1,7 @@
 -- Prefixes of a list up to an item with a property, plain text, and the lines of an order's head.
 use Rattle.{std.specs.Cmp.Lexicographic.pointwise_decides, kd_state.specs.Machine.AreLetters}
-use Rattle.kd_form.specs.declared.pattern_line.Unread.TheVariants.{Incomplete, Mismatch}
-pub use Rattle.kd_form.proofs.Prelude.{err_is, ◌≡◌, ◌≢◌, ℕ, ◌+◌, ◌≤◌, ◌<◌, true, List, [], ◌∷◌, ◌++◌, refl, subst}
+use Rattle.kd_form.specs.declared.pattern_line.PatternFault.TheVariants.{Incomplete, Mismatch}
+pub use Rattle.kd_form.proofs.Prelude.{err_is, ◌≡◌, ◌≢◌, ℕ, ◌+◌, ◌≤◌, ◌<◌, true, List, [], ◌∷◌, ◌++◌, refl, subst, Day}
 pub use Rattle.kd_form.proofs.Prelude.{length-append, arith, take, ap, ◌∙◌, length, sym, codes, All, nat_le, IsTrue}
 pub use Rattle.kd_form.proofs.Prelude.{is_text_byte, list_all, nat_tests, take_all, length-take, AllPass-from_list_all}
 pub use Rattle.kd_form.proofs.Prelude.{All-append, All-cons, All-map, All-weaker, All-head, All-tail, letters_text}
@@ -9,11 +9,11 @@ pub use Rattle.kd_form.proofs.Prelude.{line_of, IsWithout, Option, option_to_lis
 pub use Rattle.kd_form.proofs.Prelude.{Rotor, Pin, key_words, common_steps, zero, suc, inl, inr, false, get_or, drop}
 pub use Rattle.kd_form.proofs.Prelude.{replicate, append_assoc, length-drop, ◌==◌, AllWithin, cases_Bool, get_or-take}
 pub use Rattle.kd_form.proofs.Prelude.{take-append-drop, length-replicate, length-take-le, append-nil, drop_more}
-pub use Rattle.kd_form.proofs.Prelude.{All-nil, All-replicate, All-take, All-drop, Unread, IsLineWithEnd, IsKeyLine}
+pub use Rattle.kd_form.proofs.Prelude.{All-nil, All-replicate, All-take, All-drop, PatternFault, IsLineWithEnd}
 pub use Rattle.kd_form.proofs.Prelude.{filled_pattern, blank_count, fits_mark, letters_for_mark, IsFilledLine}
-pub use Rattle.kd_form.proofs.Prelude.{IsPatternLine, AreLettersAppended, IsUnread, Result, Ok, Err, MatchResult, Day}
+pub use Rattle.kd_form.proofs.Prelude.{IsPatternLine, AreLettersAppended, IsPatternFault, Result, Ok, Err, MatchResult}
 pub use Rattle.kd_form.proofs.Prelude.{OfRotors, OfPins, AreKeys, blank_places, rotor_pattern, key_pattern, key_letters}
-pub use Rattle.kd_form.proofs.Prelude.{IsAnyKeyLine, FormFault, KeysSuitDay, IsKeysFault, IsFirstKeysFault}
+pub use Rattle.kd_form.proofs.Prelude.{IsAnyKeyLine, FormFault, KeysSuitDay, IsKeysFault, IsFirstKeysFault, IsKeyLine}
 pub use Rattle.kd_form.proofs.Prelude.{BeginsWithKeys, nil_from_length, false≢true}
 
 -- the list doesn't begin with an item that has the property
@@ -60,9 +60,10 @@ pub whole_line : (n : ℕ) (part line : List ℕ) → line ≡ take n part → l
 whole_line n part line kept short = kept ∙ take_all n part (omega (arith, ap length kept, length-take n part))
 
 -- the letters of a text are the letter of its first byte, if any, and the letters of the rest
-pub letters_first : (blank : Option ℕ) (byte : ℕ) (text : List ℕ)
-    → letters_from blank (byte ∷ text) ≡ option_to_list (letter_of_byte blank byte) ++ letters_from blank text
-letters_first blank byte text = grind arith
+pub letters_first : (for_space : Option ℕ) (byte : ℕ) (text : List ℕ)
+    → letters_from for_space (byte ∷ text)
+    ≡ option_to_list (letter_of_byte for_space byte) ++ letters_from for_space text
+letters_first for_space byte text = grind arith
 
 -- the bytes are allowed in a text
 abbrev pub AreAllowed : List ℕ → Type 0
@@ -91,7 +92,7 @@ AreLetters-nil : AreLetters 0 []
 AreLetters-nil = record { count = refl; within = All-nil (λ l. l < 26) }
 
 -- the empty list is a proper prefix of a line that fits the pattern: the line with the letter A at each `_`
-pub line_open : (pattern bytes : List ℕ) → length bytes ≡ 0 → IsUnread (IsPatternLine pattern) bytes Incomplete
+pub line_open : (pattern bytes : List ℕ) → length bytes ≡ 0 → IsPatternFault (IsPatternLine pattern) bytes Incomplete
 line_open pattern bytes none =
     let others : List ℕ = replicate (blank_count pattern) 0 in
     let text : List ℕ = filled_pattern pattern others ++ 10 ∷ [] in
@@ -107,15 +108,15 @@ line_open pattern bytes none =
 
 -- if the first byte doesn't fit its mark, no line of the pattern begins with the bytes
 pub line_off : (mark byte : ℕ) (marks rest pattern bytes : List ℕ) → pattern ≡ mark ∷ marks → bytes ≡ byte ∷ rest
-    → fits_mark mark byte ≡ false → IsUnread (IsPatternLine pattern) bytes Mismatch
+    → fits_mark mark byte ≡ false → IsPatternFault (IsPatternLine pattern) bytes Mismatch
 line_off mark byte marks rest pattern bytes first next unfit = grind (arith, false≢true, line_less)
 
 -- if a byte fits its mark, the answer for the rest of the line is the answer for the whole line
-pub line_on : (mark byte : ℕ) (marks rest pattern bytes old now new : List ℕ) (answer : Result (Unit {0}) Unread)
+pub line_on : (mark byte : ℕ) (marks rest pattern bytes old now new : List ℕ) (answer : Result (Unit {0}) PatternFault)
     → pattern ≡ mark ∷ marks → bytes ≡ byte ∷ rest → fits_mark mark byte ≡ true
     → now ≡ old ++ letters_for_mark mark byte
-    → MatchResult answer (λ _. AreLettersAppended marks rest now new) (IsUnread (IsPatternLine marks) rest)
-    → MatchResult answer (λ _. AreLettersAppended pattern bytes old new) (IsUnread (IsPatternLine pattern) bytes)
+    → MatchResult answer (λ _. AreLettersAppended marks rest now new) (IsPatternFault (IsPatternLine marks) rest)
+    → MatchResult answer (λ _. AreLettersAppended pattern bytes old new) (IsPatternFault (IsPatternLine pattern) bytes)
 line_on mark byte marks rest pattern bytes old now new (Ok done) first next fit put (more, line, is) =
     grind (arith, line_more, append_assoc)
 line_on mark byte marks rest pattern bytes old now new (Err Incomplete) first next fit put
@@ -129,10 +130,10 @@ line_on mark byte marks rest pattern bytes old now new (Err Mismatch) first next
     rw (first, next) (λ more line. none more (line_less mark byte marks line.0 (rest ++ more) line.1).1)
 
 -- at the end of the pattern, the answer depends on whether the bytes are a line end
-pub line_ends : (pattern bytes letters : List ℕ) (answer : Result (Unit {0}) Unread) → length pattern ≡ 0
-    → MatchResult answer (λ _. IsLineWithEnd [] bytes) (IsUnread (IsLineWithEnd []) bytes)
+pub line_ends : (pattern bytes letters : List ℕ) (answer : Result (Unit {0}) PatternFault) → length pattern ≡ 0
+    → MatchResult answer (λ _. IsLineWithEnd [] bytes) (IsPatternFault (IsLineWithEnd []) bytes)
     → MatchResult answer (λ _. AreLettersAppended pattern bytes letters letters)
-    (IsUnread (IsPatternLine pattern) bytes)
+    (IsPatternFault (IsPatternLine pattern) bytes)
 line_ends [] bytes letters (Ok done) none ended = grind (arith, AreLetters-nil, append-nil)
 line_ends [] bytes letters (Err Incomplete) none (more, some, ended) = grind (arith, AreLetters-nil)
 line_ends [] bytes letters (Err Mismatch) none off = λ more line. off more line.1.ended
@@ -140,7 +141,7 @@ line_ends (mark ∷ pattern) bytes letters answer none told = absurd (omega arit
 
 -- the empty list, and CR alone, are proper prefixes of a line end
 pub end_open : (bytes : List ℕ) → length bytes < 2 → (1 ≤ length bytes → get_or bytes 0 0 ≡ 13)
-    → IsUnread (IsLineWithEnd []) bytes Incomplete
+    → IsPatternFault (IsLineWithEnd []) bytes Incomplete
 end_open [] few first = (10 ∷ [], (λ none. cc), inl refl)
 end_open (a ∷ bytes) few first = (10 ∷ [], (λ none. cc), inr (grind (arith, nil_from_length bytes)))
 
@@ -189,8 +190,11 @@ keys_exist (OfRotors s) letters are =
     let slots : ℕ = length s.wheels in
     let (start, others) = letters_cut slots (slots + (2 + 3)) letters (rw (rotor_blanks slots) at are) in
     let (key, last) = letters_cut slots (2 + 3) (drop slots letters) others in
-    let (fillers, group) = letters_cut 2 3 (drop slots (drop slots letters)) last in
-    (Rotor _, record { ground_setting = start; message_key = key; fillers = fillers; group = group }, simp take-append-drop)
+    let (fillers, group) = letters_cut 2 3 (drop slots (drop slots letters)) last in (
+      Rotor _,
+      record { ground_setting = start; message_key = key; fillers = fillers; group = group },
+      simp take-append-drop,
+    )
 keys_exist (OfPins s) [] are = absurd (omega (arith, are.count))
 keys_exist (OfPins s) (l ∷ letters) are =
     (Pin (record { chosen = l; external = letters }), grind (arith, letters_cut 1 6 (l ∷ letters), All-head), refl)
@@ -201,8 +205,8 @@ as_key_line s line is = grind (arith, keys_exist s is.0 is.1.are_letters, key_li
 pub as_form_line : (s : Day) (line : List ℕ) → IsAnyKeyLine s line → IsPatternLine (key_pattern s) line
 as_form_line s line is = (key_letters is.keys, grind (arith, rotor_blanks, letters_joined, All-cons, key_line))
 
-pub keys_broken : (s : Day) (bytes : List ℕ) (why : Unread) → IsUnread (IsPatternLine (key_pattern s)) bytes why
-    → IsUnread (IsAnyKeyLine s) bytes why
+pub keys_broken : (s : Day) (bytes : List ℕ) (why : PatternFault)
+    → IsPatternFault (IsPatternLine (key_pattern s)) bytes why → IsPatternFault (IsAnyKeyLine s) bytes why
 keys_broken s bytes Incomplete (more, some, line) = (more, some, as_key_line s (bytes ++ more) line)
 keys_broken s bytes Mismatch none = λ more line. none more (as_form_line s (bytes ++ more) line)
 

@@ -54,11 +54,6 @@ pub own_at_first : (s : Day) (key : EngineKey) → key ≡ sheet_key s → IsTur
 own_at_first (OfRotors s) key is = (_, is)
 own_at_first (OfPins s) key is = (_, is)
 
-pub own_when_turned : (s : Day) (key : EngineKey) (window : List ℕ) → IsTurnedFrom s key
-    → (key_with_window key window ≡ key_with_window (sheet_key s) window)
-    × (IsWindow key window ≡ IsWindow (sheet_key s) window)
-own_when_turned s key window turned = grind arith
-
 pub own_when_left : (s : Day) (key left : EngineKey) (window : List ℕ) (count : ℕ) → IsTurnedFrom s key
     → left ≡ engine_key_after (key_with_window key window) count → IsTurnedFrom s left
 own_when_left (OfRotors s) key left window count (shown, is) left_is = grind arith
@@ -295,7 +290,7 @@ part_gives_back (OfRotors s) part parts (Rotor k) piece made legal are suits fra
     let day : Day = OfRotors s in
     let enciphered : List ℕ = cipher_from day k.message_key piece in
     let count : length (rotor_letters day k piece) ≡ 5 + length piece =
-    omega (arith, length-append {A = ℕ}, enciphered_length day k.message_key piece, are.fillers.count, are.group.count) in
+    simp length-append (omega (arith, enciphered_length day k.message_key piece, are.fillers, are.group)) in
     let key : cipher_from day k.ground_setting (cipher_from day k.ground_setting k.message_key) ≡ k.message_key =
     twice_on_key day k.ground_setting k.message_key legal are.message_key.within in
     let text : cipher_from day k.message_key enciphered

@@ -84,9 +84,7 @@ module _ (s : Day) where
 
   pub ends_at : (fault : FormFault) (p : PartStart) (parts : List (List ℕ)) → IsPartFaultAtEnd s fault p parts
       → AnswersAt (Err fault) p parts
-  ends_at fault p [] (is, count, due, few) = (count, due, inl (λ all. omega (arith, all, few), ap Err is))
-  ends_at fault p (part ∷ []) refused = (fault, refused, refl)
-  ends_at fault p (part ∷ next ∷ others) none = absurd none
+  ends_at fault p parts told = grind arith
 
 -- ---- the part
 
@@ -230,14 +228,6 @@ received_forms_have_no_fault s form text fault a b =
 
 -- -------- answers whose reason is a device or the machine
 
--- a device failed exactly if the answer says so, and the machine isn't the reason for the answer
-abbrev pub IsDeviceAnswer : Port → Port → Result (Unit {0}) FormFault → Type 0
-IsDeviceAnswer source sink answer = FailureAgrees source sink (is_device answer) × (is_off_key answer ≡ false)
-
-pub order_told : (s : Day) (source sink : Port) (read text : List ℕ) (answer : Result (Unit {0}) FormFault)
-    → IsStreamAnswer (order_message s) source sink read text answer → IsDeviceAnswer source sink answer
-order_told s source sink read text answer answers = grind arith
-
 abbrev IsOfForms : FormFault → Type 0
 IsOfForms fault = (is_device (Err fault) ≡ false) × (is_off_key (Err fault) ≡ false)
 
@@ -259,26 +249,13 @@ parts_refused s fault p (part ∷ parts) (f, inr late, is) =
     let same : fault ≡ f = cc in
     rw same (body_refused s p.number late.heading (letters_from None late.body) f late.found)
 
-refused_told : (s : Day) (form : List ℕ) (fault : FormFault) → IsReceiveFault s form fault → IsOfForms fault
+pub refused_told : (s : Day) (form : List ℕ) (fault : FormFault) → IsReceiveFault s form fault → IsOfForms fault
 refused_told s form fault found =
     let (letters, reads) = fault_answer s form fault found in
     (reads_meet s (AnswersAt s (Err fault)) (AnswersAt s (Err fault)) (IsOfForms fault)
     (never_passes s (Err fault) (Err fault))
     (never_passes s (Err fault) (Err fault)) (λ p parts at also. parts_refused s fault p parts at) first_part_start
     (parts_of form) letters letters reads reads).1
-
-pub form_told : (s : Day) (source sink : Port) (read text : List ℕ) (answer : Result (Unit {0}) FormFault)
-    → IsStreamAnswer (form_message s) source sink read text answer → IsDeviceAnswer source sink answer
-form_told s source sink read text answer answers = grind (arith, refused_told s read)
-
-pub text_told : (enciphers : List ℕ → List ℕ) (source sink : Port) (read text : List ℕ)
-    (answer : Result (Unit {0}) FormFault)
-    → IsStreamAnswer (text_message enciphers) source sink read text answer → IsDeviceAnswer source sink answer
-text_told enciphers source sink read text answer answers = grind arith
-
-pub off_key : (m : Parts) (s : Day) (source sink : Port) (fault : FormFault) → IsKeyFault m s fault
-    → HaveNotFailed source sink → FailureAgrees source sink (is_device (Err fault))
-off_key m s source sink fault off well = grind arith
 
 -- -------- faults that stand in a form
 

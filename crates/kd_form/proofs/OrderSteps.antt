@@ -8,11 +8,11 @@ pub use Rattle.kd_form.proofs.Prelude.{IsPartTextMade, part_size, KeysSuitDay, p
 pub use Rattle.kd_form.proofs.Prelude.{letters_from, text_letters, IsFirstKeysFault, IsOrderFaultForGood, InHead}
 pub use Rattle.kd_form.proofs.Prelude.{InKeys, InText, NoLetter, InParts, IsWritableCount, IsSentBefore, order_message}
 pub use Rattle.kd_form.proofs.Prelude.{AreLettersTaken, IsHeadBegun, IsHeadLine, IsTextRead, IsTextEndAnswer}
-pub use Rattle.kd_form.proofs.Prelude.{IsFreshWriter, IsOpen, IsOrderRead, IsStageRead, All-nil, Unread, AreKeys}
-pub use Rattle.kd_form.proofs.Prelude.{IsPatternLine, IsUnread, key_pattern, key_words, line_of, IsLineWithEnd}
+pub use Rattle.kd_form.proofs.Prelude.{IsFreshWriter, IsOpen, IsOrderRead, IsStageRead, All-nil, PatternFault, AreKeys}
+pub use Rattle.kd_form.proofs.Prelude.{IsPatternLine, IsPatternFault, key_pattern, key_words, line_of, IsLineWithEnd}
 pub use Rattle.kd_form.proofs.Prelude.{IsKeyLine, BeginsWithKeys, IsAnyOrderHead, IsOrderHead, IsOrder}
 pub use Rattle.kd_form.proofs.Prelude.{IsOrderHeadFault, is_text_byte, FormFault, IsRefused, IsMessageAnswer}
-pub use Rattle.kd_form.proofs.Prelude.{HasReadSoFar, IsAnyKeyLine, common_steps, BadByte, HeadCutShort, blank_of}
+pub use Rattle.kd_form.proofs.Prelude.{HasReadSoFar, IsAnyKeyLine, common_steps, BadByte, HeadCutShort, space_letter}
 pub use Rattle.kd_form.proofs.Prelude.{All-push, filter_map-append, ◌-◌, cases_lt, drop_at, le_of_mul-le-mul_left}
 pub use Rattle.kd_form.proofs.Prelude.{take_at}
 use Rattle.std.proofs.lemmas.{Grind.div_ceil_times, Option.slice_get_within, Option.get_or_from_slice_get}
@@ -24,7 +24,7 @@ use Rattle.kd_form.proofs.Lines.{IsPlain, letters_first, plain_keys, plain_text}
 pub use Rattle.kd_form.proofs.OneOrder.{Shorter, Longer, all_of_the_day, prefixes, no_head_fault, no_keys_fault}
 pub use Rattle.kd_form.proofs.OneOrder.{nothing_stands, nothing_stands_yet, one_order, bad_longer, bad_behind}
 pub use Rattle.kd_form.proofs.OneOrder.{BeginsWithKeys-append}
-use Rattle.kd_form.specs.declared.pattern_line.Unread.TheVariants as unread
+use Rattle.kd_form.specs.declared.pattern_line.PatternFault.TheVariants as faults
 use Rattle.kd_form.specs.declared.order_reader.OrderStage.TheVariants as stages
 use Rattle.kd_form.specs.SendStream as stream
 
@@ -79,17 +79,17 @@ module _ {s : Day} {keys : List Keys} {w : PartWriter} {k : Keys} {letters sent 
 
 module _ (s : Day) (count : ℕ) where
   -- if the first byte is P, only a line of keys can begin with the bytes
-  pub next_keys : (line : List ℕ) (why : Unread) → get_or line 0 0 ≡ 80 → count < 99
-      → IsUnread (IsAnyKeyLine s) line why → IsUnread (IsHeadLine s count) line why
-  next_keys line unread.Incomplete first room (more, some, key) = (more, some, inl (key, room))
-  next_keys [] unread.Mismatch first room off = absurd (omega (arith, first))
-  next_keys (byte ∷ line) unread.Mismatch first room off = grind (arith, off, text_front)
+  pub next_keys : (line : List ℕ) (why : PatternFault) → get_or line 0 0 ≡ 80 → count < 99
+      → IsPatternFault (IsAnyKeyLine s) line why → IsPatternFault (IsHeadLine s count) line why
+  next_keys line faults.Incomplete first room (more, some, key) = (more, some, inl (key, room))
+  next_keys [] faults.Mismatch first room off = absurd (omega (arith, first))
+  next_keys (byte ∷ line) faults.Mismatch first room off = grind (arith, off, text_front)
 
-  pub next_text : (line : List ℕ) (why : Unread) → (get_or line 0 0 ≡ 80 → 99 ≤ count)
-      → IsUnread (IsPatternLine (codes "TEXT")) line why → IsUnread (IsHeadLine s count) line why
-  next_text line unread.Incomplete full (more, some, (letters, text)) = (more, some, inr text.ended)
-  next_text [] unread.Mismatch full off = absurd (off (codes "TEXT\n") (text_line (codes "TEXT\n") (inl refl)))
-  next_text (byte ∷ line) unread.Mismatch full off = λ more next. elim next [
+  pub next_text : (line : List ℕ) (why : PatternFault) → (get_or line 0 0 ≡ 80 → 99 ≤ count)
+      → IsPatternFault (IsPatternLine (codes "TEXT")) line why → IsPatternFault (IsHeadLine s count) line why
+  next_text line faults.Incomplete full (more, some, (letters, text)) = (more, some, inr text.ended)
+  next_text [] faults.Mismatch full off = absurd (off (codes "TEXT\n") (text_line (codes "TEXT\n") (inl refl)))
+  next_text (byte ∷ line) faults.Mismatch full off = λ more next. elim next [
     | inl key ↦ omega (arith, key.1, full (key_first key.0.keys (byte ∷ line ++ more) [] key.0.keyed))
     | inr text ↦ off more (text_line (byte ∷ line ++ more) text)
   ]
@@ -107,8 +107,8 @@ module _ (s : Day) (count : ℕ) where
 
   -- if bytes are a proper prefix of a line of a head, but no such line begins with them and `byte`, then
   -- nothing that begins with them and `byte` begins with such a line
-  pub no_next : (line other one left : List ℕ) (byte : ℕ) → IsUnread (IsHeadLine s count) line unread.Incomplete
-      → IsUnread (IsHeadLine s count) (line ++ byte ∷ []) unread.Mismatch → IsHeadLine s count one
+  pub no_next : (line other one left : List ℕ) (byte : ℕ) → IsPatternFault (IsHeadLine s count) line faults.Incomplete
+      → IsPatternFault (IsHeadLine s count) (line ++ byte ∷ []) faults.Mismatch → IsHeadLine s count one
       → ¬ (line ++ byte ∷ other ≡ one ++ left)
   no_next line other one left byte (more, some, next) off is same = elim (prefixes line (byte ∷ other) one left same) [
     | Shorter [] longer left ↦ some (next_whole more is (rw (longer, append-nil line) next))
@@ -138,7 +138,7 @@ module _ {s : Day} {keys : List Keys} {line order : List ℕ} (is : IsHeadBegun 
       → BeginsWithKeys s (keys ++ k ∷ []) Q (order ++ (more ++ end))
   one_more Q k more end are keyed holds = grind (arith, lines_more, append_assoc)
 
-  pub goes_on : IsUnread (IsAnyOrderHead s) order unread.Incomplete
+  pub goes_on : IsPatternFault (IsAnyOrderHead s) order faults.Incomplete
   goes_on = let (more, some, next) = is.begins in elim next [
     | inl (key, room) ↦
         let text : List ℕ = codes "TEXT\n" in
@@ -152,15 +152,15 @@ module _ {s : Day} {keys : List Keys} {line order : List ℕ} (is : IsHeadBegun 
   head_cut = grind (arith, append-nil, goes_on)
 
   -- a byte with which the line can go on leaves the head open
-  pub head_open : (byte : ℕ) → IsUnread (IsHeadLine s (length keys)) (line ++ byte ∷ []) unread.Incomplete
+  pub head_open : (byte : ℕ) → IsPatternFault (IsHeadLine s (length keys)) (line ++ byte ∷ []) faults.Incomplete
       → IsHeadBegun s keys (line ++ byte ∷ []) (order ++ byte ∷ [])
   head_open byte begins = grind (arith, append-nil keys, lines_more)
 
 -- -------- the faults that the reader of an order has found, and what is sent by then
 
-pub letters_few : (blank : Option ℕ) (text : List ℕ) → length (letters_from blank text) ≤ length text
-letters_few blank [] = omega arith
-letters_few blank (byte ∷ text) = grind (arith, letters_first, letters_few blank text, length-append)
+pub letters_few : (for_space : Option ℕ) (text : List ℕ) → length (letters_from for_space text) ≤ length text
+letters_few for_space [] = omega arith
+letters_few for_space (byte ∷ text) = grind (arith, letters_first, letters_few for_space text, length-append)
 
 module _ {s : Day} where
   pub is_longer : {order head text : List ℕ} {keys : List Keys} (more : List ℕ) → IsOrder s order keys head text
@@ -209,8 +209,8 @@ module _ {s : Day} where
       → IsStageRead s stage h w order sent → IsOpen (order_message s) order sent
   open_yet stages.Head h w order sent (head, nothing, fresh) = record {
     unrefused = λ fault. nothing_stands_yet s order fault (head_cut head);
-    written = stream.NothingSent (λ keys front text is suited. no_head_fault s order keys front text _ is (head_cut head))
-        nothing;
+    written = stream.NothingSent
+        (λ keys front text is suited. no_head_fault s order keys front text _ is (head_cut head)) nothing;
   }
   open_yet stages.Text h w order sent text = record {
     unrefused = λ fault. nothing_stands s order _ text.head text.text fault text.sendable;

@@ -25,7 +25,7 @@ pub use Rattle.kd_form.specs.FormParts.{AreFewLetters, AreHeadingWords, BeginsHe
 pub use Rattle.kd_form.specs.FormParts.{IsHeading, IsLetterCount, IsLineText, WithoutReturn, cut_at_headings, parts_of}
 pub use Rattle.kd_form.specs.FormReading.{FitsHeadingAt, HasBegunHeading, HasTail, HoldsBody, HoldsForm, HoldsPart}
 pub use Rattle.kd_form.specs.FormReading.{HoldsStage, IsAtPartStart, IsBodyPlaintext, IsHeadingFault, HeadingMissing}
-pub use Rattle.kd_form.specs.FormReading.{HeadingOfOther, reader_place}
+pub use Rattle.kd_form.specs.FormReading.{HeadingOfOther, current_part_start}
 pub use Rattle.kd_form.specs.FormText.{AtPart, IsPartFaultAtEnd, AreAllPartsRead, IsLastPart, IsFormReadTo}
 pub use Rattle.kd_form.specs.FormText.{IsReceiveFault, IsRefusedForGood, IsTextOf, NoHeading, PartsProperty, PartStart}
 pub use Rattle.kd_form.specs.FormText.{ReadsPartsTo, IsPartFaultForGood, first_part_start, form_message, plaintext_byte}
@@ -41,7 +41,7 @@ pub use Rattle.kd_form.specs.{OnTheKey.{IsKeyFault, OffKey}}
 pub use Rattle.kd_form.specs.Making.{IsPartMade, IsPartTextMade, KeysSuitDay, cipher_from, enciphered_choice}
 pub use Rattle.kd_form.specs.Making.{fill_last_group, list_letters, part_size, pin_indicators, pin_letters}
 pub use Rattle.kd_form.specs.Making.{rotor_letters}
-pub use Rattle.kd_form.specs.Order.{BeginsWithKeys, IsUnread, IsAnyOrderHead, IsLineWithEnd, IsOrderHead}
+pub use Rattle.kd_form.specs.Order.{BeginsWithKeys, IsPatternFault, IsAnyOrderHead, IsLineWithEnd, IsOrderHead}
 pub use Rattle.kd_form.specs.Order.{IsOrderHeadFault, IsKeyLine, IsOrder}
 pub use Rattle.kd_form.specs.Part.{Part, words_after_spaces, body_text, fraction_text, letter_groups, heading_words}
 pub use Rattle.kd_form.specs.Part.{indicator_words, part_text, pieces, line_then}
@@ -56,7 +56,7 @@ pub use Rattle.kd_form.specs.SendSteps.{IsOrderRead, IsStageRead, IsTextRead}
 pub use Rattle.kd_form.specs.SendStream.{IsWritableCount, IsSentBefore, order_message}
 pub use Rattle.kd_form.specs.Sending.{ArePartTextsMade, HeadCutShort, InHead, InKeys, InParts, InText, IsFirstBadByteAt}
 pub use Rattle.kd_form.specs.Sending.{IsFirstKeysFault, IsFormOf, IsKeysFault, IsSendFault, IsSendable, NoLetter}
-pub use Rattle.kd_form.specs.Sending.{IsOrderFaultForGood, blank_of, letter_of_byte, letters_from, parts_needed}
+pub use Rattle.kd_form.specs.Sending.{IsOrderFaultForGood, space_letter, letter_of_byte, letters_from, parts_needed}
 pub use Rattle.kd_form.specs.Sending.{text_letters}
 pub use Rattle.kd_form.specs.StreamSteps.{AtSource, IsCloseAnswer, IsFinishAnswer, HasBeenEnded, IsFeedAllAnswer}
 pub use Rattle.kd_form.specs.StreamSteps.{HasRoom, HasReadSoFar, InFeeding, IsFed, IsChunkRead, IsReadStopped}
@@ -69,7 +69,7 @@ pub use Rattle.kd_form.specs.Typing.{IsAllowedUpTo, IsTextFault, HasTyped, IsTyp
 pub use Rattle.kd_form.specs.Typing.{typed_letters}
 pub use Rattle.kd_form.specs.declared.{fault.FormFault.FormFault, heading.{Heading.Heading, Indicator.Indicator}}
 pub use Rattle.kd_form.specs.declared.keys.{Keys.{Keys, TheVariants.{Pin, Rotor}}, PinKeys.PinKeys}
-pub use Rattle.kd_form.specs.declared.pattern_line.Unread.{Unread}
+pub use Rattle.kd_form.specs.declared.pattern_line.PatternFault.{PatternFault}
 pub use Rattle.kd_form.specs.declared.fault.FormFault.TheVariants.{BadByte, BadHeading, EmptyText, NotReady, PartKeys}
 pub use Rattle.kd_form.specs.declared.fault.FormFault.TheVariants.{PartOrder}
 pub use Rattle.kd_state.proofs.Lines.{IsNumeralModel-digits, lines_split_into_words, numbers_are_words}

@@ -156,8 +156,8 @@ IsStreamed-closed {took = took} {taken} {wrote} (before, ended) closes =
       text = before.text ++ one.made;
       given = before.given;
       written = Appends-trans took taken wrote before.text one.made before.written one.written;
-      answers = rw closes.answers
-          (IsStreamAnswer-closed one.made closes.told before.held few ended before.well.0 before.well.1 one.ended closes.failed);
+      answers = rw closes.answers (IsStreamAnswer-closed one.made closes.told before.held few ended before.well.0
+          before.well.1 one.ended closes.failed);
     }
 
 -- One more byte was asked for, and there is none.

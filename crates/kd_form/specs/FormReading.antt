@@ -108,8 +108,8 @@ pub data IsHeadingFault (number : ℕ) (expected : Option ℕ) (found : Option H
 -- ---- the form
 
 -- the start of the part that the reader `r` is in; `front` are the form's bytes before this part
-abbrev pub reader_place : FormReader → List ℕ → PartStart
-reader_place r front = record { number = r.number; expected = r.expected; bytes_before = length front }
+abbrev pub current_part_start : FormReader → List ℕ → PartStart
+current_part_start r front = record { number = r.number; expected = r.expected; bytes_before = length front }
 
 abbrev pub IsAtPartStart : PartStart → PartsProperty
 IsAtPartStart q p parts = (p ≡ q) × (parts ≡ [])
@@ -126,7 +126,7 @@ pub record HoldsForm (s : Day) (r : FormReader) (form text : List ℕ) : Type 0 
   pub alone : (cut_at_headings last).1 ≡ []
   pub begun : (front ≡ []) ⊎ BeginsHeading front
   pub first : r.number ≡ 1 → (front ≡ []) × (letters ≡ [])
-  pub read : ReadsPartsTo s (IsAtPartStart (reader_place r front)) first_part_start parts letters
+  pub read : ReadsPartsTo s (IsAtPartStart (current_part_start r front)) first_part_start parts letters
   pub is : text ≡ plaintext_bytes s letters
   pub counted : r.position ≡ length form
   pub stage : HoldsStage s r.stage r.number r.expected last

@@ -11,7 +11,7 @@ use Rattle.kd_form.specs.declared.keys.Keys.{Keys}
 use Rattle.kd_form.specs.Making.{fill_last_group}
 use Rattle.kd_form.specs.Streams.{Message}
 use Rattle.kd_form.specs.Order.{IsOrder}
-use Rattle.kd_form.specs.Sending.{blank_of, text_letters}
+use Rattle.kd_form.specs.Sending.{space_letter, text_letters}
 use Rattle.kd_form.specs.FormParts.{BeginsHeading, parts_of}
 use Rattle.kd_form.specs.Receiving.{IsPartRead, IsExpectedCount, IsEarlyFault, IsPartFault}
 
@@ -46,14 +46,14 @@ ReadsPartsTo s Holds p (part ∷ parts) letters =
 -- ---- The text of a form.
 -- Test: forms_are_received
 
--- the byte for a letter: a space if the letter is `blank`, otherwise the capital letter
+-- the byte for a letter: a space if the letter is `for_space`, otherwise the capital letter
 abbrev pub plaintext_byte : Option ℕ → ℕ → ℕ
 plaintext_byte None letter = letter + 65
-plaintext_byte (Some blank) letter = if letter == blank then 32 else letter + 65
+plaintext_byte (Some for_space) letter = if letter == for_space then 32 else letter + 65
 
 -- the bytes for letters; on the Converter M-209, a space for each Z
 abbrev pub plaintext_bytes : Day → List ℕ → List ℕ
-plaintext_bytes s letters = map (plaintext_byte (blank_of s)) letters
+plaintext_bytes s letters = map (plaintext_byte (space_letter s)) letters
 
 -- the text of a form: its letters as bytes, then LF
 abbrev pub plaintext_with_end : Day → List ℕ → List ℕ

@@ -5,8 +5,8 @@ use Rattle.std.specs.Prelude.{codes, ◌≡◌, ◌≢◌, ◌⊎◌, ℕ, ◌+�
 use Rattle.kd_state.specs.Words.{line_of}
 use Rattle.kd_state.specs.SheetDay.{Day}
 use Rattle.kd_form.specs.declared.keys.Keys.{Keys}
-use Rattle.kd_form.specs.declared.pattern_line.Unread.{Unread}
-use Rattle.kd_form.specs.declared.pattern_line.Unread.TheVariants.{Incomplete, Mismatch}
+use Rattle.kd_form.specs.declared.pattern_line.PatternFault.{PatternFault}
+use Rattle.kd_form.specs.declared.pattern_line.PatternFault.TheVariants.{Incomplete, Mismatch}
 use Rattle.kd_form.specs.Keys.{key_words, AreKeys}
 
 -- `bytes` are `line` and a line end: LF, or CR and LF.
@@ -40,9 +40,9 @@ pub record IsOrder (s : Day) (order : List ℕ) (keys : List Keys) (head text : 
 
 -- `Incomplete`: the bytes are a proper prefix of bytes that satisfy `Is`. `Mismatch`: no bytes that begin
 -- with these bytes satisfy `Is`.
-abbrev pub IsUnread : (List ℕ → Type 0) → List ℕ → Unread → Type 0
-IsUnread Is bytes Incomplete = (more : List ℕ) × (more ≢ []) × Is (bytes ++ more)
-IsUnread Is bytes Mismatch = (more : List ℕ) → ¬ (Is (bytes ++ more))
+abbrev pub IsPatternFault : (List ℕ → Type 0) → List ℕ → PatternFault → Type 0
+IsPatternFault Is bytes Incomplete = (more : List ℕ) × (more ≢ []) × Is (bytes ++ more)
+IsPatternFault Is bytes Mismatch = (more : List ℕ) → ¬ (Is (bytes ++ more))
 
 -- The bytes before `position` are a proper prefix of a head, but with the byte at `position` they begin no head. If
 -- the order ends within its head, `position` is one past the order's last byte.
@@ -51,5 +51,5 @@ pub record IsOrderHeadFault (s : Day) (order : List ℕ) (position : ℕ) : Type
   pub rest : List ℕ
   pub joined : order ≡ before ++ rest
   pub size : position ≡ length before + 1
-  pub begins : IsUnread (IsAnyOrderHead s) before Incomplete
+  pub begins : IsPatternFault (IsAnyOrderHead s) before Incomplete
   pub stops : (byte : ℕ) (after more : List ℕ) → rest ≡ byte ∷ after → ¬ (IsAnyOrderHead s (before ++ byte ∷ more))

@@ -8,7 +8,7 @@ use Rattle.kd_form.specs.declared.keys.Keys.{Keys}
 use Rattle.kd_form.specs.declared.order_reader.head.HeadReader.{HeadReader}
 use Rattle.kd_form.specs.declared.order_reader.head.HeadStep.{HeadStep}
 use Rattle.kd_form.specs.declared.order_reader.head.HeadStep.TheVariants.{Open, Text, Bad}
-use Rattle.kd_form.specs.declared.pattern_line.Unread.TheVariants as unread
+use Rattle.kd_form.specs.declared.pattern_line.PatternFault.TheVariants as faults
 use Rattle.kd_form.specs.declared.order_reader.parts.PartWriter.{PartWriter}
 use Rattle.kd_form.specs.declared.order_reader.OrderReader.{OrderReader}
 use Rattle.kd_form.specs.declared.order_reader.OrderStage.{OrderStage}
@@ -16,7 +16,7 @@ use Rattle.kd_form.specs.declared.order_reader.OrderStage.TheVariants as stages
 use Rattle.kd_form.specs.Keys.{AreKeys}
 use Rattle.kd_form.specs.Part.{pieces}
 use Rattle.kd_form.specs.Making.{KeysSuitDay, part_size}
-use Rattle.kd_form.specs.Order.{BeginsWithKeys, IsUnread, IsLineWithEnd, IsOrderHeadFault, IsOrder}
+use Rattle.kd_form.specs.Order.{BeginsWithKeys, IsPatternFault, IsLineWithEnd, IsOrderHeadFault, IsOrder}
 use Rattle.kd_form.specs.KeyPatterns.{IsAnyKeyLine}
 use Rattle.kd_form.specs.Sending.{text_letters, parts_needed, ArePartTextsMade, IsSendable}
 use Rattle.kd_form.specs.SendStream.{IsWritableCount}
@@ -30,7 +30,7 @@ IsHeadLine s count line = (IsAnyKeyLine s line × (count < 99)) ⊎ IsLineWithEn
 pub record IsHeadBegun (s : Day) (keys : List Keys) (line order : List ℕ) : Type 0 where
   pub lines : BeginsWithKeys s keys (λ rest. rest ≡ line) order
   pub few : length keys ≤ 99
-  pub begins : IsUnread (IsHeadLine s (length keys)) line unread.Incomplete
+  pub begins : IsPatternFault (IsHeadLine s (length keys)) line faults.Incomplete
 
 abbrev pub IsHeadStep : Day → List Keys → List ℕ → List ℕ → HeadStep → Type 0
 IsHeadStep s keys line order Open = IsHeadBegun s keys line order

@@ -19,21 +19,21 @@ use Rattle.kd_form.specs.Order.{IsOrder, IsOrderHeadFault}
 -- Test: orders_are_sent
 
 -- the letter that is sent for a space: Z on the Converter M-209; none on a rotor machine
-abbrev pub blank_of : Day → Option ℕ
-blank_of (OfRotors s) = None
-blank_of (OfPins s) = Some 25
+abbrev pub space_letter : Day → Option ℕ
+space_letter (OfRotors s) = None
+space_letter (OfPins s) = Some 25
 
--- the letter that a byte gives: a capital letter gives itself, a space gives `blank`, other bytes give none
+-- the letter that a byte gives: a capital letter gives itself, a space gives `for_space`, other bytes give none
 abbrev pub letter_of_byte : Option ℕ → ℕ → Option ℕ
-letter_of_byte blank byte = if is_capital byte then Some (byte - 65) else if byte == 32 then blank else None
+letter_of_byte for_space byte = if is_capital byte then Some (byte - 65) else if byte == 32 then for_space else None
 
 -- the letters that the bytes of a text give
 abbrev pub letters_from : Option ℕ → List ℕ → List ℕ
-letters_from blank text = filter_map (letter_of_byte blank) text
+letters_from for_space text = filter_map (letter_of_byte for_space) text
 
 -- the letters of an order's text
 abbrev pub text_letters : Day → List ℕ → List ℕ
-text_letters s text = letters_from (blank_of s) text
+text_letters s text = letters_from (space_letter s) text
 
 -- `place` is the index, from 0, of the first byte of `text` that isn't allowed.
 pub record IsFirstBadByteAt (text : List ℕ) (place : ℕ) : Type 0 where

@@ -43,7 +43,6 @@ impl<'day> OwnMachine<'day> {
     /// Enciphers or deciphers `text` in place, with the letters of `window` in the windows at the start.
     ///
     /// Returns false, unless `window` has one letter for each slot or pin wheel, each on its wheel.
-    #[tactic(auto, using(crate::proofs::MadeParts::own_when_turned))]
     pub(crate) fn encipher(&mut self, window: &[Letter], text: &mut [Letter]) -> bool
         ensures day { self.new ≡ self.old }
         ensures window { IsTrue result ↔ IsWindow (sheet_key self.old) window.now }

@@ -2,7 +2,7 @@
 ghost use Rattle.std.specs.Prelude.{◌≡◌, ◌≤◌, ◌<◌, [], ◌+◌, ◌++◌, MatchResult};
 ghost use Rattle.std.specs.Bool.{OnTrue, OnFalse};
 ghost use Rattle.arrayvec.specs.ArrayVec.{array_vec_len};
-ghost use Rattle.kd_form.specs.Order.{IsUnread, IsLineWithEnd};
+ghost use Rattle.kd_form.specs.Order.{IsPatternFault, IsLineWithEnd};
 ghost use Rattle.kd_form.specs.Patterns.{blank_count, fits_mark, letters_for_mark, IsFilledLine, IsPatternLine};
 ghost use Rattle.kd_form.specs.Patterns.{AreLettersAppended};
 
@@ -14,7 +14,7 @@ const MOST: usize = 13;
 
 /// Why bytes aren't a line that fits a pattern.
 #[derive(Clone, Copy)]
-pub(crate) enum Unread {
+pub(crate) enum PatternFault {
     /// Bytes are missing at the end: the bytes are a prefix of a line that fits.
     Incomplete,
     /// No line that fits the pattern begins with the bytes.
@@ -22,11 +22,14 @@ pub(crate) enum Unread {
 }
 
 /// Reads `bytes` as a line that fits `pattern`, and its line end; returns the letter at each `_`.
-pub(crate) fn read_pattern(pattern: &[u8], bytes: &[u8]) -> Result<ArrayVec<Letter, MOST>, Unread>
+pub(crate) fn read_pattern(
+    pattern: &[u8],
+    bytes: &[u8],
+) -> Result<ArrayVec<Letter, MOST>, PatternFault>
     requires { blank_count pattern.now ≤ 13 }
     ensures { MatchResult result
         (λ letters. IsFilledLine pattern.now letters.items bytes.now)
-        (IsUnread (IsPatternLine pattern.now) bytes.now) }
+        (IsPatternFault (IsPatternLine pattern.now) bytes.now) }
 {
     let mut letters = ArrayVec::new();
     read_pattern_letters(pattern, bytes, &mut letters)?;
@@ -39,20 +42,20 @@ fn read_pattern_letters(
     pattern: &[u8],
     bytes: &[u8],
     letters: &mut ArrayVec<Letter, MOST>,
-) -> Result<(), Unread>
+) -> Result<(), PatternFault>
     requires { array_vec_len letters.old + blank_count pattern.now ≤ 13 }
     ensures { MatchResult result
         (λ _. AreLettersAppended pattern.now bytes.now letters.old.items letters.new.items)
-        (IsUnread (IsPatternLine pattern.now) bytes.now) }
+        (IsPatternFault (IsPatternLine pattern.now) bytes.now) }
 {
     let Some((mark, marks)) = pattern.split_first() else {
         return read_end(bytes);
     };
     let Some((byte, rest)) = bytes.split_first() else {
-        return Err(Unread::Incomplete);
+        return Err(PatternFault::Incomplete);
     };
     if !take_marked_letter(letters, *mark, *byte) {
-        return Err(Unread::Mismatch);
+        return Err(PatternFault::Mismatch);
     }
     read_pattern_letters(marks, rest, letters)
 }
@@ -78,16 +81,16 @@ fn take_marked_letter(letters: &mut ArrayVec<Letter, MOST>, mark: u8, byte: u8) 
 
 /// Checks that `bytes` are a line end: LF, or CR and LF.
 #[tactic(auto, using(crate::proofs::Lines::end_open, crate::proofs::Lines::end_off))]
-fn read_end(bytes: &[u8]) -> Result<(), Unread>
+fn read_end(bytes: &[u8]) -> Result<(), PatternFault>
     ensures { MatchResult result
         (λ _. IsLineWithEnd [] bytes.now)
-        (IsUnread (IsLineWithEnd []) bytes.now) }
+        (IsPatternFault (IsLineWithEnd []) bytes.now) }
 {
     match bytes {
         [b'\n'] => Ok(()),
         [b'\r', b'\n'] => Ok(()),
-        [] => Err(Unread::Incomplete),
-        [b'\r'] => Err(Unread::Incomplete),
-        _ => Err(Unread::Mismatch),
+        [] => Err(PatternFault::Incomplete),
+        [b'\r'] => Err(PatternFault::Incomplete),
+        _ => Err(PatternFault::Mismatch),
     }
 }

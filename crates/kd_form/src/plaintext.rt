@@ -2,7 +2,7 @@
 ghost use Rattle.std.specs.Prelude.{◌≡◌, ◌≤◌, length};
 ghost use Rattle.kd_form.specs.FormText.{plaintext_byte, plaintext_bytes};
 
-use super::text::blank_of;
+use super::text::space_letter;
 use arrayvec::ArrayVec;
 use kd_state::SheetDay;
 use kd_tables::Letter;
@@ -12,20 +12,20 @@ pub(crate) fn plaintext_bytes<const N: usize>(day: &SheetDay, letters: &[Letter]
     requires { length letters.now ≤ N }
     ensures { result.items ≡ plaintext_bytes day.now letters.now }
 {
-    let blank = blank_of(day);
+    let for_space = space_letter(day);
     let mut given = ArrayVec::new();
     for letter in letters {
-        given.push(plaintext_byte(&blank, *letter));
+        given.push(plaintext_byte(&for_space, *letter));
     }
     given
 }
 
-/// The byte for `letter`: a space if the letter is `blank`, otherwise the capital letter.
-fn plaintext_byte(blank: &Option<Letter>, letter: Letter) -> u8
-    ensures { result ≡ plaintext_byte blank.now letter }
+/// The byte for `letter`: a space if the letter is `for_space`, otherwise the capital letter.
+fn plaintext_byte(for_space: &Option<Letter>, letter: Letter) -> u8
+    ensures { result ≡ plaintext_byte for_space.now letter }
 {
-    match blank {
-        Some(blank) if *blank == letter => b' ',
+    match for_space {
+        Some(for_space) if *for_space == letter => b' ',
         _ => letter.byte(),
     }
 }

@@ -44,7 +44,6 @@ pub fn receive(
 /// would fail later. Other faults are found at the form's end. Before a fault of the form is returned, the texts of
 /// the parts before the fault are written. `ReadTooLong` means that the source has more than `READ_LIMIT` bytes,
 /// and `Device` that a get or a put failed.
-#[tactic(auto, using(crate::proofs::OneText::off_key, crate::proofs::OneText::form_told))]
 pub fn receive_stream<R: Source, W: Sink>(
     machine: &Machine,
     day: &SheetDay,

@@ -43,7 +43,6 @@ pub fn send(
 /// long or would fail later. Other faults are found at the order's end. A part is written once the first letter of
 /// the next part has been read. So parts of a refused order may have been written. At most 1,048,576 bytes are
 /// read, and one byte more to see whether the source ends.
-#[tactic(auto, using(crate::proofs::OneText::off_key))]
 pub fn send_stream<R: Source, W: Sink>(
     machine: &Machine,
     day: &SheetDay,

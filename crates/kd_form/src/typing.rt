@@ -21,7 +21,6 @@ use kd_tables::{Letter, Sink, Source, put_all};
 /// is found, even if the source is too long or would fail later. Before, the lamps of the letters up to this byte
 /// are written; if the sink fails, the fault is `Device`. At most 1,048,576 bytes are read, and one byte more to
 /// see whether the source ends.
-#[tactic(auto, using(crate::proofs::OneText::text_told))]
 pub fn type_stream<R: Source, W: Sink>(
     machine: &Machine,
     source: &mut R,

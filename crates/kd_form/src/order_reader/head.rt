@@ -2,12 +2,12 @@
 ghost use Rattle.std.specs.Prelude.{◌≡◌, ◌<◌, ◌↔◌, IsTrue, slice_index, List, ℕ, [], ◌∷◌, ◌++◌};
 ghost use Rattle.std.specs.Prelude.{codes, MatchOption, MatchResult};
 ghost use Rattle.kd_form.specs.Keys.{AreKeys};
-ghost use Rattle.kd_form.specs.Order.{IsUnread, IsLineWithEnd, IsKeyLine};
+ghost use Rattle.kd_form.specs.Order.{IsPatternFault, IsLineWithEnd, IsKeyLine};
 ghost use Rattle.kd_form.specs.SendSteps.{IsHeadStep, IsHeadBegun, IsHeadLine};
 
 use crate::key_line::{key_pattern, keys_of};
 use crate::keys::Keys;
-use crate::pattern_line::{Unread, read_pattern};
+use crate::pattern_line::{PatternFault, read_pattern};
 use arrayvec::ArrayVec;
 use kd_state::SheetDay;
 
@@ -71,8 +71,8 @@ impl HeadReader {
                 HeadStep::Open
             }
             Ok(None) => HeadStep::Text,
-            Err(Unread::Incomplete) => HeadStep::Open,
-            Err(Unread::Mismatch) => HeadStep::Bad,
+            Err(PatternFault::Incomplete) => HeadStep::Open,
+            Err(PatternFault::Mismatch) => HeadStep::Bad,
         }
     }
 }
@@ -81,11 +81,11 @@ impl HeadReader {
 ///
 /// The first byte decides whether it is read as keys or as TEXT. After 99 lines of keys, only TEXT is allowed.
 #[tactic(auto, using(crate::proofs::OrderSteps::next_text))]
-fn read_line(day: &SheetDay, count: usize, line: &[u8]) -> Result<Option<Keys>, Unread>
+fn read_line(day: &SheetDay, count: usize, line: &[u8]) -> Result<Option<Keys>, PatternFault>
     ensures { MatchResult result
         (λ found. MatchOption found (IsLineWithEnd (codes "TEXT") line.now)
         (λ keys. AreKeys day.now keys × IsKeyLine keys line.now × (count < 99)))
-        (IsUnread (IsHeadLine day.now count) line.now) }
+        (IsPatternFault (IsHeadLine day.now count) line.now) }
 {
     if count < 99 && is_key_line(line) {
         let letters = read_pattern(key_pattern(day), line)?;

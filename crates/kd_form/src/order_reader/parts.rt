@@ -11,7 +11,7 @@ use crate::keys::Keys;
 use crate::making::make_part;
 use crate::sending::part_size;
 use crate::stream::reader::PartText;
-use crate::text::{blank_of, letter_of_byte};
+use crate::text::{letter_of_byte, space_letter};
 use arrayvec::ArrayVec;
 use kd_state::SheetDay;
 use kd_tables::Letter;
@@ -48,7 +48,7 @@ impl PartWriter {
             → AreLettersTaken day.now keys.now self.new
             (letters ++ text_letters day.now (byte ∷ [])) (sent ++ output.new.items) }
     {
-        if let Some(letter) = letter_of_byte(&blank_of(day), byte) {
+        if let Some(letter) = letter_of_byte(&space_letter(day), byte) {
             self.take_letter(day, keys, letter, output);
         }
     }

@@ -1,5 +1,6 @@
 use Rattle.kd_form.proofs.OrderSteps.{counted_on, fault_longer, is_longer, letters_few, order_held, order_refused}
-use Rattle.kd_form.proofs.OrderSteps.{text_begins, blank_of, ◌≡◌, length, length-append, append_assoc, arith, All-push}
+use Rattle.kd_form.proofs.OrderSteps.{text_begins, space_letter, ◌≡◌, length, length-append, append_assoc, arith}
+use Rattle.kd_form.proofs.OrderSteps.{All-push}
 use Rattle.kd_form.proofs.OrderSteps.{IsTrue, is_text_byte, filter_map-append, InHead, InText, BadByte, [], ◌∷◌, ◌++◌}
 use Rattle.kd_form.proofs.OrderSteps.{◌+◌, ap, refl, sym, text_letters, ◌∙◌, all_of_the_day, bad_behind, no_head_fault}
 use Rattle.kd_form.specs.declared.order_reader.OrderStage.TheVariants as stages
@@ -32,7 +33,7 @@ pub take-requires-in-Text-clause-taken : goal.take-requires-in-Text-clause-taken
 take-requires-in-Text-clause-taken c =
     let room = c.requires.room in
     let here = rw c.in-Text.is at room.held.is.stage in
-    let short = letters_few (blank_of c.args.day.now) here.text in (
+    let short = letters_few (space_letter c.args.day.now) here.text in (
       text_letters c.args.day.now here.text,
       room.text,
       rw c.keys-in-Text.ensures here.taken,

@@ -1,5 +1,5 @@
-use Rattle.kd_form.proofs.Streaming.{err_is, arith, AtSource, InFeeding, failed_now, well_now, Consumes-kept, append-nil}
-use Rattle.kd_form.proofs.Streaming.{Appends-nil, [], rules}
+use Rattle.kd_form.proofs.Streaming.{err_is, arith, AtSource, InFeeding, failed_now, well_now, Consumes-kept}
+use Rattle.kd_form.proofs.Streaming.{Appends-nil, [], rules, append-nil}
 use Rattle.kd_form.proofs.stream.chunk.read_into.Goals as goal
 
 pub returns-in_err-read_chunk : goal.returns-in_err-read_chunk
