@@ -65,7 +65,8 @@ module _ {K X : Type 0} (sort : Sort K X) (cmp : X → X → Ordering) where
         let fine = All-head (IsFine sort) (kind.thing, kind.price) pairs can.fine in
         record { form = rw is fine.0; some = rw is some; most = rw is few; reach = rw is fine.1 }
 
-    pub appends_one : (made : K) → sort.kind made ≡ kind → new ≡ old ++ made ∷ [] → AppendsKinds sort cmp kind [] old new
+    pub appends_one : (made : K) → sort.kind made ≡ kind → new ≡ old ++ made ∷ []
+        → AppendsKinds sort cmp kind [] old new
     appends_one made is same = record {
       made = made ∷ [];
       is = same;
@@ -165,8 +166,10 @@ module _ {K X : Type 0} (sort : Sort K X) (order : IsStrict sort.ComesBefore) wh
             inl (sym here.2 ∙ get_or-replicate k.count here.0 pair z
             (omega (arith, inside, length-replicate k.count pair)))
         | inr there ↦
-            inr (All-contains (λ (z : X × ℤ). sort.ComesBefore k.thing z.0) rest z (behind kind kinds are.2) there,
-            there)
+            inr (
+              All-contains (λ (z : X × ℤ). sort.ComesBefore k.thing z.0) rest z (behind kind kinds are.2) there,
+              there,
+            )
       ]
 
   pub one_price : (last : Option K) (kinds : List K) → AreKinds sort last kinds

@@ -5,7 +5,7 @@ use Rattle.std.specs.Prelude.{IsPermutation, Bool, true, false, Option, unsigned
 use Rattle.std.specs.{List.{Contains, zip, Sorted.{IsSorted}}, Ordering.{ordering_then, int_cmp}}
 use Rattle.std.specs.declared.cmp.Ordering.{Ordering}
 use Rattle.kd_card.specs.declared.kinds.KindOf.{KindOf}
-use Rattle.kd_card.specs.{Kinds.{Sort, ComesAfter, AreKinds, AreKindsOf, expansion}, Prices.{ArePricesInRange}}
+use Rattle.kd_card.specs.Kinds.{Sort, ComesAfter, AreKinds, expansion}
 
 -- In this list of things with their prices, equal things have equal prices.
 abbrev pub HaveOnePriceEach : {X : Type 0} → List (X × ℤ) → Type 0
@@ -59,10 +59,3 @@ abbrev pub TakesAll : {X : Type 0} → (X → X → Bool) → List (KindOf X) �
     → Type 0
 TakesAll eq kinds things prices left true = IsPermutation (expansion kinds) (zip things prices ++ expansion left)
 TakesAll eq kinds things prices left false = ¬ (HaveThings eq kinds things)
-
-pub record AreBothPrices {K L X Y : Type 0} (row_sort : Sort K X) (column_sort : Sort L Y) (row_things : List X)
-    (column_things : List Y) (row_kinds : List K) (column_kinds : List L) (rows columns : List ℤ) : Type 0 where
-  pub of_rows : AreKindsOf row_sort row_things rows row_kinds
-  pub of_columns : AreKindsOf column_sort column_things columns column_kinds
-  pub row_reach : ArePricesInRange rows
-  pub column_reach : ArePricesInRange columns

@@ -1,16 +1,12 @@
 //! Checks whether a card proves itself, or finds the first doubt about the card.
 ghost use Rattle.std.specs.Prelude.{◌≡◌, ◌↔◌, ◌≤◌, length, IsOk, IfOk, IfErr};
-ghost use Rattle.kd_state.specs.Costs.{cost_table};
-ghost use Rattle.kd_state.specs.{Entry.{rotor_values, pin_values}, FirstFaults.{Finds}};
+ghost use Rattle.kd_state.specs.{Costs.{cost_table}, Entry.{rotor_values, pin_values}, FirstFaults.{Finds}};
+ghost use Rattle.kd_state.specs.{Machine.{model_of}, SheetDay.{day_model, OfRotors, OfPins}};
 ghost use Rattle.kd_state.specs.declared.machine.parts.Parts.TheVariants.{Rotor, Pin};
-ghost use Rattle.kd_state.specs.Machine.{model_of, IsMachine};
-ghost use Rattle.kd_state.specs.SheetDay.{day_model, IsLegalDay, OfRotors, OfPins};
 ghost use Rattle.kd_card.specs.declared.prices.PriceParts.TheVariants.{Cables, Bars};
-ghost use Rattle.kd_card.specs.Prices.{ArePrices, ArePricesInRange};
-ghost use Rattle.kd_card.specs.CardText.{IsGroup};
+ghost use Rattle.kd_card.specs.{CardText.{IsGroup}, Kinds.{AreKindsOf}, Prices.{ArePrices, ArePricesInRange}};
 ghost use Rattle.kd_card.specs.Proving.{Proves, priced_count};
 ghost use Rattle.kd_prices.specs.Doubt.{IsDoubt, IsCheckedAnswer, IsByPricesAnswer, ArePricesFound};
-ghost use Rattle.kd_prices.specs.Grouping.{AreBothPrices};
 
 use super::doubt::Doubt;
 use super::expanding::prices_of;
@@ -64,11 +60,8 @@ fn cable_prices(
     entry: &RotorEntry,
     prices: PriceParts,
 ) -> Result<([i16; 13], [i16; 13]), Doubt>
-    requires machine { IsMachine (Rotor parts.now) }
-    requires day { IsLegalDay (OfRotors (rotor_values entry.now)) }
     requires prices { ArePrices prices }
-    ensures found { ArePricesFound (Rotor parts.now) (OfRotors (rotor_values entry.now)) prices
-        Cables result }
+    ensures found { ArePricesFound (Rotor parts.now) (OfRotors (rotor_values entry.now)) prices Cables result }
     ensures reach { IfOk result (λ found. ArePricesInRange found.0 × ArePricesInRange found.1) }
 {
     match prices {
@@ -90,11 +83,8 @@ fn bar_prices(
     entry: &PinEntry,
     prices: PriceParts,
 ) -> Result<([i16; 27], [i16; 27]), Doubt>
-    requires machine { IsMachine (Pin parts.now) }
-    requires day { IsLegalDay (OfPins (pin_values entry.now)) }
     requires prices { ArePrices prices }
-    ensures found { ArePricesFound (Pin parts.now) (OfPins (pin_values entry.now)) prices
-        Bars result }
+    ensures found { ArePricesFound (Pin parts.now) (OfPins (pin_values entry.now)) prices Bars result }
     ensures reach { IfOk result (λ found. ArePricesInRange found.0 × ArePricesInRange found.1) }
 {
     match prices {
@@ -118,8 +108,10 @@ fn prices_of_both<R: Kind, C: Kind, const N: usize>(
     requires many_columns { length column_things.now ≡ N }
     requires rows { IsGroup R.sort N rows.items }
     requires columns { IsGroup C.sort N columns.items }
-    ensures { Finds (λ found. AreBothPrices R.sort C.sort row_things.now column_things.now rows.items columns.items
-        found.0 found.1) Doubt.PriceMissing result }
+    ensures { Finds (λ found.
+        (AreKindsOf R.sort row_things.now found.0 rows.items × ArePricesInRange found.0)
+        × (AreKindsOf C.sort column_things.now found.1 columns.items × ArePricesInRange found.1))
+        Doubt.PriceMissing result }
 {
     match (
         prices_of(row_things, rows),

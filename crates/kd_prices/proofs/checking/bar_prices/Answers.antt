@@ -1,5 +1,5 @@
 use Rattle.kd_prices.proofs.Found.{bar_kinds_found, other_sort}
-use Rattle.kd_prices.proofs.Prelude.{GoesOn, Same, inl, inr, refl}
+use Rattle.kd_prices.proofs.Prelude.{GoesOn, Same, inl, inr, refl, rules}
 use Rattle.kd_prices.proofs.checking.bar_prices.Goals as goal
 
 pub returns-in-Bars-clause-found : goal.returns-in-Bars-clause-found
@@ -9,7 +9,7 @@ pub returns-in-BarKinds-clause-found : goal.returns-in-BarKinds-clause-found
 returns-in-BarKinds-clause-found c =
     rw c.in-BarKinds.is
     (bar_kinds_found c.args.parts.now _ c.in-BarKinds.rows.items c.in-BarKinds.columns.items
-    (rw c.in-BarKinds.is at c.requires.prices) c.requires.machine.legal.bars c.requires.day.count
+    (rw c.in-BarKinds.is at c.requires.prices) (search rules) (search rules)
     c.prices_of_both.result c.prices_of_both.ensures)
 
 pub returns-in-Cables-clause-found : goal.returns-in-Cables-clause-found

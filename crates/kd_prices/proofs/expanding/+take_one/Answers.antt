@@ -10,7 +10,8 @@ returns-then-has_one_left-clause-taken g t c =
     let equal =
     eq_decides g.K.Thing.Ord.cmp g.met.K.Thing.Ord.total g.K.Thing.PartialEq.eq g.met.K.Thing.Ord.matches_eq
     g.met.K.Thing.Thing.told_apart kind.thing c.args.thing.now in
-    rw (c.in_ok-kinds.ensures.cases.0, c.of.ensures, to_z-of_z w16 c.parts-parts.result.price fits, c.parts-parts.ensures)
+    let price = to_z-of_z w16 c.parts-parts.result.price fits in
+    rw (c.in_ok-kinds.ensures.cases.0, c.of.ensures, price, c.parts-parts.ensures)
     (takes_first c.args.thing.now kind (map g.K.Kind.sort.kind c.in_ok-kinds.rest.now) (equal.0 holds.0) holds.1)
 
 pub returns-else-has_one_left-clause-taken : goal.returns-else-has_one_left-clause-taken
