@@ -53,7 +53,7 @@ fn first_doubt(machine: &Machine, day: &SheetDay, card: &Card) -> Result<(), Dou
     }
 }
 
-/// Finds the price of each cable and each column: their own prices, or those of their kinds.
+/// Finds the price of each cable and each column: its own price, or the price of its kind.
 #[tactic(auto, using(kd_card::proofs::KindPrices::cables_are_prices))]
 fn cable_prices(
     parts: &RotorParts,
@@ -76,7 +76,7 @@ fn cable_prices(
     }
 }
 
-/// Finds the price of each bar and each row of the sheet: their own prices, or those of their kinds.
+/// Finds the price of each bar and each row of the sheet: its own price, or the price of its kind.
 #[tactic(auto, using(kd_card::proofs::KindPrices::bars_are_prices))]
 fn bar_prices(
     parts: &PinParts,
@@ -96,14 +96,13 @@ fn bar_prices(
     }
 }
 
-/// Finds the price of each of `row_things` and `column_things`: the prices of their kinds, `rows` and `columns`.
+/// Finds the price of each of `row_things` and `column_things`, whose kinds are `rows` and `columns`.
 fn prices_of_both<R: Kind, C: Kind, const N: usize>(
     row_things: &[R::Thing],
     rows: ArrayVec<R, N>,
     column_things: &[C::Thing],
     columns: ArrayVec<C, N>,
 ) -> Result<([i16; N], [i16; N]), Doubt>
-    requires size { N ≤ 27 }
     requires many_rows { length row_things.now ≡ N }
     requires many_columns { length column_things.now ≡ N }
     requires rows { IsGroup R.sort N rows.items }

@@ -9,7 +9,7 @@ use kd_card::{Kind, KindOf, Thing};
 /// Groups equal things with equal prices into kinds, in ascending order.
 ///
 /// `pairs` are things (the letters of a cable or column, a standing or a reading) with their prices. If equal
-/// things have different prices, the kinds are no valid kinds of a card.
+/// things have different prices, each of the prices gets a kind, and `Prices` refuses these kinds.
 pub(crate) fn kinds_of<K: Kind, const N: usize>(
     pairs: ArrayVec<(K::Thing, i16), N>,
 ) -> ArrayVec<K, N>
@@ -39,7 +39,9 @@ fn first_of_kind<T: Thing>(pair: &(T, i16)) -> KindOf<T>
     }
 }
 
-/// Appends `kind` and the kinds of `pairs`. The first of `pairs` are counted in `kind` if they are equal to its things.
+/// Appends `kind` and the kinds of `pairs`, which are sorted.
+///
+/// If the first of `pairs` are the thing of `kind` with its price, `kind` counts them, too.
 fn push_kinds<K: Kind, const N: usize>(
     kind: KindOf<K::Thing>,
     pairs: &[(K::Thing, i16)],
