@@ -17,8 +17,8 @@ abbrev pub IsFine : {K X : Type 0} → Sort K X → X × ℤ → Type 0
 IsFine sort pair = sort.InForm pair.0 × (unsigned_abs pair.1 ≤ 9999)
 
 -- a kind of one thing, which has this price
-abbrev pub first_of : {X : Type 0} → X × ℤ → KindOf X
-first_of pair = record { thing = pair.0; count = 1; price = pair.1 }
+abbrev pub kind_of_one : {X : Type 0} → X × ℤ → KindOf X
+kind_of_one pair = record { thing = pair.0; count = 1; price = pair.1 }
 
 -- Things with their prices that have valid kinds: they are sorted by things, then by prices; equal things have equal
 -- prices; and each is in the form that a card writes.
