@@ -1,13 +1,15 @@
 -- If a result is right for the prices that were found for rows and columns, it is right for the check of the card.
 use Rattle.kd_prices.{proofs.Meaning.are_numbered, specs.Doubt.{ArePricesFound, IsByNumberAnswer}}
 use Rattle.kd_state.specs.FirstFaults.{Finds}
+use Rattle.std.specs.Option.{ok_or, option_zip}
 use Rattle.kd_prices.proofs.Prelude.{AreKindsOf, AreModelPrices, AreOfOneModel, ArePrices, ArePricesInRange, BarKind}
 use Rattle.kd_prices.proofs.Prelude.{BarKinds, Bars, BelongTo, CableKind, CableKinds, Cables, Day, Doubt, Err, Expanded}
-use Rattle.kd_prices.proofs.Prelude.{Expands, GoesOn, HasFault, IsCheckedAnswer, List, OfPins, OfRotors, Ok, OtherModel}
-use Rattle.kd_prices.proofs.Prelude.{PairKind, Parts, Pin, PinDay, PinParts, PriceMissing, PriceParts, Result, Rotor}
-use Rattle.kd_prices.proofs.Prelude.{RotorDay, RotorParts, RowKind, Same, Setting, ap, arith, bar_sort, cable_sort}
-use Rattle.kd_prices.proofs.Prelude.{column_prices, columns_in_order, day_model, length, model_of, pair_sort, refl}
-use Rattle.kd_prices.proofs.Prelude.{row_prices, row_sort, subst, sym, ℤ, ◌∙◌, ◌≡◌}
+use Rattle.kd_prices.proofs.Prelude.{Expands, GoesOn, HasFault, IsCheckedAnswer, List, MatchOption, None, OfPins}
+use Rattle.kd_prices.proofs.Prelude.{OfRotors, Ok, Option, OtherModel, PairKind, Parts, Pin, PinDay, PinParts}
+use Rattle.kd_prices.proofs.Prelude.{PriceMissing, PriceParts, Result, Rotor, RotorDay, RotorParts, RowKind, Same}
+use Rattle.kd_prices.proofs.Prelude.{Setting, Some, ap, arith, bar_sort, cable_sort, column_prices, columns_in_order}
+use Rattle.kd_prices.proofs.Prelude.{day_model, length, model_of, pair_sort, refl, row_prices, row_sort, subst, sym, ℤ}
+use Rattle.kd_prices.proofs.Prelude.{◌∙◌, ◌≡◌}
 
 same_fault : {F X : Type 0} {f g : F} → ◌≡◌ {A = Result X F} (Err f) (Err g) → f ≡ g
 same_fault e = cc
@@ -39,6 +41,14 @@ module _ (m : Parts) (s : Day) (settings : List Setting) (prices : PriceParts) (
       ) (ap Err none.1))
 
 -- ---- prices of kinds
+
+pub both_found : (P Q R S : List ℤ → Type 0) (a b : Option (List ℤ))
+    → MatchOption a ((x : List ℤ) → ¬ (P x)) (λ x. P x × R x) → MatchOption b ((x : List ℤ) → ¬ (Q x)) (λ x. Q x × S x)
+    → Finds (λ (found : List ℤ × List ℤ). (P found.0 × R found.0) × (Q found.1 × S found.1)) PriceMissing
+    (ok_or (option_zip a b) PriceMissing)
+both_found P Q R S None b none also = ((λ found both. none found.0 both.0.0), refl)
+both_found P Q R S (Some x) None is none = ((λ found both. none found.1 both.1.0), refl)
+both_found P Q R S (Some x) (Some y) is also = (is, also)
 
 pub cable_kinds_found : (m : RotorParts) (s : RotorDay) (row : List CableKind) (col : List PairKind)
     → ArePrices (CableKinds (record { items = row }) (record { items = col })) → length m.cables ≡ 13

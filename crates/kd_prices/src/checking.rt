@@ -1,10 +1,10 @@
 //! Checks whether a card proves itself, or finds the first doubt about the card.
 ghost use Rattle.std.specs.Prelude.{◌≡◌, ◌↔◌, ◌≤◌, length, IsOk, IfOk, IfErr};
-ghost use Rattle.kd_state.specs.{Costs.{cost_table}, Entry.{rotor_values, pin_values}, FirstFaults.{Finds}};
+ghost use Rattle.kd_state.specs.{Costs.{cost_table}, Entry.{rotor_values, pin_values}};
 ghost use Rattle.kd_state.specs.{Machine.{model_of}, SheetDay.{day_model, OfRotors, OfPins}};
 ghost use Rattle.kd_state.specs.declared.machine.parts.Parts.TheVariants.{Rotor, Pin};
 ghost use Rattle.kd_card.specs.declared.prices.PriceParts.TheVariants.{Cables, Bars};
-ghost use Rattle.kd_card.specs.{CardText.{IsGroup}, Kinds.{AreKindsOf}, Prices.{ArePrices, ArePricesInRange}};
+ghost use Rattle.kd_card.specs.Prices.{ArePrices, ArePricesInRange};
 ghost use Rattle.kd_card.specs.Proving.{Proves, priced_count};
 ghost use Rattle.kd_prices.specs.Doubt.{IsDoubt, IsCheckedAnswer, IsByPricesAnswer, ArePricesFound};
 
@@ -13,8 +13,7 @@ use super::expanding::prices_of;
 use super::fitting::first_too_high;
 use super::things::{columns_of, ends_of};
 use super::walking::{carry_settings, is_priced_setting};
-use arrayvec::ArrayVec;
-use kd_card::{Card, Kind, PriceParts, sum_of_prices};
+use kd_card::{Card, PriceParts, sum_of_prices};
 use kd_state::{
     Machine, OneModel, PinEntry, PinParts, RotorEntry, RotorParts, Setting, SheetDay, bar_costs,
     cable_costs,
@@ -66,12 +65,11 @@ fn cable_prices(
 {
     match prices {
         PriceParts::Cables(rows, columns) => Ok((rows, columns)),
-        PriceParts::CableKinds(rows, columns) => prices_of_both(
-            ends_of(&parts.cables).as_slice(),
-            rows,
-            columns_of(entry.pairs.as_slice()).as_slice(),
-            columns,
-        ),
+        PriceParts::CableKinds(rows, columns) => {
+            let rows = prices_of(ends_of(&parts.cables).as_slice(), rows);
+            let columns = prices_of(columns_of(entry.pairs.as_slice()).as_slice(), columns);
+            rows.zip(columns).ok_or(Doubt::PriceMissing)
+        }
         PriceParts::Bars(..) | PriceParts::BarKinds(..) => Err(Doubt::OtherModel),
     }
 }
@@ -90,34 +88,11 @@ fn bar_prices(
     match prices {
         PriceParts::Bars(rows, columns) => Ok((rows, columns)),
         PriceParts::BarKinds(rows, columns) => {
-            prices_of_both(&parts.bars, rows, &entry.rows, columns)
+            let rows = prices_of(&parts.bars, rows);
+            let columns = prices_of(&entry.rows, columns);
+            rows.zip(columns).ok_or(Doubt::PriceMissing)
         }
         PriceParts::Cables(..) | PriceParts::CableKinds(..) => Err(Doubt::OtherModel),
-    }
-}
-
-/// Finds the price of each of `row_things` and `column_things`, whose kinds are `rows` and `columns`.
-fn prices_of_both<R: Kind, C: Kind, const N: usize>(
-    row_things: &[R::Thing],
-    rows: ArrayVec<R, N>,
-    column_things: &[C::Thing],
-    columns: ArrayVec<C, N>,
-) -> Result<([i16; N], [i16; N]), Doubt>
-    requires many_rows { length row_things.now ≡ N }
-    requires many_columns { length column_things.now ≡ N }
-    requires rows { IsGroup R.sort N rows.items }
-    requires columns { IsGroup C.sort N columns.items }
-    ensures { Finds (λ found.
-        (AreKindsOf R.sort row_things.now found.0 rows.items × ArePricesInRange found.0)
-        × (AreKindsOf C.sort column_things.now found.1 columns.items × ArePricesInRange found.1))
-        Doubt.PriceMissing result }
-{
-    match (
-        prices_of(row_things, rows),
-        prices_of(column_things, columns),
-    ) {
-        (Some(rows), Some(columns)) => Ok((rows, columns)),
-        _ => Err(Doubt::PriceMissing),
     }
 }
 
