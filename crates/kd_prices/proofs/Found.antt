@@ -1,14 +1,15 @@
 -- If a result is right for the prices that were found for rows and columns, it is right for the check of the card.
-use Rattle.kd_prices.proofs.Meaning.{are_numbered}
-use Rattle.kd_prices.{specs.{Doubt.{ArePricesFound, IsByNumberAnswer}, Grouping.AreBothPrices}}
+use Rattle.kd_prices.{proofs.Meaning.are_numbered, specs.Doubt.{ArePricesFound, IsByNumberAnswer}}
 use Rattle.kd_state.specs.FirstFaults.{Finds}
-use Rattle.kd_prices.proofs.Prelude.{AreModelPrices, AreOfOneModel, ArePrices, BarKind, BarKinds, Bars, BelongTo}
-use Rattle.kd_prices.proofs.Prelude.{CableKind, CableKinds, Cables, Day, Doubt, Err, Expanded, Expands, GoesOn}
-use Rattle.kd_prices.proofs.Prelude.{HasFault, IsCheckedAnswer, List, OfPins, OfRotors, Ok, OtherModel, PairKind, Parts}
-use Rattle.kd_prices.proofs.Prelude.{Pin, PinDay, PinParts, PriceMissing, PriceParts, Result, Rotor, RotorDay}
-use Rattle.kd_prices.proofs.Prelude.{RotorParts, RowKind, Same, Setting, ap, arith, bar_sort, cable_sort, column_prices}
-use Rattle.kd_prices.proofs.Prelude.{columns_in_order, day_model, length, model_of, pair_sort, refl, row_prices}
-use Rattle.kd_prices.proofs.Prelude.{row_sort, subst, sym, ℤ, ◌∙◌, ◌≡◌}
+use Rattle.std.specs.Option.{ok_or, option_zip}
+use Rattle.kd_prices.proofs.Prelude.{AreKindsOf, AreModelPrices, AreOfOneModel, ArePrices, ArePricesInRange, BarKind}
+use Rattle.kd_prices.proofs.Prelude.{BarKinds, Bars, BelongTo, CableKind, CableKinds, Cables, Day, Doubt, Err, Expanded}
+use Rattle.kd_prices.proofs.Prelude.{Expands, GoesOn, HasFault, IsCheckedAnswer, List, MatchOption, None, OfPins}
+use Rattle.kd_prices.proofs.Prelude.{OfRotors, Ok, Option, OtherModel, PairKind, Parts, Pin, PinDay, PinParts}
+use Rattle.kd_prices.proofs.Prelude.{PriceMissing, PriceParts, Result, Rotor, RotorDay, RotorParts, RowKind, Same}
+use Rattle.kd_prices.proofs.Prelude.{Setting, Some, ap, arith, bar_sort, cable_sort, column_prices, columns_in_order}
+use Rattle.kd_prices.proofs.Prelude.{day_model, length, model_of, pair_sort, refl, row_prices, row_sort, subst, sym, ℤ}
+use Rattle.kd_prices.proofs.Prelude.{◌∙◌, ◌≡◌}
 
 same_fault : {F X : Type 0} {f g : F} → ◌≡◌ {A = Result X F} (Err f) (Err g) → f ≡ g
 same_fault e = cc
@@ -34,40 +35,63 @@ module _ (m : Parts) (s : Day) (settings : List Setting) (prices : PriceParts) (
       GoesOn tt one (HasFault PriceMissing (
         (λ numbered expands.
             none.0 (row_prices numbered, column_prices numbered)
-            (subst (Expands m s prices) (sym (made numbered (are_numbered m s prices numbered one expands).kind)) expands)),
+            (subst (Expands m s prices) (sym (made numbered (are_numbered m s prices numbered one expands).kind))
+            expands)),
         refl,
       ) (ap Err none.1))
 
 -- ---- prices of kinds
 
+pub both_found : (P Q R S : List ℤ → Type 0) (a b : Option (List ℤ))
+    → MatchOption a ((x : List ℤ) → ¬ (P x)) (λ x. P x × R x) → MatchOption b ((x : List ℤ) → ¬ (Q x)) (λ x. Q x × S x)
+    → Finds (λ (found : List ℤ × List ℤ). (P found.0 × R found.0) × (Q found.1 × S found.1)) PriceMissing
+    (ok_or (option_zip a b) PriceMissing)
+both_found P Q R S None b none also = ((λ found both. none found.0 both.0.0), refl)
+both_found P Q R S (Some x) None is none = ((λ found both. none found.1 both.1.0), refl)
+both_found P Q R S (Some x) (Some y) is also = (is, also)
+
 pub cable_kinds_found : (m : RotorParts) (s : RotorDay) (row : List CableKind) (col : List PairKind)
     → ArePrices (CableKinds (record { items = row }) (record { items = col })) → length m.cables ≡ 13
     → length (columns_in_order s.pairs) ≡ 13 → (answer : Result (List ℤ × List ℤ) Doubt)
-    → Finds (λ found. AreBothPrices cable_sort pair_sort m.cables (columns_in_order s.pairs) row col found.0 found.1) PriceMissing answer
+    → Finds (λ found. (AreKindsOf cable_sort m.cables found.0 row × ArePricesInRange found.0)
+    × (AreKindsOf pair_sort (columns_in_order s.pairs) found.1 col × ArePricesInRange found.1)) PriceMissing answer
     → ArePricesFound (Rotor m) (OfRotors s) (CableKinds (record { items = row }) (record { items = col })) Cables answer
 cable_kinds_found m s row col are many also (Ok found) both =
-    GoesOn tt tt (Expanded are (record { rows = both.of_rows.number ∙ many; columns = both.of_columns.number ∙ also; row_reach = both.row_reach; column_reach = both.column_reach; kinds = tt }) (both.of_rows, both.of_columns))
+    GoesOn tt tt (Expanded are (record {
+      rows = both.0.0.number ∙ many;
+      columns = both.1.0.number ∙ also;
+      row_reach = both.0.1;
+      column_reach = both.1.1;
+      kinds = tt;
+    }) (both.0.0, both.1.0))
 cable_kinds_found m s row col are many also (Err doubt) none =
     GoesOn tt tt (
       (λ found expands. elim expands [
         | Same by same ↦ absurd (cc)
-        | Expanded good fine is ↦ none.0 found (record { of_rows = is.0; of_columns = is.1; row_reach = fine.row_reach; column_reach = fine.column_reach })
+        | Expanded good fine is ↦ none.0 found ((is.0, fine.row_reach), (is.1, fine.column_reach))
       ]),
       none.1,
     )
 
 pub bar_kinds_found : (m : PinParts) (s : PinDay) (row : List BarKind) (col : List RowKind)
-    → ArePrices (BarKinds (record { items = row }) (record { items = col })) → length m.bars ≡ 27
-    → length s.rows ≡ 27 → (answer : Result (List ℤ × List ℤ) Doubt)
-    → Finds (λ found. AreBothPrices bar_sort row_sort m.bars s.rows row col found.0 found.1) PriceMissing answer
+    → ArePrices (BarKinds (record { items = row }) (record { items = col })) → length m.bars ≡ 27 → length s.rows ≡ 27
+    → (answer : Result (List ℤ × List ℤ) Doubt)
+    → Finds (λ found. (AreKindsOf bar_sort m.bars found.0 row × ArePricesInRange found.0)
+    × (AreKindsOf row_sort s.rows found.1 col × ArePricesInRange found.1)) PriceMissing answer
     → ArePricesFound (Pin m) (OfPins s) (BarKinds (record { items = row }) (record { items = col })) Bars answer
 bar_kinds_found m s row col are many also (Ok found) both =
-    GoesOn tt tt (Expanded are (record { rows = both.of_rows.number ∙ many; columns = both.of_columns.number ∙ also; row_reach = both.row_reach; column_reach = both.column_reach; kinds = tt }) (both.of_rows, both.of_columns))
+    GoesOn tt tt (Expanded are (record {
+      rows = both.0.0.number ∙ many;
+      columns = both.1.0.number ∙ also;
+      row_reach = both.0.1;
+      column_reach = both.1.1;
+      kinds = tt;
+    }) (both.0.0, both.1.0))
 bar_kinds_found m s row col are many also (Err doubt) none =
     GoesOn tt tt (
       (λ found expands. elim expands [
         | Same by same ↦ absurd (cc)
-        | Expanded good fine is ↦ none.0 found (record { of_rows = is.0; of_columns = is.1; row_reach = fine.row_reach; column_reach = fine.column_reach })
+        | Expanded good fine is ↦ none.0 found ((is.0, fine.row_reach), (is.1, fine.column_reach))
       ]),
       none.1,
     )

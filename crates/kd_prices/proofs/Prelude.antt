@@ -16,7 +16,7 @@ pub use Rattle.kd_prices.specs.Alike.{ReadAlike, StandAlike}
 pub use Rattle.kd_prices.specs.Doubt.{AreNumbered, AreOfOneModel, BelongTo, IsCheckedAnswer, IsFirstNeedless}
 pub use Rattle.kd_prices.specs.Doubt.{IsFirstTooHigh, IsFirstWithout, IsNeededAnswer}
 pub use Rattle.kd_prices.specs.Fitting.{FitsAtColumn, ListsFitAt}
-pub use Rattle.kd_prices.specs.Grouping.{AppendsKinds, CanBeKinds, HaveOnePriceEach, IsFine, first_of}
+pub use Rattle.kd_prices.specs.Grouping.{AppendsKinds, CanBeKinds, HaveOnePriceEach, IsFine, kind_of_one}
 pub use Rattle.kd_prices.specs.KindCards.{AreByKind, CanBeByKind}
 pub use Rattle.kd_prices.specs.Laws.{AlikePricesAreEqual, AreEqualWhereAlike, RestIsShortest}
 pub use Rattle.kd_prices.specs.declared.doubt.Doubt.{Doubt}
@@ -43,7 +43,7 @@ pub use Rattle.std.proofs.Common.{◌≤◌, ◌⊎◌}
 pub use Rattle.std.proofs.lemmas.Bool.{cases_order, eqb-false, false≢true, true≢false, Decides.nat_tests}
 pub use Rattle.std.proofs.lemmas.{Cmp.tied_itself, Grind.common_steps, Int.{ints, to_z-of_z, to_z_pos}}
 pub use Rattle.std.proofs.lemmas.List.{append-nil, get_or-map, get_or_default, length-map, length-replicate}
-pub use Rattle.std.proofs.lemmas.List.{length-take, take-append-drop, take_all, take_more}
+pub use Rattle.std.proofs.lemmas.List.{length-take, take-append-drop, take_more}
 pub use Rattle.std.proofs.lemmas.List.Elements.{All-append, All-cons, All-contains, All-contains_itself}
 pub use Rattle.std.proofs.lemmas.List.Elements.{All-from_recursion, All-head, All-nil, All-replicate, All-tail}
 pub use Rattle.std.proofs.lemmas.List.Elements.{All-weaker, recursion_from_All}

@@ -7,7 +7,7 @@ use Rattle.kd_prices.proofs.Prelude.{All-permutation, All-replicate, All-tail, A
 use Rattle.kd_prices.proofs.Prelude.{AreKindsOf, CanBeKinds, Contains, Contains-permutation, Equal, Greater}
 use Rattle.kd_prices.proofs.Prelude.{HaveOnePriceEach, IsFine, IsKind, IsPermutation, IsPermutation-sym, IsTotalOrder}
 use Rattle.kd_prices.proofs.Prelude.{KindOf, Less, List, None, Option, Ordering, Some, Sort, [], ap, append_assoc}
-use Rattle.kd_prices.proofs.Prelude.{arith, common_steps, expansion, false, first_of, inl, inr, length}
+use Rattle.kd_prices.proofs.Prelude.{arith, common_steps, expansion, false, inl, inr, kind_of_one, length}
 use Rattle.kd_prices.proofs.Prelude.{length-replicate, map, refl, replicate, suc, sym, tied_itself, true≢false, zip, ℤ}
 use Rattle.kd_prices.proofs.Prelude.{◌++◌, ◌+◌, ◌↔◌, ◌∙◌, ◌∷◌, ◌≡◌, ◌≢◌, ◌≤◌, ◌⊎◌}
 use Rattle.kd_card.specs.contracts.thing.EndsOrd.TheImpl as ends
@@ -45,7 +45,7 @@ module _ {K X : Type 0} (sort : Sort K X) (cmp : X → X → Ordering) where
 
   pub all_kinds : (pairs sorted rest : List (X × ℤ)) (pair : X × ℤ) (kinds : List K) → IsPermutation pairs sorted
       → IsSorted (λ one other. ordering_then (cmp one.0 other.0) (int_cmp one.1 other.1)) sorted
-      → sorted ≡ pair ∷ rest → AppendsKinds sort cmp (first_of pair) rest [] kinds
+      → sorted ≡ pair ∷ rest → AppendsKinds sort cmp (kind_of_one pair) rest [] kinds
       → HaveOnePriceEach pairs → All (IsFine sort) pairs → AreKinds sort None kinds
   all_kinds pairs sorted rest pair kinds moved rise split appends one fine =
       let back = Contains-permutation sorted pairs in
@@ -65,7 +65,8 @@ module _ {K X : Type 0} (sort : Sort K X) (cmp : X → X → Ordering) where
         let fine = All-head (IsFine sort) (kind.thing, kind.price) pairs can.fine in
         record { form = rw is fine.0; some = rw is some; most = rw is few; reach = rw is fine.1 }
 
-    pub appends_one : (made : K) → sort.kind made ≡ kind → new ≡ old ++ made ∷ [] → AppendsKinds sort cmp kind [] old new
+    pub appends_one : (made : K) → sort.kind made ≡ kind → new ≡ old ++ made ∷ []
+        → AppendsKinds sort cmp kind [] old new
     appends_one made is same = record {
       made = made ∷ [];
       is = same;
@@ -87,7 +88,7 @@ module _ {K X : Type 0} (sort : Sort K X) (cmp : X → X → Ordering) where
     pub begins_another : IsTotalOrder cmp → ((x y : X) → cmp x y ≡ Equal → x ≡ y)
         → ((x y : X) → sort.ComesBefore x y ↔ (cmp x y ≡ Less)) → (made : K) (pair : X × ℤ) (pairs : List (X × ℤ))
         → sort.kind made ≡ kind → ¬ ((pair.0 ≡ kind.thing) × (pair.1 ≡ kind.price))
-        → AppendsKinds sort cmp (first_of pair) pairs (old ++ made ∷ []) new
+        → AppendsKinds sort cmp (kind_of_one pair) pairs (old ++ made ∷ []) new
         → AppendsKinds sort cmp kind (pair ∷ pairs) old new
     begins_another order told ordered made pair pairs is other inner = record {
       made = made ∷ inner.made;
@@ -165,8 +166,10 @@ module _ {K X : Type 0} (sort : Sort K X) (order : IsStrict sort.ComesBefore) wh
             inl (sym here.2 ∙ get_or-replicate k.count here.0 pair z
             (omega (arith, inside, length-replicate k.count pair)))
         | inr there ↦
-            inr (All-contains (λ (z : X × ℤ). sort.ComesBefore k.thing z.0) rest z (behind kind kinds are.2) there,
-            there)
+            inr (
+              All-contains (λ (z : X × ℤ). sort.ComesBefore k.thing z.0) rest z (behind kind kinds are.2) there,
+              there,
+            )
       ]
 
   pub one_price : (last : Option K) (kinds : List K) → AreKinds sort last kinds

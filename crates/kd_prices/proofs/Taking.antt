@@ -114,7 +114,8 @@ near_prices : {X : Type 0} (things : List X) (prices : List ℤ) → length pric
 near_prices things [] same all = All-nil (λ price. unsigned_abs price ≤ 9999)
 near_prices [] (q ∷ prices) same all = absurd (omega arith)
 near_prices {X} (x ∷ things) (q ∷ prices) same all =
-    All-cons (λ price. unsigned_abs price ≤ 9999) q prices (All-head (λ (z : X × ℤ). IsNear z) (x, q) (zip things prices) all)
+    All-cons (λ price. unsigned_abs price ≤ 9999) q prices
+    (All-head (λ (z : X × ℤ). IsNear z) (x, q) (zip things prices) all)
     (near_prices things prices (omega arith) (All-tail (λ (z : X × ℤ). IsNear z) (x, q) (zip things prices) all))
 
 module _ {K X : Type 0} (sort : Sort K X) where
@@ -128,7 +129,8 @@ module _ {K X : Type 0} (sort : Sort K X) where
   all_near last (kind ∷ kinds) are =
       let k = sort.kind kind in
       All-append (λ (z : X × ℤ). IsNear z) (replicate k.count (k.thing, k.price)) (expansion (map sort.kind kinds))
-      (All-replicate (λ (z : X × ℤ). IsNear z) k.count (k.thing, k.price) are.0.reach) (all_near (Some kind) kinds are.2)
+      (All-replicate (λ (z : X × ℤ). IsNear z) k.count (k.thing, k.price) are.0.reach)
+      (all_near (Some kind) kinds are.2)
 
   pub prices_taken : (eq : X → X → Bool) (kinds : List K) (things : List X) (prices : List ℤ) (left : List (KindOf X))
       → IsGroup sort (length things) kinds → length prices ≡ length things

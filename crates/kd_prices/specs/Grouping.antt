@@ -5,7 +5,7 @@ use Rattle.std.specs.Prelude.{IsPermutation, Bool, true, false, Option, unsigned
 use Rattle.std.specs.{List.{Contains, zip, Sorted.{IsSorted}}, Ordering.{ordering_then, int_cmp}}
 use Rattle.std.specs.declared.cmp.Ordering.{Ordering}
 use Rattle.kd_card.specs.declared.kinds.KindOf.{KindOf}
-use Rattle.kd_card.specs.{Kinds.{Sort, ComesAfter, AreKinds, AreKindsOf, expansion}, Prices.{ArePricesInRange}}
+use Rattle.kd_card.specs.Kinds.{Sort, ComesAfter, AreKinds, expansion}
 
 -- In this list of things with their prices, equal things have equal prices.
 abbrev pub HaveOnePriceEach : {X : Type 0} → List (X × ℤ) → Type 0
@@ -17,17 +17,18 @@ abbrev pub IsFine : {K X : Type 0} → Sort K X → X × ℤ → Type 0
 IsFine sort pair = sort.InForm pair.0 × (unsigned_abs pair.1 ≤ 9999)
 
 -- a kind of one thing, which has this price
-abbrev pub first_of : {X : Type 0} → X × ℤ → KindOf X
-first_of pair = record { thing = pair.0; count = 1; price = pair.1 }
+abbrev pub kind_of_one : {X : Type 0} → X × ℤ → KindOf X
+kind_of_one pair = record { thing = pair.0; count = 1; price = pair.1 }
 
--- These things with their prices are sorted, by the things and then by the prices. Equal things have equal prices.
--- All of them are in the form that a card writes.
+-- Things with their prices that have valid kinds: they are sorted by things, then by prices; equal things have equal
+-- prices; and each is in the form that a card writes.
 pub record CanBeKinds {K X : Type 0} (sort : Sort K X) (cmp : X → X → Ordering) (pairs : List (X × ℤ)) : Type 0 where
   pub sorted : IsSorted (λ one other. ordering_then (cmp one.0 other.0) (int_cmp one.1 other.1)) pairs
   pub one_price : HaveOnePriceEach pairs
   pub fine : All (IsFine sort) pairs
 
--- `new` is `old` with the kinds of `pairs` and of the things that `kind` counts.
+-- `new` is `old`, and then the kinds of the things that `kind` counts and of `pairs`. These kinds are valid if the
+-- things can be kinds. If there is a kind `last` before them, the thing of `kind` has to come after it.
 pub record AppendsKinds {K X : Type 0} (sort : Sort K X) (cmp : X → X → Ordering) (kind : KindOf X)
     (pairs : List (X × ℤ)) (old new : List K) : Type 0 where
   pub made : List K
@@ -39,7 +40,7 @@ pub record AppendsKinds {K X : Type 0} (sort : Sort K X) (cmp : X → X → Orde
 
 -- ---- the price of each thing of a kind
 
--- No kind with this thing has a count above 0.
+-- None of the kinds counts things that are equal to this thing.
 abbrev pub HasNoneLeft : {X : Type 0} → (X → X → Bool) → List (KindOf X) → X → Type 0
 HasNoneLeft eq kinds thing = count_by (λ other. eq other.0 thing) (expansion kinds) ≡ 0
 
@@ -53,16 +54,9 @@ HaveThings {X} eq kinds things =
     (thing : X)
     → count_by (λ other. eq other thing) things ≤ count_by (λ other. eq other.0 thing) (expansion kinds)
 
--- True: the kinds `left` are `kinds` without these things, which have these prices. False: `kinds` don't have the
--- things.
+-- If the Bool is true, the kinds `left` are `kinds` without `things`, which have these prices. If it is false, `kinds`
+-- don't have all of these things.
 abbrev pub TakesAll : {X : Type 0} → (X → X → Bool) → List (KindOf X) → List X → List ℤ → List (KindOf X) → Bool
     → Type 0
 TakesAll eq kinds things prices left true = IsPermutation (expansion kinds) (zip things prices ++ expansion left)
 TakesAll eq kinds things prices left false = ¬ (HaveThings eq kinds things)
-
-pub record AreBothPrices {K L X Y : Type 0} (row_sort : Sort K X) (column_sort : Sort L Y) (row_things : List X)
-    (column_things : List Y) (row_kinds : List K) (column_kinds : List L) (rows columns : List ℤ) : Type 0 where
-  pub of_rows : AreKindsOf row_sort row_things rows row_kinds
-  pub of_columns : AreKindsOf column_sort column_things columns column_kinds
-  pub row_reach : ArePricesInRange rows
-  pub column_reach : ArePricesInRange columns

@@ -1,24 +1,19 @@
 //! Checks whether a card proves itself, or finds the first doubt about the card.
 ghost use Rattle.std.specs.Prelude.{◌≡◌, ◌↔◌, ◌≤◌, length, IsOk, IfOk, IfErr};
-ghost use Rattle.kd_state.specs.Costs.{cost_table};
-ghost use Rattle.kd_state.specs.{Entry.{rotor_values, pin_values}, FirstFaults.{Finds}};
+ghost use Rattle.kd_state.specs.{Costs.{cost_table}, Entry.{rotor_values, pin_values}};
+ghost use Rattle.kd_state.specs.{Machine.{model_of}, SheetDay.{day_model, OfRotors, OfPins}};
 ghost use Rattle.kd_state.specs.declared.machine.parts.Parts.TheVariants.{Rotor, Pin};
-ghost use Rattle.kd_state.specs.Machine.{model_of, IsMachine};
-ghost use Rattle.kd_state.specs.SheetDay.{day_model, IsLegalDay, OfRotors, OfPins};
 ghost use Rattle.kd_card.specs.declared.prices.PriceParts.TheVariants.{Cables, Bars};
 ghost use Rattle.kd_card.specs.Prices.{ArePrices, ArePricesInRange};
-ghost use Rattle.kd_card.specs.CardText.{IsGroup};
 ghost use Rattle.kd_card.specs.Proving.{Proves, priced_count};
 ghost use Rattle.kd_prices.specs.Doubt.{IsDoubt, IsCheckedAnswer, IsByPricesAnswer, ArePricesFound};
-ghost use Rattle.kd_prices.specs.Grouping.{AreBothPrices};
 
 use super::doubt::Doubt;
 use super::expanding::prices_of;
 use super::fitting::first_too_high;
 use super::things::{columns_of, ends_of};
 use super::walking::{carry_settings, is_priced_setting};
-use arrayvec::ArrayVec;
-use kd_card::{Card, Kind, PriceParts, sum_of_prices};
+use kd_card::{Card, PriceParts, sum_of_prices};
 use kd_state::{
     Machine, OneModel, PinEntry, PinParts, RotorEntry, RotorParts, Setting, SheetDay, bar_costs,
     cable_costs,
@@ -57,76 +52,47 @@ fn first_doubt(machine: &Machine, day: &SheetDay, card: &Card) -> Result<(), Dou
     }
 }
 
-/// Finds the price of each cable and each column: their own prices, or those of their kinds.
+/// Finds the price of each cable and each column: its own price, or the price of its kind.
 #[tactic(auto, using(kd_card::proofs::KindPrices::cables_are_prices))]
 fn cable_prices(
     parts: &RotorParts,
     entry: &RotorEntry,
     prices: PriceParts,
 ) -> Result<([i16; 13], [i16; 13]), Doubt>
-    requires machine { IsMachine (Rotor parts.now) }
-    requires day { IsLegalDay (OfRotors (rotor_values entry.now)) }
     requires prices { ArePrices prices }
-    ensures found { ArePricesFound (Rotor parts.now) (OfRotors (rotor_values entry.now)) prices
-        Cables result }
+    ensures found { ArePricesFound (Rotor parts.now) (OfRotors (rotor_values entry.now)) prices Cables result }
     ensures reach { IfOk result (λ found. ArePricesInRange found.0 × ArePricesInRange found.1) }
 {
     match prices {
         PriceParts::Cables(rows, columns) => Ok((rows, columns)),
-        PriceParts::CableKinds(rows, columns) => prices_of_both(
-            ends_of(&parts.cables).as_slice(),
-            rows,
-            columns_of(entry.pairs.as_slice()).as_slice(),
-            columns,
-        ),
+        PriceParts::CableKinds(rows, columns) => {
+            let rows = prices_of(ends_of(&parts.cables).as_slice(), rows);
+            let columns = prices_of(columns_of(entry.pairs.as_slice()).as_slice(), columns);
+            rows.zip(columns).ok_or(Doubt::PriceMissing)
+        }
         PriceParts::Bars(..) | PriceParts::BarKinds(..) => Err(Doubt::OtherModel),
     }
 }
 
-/// Finds the price of each bar and each row of the sheet: their own prices, or those of their kinds.
+/// Finds the price of each bar and each row of the sheet: its own price, or the price of its kind.
 #[tactic(auto, using(kd_card::proofs::KindPrices::bars_are_prices))]
 fn bar_prices(
     parts: &PinParts,
     entry: &PinEntry,
     prices: PriceParts,
 ) -> Result<([i16; 27], [i16; 27]), Doubt>
-    requires machine { IsMachine (Pin parts.now) }
-    requires day { IsLegalDay (OfPins (pin_values entry.now)) }
     requires prices { ArePrices prices }
-    ensures found { ArePricesFound (Pin parts.now) (OfPins (pin_values entry.now)) prices
-        Bars result }
+    ensures found { ArePricesFound (Pin parts.now) (OfPins (pin_values entry.now)) prices Bars result }
     ensures reach { IfOk result (λ found. ArePricesInRange found.0 × ArePricesInRange found.1) }
 {
     match prices {
         PriceParts::Bars(rows, columns) => Ok((rows, columns)),
         PriceParts::BarKinds(rows, columns) => {
-            prices_of_both(&parts.bars, rows, &entry.rows, columns)
+            let rows = prices_of(&parts.bars, rows);
+            let columns = prices_of(&entry.rows, columns);
+            rows.zip(columns).ok_or(Doubt::PriceMissing)
         }
         PriceParts::Cables(..) | PriceParts::CableKinds(..) => Err(Doubt::OtherModel),
-    }
-}
-
-/// Finds the price of each of `row_things` and `column_things`: the prices of their kinds, `rows` and `columns`.
-fn prices_of_both<R: Kind, C: Kind, const N: usize>(
-    row_things: &[R::Thing],
-    rows: ArrayVec<R, N>,
-    column_things: &[C::Thing],
-    columns: ArrayVec<C, N>,
-) -> Result<([i16; N], [i16; N]), Doubt>
-    requires size { N ≤ 27 }
-    requires many_rows { length row_things.now ≡ N }
-    requires many_columns { length column_things.now ≡ N }
-    requires rows { IsGroup R.sort N rows.items }
-    requires columns { IsGroup C.sort N columns.items }
-    ensures { Finds (λ found. AreBothPrices R.sort C.sort row_things.now column_things.now rows.items columns.items
-        found.0 found.1) Doubt.PriceMissing result }
-{
-    match (
-        prices_of(row_things, rows),
-        prices_of(column_things, columns),
-    ) {
-        (Some(rows), Some(columns)) => Ok((rows, columns)),
-        _ => Err(Doubt::PriceMissing),
     }
 }
 

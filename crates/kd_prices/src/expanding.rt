@@ -15,7 +15,6 @@ pub(crate) fn prices_of<K: Kind, const N: usize>(
     things: &[K::Thing],
     kinds: ArrayVec<K, N>,
 ) -> Option<[i16; N]>
-    requires few { N ≤ 27 }
     requires number { length things.now ≡ N }
     requires kinds { IsGroup K.sort N kinds.items }
     ensures { MatchOption result
@@ -27,9 +26,9 @@ pub(crate) fn prices_of<K: Kind, const N: usize>(
     take_prices(things, kinds.as_mut_slice(), &mut prices).then_some(prices)
 }
 
-/// Takes `things` out of `kinds`, and writes the price of each to its place in `prices`.
+/// Takes all of `things` out of `kinds`, and writes the price of each to its place in `prices`.
 ///
-/// The result is `false` if there is a thing whose kind isn't among `kinds`, or counts too few.
+/// The result is `false` if a thing's kind isn't among `kinds`, or its count is too low.
 fn take_prices<K: Kind>(things: &[K::Thing], kinds: &mut [K], prices: &mut [i16]) -> bool
     requires prices { length prices.old ≡ length things.now }
     ensures len { length prices.new ≡ length prices.old }
@@ -48,12 +47,11 @@ fn take_prices<K: Kind>(things: &[K::Thing], kinds: &mut [K], prices: &mut [i16]
     }
 }
 
-/// Takes one thing out of `kinds`: the count of the kind of `thing` falls by one. The result is the kind's price.
+/// Takes `thing` out of `kinds`: the count of its kind falls by one. The result is the price of the kind.
 ///
-/// `None` if this kind isn't among `kinds`, or its count is 0.
+/// `None` if the kind of `thing` isn't among `kinds`, or its count is 0.
 fn take_one<K: Kind>(thing: &K::Thing, kinds: &mut [K]) -> Option<i16>
-    ensures len { length kinds.new ≡ length kinds.old }
-    ensures taken { MatchOption result
+    ensures { MatchOption result
         (HasNoneLeft K.Thing.eq (map K.sort.kind kinds.old) thing.now)
         (λ price. TakesOne (map K.sort.kind kinds.old) thing.now price (map K.sort.kind kinds.new)) }
 {

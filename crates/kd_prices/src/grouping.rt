@@ -1,7 +1,7 @@
 //! Groups things with prices: equal things with equal prices become one kind, with their number.
 ghost use Rattle.std.specs.Prelude.{◌≡◌, ◌↔◌, ◌+◌, ◌<◌, ◌≤◌, length, map, IsPermutation, All, IsTrue, true, None};
 ghost use Rattle.kd_card.specs.Kinds.{AreKinds, expansion};
-ghost use Rattle.kd_prices.specs.Grouping.{HaveOnePriceEach, IsFine, AppendsKinds, first_of};
+ghost use Rattle.kd_prices.specs.Grouping.{HaveOnePriceEach, IsFine, AppendsKinds, kind_of_one};
 
 use arrayvec::ArrayVec;
 use kd_card::{Kind, KindOf, Thing};
@@ -9,7 +9,7 @@ use kd_card::{Kind, KindOf, Thing};
 /// Groups equal things with equal prices into kinds, in ascending order.
 ///
 /// `pairs` are things (the letters of a cable or column, a standing or a reading) with their prices. If equal
-/// things have different prices, the kinds are no valid kinds of a card.
+/// things have different prices, each of the prices gets a kind, and `Prices` refuses these kinds.
 pub(crate) fn kinds_of<K: Kind, const N: usize>(
     pairs: ArrayVec<(K::Thing, i16), N>,
 ) -> ArrayVec<K, N>
@@ -22,14 +22,14 @@ pub(crate) fn kinds_of<K: Kind, const N: usize>(
     pairs.sort_unstable();
     let mut kinds = ArrayVec::new();
     if let [pair, rest @ ..] = pairs.as_slice() {
-        push_kinds(first_of_kind(pair), rest, &mut kinds);
+        push_kinds(kind_of_one(pair), rest, &mut kinds);
     }
     kinds
 }
 
-/// Makes a kind of one thing from the thing and its price.
-fn first_of_kind<T: Thing>(pair: &(T, i16)) -> KindOf<T>
-    ensures { result ≡ first_of pair.now }
+/// Makes the kind that counts one thing, from the thing and its price.
+fn kind_of_one<T: Thing>(pair: &(T, i16)) -> KindOf<T>
+    ensures { result ≡ kind_of_one pair.now }
 {
     let (thing, price) = *pair;
     KindOf {
@@ -39,7 +39,9 @@ fn first_of_kind<T: Thing>(pair: &(T, i16)) -> KindOf<T>
     }
 }
 
-/// Appends `kind` and the kinds of `pairs`. The first of `pairs` are counted in `kind` if they are equal to its things.
+/// Appends `kind` and the kinds of `pairs`, which are sorted.
+///
+/// If the first of `pairs` are the thing of `kind` with its price, `kind` counts them, too.
 fn push_kinds<K: Kind, const N: usize>(
     kind: KindOf<K::Thing>,
     pairs: &[(K::Thing, i16)],
@@ -58,7 +60,7 @@ fn push_kinds<K: Kind, const N: usize>(
                 push_kinds(KindOf { count, ..kind }, rest, kinds);
             } else {
                 kinds.push(K::of(kind));
-                push_kinds(first_of_kind(pair), rest, kinds);
+                push_kinds(kind_of_one(pair), rest, kinds);
             }
         }
     }

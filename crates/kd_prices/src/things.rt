@@ -1,5 +1,5 @@
 //! Converts cables and columns to `Ends` and `Column`, which have the order of a card's lines.
-ghost use Rattle.std.specs.Prelude.{◌≡◌, ◌≤◌, length, zip};
+ghost use Rattle.std.specs.Prelude.{◌≡◌, ◌+◌, ◌++◌, ◌≤◌, length, zip};
 ghost use Rattle.kd_card.specs.Proving.{columns_in_order, pair_in_order};
 
 use arrayvec::ArrayVec;
@@ -49,8 +49,23 @@ pub(crate) fn beside<T: Thing, const N: usize>(
     ensures { result.items ≡ zip things.now prices.now }
 {
     let mut pairs = ArrayVec::new();
-    for (place, thing) in things.iter().enumerate() {
-        pairs.push((*thing, prices[place]));
-    }
+    push_pairs(&mut pairs, things, prices);
     pairs
+}
+
+/// Appends each of `things` with its price to `pairs`.
+fn push_pairs<T: Thing, const N: usize>(
+    pairs: &mut ArrayVec<(T, i16), N>,
+    things: &[T],
+    prices: &[i16],
+)
+    requires { length pairs.old.items + length things.now ≤ N }
+    ensures { pairs.new.items ≡ pairs.old.items ++ zip things.now prices.now }
+{
+    if let [thing, things @ ..] = things
+        && let [price, prices @ ..] = prices
+    {
+        pairs.push((*thing, *price));
+        push_pairs(pairs, things, prices);
+    }
 }

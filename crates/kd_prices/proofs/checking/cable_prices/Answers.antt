@@ -1,4 +1,4 @@
-use Rattle.kd_prices.proofs.Found.{cable_kinds_found, other_sort}
+use Rattle.kd_prices.proofs.Found.{both_found, cable_kinds_found, other_sort}
 use Rattle.kd_state.specs.Entry.{rotor_values}
 use Rattle.kd_prices.proofs.Prelude.{GoesOn, Same, inl, inr, refl}
 use Rattle.kd_prices.proofs.checking.cable_prices.Goals as goal
@@ -11,9 +11,18 @@ returns-in-CableKinds-clause-found c =
     let day = rotor_values c.args.entry.now in
     rw c.in-CableKinds.is
     (cable_kinds_found c.args.parts.now day c.in-CableKinds.rows.items c.in-CableKinds.columns.items
-    (rw c.in-CableKinds.is at c.requires.prices) c.requires.machine.legal.cables.count
+    (rw c.in-CableKinds.is at c.requires.prices) (rw c.ends_of.ensures.value at c.ends_of.ensures.number)
     (rw (c.columns_of.ensures.value, c.as_slice-in-CableKinds.ensures.value) at c.columns_of.ensures.number)
-    c.prices_of_both.result (rw (c.as_slice.ensures.value, c.ends_of.ensures.value, c.as_slice-in-CableKinds-2.ensures.value, c.columns_of.ensures.value, c.as_slice-in-CableKinds.ensures.value) at c.prices_of_both.ensures))
+    c.ok_or.result
+    (rw (c.ok_or.ensures.value, c.zip.ensures)
+    (both_found _ _ _ _ c.prices_of-rows.result c.prices_of-columns.result
+    (rw (c.as_slice.ensures.value, c.ends_of.ensures.value) at c.prices_of-rows.ensures)
+    (rw (
+      c.as_slice-in-CableKinds-2.ensures.value,
+      c.columns_of.ensures.value,
+      c.as_slice-in-CableKinds.ensures.value,
+    )
+    at c.prices_of-columns.ensures))))
 
 pub returns-in-Bars-clause-found : goal.returns-in-Bars-clause-found
 returns-in-Bars-clause-found c = other_sort _ _ _ _ (λ belong. elim c.in-Bars.is [

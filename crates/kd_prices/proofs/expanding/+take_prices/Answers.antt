@@ -13,7 +13,7 @@ returns-in-Some-clause-taken g t c =
     let new = c.take_prices.new.prices in
     rw (split, to_z-of_z w16 price (search rules), put_rest c.args.prices.now new price (omega arith))
     (takes_more g.K.Thing.PartialEq.eq (parts c.args.kinds.now) c.thing-item.result rest price new
-    (parts c.take_one.new.kinds) (parts c.take_prices.new.kinds) c.take_prices.result c.in-Some.ensures.taken
+    (parts c.take_one.new.kinds) (parts c.take_prices.new.kinds) c.take_prices.result c.in-Some.ensures
     c.take_prices.ensures.taken)
 
 pub returns-in-None-clause-taken : goal.returns-in-None-clause-taken
@@ -25,4 +25,4 @@ returns-in-None-clause-taken g t c =
     eq_decides g.K.Thing.Ord.cmp g.met.K.Thing.Ord.total g.K.Thing.PartialEq.eq g.met.K.Thing.Ord.matches_eq
     g.met.K.Thing.Thing.told_apart thing thing in
     rw split (takes_none g.K.Thing.PartialEq.eq (map g.K.Kind.sort.kind c.args.kinds.now) thing rest (equal.1 refl)
-    c.in-None.ensures.taken)
+    c.in-None.ensures)

@@ -40,4 +40,4 @@ returns-else-is_of_kind g t c =
     c.push_kinds-else-is_of_kind.new.kinds.items total told g.met.K.Kind.ordered c.of-else-is_of_kind.result pair rest
     c.of-else-is_of_kind.ensures
     (λ same. let alike = c.is_of_kind.ensures.1 (equal.1 same.0, same.1) in cc)
-    (rw (c.first_of_kind.ensures, c.push-else-is_of_kind.ensures.items) at c.push_kinds-else-is_of_kind.ensures))
+    (rw (c.kind_of_one.ensures, c.push-else-is_of_kind.ensures.items) at c.push_kinds-else-is_of_kind.ensures))

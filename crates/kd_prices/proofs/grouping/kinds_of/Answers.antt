@@ -12,4 +12,4 @@ returns-in-len1-up-clause-in_order g c =
     all_kinds g.K.Kind.sort g.K.Thing.Ord.cmp c.args.pairs.items sorted rest c.pair-item.result
     c.push_kinds.new.kinds.items (rw same (rw c.deref_mut.ensures.value at c.sort_unstable.ensures.permutation))
     (rw same c.sort_unstable.ensures.sorted) split
-    (rw (c.first_of_kind.ensures, c.new-kinds.ensures) at c.push_kinds.ensures)
+    (rw (c.kind_of_one.ensures, c.new-kinds.ensures) at c.push_kinds.ensures)
