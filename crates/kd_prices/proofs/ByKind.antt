@@ -2,7 +2,7 @@
 use Rattle.kd_card.proofs.KindPrices.{bars_are_prices, cables_are_prices}
 use Rattle.kd_prices.proofs.AlikeThings.{AreTold, cables_told, columns_told, each_told, one_price_is}
 use Rattle.kd_prices.proofs.InForm.{cables_are_in_form, columns_are_in_form}
-use Rattle.kd_prices.proofs.Runs.{IsStrict, bars_strict, cables_strict, one_price, pairs_strict, rows_strict}
+use Rattle.kd_prices.proofs.Runs.{one_price}
 use Rattle.kd_prices.proofs.Taking.{size}
 use Rattle.kd_prices.proofs.Prelude.{All, AreByKind, AreEqualWhereAlike, AreKinds, AreKindsOf, AreNumbered, ArePrices}
 use Rattle.kd_prices.proofs.Prelude.{ArePricesInRange, BarKind, BarKinds, Bars, ByKind, CableKind, CableKinds, Cables}
@@ -29,11 +29,11 @@ record AreKindsFor {K X : Type 0} (sort : Sort K X) (things : List X) (n : ℕ) 
   valid : ((i k : ℕ) → i < n → k < n → Alike i k → price_at prices i ≡ price_at prices k) → IsGroup sort n kinds
   equal : IsGroup sort n kinds → (i k : ℕ) → i < n → k < n → Alike i k → price_at prices i ≡ price_at prices k
 
-are_kinds_for : {K X : Type 0} (sort : Sort K X) (order : IsStrict sort.ComesBefore) (things : List X) (d : X)
+are_kinds_for : {K X : Type 0} (sort : Sort K X) (things : List X) (d : X)
     (Alike : ℕ → ℕ → Type 0) → AreTold things d Alike → All sort.InForm things → (n : ℕ) → length things ≡ n
     → (prices : List ℤ) → length prices ≡ n → ArePricesInRange prices → (kinds : List K)
     → AreGrouped sort things prices kinds → AreKindsFor sort things n Alike prices kinds
-are_kinds_for sort order things d Alike told forms n many prices number reach kinds grouped =
+are_kinds_for sort things d Alike told forms n many prices number reach kinds grouped =
     let pairs = zip things prices in
     let all = expansion (map sort.kind kinds) in
     let iff = one_price_is things d Alike told prices n many number in
@@ -51,7 +51,7 @@ are_kinds_for sort order things d Alike told forms n many prices number reach ki
           };
       equal = λ group.
           iff.0 (λ thing price other a b.
-          one_price sort order None kinds group.in_order thing price other
+          one_price sort None kinds group.in_order thing price other
           (Contains-permutation pairs all (thing, price) grouped.expand a)
           (Contains-permutation pairs all (thing, other) grouped.expand b));
     }
@@ -82,12 +82,11 @@ cables_by_kind m s rows columns row col machine legal are same first second =
     let thirteen : length (columns_in_order s.pairs) ≡ 13 = length-map (columns_of s.pairs) pair_in_order
     ∙ thirteen_columns s.pairs legal.pairs.few in
     let a =
-    are_kinds_for cable_sort cables_strict m.cables (None, None)
+    are_kinds_for cable_sort m.cables (None, None)
     (StandAlike (Rotor m)) (cables_told m machine) (cables_are_in_form m machine) 13 machine.legal.cables.count rows
     are.rows are.row_reach row first in
     let b =
-    are_kinds_for pair_sort pairs_strict
-    (columns_in_order s.pairs) None (ReadAlike (OfRotors s)) (columns_told s legal) (columns_are_in_form s legal) 13
+    are_kinds_for pair_sort (columns_in_order s.pairs) None (ReadAlike (OfRotors s)) (columns_told s legal) (columns_are_in_form s legal) 13
     thirteen columns are.columns are.column_reach col second in
     let groups = cables_are_prices row col in
     made_by_kind (Rotor m) (OfRotors s) (Cables rows columns)
@@ -106,11 +105,11 @@ pub bars_by_kind : (m : PinParts) (s : PinDay) (rows columns : List ℤ) (row : 
     (AreByKind (Pin m) (OfPins s) (Bars rows columns))
 bars_by_kind m s rows columns row col machine legal are same first second =
     let a =
-    are_kinds_for bar_sort bars_strict m.bars (One, One)
+    are_kinds_for bar_sort m.bars (One, One)
     (StandAlike (Pin m)) (each_told m.bars (One, One)) machine.legal.apart 27 machine.legal.bars rows are.rows
     are.row_reach row first in
     let b =
-    are_kinds_for row_sort rows_strict s.rows (0, 0)
+    are_kinds_for row_sort s.rows (0, 0)
     (ReadAlike (OfPins s)) (each_told s.rows (0, 0)) legal.rows 27 legal.count columns are.columns are.column_reach
     col second in
     let groups = bars_are_prices row col in

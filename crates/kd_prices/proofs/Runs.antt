@@ -1,5 +1,6 @@
 -- Sorted things with their prices are grouped into kinds. Valid kinds determine the price of each thing.
-use Rattle.kd_card.specs.Kinds.{EndsComeBefore, NumbersComeBefore, PairComesBefore, StandingComesBefore}
+use Rattle.kd_card.specs.Kinds.{ThingComesBefore}
+use Rattle.std.proofs.lemmas.Cmp.{nat_list_cmp_total}
 use Rattle.std.{proofs.{Common.add-one, lemmas.List.{get_or-replicate, replicate_more, Elements.Contains-append_cases}}}
 use Rattle.std.{specs.{List.{refill, Sorted.IsSorted}, Ordering.{int_cmp, is_lt, ordering_reverse, ordering_then}}}
 use Rattle.kd_prices.proofs.Prelude.{All, All-append, All-contains, All-contains_itself, All-head, All-nil}
@@ -10,14 +11,6 @@ use Rattle.kd_prices.proofs.Prelude.{KindOf, Less, List, None, Option, Ordering,
 use Rattle.kd_prices.proofs.Prelude.{arith, common_steps, expansion, false, inl, inr, kind_of_one, length}
 use Rattle.kd_prices.proofs.Prelude.{length-replicate, map, refl, replicate, suc, sym, tied_itself, true≢false, zip, ℤ}
 use Rattle.kd_prices.proofs.Prelude.{◌++◌, ◌+◌, ◌↔◌, ◌∙◌, ◌∷◌, ◌≡◌, ◌≢◌, ◌≤◌, ◌⊎◌}
-use Rattle.kd_card.specs.contracts.thing.EndsOrd.TheImpl as ends
-use Rattle.kd_card.specs.contracts.thing.ColumnOrd.TheImpl as columns
-use Rattle.kd_tables.specs.contracts.standing.StandingOrd.TheImpl as standings
-use Rattle.kd_tables.specs.contracts.reading.ReadingOrd.TheImpl as readings
-use Rattle.kd_card.specs.contracts.kinds.CableKindKind.TheImpl as cable_kind
-use Rattle.kd_card.specs.contracts.kinds.PairKindKind.TheImpl as pair_kind
-use Rattle.kd_card.specs.contracts.kinds.BarKindKind.TheImpl as bar_kind
-use Rattle.kd_card.specs.contracts.kinds.RowKindKind.TheImpl as row_kind
 
 -- ---- grouping
 
@@ -86,7 +79,7 @@ module _ {K X : Type 0} (sort : Sort K X) (cmp : X → X → Ordering) where
     }
 
     pub begins_another : IsTotalOrder cmp → ((x y : X) → cmp x y ≡ Equal → x ≡ y)
-        → ((x y : X) → sort.ComesBefore x y ↔ (cmp x y ≡ Less)) → (made : K) (pair : X × ℤ) (pairs : List (X × ℤ))
+        → ((x y : X) → ThingComesBefore sort x y ↔ (cmp x y ≡ Less)) → (made : K) (pair : X × ℤ) (pairs : List (X × ℤ))
         → sort.kind made ≡ kind → ¬ ((pair.0 ≡ kind.thing) × (pair.1 ≡ kind.price))
         → AppendsKinds sort cmp (kind_of_one pair) pairs (old ++ made ∷ []) new
         → AppendsKinds sort cmp kind (pair ∷ pairs) old new
@@ -110,52 +103,32 @@ module _ {K X : Type 0} (sort : Sort K X) (cmp : X → X → Ordering) where
           );
     }
 
--- ---- the order of valid kinds
-
-pub record IsStrict {X : Type 0} (Before : X → X → Type 0) : Type 0 where
-  pub apart : (x : X) → ¬ (Before x x)
-  pub trans : (x y z : X) → Before x y → Before y z → Before x z
-
-strict : {X : Type 0} (cmp : X → X → Ordering) {Before : X → X → Type 0} → IsTotalOrder cmp
-    → ((x y : X) → Before x y ↔ (cmp x y ≡ Less)) → IsStrict Before
-strict cmp order ordered = record {
-  apart = λ x before.
-      let less = (ordered x x).0 before in
-      let tied = tied_itself order x in cc;
-  trans = λ x y z one other. (ordered x z).1 (order.trans x y z ((ordered x y).0 one) ((ordered y z).0 other));
-}
-
-pub cables_strict : IsStrict (λ x y. EndsComeBefore x y)
-cables_strict = strict ends.ghosts.cmp ends.Laws.total-law cable_kind.Laws.ordered-law
-
-pub pairs_strict : IsStrict (λ x y. PairComesBefore x y)
-pairs_strict = strict columns.ghosts.cmp columns.Laws.total-law pair_kind.Laws.ordered-law
-
-pub bars_strict : IsStrict (λ x y. StandingComesBefore x y)
-bars_strict = strict standings.ghosts.cmp standings.Laws.total-law bar_kind.Laws.ordered-law
-
-pub rows_strict : IsStrict (λ x y. NumbersComeBefore x y)
-rows_strict = strict readings.ghosts.cmp readings.Laws.total-law row_kind.Laws.ordered-law
-
 -- ---- prices of valid kinds
 
-module _ {K X : Type 0} (sort : Sort K X) (order : IsStrict sort.ComesBefore) where
+module _ {K X : Type 0} (sort : Sort K X) where
+  not_before_itself : (x : X) → ¬ (ThingComesBefore sort x x)
+  not_before_itself x before = let tied = tied_itself nat_list_cmp_total (sort.key x) in cc
+
+  comes_before-trans : (x y z : X) → ThingComesBefore sort x y → ThingComesBefore sort y z
+      → ThingComesBefore sort x z
+  comes_before-trans x y z one other = nat_list_cmp_total.trans (sort.key x) (sort.key y) (sort.key z) one other
+
   behind : (last : K) (kinds : List K) → AreKinds sort (Some last) kinds
-      → All (λ (z : X × ℤ). sort.ComesBefore (sort.kind last).thing z.0) (expansion (map sort.kind kinds))
-  behind last [] are = All-nil (λ (z : X × ℤ). sort.ComesBefore (sort.kind last).thing z.0)
+      → All (λ (z : X × ℤ). ThingComesBefore sort (sort.kind last).thing z.0) (expansion (map sort.kind kinds))
+  behind last [] are = All-nil (λ (z : X × ℤ). ThingComesBefore sort (sort.kind last).thing z.0)
   behind last (kind ∷ kinds) are =
       let k = sort.kind kind in
-      let After : X → X × ℤ → Type 0 = λ x z. sort.ComesBefore x z.0 in
+      let After : X → X × ℤ → Type 0 = λ x z. ThingComesBefore sort x z.0 in
       let x = (sort.kind last).thing in
       All-append (After x) (replicate k.count (k.thing, k.price)) (expansion (map sort.kind kinds))
       (All-replicate (After x) k.count (k.thing, k.price) are.1)
-      (All-weaker (After k.thing) (After x) (λ z. order.trans x k.thing z.0 are.1) (expansion (map sort.kind kinds))
+      (All-weaker (After k.thing) (After x) (λ z. comes_before-trans x k.thing z.0 are.1) (expansion (map sort.kind kinds))
       (behind kind kinds are.2))
 
   first_or_later : (last : Option K) (kind : K) (kinds : List K) (z : X × ℤ) → AreKinds sort last (kind ∷ kinds)
       → Contains (expansion (map sort.kind (kind ∷ kinds))) z
       → (z ≡ ((sort.kind kind).thing, (sort.kind kind).price))
-      ⊎ (sort.ComesBefore (sort.kind kind).thing z.0 × Contains (expansion (map sort.kind kinds)) z)
+      ⊎ (ThingComesBefore sort (sort.kind kind).thing z.0 × Contains (expansion (map sort.kind kinds)) z)
   first_or_later last kind kinds z are has =
       let k = sort.kind kind in
       let pair : X × ℤ = (k.thing, k.price) in
@@ -167,7 +140,7 @@ module _ {K X : Type 0} (sort : Sort K X) (order : IsStrict sort.ComesBefore) wh
             (omega (arith, inside, length-replicate k.count pair)))
         | inr there ↦
             inr (
-              All-contains (λ (z : X × ℤ). sort.ComesBefore k.thing z.0) rest z (behind kind kinds are.2) there,
+              All-contains (λ (z : X × ℤ). ThingComesBefore sort k.thing z.0) rest z (behind kind kinds are.2) there,
               there,
             )
       ]
@@ -180,10 +153,10 @@ module _ {K X : Type 0} (sort : Sort K X) (order : IsStrict sort.ComesBefore) wh
       elim (first_or_later last kind kinds (x, price) are one) [
         | inl here ↦ elim (first_or_later last kind kinds (x, other) are two) [
           | inl same ↦ ap (λ (z : X × ℤ). z.1) (here ∙ sym same)
-          | inr far ↦ absurd (order.apart thing (rw (ap (λ (z : X × ℤ). z.0) here) at far.0))
+          | inr far ↦ absurd (not_before_itself thing (rw (ap (λ (z : X × ℤ). z.0) here) at far.0))
         ]
         | inr there ↦ elim (first_or_later last kind kinds (x, other) are two) [
-          | inl same ↦ absurd (order.apart thing (rw (ap (λ (z : X × ℤ). z.0) same) at there.0))
+          | inl same ↦ absurd (not_before_itself thing (rw (ap (λ (z : X × ℤ). z.0) same) at there.0))
           | inr far ↦ one_price (Some kind) kinds are.2 x price other there.1 far.1
         ]
       ]
@@ -201,13 +174,12 @@ same_prices {X} all one (x ∷ things) (p ∷ prices) (q ∷ others) number same
     cc
 same_prices all one things prices others number same has have = absurd (omega arith)
 
-module _ {K X : Type 0} (sort : Sort K X) (order : IsStrict sort.ComesBefore) where
-  pub prices_alike : (things : List X) (kinds : List K) (prices others : List ℤ) → AreKinds sort None kinds
-      → AreKindsOf sort things prices kinds → AreKindsOf sort things others kinds → prices ≡ others
-  prices_alike things kinds prices others are of also =
-      let all = expansion (map sort.kind kinds) in
-      let has = λ (prices : List ℤ) (of : AreKindsOf sort things prices kinds).
-      All-permutation (Contains all) all (zip things prices) (IsPermutation-sym (zip things prices) all of.expand)
-      (All-contains_itself all) in
-      same_prices all (one_price sort order None kinds are) things prices others of.number also.number (has prices of)
-      (has others also)
+pub prices_alike : {K X : Type 0} (sort : Sort K X) (things : List X) (kinds : List K) (prices others : List ℤ) → AreKinds sort None kinds
+    → AreKindsOf sort things prices kinds → AreKindsOf sort things others kinds → prices ≡ others
+prices_alike {X = X} sort things kinds prices others are of also =
+    let all = expansion (map sort.kind kinds) in
+    let has = λ (prices : List ℤ) (of : AreKindsOf sort things prices kinds).
+    All-permutation (Contains all) all (zip things prices) (IsPermutation-sym (zip things prices) all of.expand)
+    (All-contains_itself all) in
+    same_prices all (one_price sort None kinds are) things prices others of.number also.number (has prices of)
+    (has others also)
