@@ -228,6 +228,12 @@ received_forms_have_no_fault s form text fault a b =
 
 -- -------- answers whose reason is a device or the machine
 
+-- a device failed exactly if the answer says so, and the machine isn't the reason for the answer
+pub order_told : (s : Day) (source sink : Port) (read text : List ℕ) (answer : Result (Unit {0}) FormFault)
+    → IsStreamAnswer (order_message s) source sink read text answer
+    → FailureAgrees source sink (is_device answer) × (is_off_key answer ≡ false)
+order_told s source sink read text answer answers = grind arith
+
 abbrev IsOfForms : FormFault → Type 0
 IsOfForms fault = (is_device (Err fault) ≡ false) × (is_off_key (Err fault) ≡ false)
 
