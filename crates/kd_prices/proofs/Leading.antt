@@ -2,7 +2,7 @@
 use Rattle.kd_card.{proofs.Falling.model_of-changed, specs.Proving.is_priced_setting}
 use Rattle.kd_state.specs.{Costs.loose_count, Setting.Carries}
 use Rattle.std.proofs.{Math.Seq.drop-cons, lemmas.List.length-take-le}
-use Rattle.std.{specs.{Prelude.IsFalse, Result.{MatchResult, result_and}}}
+use Rattle.std.specs.{Prelude.IsFalse, Result.{MatchResult, result_and}}
 use Rattle.kd_prices.proofs.Prelude.{AreSettingsNeeded, Day, Doubt, Err, IsNeededAnswer, IsSettingNeeded, Leads, List}
 use Rattle.kd_prices.proofs.Prelude.{NeedlessLine, Ok, Parts, Result, Setting, Some, Why, [], ap, arith, day_model}
 use Rattle.kd_prices.proofs.Prelude.{get_or, leads_next, length, machine_after, model_of, subst, sym, take}

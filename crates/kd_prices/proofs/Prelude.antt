@@ -9,7 +9,7 @@ pub use Rattle.kd_card.specs.Proving.{AreExpanded, AreModelPrices, AreSettingsNe
 pub use Rattle.kd_card.specs.Proving.{IsSettingNeeded, Proves, Same, columns_in_order, pair_in_order, priced_count}
 pub use Rattle.kd_card.specs.declared.kinds.{BarKind.BarKind, CableKind.CableKind, KindOf.KindOf, PairKind.PairKind}
 pub use Rattle.kd_card.specs.declared.kinds.RowKind.{RowKind}
-pub use Rattle.kd_card.specs.declared.prices.{PriceParts.{PriceParts, TheVariants.{BarKinds, Bars, CableKinds, Cables}}}
+pub use Rattle.kd_card.specs.declared.prices.PriceParts.{PriceParts, TheVariants.{BarKinds, Bars, CableKinds, Cables}}
 pub use Rattle.kd_card.specs.declared.prices.Version.TheVariants.{ByKind, ByNumber}
 pub use Rattle.kd_enigma.specs.Plugs.{NoLetterTwice, letters_in_pairs}
 pub use Rattle.kd_prices.specs.Alike.{ReadAlike, StandAlike}
@@ -31,7 +31,7 @@ pub use Rattle.kd_state.specs.Machine.{IsMachine, cable_in_order, cable_letters,
 pub use Rattle.kd_state.specs.{OnKey.HaveSameLetters, OneModel.AreTakenApart}
 pub use Rattle.kd_state.specs.Setting.{Leads, machine_after, why_refused}
 pub use Rattle.kd_state.specs.SheetDay.{Day, IsLegalDay, OfPins, OfRotors, PinDay, RotorDay, day_model}
-pub use Rattle.kd_state.specs.declared.machine.{parts.Parts.{Parts, TheVariants.{Pin, Rotor}}}
+pub use Rattle.kd_state.specs.declared.machine.parts.Parts.{Parts, TheVariants.{Pin, Rotor}}
 pub use Rattle.kd_state.specs.declared.machine.{pin_parts.PinParts.PinParts, rotor_parts.RotorParts.RotorParts}
 pub use Rattle.kd_state.specs.declared.setting.{Setting.Setting, why.Why.Why}
 pub use Rattle.kd_tables.specs.{Places.smaller_first, declared.place.Place.TheVariants.One}
@@ -53,4 +53,4 @@ pub use Rattle.std.proofs.lemmas.Option.{slice_get-get_or, slice_get_past, unwra
 pub use Rattle.std.proofs.lemmas.{Result.err_from_is_err_and, Slice.Zip.{get_or-zip, length-zip}}
 pub use Rattle.std.specs.{Cmp.IsTotalOrder, List.{All, AllByRecursion, zip}}
 pub use Rattle.std.specs.Prelude.{Err, IfErr, IfSome, IsOk, IsPermutation, Ok, Result, drop, map, take, ◌↔◌}
-pub use Rattle.std.specs.{declared.cmp.Ordering.{Ordering, TheVariants.{Equal, Greater, Less}}}
+pub use Rattle.std.specs.declared.cmp.Ordering.{Ordering, TheVariants.{Equal, Greater, Less}}

@@ -1,8 +1,8 @@
 -- Sorted things with their prices are grouped into kinds. Valid kinds determine the price of each thing.
 use Rattle.kd_card.specs.Kinds.{ThingComesBefore}
 use Rattle.std.proofs.lemmas.Cmp.{nat_list_cmp_total}
-use Rattle.std.{proofs.{Common.add-one, lemmas.List.{get_or-replicate, replicate_more, Elements.Contains-append_cases}}}
-use Rattle.std.{specs.{List.{refill, Sorted.IsSorted}, Ordering.{int_cmp, is_lt, ordering_reverse, ordering_then}}}
+use Rattle.std.proofs.{Common.add-one, lemmas.List.{get_or-replicate, replicate_more, Elements.Contains-append_cases}}
+use Rattle.std.specs.{List.{refill, Sorted.IsSorted}, Ordering.{int_cmp, is_lt, ordering_reverse, ordering_then}}
 use Rattle.kd_prices.proofs.Prelude.{All, All-append, All-contains, All-contains_itself, All-head, All-nil}
 use Rattle.kd_prices.proofs.Prelude.{All-permutation, All-replicate, All-tail, All-weaker, AppendsKinds, AreKinds}
 use Rattle.kd_prices.proofs.Prelude.{AreKindsOf, CanBeKinds, Contains, Contains-permutation, Equal, Greater}

@@ -5,7 +5,7 @@ use Rattle.std.proofs.lemmas.List.Folds.{sum_by-replicate}
 use Rattle.std.proofs.lemmas.List.Sorted.{IsPermutation-append_right, IsPermutation-cons, IsPermutation-middle}
 use Rattle.std.proofs.lemmas.List.Sorted.{IsPermutation-refl, IsPermutation-trans, sum_by-IsPermutation}
 use Rattle.std.proofs.lemmas.List.Sums.{sum_by-append, sum_by-cons}
-use Rattle.std.{specs.{Bool.then_some, List.sum_by, Ordering.is_eq, Prelude.{if◌then◌else◌}}}
+use Rattle.std.specs.{Bool.then_some, List.sum_by, Ordering.is_eq, Prelude.{if◌then◌else◌}}
 use borrow.Rule.Slice.PartMut.{put_mid}
 use Rattle.kd_prices.proofs.Prelude.{All, All-append, All-cons, All-head, All-nil, All-permutation, All-replicate}
 use Rattle.kd_prices.proofs.Prelude.{All-tail, AreKinds, AreKindsOf, ArePricesInRange, Bool, Equal, Greater, IsGroup}
