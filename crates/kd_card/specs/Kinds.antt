@@ -131,8 +131,8 @@ expansion kinds = flat_map (λ kind. replicate kind.count (kind.thing, kind.pric
 
 -- The kinds are those of `things` with `prices`: listing each kind as many times as its count says gives the things
 -- with their prices, in some order.
--- Code: `kinds_of` sorts things with their prices and counts equal things; `prices_of` looks for each thing's kind
--- and compares the counts. Neither makes the `expansion`.
+-- Code: `kinds_of` sorts things with their prices, and counts equal ones; `prices_of` takes each thing out of its
+-- kind. Neither makes the `expansion`.
 pub record AreKindsOf {K X : Type 0} (sort : Sort K X) (things : List X) (prices : List ℤ) (kinds : List K) : Type 0
   where
     pub number : length prices ≡ length things

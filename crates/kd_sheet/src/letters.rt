@@ -1,5 +1,6 @@
 //! Reads letters from texts of capital letters, and from numbers.
-ghost use Rattle.{std.specs.Prelude.{◌≡◌, ◌-◌, ◌<◌, ◌≤◌, length, map, IfSome, option_map}, toml.specs.View.{view}};
+ghost use Rattle.std.specs.Prelude.{◌≡◌, ◌-◌, ◌<◌, ◌≤◌, length, map, IfSome, option_map};
+ghost use Rattle.toml.specs.View.{view};
 ghost use Rattle.kd_tables.specs.Tables.{slots_of};
 ghost use Rattle.kd_sheet.specs.{Document.{from_text}, Letters.{capital_letters}};
 ghost use Rattle.kd_sheet.specs.Numbers.{number_up_to, letters_of_numbers};
