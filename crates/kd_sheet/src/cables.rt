@@ -1,6 +1,7 @@
 //! The cables of a machine file, and the pairs of a key sheet.
 ghost use Rattle.std.specs.Prelude.{◌≡◌, ◌≤◌, ◌-◌, [], ◌∷◌, ◌++◌, Some, None, length, replicate, slice_get, IfSome};
-ghost use Rattle.{std.specs.{List.{flat_map}, Option.{option_map}}, toml.specs.View.{view, table_view}};
+ghost use Rattle.std.specs.{List.{flat_map}, Option.{option_map}};
+ghost use Rattle.toml.specs.View.{view, table_view};
 ghost use Rattle.kd_state.specs.{Machine.{cable_letters}, Setting.{has_letter}};
 ghost use Rattle.kd_sheet.specs.Cables.{cable_letters_of_text, cable_for, cables_in, pair_for, pairs_in};
 ghost use Rattle.kd_sheet.specs.Document.{from_text, result_map};

@@ -1,7 +1,8 @@
 //! Reads one day of a key sheet from the day's TOML table.
 ghost use Rattle.std.specs.Prelude.{◌≡◌, ◌≤◌, ◌<◌, ◌+◌, ◌++◌, length};
 ghost use Rattle.toml.specs.View.{view, table_view};
-ghost use Rattle.{kd_tables.specs.Tables.{slots_of}, kd_state.specs.SheetDay.{IsDayNumber}};
+ghost use Rattle.kd_tables.specs.Tables.{slots_of};
+ghost use Rattle.kd_state.specs.SheetDay.{IsDayNumber};
 ghost use Rattle.kd_sheet.specs.{Document.{read_at, result_map}, Letters.{letters_at}};
 ghost use Rattle.kd_sheet.specs.SheetFile.{rings_of, group_for, groups_in, sheet_wheels};
 ghost use Rattle.kd_sheet.specs.SheetFile.{rotor_day_in, pin_day_in, model_day_in};

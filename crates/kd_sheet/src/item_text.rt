@@ -1,6 +1,7 @@
 //! How an array's items are written: a slot's wheel or none, a cable, or a standing.
 ghost use Rattle.std.specs.Prelude.{◌≡◌, ℕ, List};
-ghost use Rattle.{kd_tables.specs.Places.{standing_text}, kd_sheet.specs.MachineText.{cable_text, seat_text}};
+ghost use Rattle.kd_tables.specs.Places.{standing_text};
+ghost use Rattle.kd_sheet.specs.MachineText.{cable_text, seat_text};
 
 use arrayvec::ArrayString;
 use kd_state::{Cable, push_letter};

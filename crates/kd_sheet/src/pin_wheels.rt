@@ -1,8 +1,10 @@
 //! Reads the letters that the Converter's six wheels show, and their effective pins.
 ghost use Rattle.std.specs.Prelude.{◌≡◌, ◌==◌, ◌+◌, ◌<◌, [], ◌∷◌, length, ok_or};
-ghost use Rattle.{std.specs.List.{enumerate_from, list_all, position}, toml.specs.View.{view, table_view}};
+ghost use Rattle.std.specs.List.{enumerate_from, list_all, position};
+ghost use Rattle.toml.specs.View.{view, table_view};
 ghost use Rattle.kd_tables.specs.Rings.{ring_of};
-ghost use Rattle.{kd_state.specs.Setting.{has_letter}, kd_sheet.specs.Document.{from_text}};
+ghost use Rattle.kd_state.specs.Setting.{has_letter};
+ghost use Rattle.kd_sheet.specs.Document.{from_text};
 ghost use Rattle.kd_sheet.specs.PinWheels.{letters_on_wheels, shown_letters_in, pins_of_text, pins_of_items, pins_in};
 ghost use Rattle.kd_sheet.specs.declared.fault.SheetFault.TheVariants as faults;
 ghost use Rattle.kd_sheet.specs.declared.key.Key.TheVariants as keys;

@@ -1,6 +1,7 @@
 //! Reads key sheets: a TOML document with an array of days.
 ghost use Rattle.std.specs.Prelude.{◌≡◌, map, List};
-ghost use Rattle.{toml.specs.View.{view}, kd_state.specs.SheetDay.{Day}};
+ghost use Rattle.toml.specs.View.{view};
+ghost use Rattle.kd_state.specs.SheetDay.{Day};
 ghost use Rattle.kd_sheet.specs.{Document.{AgreesOrNoMemory, read_items, result_map}, Sheet.{month_of}};
 ghost use Rattle.kd_sheet.specs.SheetFile.{day_for, sheet_of};
 
