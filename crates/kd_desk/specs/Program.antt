@@ -104,7 +104,7 @@ DoesCommand command source sink answer = DoesAction command.machine command.acti
 abbrev pub file_port : KnownFile → KnownFile → Port
 file_port left file = record { had = file.bytes; has = left.bytes; had_failed = file.failed; has_failed = left.failed }
 
--- whether a command has an opened file, and a read of this file failed; `left` is what is known after the call
+-- whether a command opened a file, and a read of this file failed; `left` is what is known of the file after the call
 abbrev pub has_file_failed : Option KnownFile → KnownFile → Bool
 has_file_failed None left = false
 has_file_failed (Some file) left = left.failed

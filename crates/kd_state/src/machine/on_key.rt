@@ -77,7 +77,7 @@ fn is_rotor_on_key(parts: &RotorParts, entry: &RotorEntry) -> bool
     are_the_pairs(&parts.cables, entry.pairs.as_slice())
 }
 
-/// Whether a machine with these `rings`, in the order of its box, has the day's ring on each of `wheels`.
+/// Whether each of the day's `wheels` has the day's ring. `rings` are the machine's, in the order of its box.
 fn have_rings(model: Model, rings: &PerWheel<Letter>, wheels: &[SheetWheel]) -> bool
     requires { length rings.now ≡ length (box_of model) }
     ensures { IsTrue result
