@@ -1,5 +1,6 @@
--- The current's path: in through some wheels, through the core, and back through the same wheels. The core is all that
--- is left of these wheels: the reflector alone, or further wheels and the reflector. No public contract cites this file.
+-- The current's path: in through some wheels, through the core, and back through the same wheels. The core is all
+-- that lies to the left of these wheels: the reflector alone, or further wheels and the reflector. No public contract
+-- cites this file.
 use Rattle.std.specs.Prelude.{ℕ, List, ◌∷◌, map}
 use Rattle.kd_tables.specs.Permutation.{alphabet, followed_by, inverse}
 use Rattle.kd_tables.specs.declared.wheel.Wheel.{Wheel}
