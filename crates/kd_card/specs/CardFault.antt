@@ -137,7 +137,8 @@ pub record BeginsWithWord (word bytes : List ℕ) : Type 0 where
   pub rest : List ℕ
   pub has : HasLineWords bytes (word ∷ behind) rest
 
--- A group of lines that begin with `word` ends before `bytes`: these are empty, or a line with another first word.
+-- A group of lines that begin with `word` ends before `bytes`: `bytes` are empty, or begin with a line that has LF and
+-- another first word.
 pub data EndsGroup (word bytes : List ℕ) : Type 0 where
   AtNothing : bytes ≡ [] → EndsGroup word bytes
   AtOther : (other : List ℕ) → BeginsWithWord other bytes → other ≢ word → EndsGroup word bytes

@@ -18,7 +18,7 @@ use Rattle.kd_state.specs.Machine.{ring_at, letter_at}
 use Rattle.kd_state.specs.SheetDay.{Day, OfRotors, OfPins}
 use Rattle.kd_state.specs.Costs.{exactly_one}
 
--- the setting `x`; or no setting if `so` is true, which says that the thing is as the day says already
+-- the setting `x`; or no setting if `so` is true: then the machine already has what `x` would set
 abbrev pub setting_unless : Bool → Setting → List Setting
 setting_unless so x = if so then [] else x ∷ []
 

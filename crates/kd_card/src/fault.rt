@@ -9,7 +9,7 @@ use thiserror::Error;
 /// Why bytes are not the text of a card. Lines are counted from 1.
 #[derive(Clone, Copy, Debug, PartialEq, Eq, Error)]
 pub enum CardFault {
-    /// The first line isn't `CARD 1 DAY` or `CARD 2 DAY` and a day of the month.
+    /// The first line isn't `CARD 1 DAY` or `CARD 2 DAY` and a day of the month, or it has no LF.
     BadHead,
     /// The line with this number is missing, has no LF, or doesn't have the form that is expected there.
     BadLine(usize),

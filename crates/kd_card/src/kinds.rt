@@ -100,7 +100,7 @@ pub trait Kind: Copy + Default {
             ((thing : Self.Thing) → ¬ (HasText sort text.now thing))
             (IsOnlyThing sort text.now) };
 
-    /// The order that `Ord` gives `Thing` is the order of a card's lines, `sort.ThingComesBefore`.
+    /// The order that `Ord` gives `Thing` is the order of a card's lines, `ThingComesBefore sort`.
     ghost ordered: { (x y : Self.Thing) → ThingComesBefore sort x y ↔ (Self.Thing.cmp x y ≡ Less) };
 }
 

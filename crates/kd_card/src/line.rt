@@ -5,7 +5,7 @@ ghost use Rattle.kd_card.specs.Loose.{setting_unless};
 
 use kd_state::{Setting, Settings};
 
-/// Appends `setting`, unless `so` is true, which says that the thing is as the day says already.
+/// Appends `setting`, unless `so` is true: then the machine already has what `setting` would set.
 pub fn push_unless(settings: &mut Settings, so: bool, setting: Setting)
     requires { array_vec_len settings.old + 1 ≤ 192 }
     ensures items { settings.new.items ≡ settings.old.items ++ setting_unless so setting }
