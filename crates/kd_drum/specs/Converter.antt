@@ -1,5 +1,5 @@
--- The cipher of the Converter M-209, which moves each letter by the number of bars that the wheels meet. Wheels are
--- numbered from 1 to 6. Letters of a text and places of a wheel are counted from 0.
+-- The cipher of the Converter M-209, which reverses each letter (A becomes Z), and moves it on by the number of bars
+-- that the wheels meet. Wheels are numbered from 1 to 6. Letters of a text and places of a wheel are counted from 0.
 -- Source: War Department TM 11-380
 -- Code: `Converter` turns its wheels at each letter. It finds the number of bars met in a table, which has an
 -- entry for each set of wheels that may have an effective acting pin.

@@ -32,7 +32,7 @@ array_text texts = codes "[" ++ join_by quoted_text (codes ", ") texts ++ codes 
 abbrev pub key_line : Key → List ℕ → List ℕ
 key_line key value = key_name key ++ codes " = " ++ value ++ codes "\n"
 
--- the version of machine files that a machine of `model` needs, and in which it is written
+-- the lowest version of machine files that may have `model`; a machine is written in this version
 abbrev pub file_version : Model → ℕ
 file_version M4 = 2
 file_version _ = 1

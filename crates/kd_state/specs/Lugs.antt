@@ -11,7 +11,8 @@ use Rattle.kd_pins.specs.PinWheels.{pins_of}
 use Rattle.kd_drum.specs.Converter.{is_acting_after}
 use Rattle.kd_state.specs.declared.machine.pin_parts.PinParts.{PinParts}
 
--- how many bars are moved, by one lug or by both, after this many letters: each with a lug where a wheel acts
+-- how many bars are moved, by one lug or by both, after this many letters: each bar with a lug at the place of a wheel
+-- whose acting pin is effective
 abbrev pub bars_moved : PinParts → ℕ → ℕ
 bars_moved m count =
     let acts = λ (place : Place). is_acting_after (pins_of m.pins) m.letters count (place_number place) in

@@ -44,7 +44,8 @@ pub record IsRotorOnKey (m : RotorParts) (s : RotorDay) : Type 0 where
   pub reflector : m.reflector ≡ s.reflector
   pub cables : AreThePairs m.cables s.pairs
 
--- The machine is set as the day says, whatever letters it shows; a Converter's bars read as its rows, in any order.
+-- The machine is set as the day says, whatever letters it shows; a Converter's bars read as the day's rows,
+-- in any order.
 abbrev pub OnKey : Parts → Day → Type 0
 OnKey (Rotor m) (OfRotors s) = IsRotorOnKey m s
 OnKey (Pin m) (OfPins s) = (m.pins ≡ s.pins) × IsPermutation (map reading_of m.bars) s.rows

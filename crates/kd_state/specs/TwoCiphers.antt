@@ -62,7 +62,8 @@ window_of (Pin m) = m.letters
 -- ---- The cipher of a machine, by its slots, cables and lugs, and of a day, by its wheels, pairs and rows.
 -- Source: the published accounts of the current's path; War Department TM 11-380
 
--- a machine's key as it stands: by its slots, reflector and cables with two letters, or by its pins, letters and bars
+-- a machine's key as it stands: by the wheels in its slots with their rings and window letters, its reflector, and its
+-- cables with two letters; or by its pins, shown letters and bars
 abbrev pub physical_key : Parts → EngineKey
 physical_key (Rotor m) = OfWheels (record {
   wheels = seated_wheels m;

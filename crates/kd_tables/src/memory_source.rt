@@ -8,7 +8,8 @@ use super::failed::Failed;
 use super::source::Source;
 use std::marker::Model;
 
-/// A source in memory. One `get` gives at most `piece` bytes. After `gets_left` more calls, each `get` fails.
+/// A source in memory. One `get` gives at most `piece` bytes. With `Some(n)` in `gets_left`,
+/// each `get` after the next `n` calls fails.
 #[derive(Drop)]
 pub struct MemorySource<'a> {
     rest: &'a [u8],

@@ -18,9 +18,9 @@ pub struct RotorParts {
     /// The wheel in each slot, from the left; `None` for an empty slot.
     pub slots: PerSlot<Option<Wheel>>,
     pub reflector: Reflector,
-    /// The ring of each wheel in a slot or in the box: from I to VIII, then Beta and Gamma. Ring 01 is A.
+    /// The ring of each wheel that the model has, in a slot or in the box, in box order. Ring 01 is A.
     pub rings: PerWheel<Letter>,
-    /// The window letter of each wheel in a slot or in the box: from I to VIII, then Beta and Gamma.
+    /// The window letter of each wheel that the model has, in a slot or in the box, in box order.
     pub letters: PerWheel<Letter>,
     /// The letters in each cable, from cable 1 to cable 13.
     pub cables: [Cable; 13],
