@@ -1,7 +1,8 @@
 -- How many comparisons it takes to assign `n` rows to `n` columns by growing a tree from each row.
 use Rattle.std.specs.Prelude.{ℕ, zero, suc, ◌+◌, ◌-◌, ◌*◌, ◌/◌, ◌≤◌}
 
--- `scans` comparisons are at least one for each cell of the table, and at most those for `n` full trees.
+-- The number of comparisons, `scans`, is at least one for each cell of the table of `n` rows, and at most as many as
+-- `n` trees need that grow to their full size.
 pub record IsScanCount (n scans : ℕ) : Type 0 where
   pub least : n * n ≤ scans
   pub most : scans ≤ n * (n + 1) * (2 * n + 1) / 6

@@ -56,7 +56,7 @@ pub data IsEarlyFault (s : Day) (number : ℕ) (expected : Option ℕ) (start : 
       → fault ≡ BadByte (start + (length part - length body) + place + 1)
       → IsEarlyFault s number expected start part fault
 
--- The first fault of a part, if only the whole part shows it: the letters of its body are refused.
+-- The first fault of a part, if it can't be known before the whole part is read: a fault of the body's letters.
 pub record IsLateFault (s : Day) (number : ℕ) (expected : Option ℕ) (part : List ℕ) (fault : FormFault) : Type 0 where
   pub heading : Heading
   pub body : List ℕ

@@ -17,8 +17,8 @@ pub record IsAllowedPrefix (text front : List ℕ) : Type 0 where
   pub allowed : All (λ b. IsTrue (is_text_byte b)) front
   pub ends : (byte : ℕ) (more : List ℕ) → rest ≡ byte ∷ more → IsFalse (is_text_byte byte)
 
--- After `letters` letters of text, `written` of `parts` parts can be written. A part has at most `size` letters,
--- and can be written once a letter of the next part has been read.
+-- A part has at most `size` letters, and can be written once a letter of the next part has been read. So, once the
+-- text's first `letters` letters have been read, `written` parts can be written, out of `parts`.
 pub record IsWritableCount (size parts letters written : ℕ) : Type 0 where
   pub due : (written ≡ 0) ⊎ ((written < parts) × (size * written < letters))
   pub most : (other : ℕ) → other < parts → size * other < letters → other ≤ written

@@ -4,7 +4,7 @@ use Rattle.std.specs.Prelude.{◌≡◌, ◌==◌, List, length, if◌then◌els
 use Rattle.kd_state.specs.declared.machine.per_wheel.Wheels.{Wheels}
 use Rattle.kd_state.specs.declared.machine.per_wheel.Wheels.TheVariants.{Five, Eight, Ten}
 
--- the values, in the order of the wheels in the box
+-- the values of all wheels of a model, in box order
 abbrev pub wheel_values : {T : Type 0} → Wheels T → List T
 wheel_values (Five values) = values
 wheel_values (Eight values) = values

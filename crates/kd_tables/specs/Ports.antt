@@ -67,8 +67,8 @@ pub record FailsAlone (p other : Port) : Type 0 where
   pub failed : IsTrue p.has_failed
   pub well : HasNotFailed other
 
--- The flag tells whether a call returned the error `Device`. With `true`, the source or the sink has failed, and
--- the other port didn't fail in the call. With `false`, neither port failed in the call.
+-- The flag tells whether a call returned the error `Device`. With `true`, one of source and sink has failed, and the
+-- other one didn't fail during this call. With `false`, neither of them failed during this call.
 abbrev pub FailureAgrees : Port → Port → Bool → Type 0
 FailureAgrees source sink false = HasNotFailed source × HasNotFailed sink
 FailureAgrees source sink true = FailsAlone source sink ⊎ FailsAlone sink source
