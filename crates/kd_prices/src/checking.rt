@@ -60,7 +60,8 @@ fn cable_prices(
     prices: PriceParts,
 ) -> Result<([i16; 13], [i16; 13]), Doubt>
     requires prices { ArePrices prices }
-    ensures found { ArePricesFound (Rotor parts.now) (OfRotors (rotor_values entry.now)) prices Cables result }
+    ensures found { ArePricesFound (Rotor parts.now) (OfRotors (rotor_values entry.now)) prices
+        Cables result }
     ensures reach { IfOk result (λ found. ArePricesInRange found.0 × ArePricesInRange found.1) }
 {
     match prices {
