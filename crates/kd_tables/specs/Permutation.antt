@@ -1,5 +1,6 @@
--- Permutations of the alphabet, as lists: the number at place `x` is the letter that letter `x` becomes.
--- Code: a permutation is a table of 32 bytes; a product takes one shuffle of bytes, an inverse one loop over letters.
+-- Permutations of the alphabet, as lists of numbers (A is 0): letter `x` becomes item `x` of the list.
+-- Code: a permutation is a table of 32 bytes; a product is one shuffle of bytes, and an inverse is one loop over
+-- letters.
 -- Test: machines_encipher
 use Rattle.std.specs.Prelude.{◌≡◌, ◌≢◌, ℕ, ◌+◌, ◌%◌, ◌==◌, List, [], ◌∷◌, length, map, slice_index, All, if◌then◌else◌}
 use Rattle.std.specs.List.{range_with_len, position_or_len}

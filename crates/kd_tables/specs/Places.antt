@@ -22,7 +22,7 @@ place_table Six = (codes "6", 7)
 abbrev pub place_text : Place → List ℕ
 place_text place = (place_table place).0
 
--- the number of the pin wheel that acts at a place; 0 if no wheel does: the digit in the place's name
+-- the digit in the name of a place: the number of the pin wheel that acts there, or 0 if no wheel does
 abbrev pub place_number : Place → ℕ
 place_number place = slice_index (place_text place) 0 - 48
 
@@ -46,7 +46,7 @@ lug_text lugs.Right = codes "R"
 -- ---- How a bar can stand: the places of its left and its right lug.
 -- Code: `Standing::new` compares the two places; `Standing::from_text` splits a standing's text at the hyphen.
 
--- all standings of a bar, with the left lug left of the right lug, ordered by the left and then by the right place
+-- all standings of a bar (left lug left of right lug), in order of the left lug's place, then of the right lug's place
 abbrev pub standings : List (Place × Place)
 standings = flat_map (λ l. map (λ r. (l, r)) (filter (λ r. nat_lt (place_rank l) (place_rank r)) places)) places
 

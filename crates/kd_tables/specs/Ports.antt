@@ -1,5 +1,5 @@
 -- Sources and sinks: which bytes one `get` or one `put` moves, and what a source or a sink in memory keeps.
--- Code: a source is any type whose `get` satisfies `Gets`, a sink any type whose `put` satisfies `Puts`.
+-- Code: a source is any type whose `get` satisfies `Gets`; a sink is any type whose `put` satisfies `Puts`.
 -- Test: tells_that_the_sink_failed, a_source_or_a_sink_of_an_order_fails
 use Rattle.std.specs.Prelude.{◌≡◌, ◌⊎◌, ℕ, ◌<◌, ◌≤◌, Bool, true, false, List, [], ◌∷◌, length, take, Option, Result}
 use Rattle.std.specs.Prelude.{IfOk, OnErr, Ok, Err, IsTrue}
@@ -27,8 +27,8 @@ pub record Gets (old new : Option (List ℕ)) (buffer : List ℕ) (answer : Resu
   pub ended : answer ≡ Ok 0 → 0 < length buffer → IsAtEnd new
   pub refused : OnErr answer (Keeps old new)
 
--- A source in memory: the bytes still to come; the most bytes that one `get` gives; how many calls of `get`
--- succeed before all fail, or `None` if none fails; and whether a `get` has failed.
+-- A source in memory. `rest`: the bytes still to come. `piece`: the most bytes that one `get` gives. `gets_left`: how
+-- many more calls of `get` succeed, or `None` if all do. `failed`: whether a `get` has failed.
 pub record MemoryBytes : Type 0 where
   pub rest : List ℕ
   pub piece : ℕ
@@ -45,8 +45,8 @@ pub record MemoryTaken : Type 0 where
 -- Code: a source or a sink that can fail keeps a flag, which is set when a `get` or a `put` fails.
 -- Test: stops_at_a_failed_read, stops_where_the_sink_fails
 
--- A port (a source or a sink) before a call and after the call. `had` and `has` are the bytes that a source can
--- still give, or that a sink has taken; `None` if they aren't known.
+-- A port (a source or a sink) before a call and after the call. `had` (before) and `has` (after) are the bytes that a
+-- source can still give, or that a sink has taken; `None` if they aren't known.
 pub record Port : Type 0 where
   pub had : Option (List ℕ)
   pub has : Option (List ℕ)
@@ -58,16 +58,16 @@ abbrev pub port : {P : Type 0} → (P → Option (List ℕ)) → (P → Bool) �
 port bytes failed old new =
     record { had = bytes old; has = bytes new; had_failed = failed old; has_failed = failed new }
 
--- The port has failed after the call exactly if it had failed before the call.
+-- The port didn't fail during the call: `has_failed` equals `had_failed`.
 abbrev pub HasNotFailed : Port → Type 0
 HasNotFailed p = p.has_failed ≡ p.had_failed
 
--- After the call, port `p` has failed. Port `other` has failed exactly if it had failed before the call.
+-- After the call, port `p` has failed. Port `other` didn't fail during the call.
 pub record FailsAlone (p other : Port) : Type 0 where
   pub failed : IsTrue p.has_failed
   pub well : HasNotFailed other
 
--- The flag tells whether a call returned the error `Device`. With `true`, one of source and sink has failed, and the
+-- The flag tells whether a call returned the error `Device`. With `true`, the source or the sink has failed, and the
 -- other one didn't fail during this call. With `false`, neither of them failed during this call.
 abbrev pub FailureAgrees : Port → Port → Bool → Type 0
 FailureAgrees source sink false = HasNotFailed source × HasNotFailed sink

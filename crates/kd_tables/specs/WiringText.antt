@@ -1,4 +1,4 @@
--- Tests of the published text of a wiring or a pin wheel. The prover computes these tests, not the program.
+-- Tests of the published text of a wiring or a pin wheel. The prover, not the program, computes these tests.
 use Rattle.std.specs.Prelude.{ℕ, ◌==◌, nat_eq, nat_le, nat_lt, Bool, not, ◌&&◌, List, length, slice_index}
 use Rattle.std.specs.List.{list_all}
 use Rattle.std.specs.Set.{distinct_count}
@@ -21,6 +21,6 @@ is_ring_text text = are_capitals text && are_distinct_letters (letters_of text)
 abbrev pub is_permutation : List ℕ → Bool
 is_permutation p = (length p == 26) && are_distinct_letters p
 
--- whether the list maps each letter to another letter, and this letter back to the first
+-- whether the list maps each letter `x` to another letter, and that letter back to `x`
 abbrev pub is_reflection : List ℕ → Bool
 is_reflection p = list_all (λ x. not (slice_index p x == x) && (slice_index p (slice_index p x) == x)) alphabet

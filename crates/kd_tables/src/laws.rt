@@ -48,7 +48,7 @@ pub fn inverse_undoes()
     ensures shifts { ShiftsBackwards }
 {}
 
-/// On a pin wheel, finding the place of a letter and reading the letter at a place undo each other.
+/// On a pin wheel, each letter leads to its place, and each place leads back to its letter.
 pub fn letters_and_places_undo()
     ensures places { LettersLeadToPlaces }
     ensures letters { PlacesLeadToLetters }

@@ -12,7 +12,7 @@ pub enum Lug {
     Right,
 }
 
-/// The names of lugs, read by the macro `$read`: `name_of` finds a lug's name, `named` the lug with a name.
+/// Calls the macro `$read` (`name_of` or `named`) with `$value` and the table of all lugs and their names.
 macro_rules! names {
     ($read:ident, $value:expr) => {
         $read!($value, {

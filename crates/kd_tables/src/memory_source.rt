@@ -8,8 +8,9 @@ use super::failed::Failed;
 use super::source::Source;
 use std::marker::Model;
 
-/// A source in memory. One `get` gives at most `piece` bytes. With `Some(n)` in `gets_left`,
-/// each `get` after the next `n` calls fails.
+/// A source in memory. One `get` gives at most `piece` bytes.
+///
+/// If `gets_left` is `Some(n)`, the next `n` calls of `get` succeed, and all later calls fail.
 #[derive(Drop)]
 pub struct MemorySource<'a> {
     rest: &'a [u8],
@@ -37,7 +38,8 @@ impl<'a> Model for MemorySource<'a> {
 impl<'a> MemorySource<'a> {
     /// Makes a source that gives `bytes`, at most `piece` bytes at each `get`.
     ///
-    /// Calls of `get` are counted from 0. Call `fail_at` and all later calls fail; with `None`, no call fails.
+    /// If `fail_at` is `Some(n)`, the first `n` calls of `get` succeed, and all later calls fail. With `None`, no call
+    /// fails.
     pub fn new(bytes: &'a [u8], piece: usize, fail_at: Option<usize>) -> Self
         requires { 1 ≤ piece }
         ensures { result ≡ record {

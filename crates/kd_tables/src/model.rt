@@ -34,7 +34,7 @@ pub enum Model {
     M209,
 }
 
-/// The names of models, read by the macro `$read`: `name_of` finds a model's name, `named` the model with a name.
+/// Calls the macro `$read` (`name_of` or `named`) with `$value` and the table of all models and their names.
 macro_rules! names {
     ($read:ident, $value:expr) => {
         $read!($value, {

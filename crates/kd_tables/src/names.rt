@@ -17,7 +17,7 @@ macro_rules! name_of {
     };
 }
 
-/// Finds the value with the name `$text` in a table of values and names; `None` if no value has it.
+/// Finds the value with the name `$text` in a table of values and names; `None` if no value has this name.
 macro_rules! named {
     ($text:expr, { $($variant:path => $name:literal,)* }) => {
         match $text {

@@ -28,7 +28,7 @@ pub enum Place {
     Six,
 }
 
-/// The names of places, read by the macro `$read`: `name_of` finds a place's name, `named` the place with a name.
+/// Calls the macro `$read` (`name_of` or `named`) with `$value` and the table of all places and their names.
 macro_rules! names {
     ($read:ident, $value:expr) => {
         $read!($value, {

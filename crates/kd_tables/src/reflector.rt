@@ -20,7 +20,7 @@ pub enum Reflector {
     ThinC,
 }
 
-/// The names of reflectors, read by the macro `$read`: `name_of` finds a name, `named` a reflector by its name.
+/// Calls the macro `$read` (`name_of` or `named`) with `$value` and the table of all reflectors and their names.
 macro_rules! names {
     ($read:ident, $value:expr) => {
         $read!($value, {

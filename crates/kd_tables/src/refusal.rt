@@ -6,7 +6,7 @@ ghost use Rattle.kd_tables.specs.Refusals.{refusal_name, word_after_space};
 use arrayvec::ArrayString;
 use itoa::Buffer;
 
-/// The text of a refusal: its number, its name, and for some refusals places, a file's key or a reason.
+/// The text of a refusal: its number, its name, and sometimes more, such as a line's number or a reason.
 pub type Text = ArrayString<64>;
 
 /// The refusals, in the order of their numbers.
@@ -38,13 +38,13 @@ pub enum Refusal {
     Trailing,
     /// A machine refuses a line of a list or a card; the refusal names the line and the reason.
     IllegalAt,
-    /// After a card's lines, the machine doesn't read as the day.
+    /// After a card's lines are carried out, the machine isn't set as the day says, or doesn't show the day's letters.
     NotTheSheet,
-    /// A cable's price and a column's price, or a bar's and a row's, add up to more than the cost.
+    /// A cable's price and a column's price, or a bar's and a row's, add up to more than the cost where they meet.
     PriceTooHigh,
     /// The sum of a card's prices isn't the number of the card's lines for cables or bars.
     SumDiffers,
-    /// A line of a card isn't needed: after it, as many things differ from the day as before it, or more.
+    /// A line of a card isn't needed: it doesn't lower the number of things that differ from the day.
     ///
     /// Lines for cables and bars aren't refused for this reason.
     NeedlessLine,
@@ -60,13 +60,14 @@ pub enum Refusal {
     WheelTwice,
     /// A wheel is in a slot in which the model doesn't allow this wheel.
     WheelNotAllowed,
-    /// An item of a file's `bars` isn't a standing, or an item of its `rows` isn't a reading.
+    /// An item of a file's `bars` isn't a standing such as `1-0R`, or an item of its `rows` isn't a reading such as
+    /// `0-1`.
     BadRow,
     /// A sheet has two entries for one day.
     DayTwice,
     /// Memory ran out.
     NoMemory,
-    /// The machine isn't on the day's key, or is of another model than the day.
+    /// The machine isn't set as the day says, or is of another model than the day.
     NotOnKey,
     /// A byte isn't allowed at its place, or is missing.
     BadByte,
@@ -146,7 +147,7 @@ impl Refusal {
         }
     }
 
-    /// The text of a refusal that has no place: its number and name.
+    /// The text of a refusal without details: its number and name.
     pub fn text(self) -> Text
         ensures bytes { result.bytes ≡ refusal_name self }
         ensures short { array_string_len result ≤ 20 }
@@ -166,7 +167,7 @@ impl Refusal {
         text
     }
 
-    /// The text of a refusal with two places, or two numbers.
+    /// The text of a refusal with two numbers, such as the numbers of a cable and a column.
     pub fn text_at_both(self, one: usize, other: usize) -> Text
         ensures { result.bytes ≡ refusal_name self ++ word_after_space (decimal one)
             ++ word_after_space (decimal other) }

@@ -10,7 +10,7 @@ use super::letter::Letter;
 /// Makes the table of `$part` from its published text. The text's first letter is what A becomes.
 ///
 /// `$make` is `letters` for the table, `letters_back` for the inverse, or `reflection` for a reflector's table.
-/// What these functions require of the text is proved before the program is built.
+/// The prover checks that the text is as these functions require.
 macro_rules! wiring {
     ($make:ident, $part:expr, { $($variant:path => $text:literal,)* }) => {
         match $part {

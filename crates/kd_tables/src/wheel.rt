@@ -43,7 +43,7 @@ macro_rules! wirings {
     };
 }
 
-/// The names of wheels, read by the macro `$read`: `name_of` finds a wheel's name, `named` the wheel with a name.
+/// Calls the macro `$read` (`name_of` or `named`) with `$value` and the table of all wheels and their names.
 macro_rules! names {
     ($read:ident, $value:expr) => {
         $read!($value, {
@@ -83,8 +83,8 @@ impl Wheel {
 
 /// The published wiring: what each letter becomes on the way in, with ring A and window A.
 ///
-/// The way in leads from right to left. From the tables of Tony Sale and of the Crypto Museum, for the wheels
-/// of the Wehrmacht and the Kriegsmarine.
+/// The way in leads from right to left. The wirings, of wheels of the Wehrmacht and the Kriegsmarine, are from the
+/// tables of Tony Sale and of the Crypto Museum.
 #[tactic(auto, unfolding(crate::specs::Tables::wiring_of))]
 pub fn wiring(wheel: Wheel) -> [Letter; 26]
     ensures { result ≡ wiring_of wheel }
@@ -102,8 +102,8 @@ pub fn unwiring(wheel: Wheel) -> [Letter; 26]
 
 /// Whether `wheel` is at a notch when it shows the letter `window`. The ring makes no difference.
 ///
-/// When a wheel at a notch steps, the wheel to its left steps too, if the left wheel can step. Some wheels have
-/// two notches, and Beta and Gamma have none.
+/// When a wheel at a notch steps, the wheel to its left steps too, unless that wheel is Beta or Gamma. Some wheels have
+/// two notches; Beta and Gamma have none.
 pub fn notched(wheel: Wheel, window: Letter) -> bool
     ensures { result ≡ is_notch wheel window }
 {

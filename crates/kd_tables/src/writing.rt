@@ -1,4 +1,4 @@
-//! `put_all`, which writes to a sink until it has taken all bytes, and its error `Device`.
+//! `put_all`, which writes all bytes to a sink, and its error `Device`.
 ghost use Rattle.std.specs.Prelude.{◌≡◌, ◌||◌, is_err};
 ghost use Rattle.kd_tables.specs.Refusals.{refusal_name};
 ghost use Rattle.kd_tables.specs.Writing.{Writes};
