@@ -19,7 +19,7 @@ pub record Stepping : Type 0 where
 abbrev pub next_letter : ℕ → ℕ
 next_letter letter = (letter + 1) % 26
 
--- whether the wheel at `place`, counted from the right from 0, is at one of its notches
+-- whether the wheel at `place` is at one of its notches; places are counted from 0, from the right
 abbrev pub stands_at_notch : List Wheel → List ℕ → ℕ → Bool
 stands_at_notch wheels window place =
     let slot = length window - (place + 1) in

@@ -1,7 +1,7 @@
 //! Laws that follow from the definition of a step alone.
 ghost use Rattle.kd_step.specs.Stepper.{ChainsEndInWindowAfter, SlowWheelsMoveTogether};
 
-/// Any number of steps leads from a window to exactly one window: to `window_after`.
+/// From each window, `n` steps lead to exactly one window: the one that `window_after` returns.
 pub fn chains_end_in_window_after()
     ensures { ChainsEndInWindowAfter }
 {}

@@ -1,4 +1,4 @@
-//! At which letters in its window a wheel is at a notch, as a table.
+//! The notches of a wheel as a table: for each letter in the window, whether the wheel is at a notch.
 ghost use Rattle.std.specs.Prelude.{◌≡◌};
 ghost use Rattle.kd_step.specs.Notches.{IsNotchTable};
 

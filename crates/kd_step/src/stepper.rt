@@ -70,7 +70,7 @@ impl<const S: usize> Stepper<S> {
         *window
     }
 
-    /// The letter in the window of `slot`, counted from the left from 0.
+    /// The letter in the window of `slot`. Slots are counted from 0, from the left.
     pub fn shown(&self, slot: usize) -> Letter
         requires { slot < S }
         ensures value { result ≡ slice_index self.now.window slot }
