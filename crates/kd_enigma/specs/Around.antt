@@ -17,14 +17,14 @@ abbrev pub around_wheel : List ℕ → List ℕ → List ℕ → List ℕ
 around_wheel board core wheel = followed_by (followed_by (followed_by board wheel) core)
     (followed_by (inverse wheel) board)
 
--- The current's path through these wheels and around `core`, while the window shows these letters. The first wheel
--- is next to `core`.
+-- The current's path in through these wheels, through `core`, and back, while the window shows these letters. The first
+-- wheel is next to `core`.
 abbrev pub around_wheels : List ℕ → List SeatedWheel → List ℕ → List ℕ
 around_wheels core (s ∷ seated) (letter ∷ window) = around_wheels
     (around_wheel s.board core (rotor s.wheel s.ring letter)) seated window
 around_wheels core _ _ = core
 
--- for each letter in a wheel's window: the permutation of board and wheel on the way in, and that on the way back
+-- for each letter in a wheel's window, two permutations of board and wheel: for the way in, and for the way back
 abbrev pub ways_by_window : Wheel → ℕ → List ℕ → List (List ℕ × List ℕ)
 ways_by_window wheel ring board = map (λ window. let turns = rotor wheel ring window in
     (followed_by board turns, followed_by (inverse turns) board)) alphabet

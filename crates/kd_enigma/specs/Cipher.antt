@@ -32,8 +32,7 @@ key_turned key window = record key { window = window }
 abbrev pub key_after : RotorKey → ℕ → RotorKey
 key_after key n = key_turned key (window_after key.wheels key.window n)
 
--- ---- The path of the current as a product of permutations, and the cipher that steps the wheels before each
--- letter.
+-- ---- The current's path as a product of permutations, and the cipher that steps the wheels before each letter.
 -- Source: the published accounts of the current's path
 -- Code: `Enigma` keeps the path for the current window as one table, and makes this table anew after each step.
 -- Test: machines_encipher
@@ -43,7 +42,7 @@ unfoldable pub rotors : List Wheel → List ℕ → List ℕ → List (List ℕ)
 rotors (wheel ∷ wheels) (ring ∷ rings) (letter ∷ window) = rotor wheel ring letter ∷ rotors wheels rings window
 rotors _ _ _ = []
 
--- the product of permutations, of which the first is applied first
+-- the product of a list of permutations; the first in the list is applied first
 unfoldable pub product : List (List ℕ) → List ℕ
 product [] = alphabet
 product (p ∷ ps) = followed_by p (product ps)

@@ -12,13 +12,13 @@ PairsMakeAPlugboard =
     (pairs : List (ℕ × ℕ)) → NoLetterTwice pairs → All (λ letter. letter < 26) (letters_in_pairs pairs)
     → IsPlugboard (exchange pairs)
 
--- Pairs take each of their letters to the other letter of its pair, and each letter that is in no pair to itself.
+-- On a plugboard, each letter of a pair becomes the pair's other letter. A letter that is in no pair becomes itself.
 abbrev pub PairsExchange : Type 0
 PairsExchange =
     (pairs : List (ℕ × ℕ)) (x y : ℕ) → NoLetterTwice pairs
     → (exchanged pairs x ≡ y) ↔ (HavePairOf pairs x y ⊎ ((x ≡ y) × ¬ Contains (letters_in_pairs pairs) x))
 
--- Neither the order of the pairs nor the order of a pair's letters makes a difference to a plugboard.
+-- A plugboard doesn't depend on the order of its pairs, or on the order of a pair's letters.
 abbrev pub SamePairsExchangeAlike : Type 0
 SamePairsExchangeAlike =
     (ps qs : List (ℕ × ℕ)) → NoLetterTwice ps → NoLetterTwice qs → ((x y : ℕ) → HavePairOf ps x y ↔ HavePairOf qs x y)
@@ -27,7 +27,7 @@ SamePairsExchangeAlike =
 -- ---- The laws of the path and of the cipher.
 -- Source: the published accounts of the current's path
 
--- The current's path is its own inverse. `PathsMoveEachLetter`: the path takes no letter to itself.
+-- The current's path is its own inverse. `PathsMoveEachLetter`, below, says that the path takes no letter to itself.
 abbrev pub PathsLeadBack : Type 0
 PathsLeadBack = (key : RotorKey) (window : List ℕ) → IsPlugboard key.plugs → IsOwnInverse (path key window)
 
@@ -40,8 +40,8 @@ EnigmaTwiceGivesBack =
     (key : RotorKey) (text : List ℕ) → IsPlugboard key.plugs → All (λ letter. letter < 26) text
     → enigma_cipher key (enigma_cipher key text) ≡ text
 
--- Enciphering `first ++ rest` is the same as enciphering `first`, and then `rest` with the key after the key
--- presses for `first`.
+-- The text `first ++ rest` can be enciphered in two chunks. The key for `rest` is the key after the key presses for
+-- `first`.
 abbrev pub EnigmaCipherInTurn : Type 0
 EnigmaCipherInTurn =
     (key : RotorKey) (first rest : List ℕ)

@@ -1,4 +1,4 @@
--- The cables of a plugboard: each exchanges the two letters of a pair.
+-- The cables of a plugboard: each cable exchanges the two letters of a pair.
 -- Source: the published accounts of the plugboard
 -- Code: `Plugs` has a table of the 26 letters; `from_pairs` refuses a letter that the table already exchanges.
 -- Test: no_letter_is_plugged_twice
@@ -17,6 +17,6 @@ NoLetterTwice pairs = IsDistinct nat_eq (letters_in_pairs pairs)
 abbrev pub HavePairOf : List (ℕ × ℕ) → ℕ → ℕ → Type 0
 HavePairOf pairs x y = Contains pairs (x, y) ⊎ Contains pairs (y, x)
 
--- The table takes the letter to itself.
+-- The table maps the letter to itself.
 abbrev pub IsFixedLetter : List ℕ → ℕ → Type 0
 IsFixedLetter table letter = slice_index table letter ≡ letter

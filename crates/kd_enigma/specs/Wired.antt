@@ -8,12 +8,12 @@ use Rattle.kd_step.specs.Stepper.{Stepping}
 use Rattle.kd_enigma.specs.Around.{SeatedWheel, around_wheels}
 use Rattle.kd_enigma.specs.Cipher.{RotorKey, IsPlugboard, path}
 
--- all items but the last, which belongs to the right wheel; the wheels of the other items are the slow wheels
+-- the items of the slow wheels: all items but the last, which belongs to the right wheel
 abbrev pub slow_slots : {X : Type 0} → List X → List X
 slow_slots slots = take (length slots - 1) slots
 
--- The wheels in their slots, each with the board to its right: the plugboard for the last wheel, and for the
--- others a permutation that changes nothing.
+-- The wheels in their slots, each with the board to its right. The right wheel has the plugboard, and each other wheel
+-- a permutation that changes nothing.
 abbrev pub wheels_with_boards : List ℕ → List Wheel → List ℕ → List SeatedWheel
 wheels_with_boards plugs (wheel ∷ []) (ring ∷ rings) = record { wheel = wheel; ring = ring; board = plugs } ∷ []
 wheels_with_boards plugs (wheel ∷ wheels) (ring ∷ rings) =
@@ -31,8 +31,8 @@ key_of_parts stepper rings reflector plugs = record {
 }
 
 -- What the code keeps for a key: the wheels in their slots, and three permutations. `reflecting` is the reflector's
--- permutation. `slow_map` is the path through all wheels but the right one, the reflector, and back. `path_map` is
--- the whole path while the key's window shows.
+-- permutation. `slow_map` is the path in through all wheels but the right one, through the reflector, and back.
+-- `path_map` is the whole path while the key's window letters show.
 pub record IsWired (key : RotorKey) (seated : List SeatedWheel) (reflecting slow_map path_map : List ℕ) : Type 0 where
   pub seats : seated ≡ wheels_with_boards key.plugs key.wheels key.rings
   pub board : IsPlugboard key.plugs

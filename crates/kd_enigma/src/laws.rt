@@ -21,7 +21,7 @@ pub fn an_empty_board_is_a_plugboard()
     ensures { IsPlugboard (exchange []) }
 {}
 
-/// The path of the current takes each letter to another letter, and the other letter back to it.
+/// The current's path turns each letter `x` into another letter, and that letter back into `x`.
 #[tactic(auto, using(crate::proofs::Ways::paths_lead_back, crate::proofs::Ways::paths_move_each_letter))]
 pub fn path_is_its_own_inverse()
     ensures own_inverse { PathsLeadBack }
@@ -34,7 +34,7 @@ pub fn enciphering_twice_gives_back()
     ensures { EnigmaTwiceGivesBack }
 {}
 
-/// A text can be enciphered in chunks. Each chunk starts from the window that the earlier chunks leave.
+/// A text can be enciphered in chunks. Each chunk starts with the window that shows after the chunk before.
 #[tactic(auto, using(crate::proofs::Ciphers::cipher_in_turn, crate::proofs::Ciphers::key_in_turn))]
 pub fn pieces_are_enciphered_in_turn()
     ensures cipher { EnigmaCipherInTurn }

@@ -50,7 +50,7 @@ impl Map {
         }
     }
 
-    /// The permutation that takes each letter `by` places on, with A after Z.
+    /// The permutation that moves each letter on by `by` places, with A after Z.
     pub(crate) fn shift(by: u8) -> Self
         requires { by ≤ 26 }
         ensures { result ≡ shift by }
@@ -76,7 +76,7 @@ impl Map {
     }
 }
 
-/// The table that takes each letter `by` places on, with A after Z.
+/// The table that moves each letter on by `by` places, with A after Z.
 pub(crate) fn shift_table(by: u8) -> [Letter; 26]
     requires { by ≤ 26 }
     ensures { result ≡ shift by }

@@ -10,7 +10,7 @@ use std::marker::Model;
 
 /// A wheel with its ring, and with what lies to its right: the plugboard, or nothing.
 ///
-/// For each window letter, it keeps one permutation for the current's way in, and one for its way back.
+/// For each window letter, it keeps two permutations: one for the current's way in, and one for the way back.
 #[derive(Drop)]
 pub(crate) struct Rotor {
     wheel: Wheel,
