@@ -6,8 +6,8 @@
 use Rattle.std.specs.Prelude.{◌≡◌, ℕ, ◌+◌, ◌-◌, ◌%◌, ◌<◌, Bool, false, List, slice_index, slice_index_or, unwrap_or}
 use Rattle.kd_tables.specs.Rings.{IsRing, place_on}
 
--- A wheel as contracts see it: its letters in order; how many places the acting pin is past the shown letter; which
--- pins are effective; and the place of the shown letter.
+-- A wheel as contracts see it. `ring`: its letters in order. `offset`: how many places the acting pin is past the shown
+-- letter. `pins`: which pins are effective. `place`: the place of the shown letter.
 pub record TurnedWheel : Type 0 where
   pub ring : List ℕ
   pub offset : ℕ
@@ -20,7 +20,7 @@ pub record IsWheel (size : ℕ) (wheel : TurnedWheel) : Type 0 where
   pub offset : wheel.offset < size
   pub place : wheel.place < size
 
--- the place `by` places after `place`, counted around the wheel
+-- the place that is `by` places past `place`, counted around the wheel
 abbrev pub place_past : ℕ → ℕ → ℕ → ℕ
 place_past size place by = (place + by) % size
 
@@ -46,11 +46,12 @@ wheel_showing wheel letter = wheel_at_place wheel (unwrap_or (place_on wheel.rin
 
 -- ---- What the code keeps. No public contract cites these definitions.
 
--- the place of the shown letter, which is `offset` places before `acting`, the place of the acting pin
+-- the place of the shown letter: `offset` places before the acting pin, which is at place `acting`
 abbrev pub shown_place_at_acting : ℕ → ℕ → ℕ → ℕ
 shown_place_at_acting size acting offset = place_past size acting (size - offset)
 
--- The acting pin is at place `acting`, `offset` places past the shown letter; both numbers are below `size`.
+-- The acting pin is at place `acting`, `offset` places past the shown letter. Both `acting` and `offset` are below
+-- `size`.
 pub record ActsAt (size acting offset : ℕ) : Type 0 where
   pub inside : offset < size
   pub there : acting < size
