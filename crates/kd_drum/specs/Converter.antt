@@ -1,8 +1,8 @@
--- The cipher of the Converter M-209, which reverses each letter (A becomes Z), and moves it on by the number of bars
--- that the wheels meet. Wheels are numbered from 1 to 6. Letters of a text and places of a wheel are counted from 0.
+-- The cipher of the Converter M-209: it reverses each letter (A becomes Z), and moves it on by the number of bars that
+-- the wheels meet. Wheels are numbered from 1 to 6. Letters of a text and places of a wheel are counted from 0.
 -- Source: War Department TM 11-380
--- Code: `Converter` turns its wheels at each letter. It finds the number of bars met in a table, which has an
--- entry for each set of wheels that may have an effective acting pin.
+-- Code: `Converter` turns its wheels at each letter. It reads the number of bars met from a table, which has an entry
+-- for each of the 64 sets of wheels.
 -- Test: bars_are_met, files_are_refused
 use Rattle.std.specs.Prelude.{ℕ, ◌+◌, ◌-◌, ◌%◌, ◌≤◌, nat_le, Bool, ◌&&◌, ◌||◌, List, map, slice_index, unwrap_or}
 use Rattle.std.specs.Prelude.{Contains}
@@ -11,7 +11,8 @@ use Rattle.kd_tables.specs.Rings.{ring_of, place_on}
 use Rattle.kd_pins.specs.PinWheel.{is_effective}
 use Rattle.kd_pins.specs.PinWheels.{pin_wheels, pins_on, acting_offset, pin_wheel_size}
 
--- A key of the Converter: the effective pins of its six wheels, the letters that they show, and the bars' readings.
+-- A key of the Converter. `pins`: the effective pins of its six wheels. `letters`: the letters that the wheels show.
+-- `rows`: for each bar, the numbers of the wheels at its two lugs.
 pub record PinKey : Type 0 where
   pub pins : List (List Bool)
   pub letters : List ℕ
@@ -21,16 +22,17 @@ pub record PinKey : Type 0 where
 abbrev pub pin_key_turned : PinKey → List ℕ → PinKey
 pin_key_turned key letters = record key { letters = letters }
 
--- Each of the six letters is on its wheel.
+-- Each of the six letters is on its wheel: the first letter on wheel 1, and so on.
 abbrev pub IsEachOnItsWheel : List ℕ → Type 0
 IsEachOnItsWheel letters = (wheel : ℕ) → 1 ≤ wheel → wheel ≤ 6
     → Contains (ring_of wheel) (slice_index letters (wheel - 1))
 
--- the place of the letter that a wheel shows, if the wheels show `letters`; 0 if the wheel lacks this letter
+-- the place of the letter that a wheel shows (`letters` has all six shown letters); 0 if the wheel lacks its letter
 abbrev pub shown_place : List ℕ → ℕ → ℕ
 shown_place letters wheel = unwrap_or (place_on (ring_of wheel) (slice_index letters (wheel - 1))) 0
 
--- whether `wheel` is a wheel's number, and its acting pin is effective `count` letters after the wheels show `letters`
+-- whether wheel `wheel` has an effective acting pin, `count` letters after the wheels show `letters`; false if there is
+-- no wheel with this number
 abbrev pub is_acting_after : List (List Bool) → List ℕ → ℕ → ℕ → Bool
 is_acting_after pins letters count wheel =
     (nat_le 1 wheel && nat_le wheel 6) && is_effective (pins_on pins wheel)
@@ -41,8 +43,8 @@ abbrev pub bars_met : PinKey → ℕ → ℕ
 bars_met key count =
     let acts = is_acting_after key.pins key.letters count in count_by (λ row. acts row.0 || acts row.1) key.rows
 
--- The ciphertext of `text`. Each letter is reversed (A becomes Z, B becomes Y, and so on), and then moved on by the
--- number of bars met, with A after Z.
+-- The ciphertext of `text`. Each letter is reversed (A becomes Z, B becomes Y), and then moved on by the number of bars
+-- met, with A after Z.
 abbrev pub converter_cipher : PinKey → List ℕ → List ℕ
 converter_cipher key text = map (λ numbered. (25 + bars_met key numbered.0 - numbered.1) % 26) (enumerate_from 0 text)
 
@@ -51,6 +53,6 @@ abbrev pub letter_after : PinKey → ℕ → ℕ → ℕ
 letter_after key count wheel = slice_index (ring_of wheel)
     ((shown_place key.letters wheel + count) % pin_wheel_size wheel)
 
--- the key after `count` letters have been enciphered, each of which turns all wheels by one place
+-- the key after `count` letters are enciphered; each letter turns all wheels by one place
 abbrev pub pin_key_after : PinKey → ℕ → PinKey
 pin_key_after key count = pin_key_turned key (map (letter_after key count) pin_wheels)

@@ -1,18 +1,19 @@
--- How many bars are met, for each set of wheels. A set is a number below 64: wheel 1 is in the set if the number's
--- lowest bit is 1, wheel 2 if the second bit is 1, and so on. No public contract cites this file.
+-- How many bars are met, for each set of wheels. A set is a number below 64, with a bit for each wheel; the lowest bit
+-- is for wheel 1. For example, 5 is the set of wheels 1 and 3. No public contract cites this file.
 use Rattle.std.specs.Prelude.{◌≡◌, ℕ, ◌-◌, ◌/◌, ◌%◌, ◌^◌, ◌<◌, nat_le, nat_eq, Bool, ◌&&◌, ◌||◌, List, length}
 use Rattle.std.specs.Prelude.{slice_index}
 use Rattle.std.specs.List.{count_by}
 
--- whether `wheel` is a wheel's number, and this wheel is in the set
+-- whether `wheel` is from 1 to 6 and in the set `wheels`
 abbrev pub is_in_set : ℕ → ℕ → Bool
 is_in_set wheels wheel = (nat_le 1 wheel && nat_le wheel 6) && nat_eq (wheels / 2 ^ (wheel - 1) % 2) 1
 
--- how many bars, which read as `rows`, are met if exactly the wheels of a set have an effective acting pin
+-- how many bars are met if the wheels of a set, and no others, have an effective acting pin; `rows` are the bars'
+-- readings
 abbrev pub bars_met_by : List (ℕ × ℕ) → ℕ → ℕ
 bars_met_by rows wheels = count_by (λ row. is_in_set wheels row.0 || is_in_set wheels row.1) rows
 
--- There are 27 bars, and `counts` has an entry for each of the 64 sets of wheels: how many bars are met.
+-- There are 27 bars. `counts` has an entry for each of the 64 sets of wheels: how many bars these wheels meet.
 pub record AreCounts (rows : List (ℕ × ℕ)) (counts : List ℕ) : Type 0 where
   pub bars : length rows ≡ 27
   pub size : length counts ≡ 64

@@ -8,8 +8,7 @@ ConverterTwiceGivesBack =
     (key : PinKey) (text : List ℕ) → All (λ letter. letter < 26) text
     → converter_cipher key (converter_cipher key text) ≡ text
 
--- Enciphering `first ++ rest` is the same as enciphering `first`, and then `rest` with the key after the letters of
--- `first`.
+-- The text `first ++ rest` can be enciphered in two chunks. The key for `rest` is the key after the letters of `first`.
 abbrev pub ConverterCipherInTurn : Type 0
 ConverterCipherInTurn =
     (key : PinKey) (first rest : List ℕ)

@@ -11,7 +11,7 @@ pub record IsPinWheel (number size : ℕ) (wheel : TurnedWheel) : Type 0 where
   pub offset : wheel.offset ≡ acting_offset number
   pub turned : IsWheel size wheel
 
--- The six wheels are wheels 1 to 6.
+-- `w1` is pin wheel 1, `w2` is pin wheel 2, and so on.
 pub record AreSixWheels (w1 w2 w3 w4 w5 w6 : TurnedWheel) : Type 0 where
   pub first : IsPinWheel 1 26 w1
   pub second : IsPinWheel 2 25 w2
@@ -20,7 +20,7 @@ pub record AreSixWheels (w1 w2 w3 w4 w5 w6 : TurnedWheel) : Type 0 where
   pub fifth : IsPinWheel 5 19 w5
   pub sixth : IsPinWheel 6 17 w6
 
--- the key of a Converter with these six wheels, and with bars that read as `rows`
+-- the key of a Converter with these six wheels, and with bars that have the readings `rows`
 abbrev pub converter_key : TurnedWheel → TurnedWheel → TurnedWheel → TurnedWheel → TurnedWheel → TurnedWheel
     → List (ℕ × ℕ)
     → PinKey

@@ -38,7 +38,7 @@ impl Model for Converter {
 }
 
 impl Converter {
-    /// Sets up a Converter that has the pins `pins`, shows `letters`, and has bars that read as `rows`.
+    /// Sets up a Converter with the pins `pins`, the shown letters `letters`, and bars with the readings `rows`.
     ///
     /// Returns `NotOnWheel` if one of `letters` isn't on its wheel.
     pub fn new(

@@ -30,7 +30,7 @@ fn bars_met_by(rows: &[Reading; 27], wheels: usize) -> u8
     met
 }
 
-/// Whether a bar that reads as `row` has a lug at a wheel of the set `wheels`.
+/// Whether a bar with the reading `row` has a lug at a wheel of the set `wheels`.
 fn is_met(row: Reading, wheels: usize) -> bool
     ensures { result ≡ (is_in_set wheels row.0 || is_in_set wheels row.1) }
 {
