@@ -1,4 +1,4 @@
--- If prices fit, no assignment costs less than the sum of the prices.
+-- A lower bound for the cost of assignments: the sum of prices that fit.
 -- Source: the assignment problem and its dual
 -- Code: `assign` doesn't try assignments one by one: it grows a tree from each row.
 -- Test: answers_small_tables, answers_three_rows
@@ -6,7 +6,8 @@ use Rattle.std.specs.Prelude.{◌≡◌, ℕ, ◌≤◌, List, length, ℤ, pos,
 use Rattle.kd_assign.specs.Prices.{FitCosts, price_sum}
 use Rattle.kd_assign.specs.Assignment.{IsOneToOne, assignment_cost}
 
--- If prices fit, every one-to-one assignment costs at least the sum of the prices.
+-- Prices fit if a row's price plus a column's price is always at most the cost where they meet. Then every one-to-one
+-- assignment costs at least the sum of all prices.
 abbrev pub FittingPricesBoundCosts : Type 0
 FittingPricesBoundCosts =
     (cost : List (List ℕ)) (row col : List ℤ) (to : List ℕ) →

@@ -1,8 +1,8 @@
 -- How many comparisons it takes to assign `n` rows to `n` columns by growing a tree from each row.
 use Rattle.std.specs.Prelude.{ℕ, zero, suc, ◌+◌, ◌-◌, ◌*◌, ◌/◌, ◌≤◌}
 
--- The number of comparisons, `scans`, is at least one for each cell of the table of `n` rows, and at most as many as
--- `n` trees need that grow to their full size.
+-- The number of comparisons, `scans`, is at least `n * n`: one for each cell of the table. It is at most 1 + 4 + 9 +
+-- ... + `n * n`: the number if all `n` trees grow to their full size.
 pub record IsScanCount (n scans : ℕ) : Type 0 where
   pub least : n * n ≤ scans
   pub most : scans ≤ n * (n + 1) * (2 * n + 1) / 6
@@ -14,7 +14,7 @@ abbrev pub scans_of_tree : ℕ → ℕ → ℕ
 scans_of_tree n zero = 0
 scans_of_tree n (suc rows) = scans_of_tree n rows + (n - rows)
 
--- the number of comparisons for `trees` trees: the first tree has one row, and each next tree one row more
+-- the number of comparisons for `trees` trees: the first tree has one row, and each next tree has one row more
 abbrev pub scans_of_trees : ℕ → ℕ → ℕ
 scans_of_trees n zero = 0
 scans_of_trees n (suc trees) = scans_of_trees n trees + scans_of_tree n (suc trees)

@@ -21,7 +21,8 @@ abbrev pub IsCheapestColumn : ℕ → List (List ℕ) → List ℤ → ℕ → �
 IsCheapestColumn n cost prices i j =
     (k : ℕ) → k < n → (pos (cost_at cost i j) +ℤ price_at prices k) ≤ℤ (pos (cost_at cost i k) +ℤ price_at prices j)
 
--- The rows before `next` have columns, and no other row has one. Each has its cheapest column at these prices.
+-- The rows before `next` have columns, and no other row has one. Each of these rows has its cheapest column at these
+-- prices.
 pub record IsSolvedTo (n : ℕ) (cost : List (List ℕ)) (prices : List ℤ)
     (holders : List (Option ℕ)) (next : ℕ) : Type 0 where
   pub places : length holders ≡ n
@@ -32,6 +33,6 @@ pub record IsSolvedTo (n : ℕ) (cost : List (List ℕ)) (prices : List ℤ)
   -- each free column has price 0, and at least one column has price 0
   pub free : (j : ℕ) → j < n → IsColumnFree holders j → price_at prices j ≡ pos 0
   pub zero : (j : ℕ) × (j < n) × (price_at prices j ≡ pos 0)
-  -- no price is above 0, or below -4 times the number of rows that have columns
+  -- no price is above 0; no price is below -4 times the number of rows that have columns
   pub high : (j : ℕ) → j < n → price_at prices j ≤ℤ pos 0
   pub low : (j : ℕ) → j < n → pos 0 ≤ℤ (price_at prices j +ℤ pos (4 * next))

@@ -20,22 +20,23 @@ pub record AreClose (n : ℕ) (prices ceilings : List ℤ) : Type 0 where
   pub between : (j : ℕ) → j < n → price_at prices j ≤ℤ price_at ceilings j
   pub high : (j : ℕ) → j < n → price_at ceilings j ≤ℤ pos 4
 
--- Of all columns outside the tree, column `end` has the least room, which is a column's ceiling minus its price.
+-- Of all columns outside the tree, column `end` has the least room (its ceiling minus its price).
 pub record IsNearest (n : ℕ) (prices : List ℤ) (reached : List Bool) (ceilings : List ℤ) (end : ℕ) : Type 0 where
   pub within : end < n
   pub outside : has_column reached end ≡ false
   pub least : (j : ℕ) → j < n → has_column reached j ≡ false → room_at ceilings prices end ≤ℤ room_at ceilings prices j
 
--- A column, whose nearest row `near` offers the price `ceiling` for it, is compared with `row`, which offers
--- `offer`. Outside the tree, the row with the lower price becomes the nearest row (`near'`), and its price the
--- ceiling. In the tree (`reached`), nothing changes.
+-- One column is compared with `row`, which offers the price `offer` for it. Before, its nearest row `near` offers
+-- `ceiling`; after, its nearest row `near'` offers `ceiling'`. If the column is outside the tree, the row with the
+-- lower price is now the nearest. If it is in the tree (`reached`), nothing changes.
 pub record IsCompared (reached : Bool) (row : ℕ) (offer : ℤ) (near : ℕ) (ceiling : ℤ)
     (near' : ℕ) (ceiling' : ℤ) : Type 0 where
   pub one : ((near' ≡ near) × (ceiling' ≡ ceiling)) ⊎ ((reached ≡ false) × (near' ≡ row) × (ceiling' ≡ offer))
   pub least : ceiling' ≤ℤ ceiling
   pub here : reached ≡ false → ceiling' ≤ℤ offer
 
--- Each column is compared with `row`, which offers the price `level` plus the cost in `row` and this column.
+-- Each column is compared with `row`. The price that `row` offers for a column is `level` plus the cost where they
+-- meet.
 pub record AreCompared (n : ℕ) (cost : List (List ℕ)) (reached : List Bool) (row : ℕ) (level : ℤ) (near : List ℕ)
     (ceilings : List ℤ) (near' : List ℕ) (ceilings' : List ℤ) : Type 0 where
   pub at : (j : ℕ) → j < n
@@ -44,9 +45,9 @@ pub record AreCompared (n : ℕ) (cost : List (List ℕ)) (reached : List Bool) 
 
 module _ (n : ℕ) (cost : List (List ℕ)) (prices : List ℤ) (holders : List (Option ℕ)) (root : ℕ) (reached : List Bool)
     (ceilings : List ℤ) where
-  -- `plan` gives a column to each row from 0 to `root`, except row `out`. Each column of the tree that has a row is
-  -- the cheapest for this row if the ceilings are the prices. `plan` and `holders` use the same columns, and give
-  -- each column outside the tree to the same row.
+  -- `plan` gives a column to each row from 0 to `root`, except row `out`. It uses the same columns as `holders`, and
+  -- agrees with `holders` outside the tree. With the ceilings as prices, a column of the tree is the cheapest column
+  -- for its row in `plan`.
   pub record IsAssignmentWithout (plan : List (Option ℕ)) (out : ℕ) : Type 0 where
     pub places : length plan ≡ n
     pub out_in_range : out < n
@@ -57,9 +58,9 @@ module _ (n : ℕ) (cost : List (List ℕ)) (prices : List ℤ) (holders : List 
     pub same : (j : ℕ) → has_column reached j ≡ false → slice_index_or plan j None ≡ slice_index_or holders j None
     pub taken : (j : ℕ) → is_some (slice_index_or plan j None) ≡ is_some (slice_index_or holders j None)
 
-  -- Each column of the tree has a row. A column outside the tree has at least as much room (its ceiling minus its
-  -- price) as each column of the tree, and is the cheapest for its nearest row if the ceilings are the prices. For
-  -- this nearest row, `plans` has an assignment of columns to all other rows from 0 to `root`.
+  -- Each column of the tree has a row. No column of the tree has more room (ceiling minus price) than a column outside.
+  -- With the ceilings as prices, a column outside the tree is the cheapest column for its nearest row. For each such
+  -- nearest row, `plans` has an assignment of columns to all other rows from 0 to `root`.
   pub record IsGrownTree (near : List ℕ) (plans : List (List (Option ℕ))) : Type 0 where
     pub places : length reached ≡ n
     pub plan_places : length plans ≡ n

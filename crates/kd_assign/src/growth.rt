@@ -10,9 +10,9 @@ use crate::scans::Scans;
 
 /// Gives row `root` a column. The rows before it may get other columns, so that the total cost is the least.
 ///
-/// A tree of rows and columns grows from `root`. In each round the nearest column joins the tree, and then
-/// the row that holds this column. A free column ends the growth. For each row of the tree, `plans` gets an
-/// assignment of columns to all other rows from 0 to `root`. What `plans` had before is never read.
+/// A tree of rows and columns grows from `root`. In each round the nearest column joins the tree, and then the row that
+/// holds this column. The growth ends at a free column, which no row holds. For each row of the tree, `plans` gets an
+/// assignment of columns to all other rows from 0 to `root`. The old contents of `plans` are never read.
 pub fn assign_row<const N: usize>(
     cost: &[[u8; N]; N],
     prices: &mut [i16; N],

@@ -13,8 +13,8 @@ pub struct Nearest<const N: usize> {
     pub row: [usize; N],
     /// The ceiling of each column: the lowest price that a row of the tree offers for it.
     ///
-    /// The nearest column has the least room, which is its ceiling minus its price. When a free column ends the
-    /// tree, each price is lowered to at most its ceiling minus the room of this free column.
+    /// A column's room is its ceiling minus its price; the nearest column has the least room. When a free column ends
+    /// the tree, each column's price becomes at most the column's ceiling minus the room of the free column.
     pub ceiling: [i16; N],
 }
 
@@ -29,7 +29,7 @@ impl<const N: usize> Nearest<N> {
         }
     }
 
-    /// Compares the ceiling of each column outside the tree with the price that `row`, new in the tree, offers.
+    /// Adds `row` to the tree: compares the row's offer for each column outside the tree with the column's ceiling.
     pub fn join(
         &mut self,
         reached: &[bool; N],
@@ -85,9 +85,9 @@ impl<const N: usize> Nearest<N> {
         self.ceiling[column] - prices[column]
     }
 
-    /// The level of `row`: the ceiling of `column`, which the row holds, minus the cost where the two meet.
+    /// The level of `row`, which holds `column`: the column's ceiling minus the cost where row and column meet.
     ///
-    /// The price that a row of the tree offers for a column is the row's level plus the cost where the two meet.
+    /// The price that a row of the tree offers for any column is the row's level plus the cost where they meet.
     pub fn level(&self, cost: &[[u8; N]; N], row: usize, column: usize) -> i16
         requires row { row < N }
         requires column { column < N }
@@ -101,7 +101,7 @@ impl<const N: usize> Nearest<N> {
         self.ceiling[column] - i16::from(cost[row][column])
     }
 
-    /// The nearest column outside the tree, which has the least room (its ceiling minus its price).
+    /// The nearest column: the column outside the tree that has the least room (its ceiling minus its price).
     pub fn column(
         &self,
         reached: &[bool; N],
@@ -121,8 +121,8 @@ impl<const N: usize> Nearest<N> {
 
     /// The nearer of the columns `first` and `second`, or `first` if the tree has `second` already.
     ///
-    /// If both columns are equally near, the result is `second` only if `second` is free, since the tree ends at a
-    /// free column. The contract leaves this choice open.
+    /// If both columns are equally near, `second` wins if it is free, since the tree ends at a free column; otherwise
+    /// `first` wins. The contract leaves this choice open.
     fn nearer(
         &self,
         reached: &[bool; N],

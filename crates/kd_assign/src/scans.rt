@@ -5,7 +5,7 @@ use std::marker::Model;
 
 /// The number of comparisons made so far.
 ///
-/// The field is private to this module, so that no other module can set the count by a formula.
+/// The field is private to this module, so that other modules can only count comparisons, and can't set the number.
 #[derive(Clone, Copy)]
 pub struct Scans {
     count: u32,
