@@ -69,13 +69,14 @@ other_lug Right = Left
 abbrev pub machine_lug : Parts → ℕ → Lug → Option Place
 machine_lug m bar lug = option_map (lug_place lug) (machine_standing m bar)
 
--- The thing is the given slot, or a slot in which the machine has the given wheel.
+-- The thing is the given slot, or a slot that holds the given wheel.
 abbrev pub IsSeatOf : Parts → ℕ → Wheel → Thing → Type 0
 IsSeatOf m slot wheel thing =
     (thing ≡ TheSlot slot) ⊎ ((held : ℕ) × (thing ≡ TheSlot held) × (machine_slot m held ≡ Some (Some wheel)))
 
--- Seating the wheel turns machine `m` into machine `n`. In `n`, the wheel is in slot `slot` alone, and the slot
--- that it left is empty. Nothing else changes: a wheel that goes to the box keeps its ring and its letter.
+-- Seating the wheel turns machine `m` into machine `n`. In `n`, slot `slot` and no other slot holds the wheel. If
+-- another slot held the wheel in `m`, that slot is empty in `n`. Nothing else changes: a wheel that goes to the box
+-- keeps its ring and its letter.
 pub record SeatsWheel (m : Parts) (slot : ℕ) (wheel : Wheel) (n : Parts) : Type 0 where
   pub here : machine_slot n slot ≡ Some (Some wheel)
   pub only : (other : ℕ) → machine_slot n other ≡ Some (Some wheel) → other ≡ slot
@@ -126,7 +127,7 @@ abbrev pub HasLooseEnd : Parts → ℕ → Type 0
 HasLooseEnd m cable = (held : Option ℕ × Option ℕ) × (machine_cable m cable ≡ Some held)
     × (length (cable_letters held) < 2)
 
--- The number is of a slot that holds a wheel, or of a pin wheel that has the letter.
+-- The slot with this number holds a wheel, or the pin wheel with this number has the letter.
 abbrev pub CanShow : Parts → ℕ → ℕ → Type 0
 CanShow m slot letter =
     ((wheel : Wheel) × (machine_slot m slot ≡ Some (Some wheel)))
@@ -141,7 +142,7 @@ abbrev pub CanMoveLug : Parts → ℕ → Lug → Place → Type 0
 CanMoveLug m bar lug place =
     (standing : Place × Place) × (machine_standing m bar ≡ Some standing) × HasLugsInOrder (with_lug lug place standing)
 
--- The machine has what it needs to carry the setting out.
+-- The machine can carry the setting out; for example, the cable has the letter that is to be pulled.
 abbrev pub AllowsSetting : Parts → Setting → Type 0
 AllowsSetting m (Pull cable letter) = Contains (letters_at_cable m cable) letter
 AllowsSetting m (Put cable letter) = HasLooseEnd m cable

@@ -1,4 +1,4 @@
--- How many settings it takes to give a cable a pair or a bar a row.
+-- How many settings it takes to put a pair's letters into a cable, or to make a bar read as a row.
 -- Code: `cable_cost` goes through the alphabet; `bar_cost` tries the one or two standings that read as the row.
 -- Test: kd_trials/src/state/days.rt
 use Rattle.std.specs.Prelude.{ℕ, ◌+◌, ◌-◌, nat_eq, nat_lt, min, Bool, false, not, ◌&&◌, List, [], ◌∷◌, ◌++◌, length}
@@ -30,7 +30,7 @@ abbrev pub column_letters : Option (ℕ × ℕ) → List ℕ
 column_letters None = []
 column_letters (Some pair) = pair.0 ∷ pair.1 ∷ []
 
--- the cost of giving a cable the column's pair, or of emptying it: how many letters are in only one of cable and pair
+-- the cost of a cable and a column: how many letters are in the cable or in the column's pair, but not in both
 abbrev pub cable_cost : Option ℕ × Option ℕ → Option (ℕ × ℕ) → ℕ
 cable_cost cable column =
     count_by (λ l. exactly_one (has_letter (cable_letters cable) l) (has_letter (column_letters column) l)) alphabet
@@ -39,7 +39,7 @@ cable_cost cable column =
 abbrev pub lugs_moved : Place × Place → Place × Place → ℕ
 lugs_moved bar other = one_unless (is_same_place bar.0 other.0) + one_unless (is_same_place bar.1 other.1)
 
--- the standings with which a bar reads as this row, in the order of `standings`
+-- the standings (places of two lugs) that have this row as their reading, in the order of `standings`
 unfoldable pub standings_as : ℕ × ℕ → List (Place × Place)
 standings_as row =
     filter (λ bar. let reading = reading_of bar in nat_eq reading.0 row.0 && nat_eq reading.1 row.1) standings
@@ -56,7 +56,7 @@ standing_across one other = if nat_lt (place_rank one) (place_rank other) then (
 abbrev pub bar_cost : Place × Place → ℕ × ℕ → ℕ
 bar_cost standing row = fold min 2 (map (lugs_moved standing) (standings_as row))
 
--- of all standings that read as the row, the first that is reached by moving the fewest lugs
+-- the standing that reads as the row and takes the fewest moves of lugs; the first in order if there are two
 abbrev pub nearest_standing : Place × Place → ℕ × ℕ → Option (Place × Place)
 nearest_standing bar row = find (λ other. nat_eq (lugs_moved bar other) (bar_cost bar row)) (standings_as row)
 
@@ -67,11 +67,11 @@ nearest_standing bar row = find (λ other. nat_eq (lugs_moved bar other) (bar_co
 abbrev pub columns_of : List (ℕ × ℕ) → List (Option (ℕ × ℕ))
 columns_of pairs = map Some pairs ++ replicate (13 - length pairs) None
 
--- the cost of giving each cable each column of the day: a list for each cable
+-- the cost table of cables: for each cable, a list of its costs with the columns of the day
 abbrev pub cable_costs : List (Option ℕ × Option ℕ) → List (ℕ × ℕ) → List (List ℕ)
 cable_costs cables pairs = map (λ cable. map (cable_cost cable) (columns_of pairs)) cables
 
--- the cost of giving each bar each row of the day: a list for each bar
+-- the cost table of bars: for each bar, a list of its costs with the rows of the day
 abbrev pub bar_costs : List (Place × Place) → List (ℕ × ℕ) → List (List ℕ)
 bar_costs bars rows = map (λ bar. map (bar_cost bar) rows) bars
 
@@ -83,8 +83,9 @@ cost_table _ _ = []
 
 -- ---- Loose things: those other than cables and bars that differ from the day.
 
--- How many things other than cables and bars differ from the day: slots, the reflector, and the rings and the window
--- letters of the day's wheels, also of those still in the box; or pins, and the letters that pin wheels show.
+-- How many things, cables and bars aside, differ from the day. On a rotor machine: slots, the reflector, and the rings
+-- and window letters of the day's wheels, even of wheels still in the box. On a Converter: pins, and the letters that
+-- the pin wheels show.
 abbrev pub loose_count : Parts → Day → ℕ
 loose_count (Rotor m) (OfRotors s) =
     count_by (λ slot. not (option_map_or (same_wheel slot.1.wheel) slot.0 false)) (zip m.slots s.wheels)

@@ -4,7 +4,7 @@ use Rattle.kd_state.specs.declared.engine.Mechanism.{Mechanism}
 use Rattle.kd_state.specs.declared.engine.Mechanism.TheVariants.{ThreeWheels, FourWheels, Drum}
 use Rattle.kd_state.specs.TwoCiphers.{EngineKey, OfWheels, OfDrum}
 
--- the key to which the Enigma or the Converter in an engine is set
+-- the key of the Enigma or of the Converter that is in an engine
 abbrev pub mechanism_key : Mechanism → EngineKey
 mechanism_key (ThreeWheels key) = OfWheels key
 mechanism_key (FourWheels key) = OfWheels key

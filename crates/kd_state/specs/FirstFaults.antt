@@ -1,9 +1,9 @@
--- Rules for results: a rule says whether a result, which is a value or a fault, is right. A `do` joins the rules
--- of steps in the order of testing. The fault of the first step that fails is right.
+-- Rules for results: a rule says which values and which faults are right answers of a function. A `do` block joins the
+-- rules of several steps, in the order of testing. If a step fails, the fault of the first such step is right.
 use Rattle.std.specs.Prelude.{◌≡◌, Result, Ok, Err, refl}
 use Rattle.std.proofs.Common.{sym, ap, ◌∙◌, subst}
 
--- a rule: says of each result, which is a value or a fault, whether the result is right
+-- a rule: which values, and which faults, are right answers of a function
 abbrev pub AnswerRule : Type 0 → Type 0 → Type 1
 AnswerRule F X = Result X F → Type 0
 
@@ -22,16 +22,16 @@ says >>= next = ThenNext says next
 abbrev pub Yields : {F X : Type 0} → X → AnswerRule F X
 Yields x answer = answer ≡ Ok x
 
--- the rule that each value with this property is right; if no value has it, this fault is right
+-- the rule that a value is right if it has this property, and that this fault is right if no value has the property
 abbrev pub Finds : {F X : Type 0} → (X → Type 0) → F → AnswerRule F X
 Finds Holds due (Ok x) = Holds x
 Finds {X} Holds due (Err fault) = ((x : X) → ¬ (Holds x)) × (fault ≡ due)
 
--- the rule that success is right if this statement holds, and that otherwise this fault is right
+-- the rule that success is right if this statement holds, and that this fault is right if it doesn't
 abbrev pub Demands : {F : Type 0} → Type 0 → F → AnswerRule F (Unit {0})
 Demands Holds due = Finds (λ _. Holds) due
 
--- the rule that each value with this property is right, and that no fault is right
+-- the rule that a value is right if it has this property, and that no fault is right
 abbrev pub FindsAlways : {F X : Type 0} → (X → Type 0) → AnswerRule F X
 FindsAlways Holds (Ok x) = Holds x
 FindsAlways Holds (Err fault) = ⊥

@@ -64,7 +64,7 @@ abbrev pub ListsKeepMachines : Type 0
 ListsKeepMachines = (m n : Parts) (xs : List Setting) → IsMachine m → All IsSettingInRange xs → Leads m xs n
     → IsMachine n
 
--- A machine refuses a setting or carries it out, and never both.
+-- A machine either refuses a setting or carries it out.
 abbrev pub RefusesOrCarries : Type 0
 RefusesOrCarries =
     (m : Parts) (x : Setting)
@@ -82,13 +82,14 @@ LeadsToOne = (m n o : Parts) (xs : List Setting) → Leads m xs n → Leads m xs
 abbrev pub SettingsAreTold : Type 0
 SettingsAreTold = (m n : Parts) (x : Setting) → IsMachine m → Carries m x n → ChangesTo m x n
 
--- If machine `m` allows a setting, and `n` differs from `m` by the setting's change alone, the setting makes `n`.
+-- If machine `m` allows a setting, and `n` differs from `m` by the setting's change alone, the setting turns `m` into
+-- `n`.
 abbrev pub TellingIsMaking : Type 0
 TellingIsMaking =
     (m n : Parts) (x : Setting) → IsMachine m → IsMachine n → IsSettingInRange x → AllowsSetting m x
     → ChangesTo m x n → Carries m x n
 
--- A machine has no reason to refuse a setting exactly if `AllowsSetting` holds.
+-- A machine carries a setting out exactly if `AllowsSetting` holds.
 abbrev pub RefusalsAreTold : Type 0
 RefusalsAreTold = (m : Parts) (x : Setting) → IsMachine m → (why_refused m x ≡ None) ↔ AllowsSetting m x
 
@@ -140,16 +141,16 @@ OneListFault =
 abbrev pub EngineIsTheMachine : Type 0
 EngineIsTheMachine = (m : Parts) (text : List ℕ) → cipher (physical_key m) text ≡ physical_cipher m text
 
--- If an engine with a machine's key, and the machine, are turned to the same letters, both encipher alike.
+-- An engine with a machine's key enciphers as the machine does, also after both are turned to the same letters.
 abbrev pub TurnedEngineIsTheTurnedMachine : Type 0
 TurnedEngineIsTheTurnedMachine = (m n : Parts) (window text : List ℕ) → IsTurnedTo m window n
     → cipher (key_with_window (physical_key m) window) text ≡ physical_cipher n text
 
--- A machine that reads as the day is ready.
+-- If a machine is set as the day says and shows the day's letters, it is ready to encipher.
 abbrev pub ReadingIsReady : Type 0
 ReadingIsReady = (m : Parts) (s : Day) → IsMachine m → IsLegalDay s → ReadsAs m s → IsReady m
 
--- A machine that reads as the day enciphers as the day asks.
+-- If a machine is set as the day says and shows the day's letters, it enciphers as the day asks.
 abbrev pub ReadingIsItsCipher : Type 0
 ReadingIsItsCipher =
     (m : Parts) (s : Day) (text : List ℕ) → IsMachine m → IsLegalDay s → ReadsAs m s
@@ -182,7 +183,7 @@ EquallySetDecipher =
     (m n : Parts) (s : Day) (text : List ℕ) → IsMachine m → IsMachine n → IsLegalDay s → OnKey m s → OnKey n s
     → window_of m ≡ window_of n → All (λ letter. letter < 26) text → physical_cipher n (physical_cipher m text) ≡ text
 
--- An engine on the day's key deciphers its own ciphertext, if it begins with the same letters again.
+-- An engine on the day's key deciphers its own ciphertext, if it is turned back to the letters with which it began.
 abbrev pub TheDayDeciphersItself : Type 0
 TheDayDeciphersItself = (s : Day) (window text : List ℕ) → IsLegalDay s → All (λ letter. letter < 26) text
     → cipher (key_with_window (sheet_key s) window) (cipher (key_with_window (sheet_key s) window) text) ≡ text
@@ -222,11 +223,11 @@ abbrev pub ColumnsAreThePairs : Type 0
 ColumnsAreThePairs =
     (pairs : List (ℕ × ℕ)) (place : ℕ) → slice_index_or (columns_of pairs) place None ≡ slice_get pairs place
 
--- Giving a cable a column costs at most 4 settings.
+-- It takes at most 4 settings to give a cable the letters of a column.
 abbrev pub CablesCostFour : Type 0
 CablesCostFour = (cable : Option ℕ × Option ℕ) (column : Option (ℕ × ℕ)) → cable_cost cable column ≤ 4
 
--- The cost tables are square: each list in a table has as many costs as the table has lists.
+-- The cost tables are square: 13 by 13 for cables and columns, 27 by 27 for bars and rows.
 abbrev pub CostTablesAreSquare : Type 0
 CostTablesAreSquare =
     (m : Parts) (s : Day) → IsMachine m → IsLegalDay s

@@ -66,7 +66,7 @@ pub record BeginsWithSettingLine (bytes : List ℕ) (x : Setting) (rest : List �
   pub line : bytes ≡ setting_line x ++ 10 ∷ rest
   pub in_range : IsSettingInRange x
 
--- The bytes don't begin with the line of a setting and an LF.
+-- The bytes don't begin with a setting's line and its LF.
 abbrev pub BeginsWithNoSetting : List ℕ → Type 0
 BeginsWithNoSetting bytes = (x : Setting) (rest : List ℕ) → IsSettingInRange x → bytes ≢ setting_line x ++ 10 ∷ rest
 

@@ -11,14 +11,14 @@ use Rattle.kd_pins.specs.PinWheels.{pins_of}
 use Rattle.kd_drum.specs.Converter.{is_acting_after}
 use Rattle.kd_state.specs.declared.machine.pin_parts.PinParts.{PinParts}
 
--- how many bars are moved, by one lug or by both, after this many letters: each bar with a lug at the place of a wheel
--- whose acting pin is effective
+-- how many bars are moved after this many letters; a bar is moved if one or both of its lugs are at the place of a
+-- wheel with an effective acting pin
 abbrev pub bars_moved : PinParts → ℕ → ℕ
 bars_moved m count =
     let acts = λ (place : Place). is_acting_after (pins_of m.pins) m.letters count (place_number place) in
     count_by (λ bar. acts bar.0 || acts bar.1) m.bars
 
--- The ciphertext of a text: each letter is mirrored in the alphabet (A becomes Z), and then moved on in the
--- alphabet by the number of bars that are moved.
+-- The ciphertext of a text: each letter is mirrored in the alphabet (A becomes Z), and then moved on by the number of
+-- moved bars, with A after Z.
 abbrev pub lugs_cipher : PinParts → List ℕ → List ℕ
 lugs_cipher m text = map (λ numbered. (25 + bars_moved m numbered.0 - numbered.1) % 26) (enumerate_from 0 text)

@@ -1,4 +1,4 @@
--- When a machine is on a day's key, and when it reads as the day.
+-- When a machine is on a day's key (set as the day says), and when it also shows the day's letters.
 -- Code: `on_key` looks for a pair for each cable, and for a cable for each pair. It sorts readings and rows, and
 -- compares them.
 -- Test: kd_trials/src/state/days.rt

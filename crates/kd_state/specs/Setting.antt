@@ -93,7 +93,7 @@ cable_without letter cable = if option_map_or (nat_eq letter) cable.0 false then
 abbrev pub cable_with : ℕ → Option ℕ × Option ℕ → Option ℕ × Option ℕ
 cable_with letter cable = cable_in_order (option_or cable.0 cable.1) (Some letter)
 
--- what a slot holds once this wheel is taken out of the machine: nothing if the slot held this wheel
+-- what a slot holds after this wheel is taken out: nothing if the slot held this wheel, else what it held before
 abbrev pub seat_without : Wheel → Option Wheel → Option Wheel
 seat_without wheel seated = if option_map_or (same_wheel wheel) seated false then None else seated
 

@@ -33,7 +33,7 @@ pub record PinDay : Type 0 where
   pub window : List ℕ
   pub list : List ℕ
 
--- a rotor machine's day, made of its values; below it, a Converter's day, made of its values
+-- the day of a rotor machine with these values; `pin_day_of`, below, makes a Converter's day
 abbrev pub rotor_day_of : ℕ → Model → Reflector → List SheetWheel → List (ℕ × ℕ) → List (List ℕ) → RotorDay
 rotor_day_of day model reflector wheels pairs groups = record {
   day = day;
@@ -72,7 +72,7 @@ pub record HasWheelLetters (wheel : SheetWheel) : Type 0 where
   pub ring : wheel.ring < 26
   pub letter : wheel.letter < 26
 
--- what each slot holds if the slots hold these wheels: the wheel alone, without its ring and its letter
+-- the contents of slots that hold these wheels: only the wheels, without their rings and letters
 abbrev pub seats_of_wheels : List SheetWheel → List (Option Wheel)
 seats_of_wheels wheels = map (λ w. Some w.wheel) wheels
 

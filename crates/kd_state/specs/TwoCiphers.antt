@@ -1,4 +1,4 @@
--- The key of an engine, for either kind of machine, and the cipher that the engine makes by this key.
+-- The key of an engine, for either kind of machine, and the cipher that the engine makes with this key.
 -- Code: one type, `Engine`, serves all models.
 -- Test: kd_trials/src/state/engine.rt
 use Rattle.std.specs.Prelude.{◌≡◌, ◌≢◌, ℕ, List, length, map, All, IsSome}
@@ -37,8 +37,8 @@ abbrev pub key_with_window : EngineKey → List ℕ → EngineKey
 key_with_window (OfWheels key) window = OfWheels (key_turned key window)
 key_with_window (OfDrum key) window = OfDrum (pin_key_turned key window)
 
--- A machine with this key can show these letters: there is one for each slot; or, on a Converter, one for each
--- pin wheel, and each wheel has its letter.
+-- A machine with this key can show these letters. On a rotor machine, there is one letter for each slot. On a
+-- Converter, there is one letter for each pin wheel, and each letter is on its wheel.
 abbrev pub IsWindow : EngineKey → List ℕ → Type 0
 IsWindow (OfWheels key) window = AreLetters (length key.wheels) window
 IsWindow (OfDrum key) window = AreOnWheels window
@@ -62,8 +62,9 @@ window_of (Pin m) = m.letters
 -- ---- The cipher of a machine, by its slots, cables and lugs, and of a day, by its wheels, pairs and rows.
 -- Source: the published accounts of the current's path; War Department TM 11-380
 
--- a machine's key as it stands: by the wheels in its slots with their rings and window letters, its reflector, and its
--- cables with two letters; or by its pins, shown letters and bars
+-- The key to which a machine is set. A rotor machine's key has the wheels in the slots with their rings and window
+-- letters, the reflector, and the cables with two letters. A Converter's key has the pins, the shown letters and the
+-- bars' readings.
 abbrev pub physical_key : Parts → EngineKey
 physical_key (Rotor m) = OfWheels (record {
   wheels = seated_wheels m;
@@ -90,7 +91,7 @@ abbrev pub physical_cipher : Parts → List ℕ → List ℕ
 physical_cipher (Rotor m) text = cipher (physical_key (Rotor m)) text
 physical_cipher (Pin m) text = lugs_cipher m text
 
--- the ciphertext that the day asks for when this text is enciphered
+-- the ciphertext that an engine makes of a text with the key that the day asks for
 abbrev pub sheet_cipher : Day → List ℕ → List ℕ
 sheet_cipher s = cipher (sheet_key s)
 

@@ -25,7 +25,7 @@ pub record IsWord (word : List ℕ) : Type 0 where
 abbrev pub letter_text : ℕ → List ℕ
 letter_text letter = (letter + 65) ∷ []
 
--- `part` is the text before its first `byte`, and `rest` the text after it.
+-- `part` is the text before its first `byte`, and `rest` is the text after this byte.
 pub record IsFirstPart (byte : ℕ) (text part rest : List ℕ) : Type 0 where
   pub joined : text ≡ part ++ byte ∷ rest
   pub without : IsWithout byte part

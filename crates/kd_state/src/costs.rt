@@ -1,4 +1,4 @@
-//! Costs: how many settings it takes to give a cable a pair of the day, or a bar a row of the day.
+//! Costs: how many settings it takes to put a day's pair into a cable, or to make a bar read as a day's row.
 
 pub(crate) mod tables;
 
@@ -49,7 +49,7 @@ pub fn bar_cost(standing: Standing, row: Reading) -> u8
 
 /// The standing that reads as `row` and is reached from `standing` by moving the fewest lugs.
 ///
-/// If two standings need equally many moves, it is the first in the order of standings.
+/// If two standings need equally many moves, the result is the first of them in the order of standings.
 #[tactic(auto, using(crate::proofs::Prelude::nat_tests))]
 pub fn nearest_standing(standing: Standing, row: Reading) -> Standing
     ensures nearest { costs.nearest_standing standing row ≡ Some result }

@@ -14,9 +14,9 @@ ghost use Rattle.kd_state.specs.Laws.{EquallySetDecipher, TheDayDeciphersItself,
 ghost use Rattle.kd_state.specs.Laws.{TestsTellLetters, ThirteenColumns, ColumnsAreThePairs, CablesCostFour};
 ghost use Rattle.kd_state.specs.Laws.{CostTablesAreSquare};
 
-/// Joining words with single spaces and splitting a line at its spaces undo each other.
+/// Words that are joined with single spaces come out again if the line is split at its spaces.
 ///
-/// A line of words has no LF.
+/// The parts of a split line, joined with single spaces, make this line again. A line of words has no LF.
 #[tactic(auto, using(crate::proofs::Lines::lines_tell_words, crate::proofs::Lines::lines_split_into_words, crate::proofs::Lines::parts_make_lines, crate::proofs::Lines::words_make_one_line))]
 pub fn lines_tell_words()
     ensures told { LinesTellWords }
@@ -100,8 +100,8 @@ pub fn readers_tell_what_settings_change()
 
 /// A rotor machine refuses wheels, reflectors and rings just as the tables of its model say.
 ///
-/// The machine refuses a wheel that isn't allowed in the slot, a reflector that the model lacks, and the ring of
-/// a wheel that isn't in the box. It refuses no others.
+/// The machine refuses a wheel that isn't allowed in the slot, and a reflector that the model lacks. It refuses to set
+/// the ring of a wheel that isn't in the box. It refuses no other wheels, reflectors or rings.
 pub fn tables_say_what_is_refused()
     ensures seats { SeatsAreByTheTables }
     ensures reflectors { ReflectorsAreByTheTables }
@@ -115,7 +115,7 @@ pub fn engines_encipher_as_their_machines()
     ensures turned { TurnedEngineIsTheTurnedMachine }
 {}
 
-/// A machine that reads as the day is ready, and enciphers as the day asks.
+/// If a machine is set as the day says and shows the day's letters, it is ready, and enciphers as the day asks.
 #[tactic(auto, using(crate::proofs::Keys::reading_ready, crate::proofs::Keys::reading_cipher))]
 pub fn reading_as_the_day_is_its_cipher()
     ensures ready { ReadingIsReady }
@@ -129,9 +129,10 @@ pub fn being_on_the_key_is_its_cipher()
     ensures cipher { OnKeyIsItsCipher }
 {}
 
-/// A machine that is turned to other letters keeps the rest of its key.
+/// If a machine is turned to other letters, the rest of its key stays the same.
 ///
-/// A machine on the day's key stays on it when turned, and enciphers as the day asks from the new letters on.
+/// A machine on the day's key stays on the key when it is turned. From the new letters on, it enciphers as the day
+/// asks.
 #[tactic(auto, using(crate::proofs::Keys::turned_key, crate::proofs::Keys::turned_on_key, crate::proofs::Keys::turned_cipher))]
 pub fn turning_keeps_the_key()
     ensures key { TurnedHasItsKey }
@@ -149,7 +150,8 @@ pub fn ready_machines_can_be_turned()
 
 /// If two machines on the day's key show the same letters, each deciphers what the other enciphers.
 ///
-/// An engine on the day's key also deciphers its own ciphertext, if it begins with the same letters again.
+/// An engine on the day's key also deciphers its own ciphertext, if it is turned back to the letters with which it
+/// began.
 pub fn equally_set_machines_decipher()
     ensures another { EquallySetDecipher }
     ensures itself { TheDayDeciphersItself }
@@ -162,7 +164,7 @@ pub fn pieces_are_enciphered_in_turn()
     ensures after { KeyInTurn }
 {}
 
-/// The cost tables are square, and giving a cable a column costs at most 4 settings.
+/// The cost tables are square, and it takes at most 4 settings to give a cable the letters of a column.
 ///
 /// A day has 13 columns: first its pairs in their order, then columns without a pair.
 #[tactic(auto, using(crate::proofs::CostTable::at_most_four, crate::proofs::CostTable::columns_are_the_pairs, crate::proofs::CostTable::cost_tables_are_square, crate::proofs::CostTable::thirteen_columns))]

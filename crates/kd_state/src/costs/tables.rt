@@ -1,4 +1,4 @@
-//! The cost tables: for each cable and each of the day's columns, and for each bar and each row.
+//! The cost tables: a cost for each cable and column of the day, or for each bar and row of the day.
 ghost use Rattle.std.specs.Prelude.{◌≡◌, ◌≤◌, None, length, map, slice_index_or};
 ghost use Rattle.kd_state.specs.Costs as costs;
 ghost use Rattle.kd_state.specs.Costs.{columns_of};
@@ -15,10 +15,10 @@ pub fn column_at(pairs: &[(Letter, Letter)], place: usize) -> Option<(Letter, Le
     pairs.get(place).copied()
 }
 
-/// The cost of giving each cable each of a day's 13 columns.
+/// The cost table of cables: the cost of each cable with each of a day's 13 columns.
 ///
-/// Entry `[i][j]` is for cable `i` and column `j`, both counted from 0. The first columns are the day's pairs;
-/// the other columns have no pair.
+/// Entry `[i][j]` is for cable `i` and column `j`, both counted from 0. The first columns are the day's pairs; the
+/// other columns have no pair.
 pub fn cable_costs(cables: &[Cable; 13], pairs: &[(Letter, Letter)]) -> [[u8; 13]; 13]
     requires { length pairs.now ≤ 13 }
     ensures { result ≡ costs.cable_costs cables.now pairs.now }
@@ -30,7 +30,7 @@ pub fn cable_costs(cables: &[Cable; 13], pairs: &[(Letter, Letter)]) -> [[u8; 13
     costs
 }
 
-/// The cost of giving one cable each of a day's 13 columns.
+/// The costs of one cable with each of a day's 13 columns.
 fn costs_of_cable(cable: &Cable, pairs: &[(Letter, Letter)]) -> [u8; 13]
     requires { length pairs.now ≤ 13 }
     ensures { result ≡ map (costs.cable_cost cable.now) (columns_of pairs.now) }
@@ -42,7 +42,7 @@ fn costs_of_cable(cable: &Cable, pairs: &[(Letter, Letter)]) -> [u8; 13]
     costs
 }
 
-/// The cost of giving each bar each of the day's rows.
+/// The cost table of bars: the cost of each bar with each of the day's rows.
 ///
 /// Entry `[i][j]` is for bar `i` and row `j`, both counted from 0.
 pub fn bar_costs(bars: &[Standing; 27], rows: &[Reading; 27]) -> [[u8; 27]; 27]
@@ -55,7 +55,7 @@ pub fn bar_costs(bars: &[Standing; 27], rows: &[Reading; 27]) -> [[u8; 27]; 27]
     costs
 }
 
-/// The cost of giving one bar each of the day's rows.
+/// The costs of one bar with each of the day's rows.
 fn costs_of_bar(bar: Standing, rows: &[Reading; 27]) -> [u8; 27]
     ensures { result ≡ map (costs.bar_cost bar) rows.now }
 {

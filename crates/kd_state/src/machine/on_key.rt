@@ -1,4 +1,4 @@
-//! Compares a machine with a day: is the machine on the day's key, and does it read as the day?
+//! Compares a machine with a day: is the machine set as the day says, and does it show the day's letters?
 ghost use Rattle.std.specs.Prelude.{◌≡◌, ◌↔◌, IsTrue, IsPermutation, Some, true, [], ◌∷◌, length, slice_get};
 ghost use Rattle.std.specs.List.{AllByRecursion};
 ghost use Rattle.std.specs.Option.{option_map_or};
@@ -92,7 +92,7 @@ fn have_rings(model: Model, rings: &PerWheel<Letter>, wheels: &[SheetWheel]) -> 
     }
 }
 
-/// Whether a machine with these `letters`, in the order of its box, shows the day's letter on each of `wheels`.
+/// Whether each of the day's `wheels` shows the day's letter. `letters` are the machine's, in the order of its box.
 fn have_letters(model: Model, letters: &PerWheel<Letter>, wheels: &[SheetWheel]) -> bool
     requires { length letters.now ≡ length (box_of model) }
     ensures { IsTrue result

@@ -120,7 +120,7 @@ impl PerSlot<SheetWheel> {
     }
 }
 
-/// What a slot with `seated` holds once `wheel` is out of the machine: nothing if `seated` is `wheel`.
+/// The contents of a slot after `wheel` is taken out: nothing if `seated`, the old contents, is `wheel`, else `seated`.
 fn seat_without(seated: Option<Wheel>, wheel: Wheel) -> Option<Wheel>
     ensures { result ≡ seat_without wheel seated }
 {

@@ -112,7 +112,7 @@ impl Machine {
     }
 }
 
-/// The letter for `wheel` in `letters`, which follow the order of the model's box. `None` if the box lacks it.
+/// The letter for `wheel` in `letters`, which are in the order of the model's box. `None` if the box lacks the wheel.
 #[tactic(auto, using(crate::proofs::Wheels::place_nowhere, crate::proofs::Prelude::slice_get_past))]
 pub(crate) fn letter_of_wheel(
     model: Model,

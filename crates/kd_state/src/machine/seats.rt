@@ -65,7 +65,7 @@ fn are_seated_once(slots: &[Option<Wheel>]) -> bool
     true
 }
 
-/// Whether `seated`, what the slot at `place` holds, is in no other slot. True if `seated` is `None`.
+/// Whether no slot but the one at `place` holds the wheel `seated`. True if `seated` is `None`.
 fn is_alone(slots: &[Option<Wheel>], place: usize, seated: Option<Wheel>) -> bool
     ensures { IsTrue result ↔ IfSome seated
         (λ wheel. (other : ℕ) → IsSeatedAt slots.now other wheel → other ≡ place) }
