@@ -22,7 +22,7 @@ pub fn tables_are_permutations()
     ensures none_fixed { ReflectorsMoveEachLetter }
 {}
 
-/// How a product of permutations, the inverse of a permutation, or a shift of the alphabet maps one letter.
+/// How products and inverses of permutations, and shifts of the alphabet, map one letter.
 pub fn permutations_by_letter()
     ensures product { ProductsByLetter }
     ensures backwards { InversesByLetter }

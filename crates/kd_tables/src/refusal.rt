@@ -12,7 +12,7 @@ pub type Text = ArrayString<64>;
 /// The refusals, in the order of their numbers.
 #[derive(Clone, Copy)]
 pub enum Refusal {
-    /// A letter comes twice in a machine's cables, or twice in the pairs of a day of the sheet.
+    /// A letter comes twice in a machine's cables, or twice in a day's pairs.
     LetterTwice,
     /// A letter isn't on its pin wheel. The program never prints this refusal.
     NotOnWheel,
@@ -26,7 +26,7 @@ pub enum Refusal {
     Device,
     /// The first line of a card isn't a card's head.
     BadHead,
-    /// A line doesn't have the form that it must have at its place.
+    /// A line is missing, or isn't what must come next, such as a setting or the line `SUM`.
     BadLine,
     /// A card has more than 192 settings.
     TooMany,
@@ -67,7 +67,7 @@ pub enum Refusal {
     DayTwice,
     /// Memory ran out.
     NoMemory,
-    /// The machine isn't set as the day says, or is of another model than the day.
+    /// The machine is of another model than the day, or isn't set as the day says, window letters apart.
     NotOnKey,
     /// A byte isn't allowed at its place, or is missing.
     BadByte,

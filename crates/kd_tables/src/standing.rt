@@ -30,7 +30,7 @@ impl Model for Standing {
     ghost inverse = { λ places. record { left = places.0; right = places.1 } };
 }
 
-/// By default, both lugs are as far to the left as they go.
+/// By default, the lugs are at `1` and `0L`, the two leftmost places of a bar.
 impl Default for Standing {
     ghost use Rattle.std.specs.Prelude.{◌≡◌};
     ghost use Rattle.kd_tables.specs.declared.place.Place.TheVariants.{One, ZeroLeft};
