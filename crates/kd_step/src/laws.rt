@@ -1,4 +1,4 @@
-//! Laws that follow from the definition of a step alone.
+//! Laws of steps: they follow from the definition of a step, whatever the code does.
 ghost use Rattle.kd_step.specs.Stepper.{ChainsEndInWindowAfter, SlowWheelsMoveTogether};
 
 /// From each window, `n` steps lead to exactly one window: the one that `window_after` returns.
