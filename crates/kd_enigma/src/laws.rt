@@ -1,4 +1,4 @@
-//! Laws that follow from the definition of the Enigma's cipher alone.
+//! Laws of the Enigma's cipher: they follow from its definition, whatever the code does.
 ghost use Rattle.std.specs.Prelude.{[]};
 ghost use Rattle.kd_tables.specs.Permutation.{exchange};
 ghost use Rattle.kd_enigma.specs.Cipher.{IsPlugboard};
