@@ -1,4 +1,4 @@
-//! Laws that follow from the definition of the Converter's cipher alone.
+//! Laws of the Converter's cipher: they follow from its definition, whatever the code does.
 ghost use Rattle.kd_drum.specs.Laws.{ConverterTwiceGivesBack, ConverterCipherInTurn, ConverterKeyInTurn};
 
 /// Enciphering twice with the same key gives the text back.
