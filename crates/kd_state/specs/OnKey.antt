@@ -36,7 +36,7 @@ pub record AreThePairs (cables : List (Option ℕ × Option ℕ)) (pairs : List 
   pub pair : All (IsCablePaired pairs) cables
   pub cable : All (IsPairJoined cables) pairs
 
--- Each slot has the day's wheel with the day's ring, and the model, the reflector and the cables are the day's.
+-- Each slot has the day's wheel with the day's ring. The model, the reflector and the cables are the day's.
 pub record IsRotorOnKey (m : RotorParts) (s : RotorDay) : Type 0 where
   pub model : m.model ≡ s.model
   pub slots : m.slots ≡ seats_of_wheels s.wheels

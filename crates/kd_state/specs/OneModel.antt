@@ -1,4 +1,4 @@
--- A machine and a day of one model, as one value.
+-- A machine and a day of the same model, as one value.
 -- Test: kd_trials/src/state/days.rt
 use Rattle.std.specs.Prelude.{◌≡◌}
 use Rattle.kd_state.specs.declared.machine.parts.Parts.{Parts}
