@@ -28,7 +28,7 @@ cable_letters cable = option_to_list cable.0 ++ option_to_list cable.1
 abbrev pub letters_in_cables : List (Option ℕ × Option ℕ) → List ℕ
 letters_in_cables cables = flat_map cable_letters cables
 
--- The slot at `place`, counted from 0 from the left, holds the wheel.
+-- The slot at `place` (0 is the left slot) holds the wheel.
 abbrev pub IsSeatedAt : List (Option Wheel) → ℕ → Wheel → Type 0
 IsSeatedAt slots place wheel = slice_get slots place ≡ Some (Some wheel)
 

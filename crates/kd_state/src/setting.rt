@@ -11,7 +11,7 @@ use kd_tables::{Letter, Lug, Place, Reflector, Wheel};
 
 /// One setting that an operator makes at a machine.
 ///
-/// Slots are counted from 1 from the left; cables, pin wheels and bars from 1.
+/// Slots, cables, pin wheels and bars are counted from 1. Slot 1 is the left slot.
 #[derive(Clone, Copy)]
 pub enum Setting {
     /// Takes the letter out of the cable.

@@ -126,14 +126,14 @@ impl SheetDay {
         }
     }
 
-    /// The wheel for slot `slot`, counted from 1 from the left. `None` if the day's model has no such slot.
+    /// The wheel for slot `slot` (1 is the left slot). `None` if the day's model has no such slot.
     pub fn slot(&self, slot: u8) -> Option<Wheel>
         ensures { result ≡ option_map (λ seated. seated.wheel) (day_wheel self.now slot) }
     {
         Some(self.seated(slot)?.wheel)
     }
 
-    /// The ring of the wheel for slot `slot`, counted from 1 from the left; ring 01 is A.
+    /// The ring of the wheel for slot `slot` (1 is the left slot); ring 01 is A.
     ///
     /// `None` if the day's model has no such slot.
     pub fn ring(&self, slot: u8) -> Option<Letter>
@@ -144,7 +144,7 @@ impl SheetDay {
 
     /// The day's letter for the window of slot `slot`, or for pin wheel `slot`.
     ///
-    /// Slots are counted from 1 from the left, and pin wheels from 1. `None` if there is no such slot or wheel.
+    /// Slots and pin wheels are counted from 1; slot 1 is the left slot. `None` if there is no such slot or wheel.
     pub fn window(&self, slot: u8) -> Option<Letter>
         ensures { result ≡ day_window_letter self.now slot }
     {

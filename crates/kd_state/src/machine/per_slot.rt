@@ -57,7 +57,7 @@ impl<T: Copy> PerSlot<T> {
         }
     }
 
-    /// Sets the value for the slot at `place`, counted from 0 from the left.
+    /// Sets the value for the slot at `place` (0 is the left slot).
     pub fn set(&mut self, place: usize, value: T)
         requires { place < length self.old }
         ensures { self.new ≡ slice_set self.old place value }

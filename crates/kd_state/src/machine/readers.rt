@@ -25,7 +25,7 @@ impl Machine {
         }
     }
 
-    /// The wheel in slot `slot`, counted from 1 from the left. `Some(None)` if the slot is empty.
+    /// The wheel in slot `slot` (1 is the left slot). `Some(None)` if the slot is empty.
     ///
     /// `None` if the machine lacks the slot.
     pub fn slot(&self, slot: u8) -> Option<Option<Wheel>>

@@ -43,7 +43,7 @@ fn are_allowed(model: Model, slots: &[Option<Wheel>]) -> bool
     true
 }
 
-/// Whether slot `slot`, counted from 1 from the left, may hold `seated`. A slot may always be empty.
+/// Whether slot `slot` (1 is the left slot) may hold `seated`. A slot may always be empty.
 fn may_stand(model: Model, slot: u8, seated: Option<Wheel>) -> bool
     ensures { IsTrue result ↔ IfSome seated (IsAllowed model slot) }
 {
