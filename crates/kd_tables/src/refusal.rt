@@ -60,8 +60,7 @@ pub enum Refusal {
     WheelTwice,
     /// A wheel is in a slot in which the model doesn't allow this wheel.
     WheelNotAllowed,
-    /// An item of a file's `bars` isn't a standing such as `1-0R`, or an item of its `rows` isn't a reading such as
-    /// `0-1`.
+    /// An item of `bars` in a file isn't a standing such as `1-0R`, or an item of `rows` isn't a reading such as `0-1`.
     BadRow,
     /// A sheet has two entries for one day.
     DayTwice,
