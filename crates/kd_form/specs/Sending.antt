@@ -70,8 +70,8 @@ pub record IsFirstKeysFault (s : Day) (keys : List Keys) (fault : FormFault) : T
   pub suited : All (KeysSuitDay s) before
   pub is : IsKeysFault s (length before + 1) unsuited fault
 
--- The order has a whole head, its keys suit the day, and each byte of its text is allowed. So there is no
--- `IsOrderFaultForGood`.
+-- The order has a complete head, its keys suit the day, and each byte of its text is allowed. So only an
+-- `IsOrderFaultAtEnd` is possible.
 pub record IsSendable (s : Day) (order : List ℕ) (keys : List Keys) (head text : List ℕ) : Type 0 where
   pub is_order : IsOrder s order keys head text
   pub suited : All (KeysSuitDay s) keys
