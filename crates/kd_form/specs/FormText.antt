@@ -25,7 +25,7 @@ pub record PartStart : Type 0 where
 abbrev pub first_part_start : PartStart
 first_part_start = record { number = 1; expected = None; bytes_before = 0 }
 
--- the start of the next part: `part` begins at `p`, and its heading says that there are `count` parts
+-- the start of the part after `part`, if `part` begins at `p`, and its heading says that there are `count` parts
 abbrev pub next_part_start : PartStart → ℕ → List ℕ → PartStart
 next_part_start p count part = record
     { number = p.number + 1; expected = Some count; bytes_before = p.bytes_before + length part }

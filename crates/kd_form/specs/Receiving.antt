@@ -36,7 +36,7 @@ pub record IsPartRead (s : Day) (number parts : ℕ) (part text : List ℕ) : Ty
   pub allowed : All (λ b. IsTrue (is_text_byte b)) body
   pub read : IsBodyAnswer s number heading (letters_from None body) (Ok text)
 
--- `parts` is the number of parts in the earlier headings. If there is no earlier heading, `parts` may be any number.
+-- `parts` is the number of parts that the earlier headings say. Without an earlier heading, it may be any number.
 abbrev pub IsExpectedCount : Option ℕ → ℕ → Type 0
 IsExpectedCount None parts = Unit {0}
 IsExpectedCount (Some first) parts = first ≡ parts

@@ -151,6 +151,6 @@ IsWriteMessageAnswer m bytes sink (Ok _) = (text : List ℕ) × m.becomes bytes 
 IsWriteMessageAnswer m bytes sink (Err (Refused fault)) = m.refused bytes fault
 IsWriteMessageAnswer m bytes sink (Err Device) = Unit {0}
 
--- The message becomes a text.
+-- The message has a result.
 abbrev pub HasText : Message → List ℕ → Type 0
 HasText m bytes = (text : List ℕ) × m.becomes bytes text

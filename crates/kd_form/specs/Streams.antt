@@ -24,7 +24,7 @@ pub record IsOpen (m : Message) (bytes text : List ℕ) : Type 0 where
   pub unrefused : (fault : FormFault) → ¬ (m.stands bytes fault)
   pub written : m.before None bytes text
 
--- The bytes are the whole message. It becomes `text`; or it has a fault, and `text` is written before the fault.
+-- The bytes are the whole message. Its result is `text`; or it has a fault, and `text` is written before the fault.
 abbrev pub IsMessageAnswer : Message → List ℕ → List ℕ → Result (Unit {0}) FormFault → Type 0
 IsMessageAnswer m bytes text answer =
     MatchResult answer (λ _. m.becomes bytes text) (λ fault. m.refused bytes fault × m.before (Some fault) bytes text)
