@@ -15,8 +15,8 @@ use Rattle.kd_form.specs.Sending.{space_letter, text_letters}
 use Rattle.kd_form.specs.FormParts.{BeginsHeading, parts_of}
 use Rattle.kd_form.specs.Receiving.{IsPartRead, IsExpectedCount, IsEarlyFault, IsPartFault}
 
--- How a part begins: its number; the number of all parts, if an earlier heading gave it; and how many bytes of the form
--- come before it.
+-- How a part begins. `number`: the part's number. `expected`: the number of all parts, if an earlier heading gave it.
+-- `bytes_before`: how many bytes of the form come before the part.
 pub record PartStart : Type 0 where
   pub number : ℕ
   pub expected : Option ℕ

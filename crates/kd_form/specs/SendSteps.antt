@@ -53,7 +53,7 @@ pub record AreLettersTaken (s : Day) (keys : List Keys) (w : PartWriter) (letter
   pub made : ArePartTextsMade s 1 (length keys) (take w.written keys)
       (pieces (part_size s) (take (part_size s * w.written) letters)) sent
 
--- Why a text with the letters `letters` can't be sent: there are none, or they need more or fewer parts than the
+-- Why a text with the letters `letters` can't be sent. Either there are none, or they need more or fewer parts than the
 -- order has lines of keys.
 abbrev pub IsTextEndFault : Day → List Keys → List ℕ → FormFault → Type 0
 IsTextEndFault s keys letters fault =
