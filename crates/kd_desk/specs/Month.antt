@@ -47,9 +47,9 @@ AreWrittenInTurn file sheet (number ∷ numbers) (papers ∷ more) =
     AreWritten file sheet number papers × AreWrittenInTurn papers.file sheet numbers more
 AreWrittenInTurn file sheet numbers papers = ⊥
 
--- The card's settings lead from the machine of `file` to the machine of the next file, which is set as day `number`
--- says and enciphers as the day's own machine. The card's prices prove that no fewer settings lead to the day, and
--- spare cables stay free.
+-- The card's settings lead from the machine of `file` to the machine of the next file. This machine is set as day
+-- `number` says, and enciphers as the day's own machine does. The card's prices prove that no fewer settings lead to
+-- the day, and spare cables stay free.
 pub record SetTheMachine (file sheet : List ℕ) (number : ℕ) (papers : Papers) : Type 0 where
   pub m : Parts
   pub of_file : machine_of file ≡ Ok m
