@@ -1,5 +1,5 @@
--- How a machine file gives each bar's standing (the places of its two lugs), and a key sheet gives each bar's reading
--- (the wheels' numbers at these places).
+-- The standings of bars in a machine file (the places of their lugs), and the readings of bars in a key sheet (the
+-- wheels' numbers at these places).
 -- Test: kd_trials/src/sheet/files.rt
 use Rattle.std.specs.Prelude.{ℕ, nat_eq, ◌+◌, ◌-◌, ◌==◌, ◌&&◌, ◌||◌, nat_le, Bool, not, List, [], ◌∷◌, length, Option}
 use Rattle.std.specs.Prelude.{Some, None, Result, ok_or, if◌then◌else◌}

@@ -1,5 +1,5 @@
--- How a key sheet is read, key by key in the order of testing: the result is the days that it describes, or the first
--- fault.
+-- How a key sheet is read, key by key in the order of testing. The result is the days that the sheet describes, or the
+-- first fault.
 -- Test: kd_trials/src/sheet/files.rt, kd_trials/src/sheet/faults.rt
 use Rattle.std.specs.Prelude.{ℕ, nat_le, ◌==◌, not, List, [], ◌∷◌, Option, Some, Result, Ok, ok_or}
 use Rattle.std.specs.List.{list_any}
