@@ -23,7 +23,7 @@ command_shape name words = record (new_shape name) {
   rules = map new_rule words;
 }
 
--- a grammar whose only command is `shape`, without subcommands
+-- a grammar whose only command is `shape`; this command has no subcommands
 abbrev pub app_without_subcommands : Shape → App
 app_without_subcommands shape = record { top = shape; subs = [] }
 
@@ -45,7 +45,7 @@ pub record IsMadeOf (grammar : Grammar) (name : List ℕ) (words : List (Bor (Li
 abbrev pub day_words : List (List ℕ)
 day_words = codes "MACHINE" ∷ codes "SHEET" ∷ codes "DAY" ∷ []
 
--- the name of the command that sends or receives; the next definition is the name of its argument for the message
+-- the name of the command, `send` or `receive`; the next definition is the name of its last argument, ORDER or FORM
 abbrev pub direction_name : Direction → List ℕ
 direction_name Send = codes "send"
 direction_name Receive = codes "receive"
@@ -164,13 +164,13 @@ action_name actions.Type = codes "type"
 action_name (actions.Apply list) = codes "apply"
 action_name (actions.OnDay sheet day task) = task_name task
 
--- The arguments, with their values in `rows`, name the sheet `sheet` and the day `day`, in decimal.
+-- Among the arguments in `rows`, SHEET has the value `sheet`, and DAY has the value `day`, in decimal.
 pub record HaveSheetAndDay (rows : List Row) (sheet : List ℕ) (day : ℕ) : Type 0 where
   pub sheet_word : first_of (codes "SHEET") rows ≡ Some sheet
   pub day_word : first_of (codes "DAY") rows ≡ Some (decimal day)
   pub of_month : IsDayNumber day
 
--- The arguments, with their values in `rows`, name the task's own file, if the task has one.
+-- The arguments in `rows` give the file of the task itself, such as CARD for `check`, if the task has one.
 abbrev pub HasTaskFile : List Row → NamedTask → Type 0
 HasTaskFile rows tasks.Card = Unit {0}
 HasTaskFile rows (tasks.Check card) = first_of (codes "CARD") rows ≡ Some card

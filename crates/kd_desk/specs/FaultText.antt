@@ -1,4 +1,4 @@
--- The text of each refusal of the desk, which is the text of a lower crate's fault or of the desk's own.
+-- The text of each `DeskFault`: a text of its own, or the text of a lower crate's fault.
 -- Test: says_why_it_refuses
 use Rattle.std.specs.Prelude.{ℕ, List}
 use Rattle.kd_tables.specs.declared.refusal.Refusal.TheVariants as refusals

@@ -1,5 +1,5 @@
--- How many cables a month needs: if no day has more than `number` pairs, and a machine uses only its first `number`
--- cables, the machine needs no others.
+-- If a machine uses only its first `number` cables, and no day of a month has more than `number` pairs, no other cable
+-- is needed.
 use Rattle.std.specs.Prelude.{◌≡◌, ℕ, List, Option, Some, Ok, All}
 use Rattle.kd_state.specs.declared.machine.parts.Parts.{Parts}
 use Rattle.kd_state.specs.declared.setting.Setting.{Setting}
@@ -31,9 +31,8 @@ pub record KeepsToFirst (number : ℕ) (papers : Papers) : Type 0 where
   pub card : CardNamesNoneAbove number papers.card
   pub file : FileUsesNoneAbove number papers.file
 
--- If the first machine file uses only the first `number` cables, and each day has at most `number` pairs, all cards
--- and files of the month use only these cables. So whoever owns ten cables, numbered 1 to 10, never needs an
--- eleventh cable.
+-- If the first machine file uses only the first `number` cables, and each day has at most `number` pairs, the whole
+-- month uses only these cables. So with at most ten pairs a day, cables 1 to 10 are enough.
 abbrev pub FewCablesServeAMonth : Type 0
 FewCablesServeAMonth =
     (number : ℕ) (file sheet days : List ℕ) (papers : List Papers) → AreWrittenInTurn file sheet days papers

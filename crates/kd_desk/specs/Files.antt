@@ -1,4 +1,4 @@
--- What is known of a file's bytes: of a file that is read whole, and of an opened file, which is streamed.
+-- What is known of the bytes of a file, which is either read whole, or opened and then streamed.
 -- Code: `read_whole` reads a file chunk by chunk, into a vector that grows.
 -- Test: reads_to_the_limit, a_file_that_is_not_there_is_a_failed_device, stops_where_an_order_is_too_long
 use Rattle.std.specs.Prelude.{◌≡◌, ◌⊎◌, ℕ, ◌+◌, ◌≤◌, nat_le, Bool, true, false, IsTrue, List, [], ◌∷◌, ◌++◌, map}
@@ -36,15 +36,15 @@ bytes_in_files files name = option_map (λ file. file.1.now) (find (λ file. byt
 abbrev pub AgreesOrNoMemory : {X : Type 0} → Result X FileFault → Result X FileFault → Type 0
 AgreesOrNoMemory meant answer = (answer ≡ meant) ⊎ (answer ≡ Err NoMemory)
 
--- `answer` is `meant`, once `known` is applied to the opened file in `answer`.
+-- `answer`, with `known` applied to its opened file, is `meant`.
 abbrev pub IsOpenAnswer : {O : Type 0} → Result KnownFile FileFault → (O → KnownFile) → Result O FileFault → Type 0
 IsOpenAnswer meant known answer = result_map_both known (λ fault. fault) answer ≡ meant
 
 abbrev pub IsReadAnswer : {X Y : Type 0} → Result Y FileFault → (X → Y) → Result X FileFault → Type 0
 IsReadAnswer meant known answer = AgreesOrNoMemory meant (result_map_both known (λ fault. fault) answer)
 
--- What was read from a source, by the answer: all bytes that the source had; one byte more than a file may have; or
--- the bytes before a read failed or memory ran out.
+-- What was read from a source. `Ok`: all bytes that the source had. `ReadTooLong`: one byte more than a file may have.
+-- `Device`, `NoMemory`: the bytes before a read failed or memory ran out.
 abbrev pub IsReadWholeAs : Port → List ℕ → Result (List ℕ) FileFault → Type 0
 IsReadWholeAs source read (Ok bytes) = (bytes ≡ read) × (length read ≤ read_limit) × IsAtEnd source.has
     × HasNotFailed source
@@ -78,7 +78,8 @@ pub record MissesOne (names : List (List ℕ)) (old new : List AskedName) : Type
   pub names_are : names ≡ before ++ name ∷ after
   pub asked : new ≡ old ++ (map asked_and_had before ++ asked_and_missed name ∷ [])
 
--- Asked for in order: all of `names`, or the names up to the first file that couldn't be read or opened.
+-- `new` is `old` followed by the names asked for: all of `names`, or those up to the first file that couldn't be read
+-- or opened.
 abbrev pub AreAskedFor : List (List ℕ) → List AskedName → List AskedName → Bool → Type 0
 AreAskedFor names old new true = new ≡ old ++ map asked_and_had names
 AreAskedFor names old new false = MissesOne names old new

@@ -1,5 +1,4 @@
--- The laws of bytes that are read as settings: bytes give at most one list of settings or have at most one fault,
--- and never both.
+-- The laws of reading bytes as settings: no bytes give two lists of settings, two faults, or a list and a fault.
 use Rattle.std.specs.Prelude.{◌≡◌, ◌≢◌, ◌≤◌, ℕ, List, Option, Ok}
 use Rattle.kd_tables.specs.declared.model.Model.TheVariants.{M209}
 use Rattle.kd_state.specs.declared.machine.parts.Parts.{Parts}
@@ -29,7 +28,7 @@ SettingsHaveOneFault =
     (bytes : List ℕ) (fault other : DeskFault) → IsSettingsFault bytes fault → IsSettingsFault bytes other
     → fault ≡ other
 
--- If settings lead from one machine to another, the machine refuses none of the settings.
+-- If settings lead from one machine to another, the first machine refuses none of the settings.
 abbrev pub LeadsOrRefuses : Type 0
 LeadsOrRefuses =
     (m n : Parts) (xs : List Setting) (line : ℕ) (why : Why) → Leads m xs n → ¬ (IsFirstIllegal m xs line why)
@@ -43,8 +42,8 @@ MonthsSetTheMachine =
     (file sheet numbers : List ℕ) (papers : List Papers) → AreWrittenInTurn file sheet numbers papers
     → SetTheMachineInTurn file sheet numbers papers
 
--- On a rotor machine, take the cards that are written for days of a sheet, one after another. No other lists that
--- reach the same days in the same order, from the same machine, have fewer settings in all.
+-- On a rotor machine, the cards written for days of a sheet, one after another, have the fewest settings in all. Other
+-- lists that start from the same machine, and reach the same days in the same order, have no fewer.
 abbrev pub MonthsAreFewest : Type 0
 MonthsAreFewest =
     (file sheet numbers : List ℕ) (papers : List Papers) (m : Parts) (month : List (Option Day)) (days : List Day)

@@ -21,12 +21,12 @@ fault_of_message message.Device = faults.Device
 fault_of_message message.ReadTooLong = faults.ReadTooLong
 fault_of_message fault = faults.Message fault
 
--- the desk's answer for the answer of the call that typed, sent or received a message
+-- the desk's answer, made from the answer of the call that typed, sent or received a message
 abbrev pub answer_to_message : Result (Unit {0}) FormFault → Result (Unit {0}) DeskFault
 answer_to_message answer = result_map_both (λ done. done) fault_of_message answer
 
--- `told`, the answer of a call that types, sends or receives, satisfies `is_so`; and `answer` is the desk's answer
--- for `told`.
+-- `told` is the answer of a call that types, sends or receives, and satisfies `is_so`. `answer` is the desk's answer
+-- made from `told`.
 pub record IsAnswered (is_so : Result (Unit {0}) FormFault → Type 0) (answer : Result (Unit {0}) DeskFault)
     : Type 0 where
   pub told : Result (Unit {0}) FormFault
@@ -46,8 +46,8 @@ abbrev pub Sends : Parts → Day → Port → Port → Result (Unit {0}) DeskFau
 Sends m s order sink answer = IsStreamedOn m s (order_message s) order sink answer
 
 -- How forms and orders agree on the day `s`. If a form is an order's form, the form's text is the text that
--- `IsPlaintextOf` says. If a form has a fault, it is the form of no order. If the fault stays whatever bytes
--- follow, no longer form that begins with this form is the form of an order either.
+-- `IsPlaintextOf` says. If a form has a fault, it is the form of no order. If it has the fault whatever bytes follow,
+-- it isn't even the beginning of an order's form.
 pub record TellOfOrders (s : Day) : Type 0 where
   pub back : (form text order given : List ℕ) → IsTextOf s form text → IsFormOf s order form
       → IsPlaintextOf s order given → text ≡ given

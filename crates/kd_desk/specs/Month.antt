@@ -47,9 +47,9 @@ AreWrittenInTurn file sheet (number ∷ numbers) (papers ∷ more) =
     AreWritten file sheet number papers × AreWrittenInTurn papers.file sheet numbers more
 AreWrittenInTurn file sheet numbers papers = ⊥
 
--- The card's settings lead from the machine of `file` to the machine of the next file, which is set as day `number`
--- says and enciphers as the day's own machine. The card's prices prove that no fewer settings lead to the day, and
--- spare cables stay free.
+-- The card's settings lead from the machine of `file` to the machine of the next file. This machine is set as day
+-- `number` says, and enciphers as the day's own machine does. The card's prices prove that no fewer settings lead to
+-- the day, and spare cables stay free.
 pub record SetTheMachine (file sheet : List ℕ) (number : ℕ) (papers : Papers) : Type 0 where
   pub m : Parts
   pub of_file : machine_of file ≡ Ok m
@@ -73,11 +73,11 @@ SetTheMachineInTurn file sheet (number ∷ numbers) (papers ∷ more) =
     SetTheMachine file sheet number papers × SetTheMachineInTurn papers.file sheet numbers more
 SetTheMachineInTurn file sheet numbers papers = ⊥
 
--- `days` are the days of the month with the numbers `numbers`.
+-- `days` are the days of the month whose numbers are `numbers`.
 abbrev pub AreDaysOf : List (Option Day) → List ℕ → List Day → Type 0
 AreDaysOf month numbers days = AllZip (λ number s. day_of month number ≡ Some s) numbers days
 
--- For each of the papers, `cards` has the settings of the card.
+-- `cards` has the settings of each paper's card, in the order of `papers`.
 abbrev pub AreCardsOf : List Papers → List (List Setting) → Type 0
 AreCardsOf papers cards = AllZip (λ paper settings. AreSettings paper.card settings) papers cards
 
@@ -87,8 +87,8 @@ pub record HasDayOf (model : Model) (month : List (Option Day)) (number : ℕ) :
   pub of_month : day_of month number ≡ Some s
   pub of_model : day_model s ≡ model
 
--- From each machine file of `m`, a card for the day `s` and a next machine file can be written; the machine of the
--- next file is `n`.
+-- From each machine file of `m`, the desk can write a card for the day `s`, and a next machine file. `n` is the machine
+-- of this next file.
 abbrev pub HasPapers : Parts → Day → Parts → Type 0
 HasPapers m s n = (file sheet : List ℕ) (month : List (Option Day)) → machine_of file ≡ Ok m → sheet_of sheet ≡ Ok month
     → day_of month (day_number s) ≡ Some s

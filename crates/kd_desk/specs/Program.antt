@@ -100,7 +100,7 @@ DoesCommand command source sink answer = DoesAction command.machine command.acti
 
 -- ---- How a command is carried out, and what is left of the file that it opened.
 
--- the opened file as a port: `file` is what is known of it before a call, and `left` what is known after the call
+-- the opened file as a port: `file` is what is known of it before a call, `left` what is known of it after the call
 abbrev pub file_port : KnownFile → KnownFile → Port
 file_port left file = record { had = file.bytes; has = left.bytes; had_failed = file.failed; has_failed = left.failed }
 
@@ -154,8 +154,8 @@ abbrev pub is_stopped_by_port : Result (Unit {0}) Stop → Bool
 is_stopped_by_port (Err (Refused fault)) = is_device (Err fault)
 is_stopped_by_port _ = false
 
--- Which file names were asked for, by the answer: none, for `Usage` or if memory ran out over the command line; the
--- names up to the first file that couldn't be read or opened, for `Unread`; otherwise all names.
+-- Which file names were asked for. `Usage`: none. `Unread`: the names up to the first file that couldn't be read or
+-- opened. Otherwise all names, or none if memory ran out while the command line was read.
 abbrev pub AsksFor : List (List ℕ) → List AskedName → Result (Unit {0}) Stop → Type 0
 AsksFor names asked (Err Usage) = asked ≡ []
 AsksFor names asked (Err (Unread fault)) = AreAskedFor names [] asked false
@@ -168,8 +168,8 @@ abbrev pub CarriesOutKnown : Option (List ℕ → Option (List ℕ)) → NamedCo
 CarriesOutKnown known command source sink answer =
     IfSome known (λ held. CarriesOut (known_command held command) source sink answer)
 
--- What holds of the program's answer to a command line: what is done if the files' bytes are known; which files are
--- asked for; when the answer is `Usage`; and what happens to the ports.
+-- What holds of the program's answer to a command line: what is done, if the files' bytes are known; which files are
+-- asked for; when it is `Usage`; what happens to the ports.
 pub record IsRun (words : List (List ℕ)) (known : Option (List ℕ → Option (List ℕ))) (asked : List AskedName)
     (source sink : Port) (Untouched : Type 0) (answer : Result (Unit {0}) Stop) : Type 0 where
   pub carried : (command : NamedCommand) → IsCommandLineOf words command

@@ -49,7 +49,7 @@ pub enum Action<F, O> {
 pub enum Task<F, O> {
     /// Prints the shortest card from the machine to the day.
     Card,
-    /// Checks whether the card's prices prove it shortest, from the machine to the day.
+    /// Checks whether the card's prices prove the card shortest, from the machine to the day.
     Check(F),
     /// Sends the order in the file, or receives the form in the file, part by part.
     Message(Direction, O),
@@ -103,7 +103,7 @@ pub fn parse_words<'a, S: AsStr>(alloc: Global, words: &'a [S]) -> Result<NamedC
     command_of(name, words).ok_or(Stop::Usage)
 }
 
-/// The command named `name`, with the file names and the day in its arguments `words`.
+/// The command named `name`; its file names and its day are the arguments in `words`.
 fn command_of<'a>(name: &str, words: &ArgMatches<'a>) -> Option<NamedCommand<'a>>
     ensures said { IfSome result (λ command.
         IsCommandOf (name.now, rows_of (found_of words.now)) (unborrowed_command command)) }
@@ -114,7 +114,7 @@ fn command_of<'a>(name: &str, words: &ArgMatches<'a>) -> Option<NamedCommand<'a>
     Some(Command { machine, action })
 }
 
-/// The action of the command named `name`, with the file names and the day in its arguments `words`.
+/// The action of the command named `name`; its file names and its day are the arguments in `words`.
 fn action_of<'a>(name: &str, words: &ArgMatches<'a>) -> Option<NamedAction<'a>>
     ensures said { IfSome result (λ action.
         IsActionOf (name.now, rows_of (found_of words.now)) (unborrowed_action action)) }

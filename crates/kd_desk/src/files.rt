@@ -24,7 +24,7 @@ pub trait Files<'n> {
     /// `None` in place of the map means that the files' bytes aren't known, as for the host's files.
     ghost known: { Self → Option (List ℕ → Option (List ℕ)) } = { λ _. None };
 
-    /// The names asked for, in order, each with whether the file could be read or opened.
+    /// The names asked for, in order. Beside each name: whether the file could be read or opened.
     ghost asked: { Self → List AskedName };
 
     /// Reads the file `name` whole.

@@ -15,22 +15,22 @@ use kd_sheet::laws::written_files_are_read_back;
 use kd_state::{Entry, Machine, Parts, SheetDay, carry_all};
 use kd_tables::MemorySink;
 
-/// Bytes give at most one list of settings or have at most one fault, and never both.
+/// No bytes give two lists of settings, two faults, or a list and a fault.
 pub fn bytes_say_settings_or_have_a_fault()
     ensures settings { TextsTellSettings }
     ensures no_fault { SettingsHaveNoFault }
     ensures one_fault { SettingsHaveOneFault }
 {}
 
-/// If settings lead from one machine to another, the machine refuses none of the settings.
+/// If settings lead from one machine to another, the first machine refuses none of the settings.
 pub fn settings_lead_or_are_refused()
     ensures { LeadsOrRefuses }
 {}
 
 /// Cards and machine files, written for one day of a sheet after another, set the machine to each day.
 ///
-/// Each card's settings lead from the machine of one file to the machine of the next file. The machine of the next
-/// file reads as the day, and enciphers as the day's own machine. No fewer settings lead to the day.
+/// Each card's settings lead from the machine of one file to the machine of the next file. The machine of the next file
+/// is set as the day says, and enciphers as the day's own machine does. No fewer settings lead to the day.
 pub fn months_set_the_machine()
     ensures { MonthsSetTheMachine }
 {}
@@ -45,8 +45,8 @@ pub fn months_are_fewest()
 
 /// If a machine uses only its first cables, and no day has more pairs, no other cable is needed.
 ///
-/// Say that a machine uses only its first ten cables, and no day of the month has more than ten pairs. Then
-/// no card of the month names another cable, and the machine never uses one.
+/// For example, a machine uses only its first ten cables, and no day of the month has more than ten pairs. Then no card
+/// of the month names another cable, and the machine never uses one.
 pub fn few_cables_serve_a_month()
     ensures { FewCablesServeAMonth }
 {}
@@ -62,7 +62,7 @@ pub fn months_can_be_written(machine: &Machine, sheet: &Sheet, numbers: &[u8])
     }
 }
 
-/// The machine to which the settings of the planned card for `day` lead from `machine`.
+/// Plans the card from `machine` to `day`, and returns the machine after the card's settings.
 fn machine_after_card(machine: &Machine, day: &SheetDay) -> Machine
     requires { day_model day.now ≡ model_of machine.now }
     ensures model { model_of result ≡ model_of machine.now }

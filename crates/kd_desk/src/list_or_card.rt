@@ -11,7 +11,7 @@ const CARD: &[u8] = b"CARD ";
 
 /// Reads `bytes` as a card if they begin with `CARD `, otherwise as a list with one setting a line.
 ///
-/// A card may be for any day, and have any prices.
+/// The card may be for any day, and have any prices.
 pub fn read_settings(bytes: &[u8]) -> Result<Settings, DeskFault>
     ensures { MatchResult result
         (λ settings. AreSettings bytes.now settings.items)

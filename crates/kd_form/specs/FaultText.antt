@@ -1,4 +1,4 @@
--- The text of each fault of a typed text, an order or a form.
+-- The text of each `FormFault`: why a typed text, an order or a form is refused.
 use Rattle.std.specs.Prelude.{decimal, ℕ, List, ◌++◌}
 use Rattle.kd_tables.specs.declared.refusal.Refusal.TheVariants as refusals
 use Rattle.kd_tables.specs.Refusals.{refusal_name, word_after_space}

@@ -37,7 +37,7 @@ abbrev pub IsLetterCount : Day → ℕ → Type 0
 IsLetterCount (OfRotors s) count = (6 ≤ count) × (count ≤ 250)
 IsLetterCount (OfPins s) count = (25 ≤ count) × (count ≤ 520) × (count % 5 ≡ 0)
 
--- The part's number `part` is from 1 to the number `parts` of all parts, and `parts` is at most 99.
+-- The part's number `part` is at least 1, and at most `parts`, the number of all parts. `parts` is at most 99.
 pub record IsFraction (part parts : ℕ) : Type 0 where
   pub first : 1 ≤ part
   pub in_order : part ≤ parts

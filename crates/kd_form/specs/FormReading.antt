@@ -19,22 +19,22 @@ use Rattle.kd_form.specs.FormText.{PartStart, PartsProperty, ReadsPartsTo, first
 
 -- ---- the last part
 
--- A heading line, which begins with `PART ` and a digit, can have `byte` at `place`, counted from 0.
+-- `byte` may be at `place`, counted from 0, in a line that begins with `PART ` and a digit.
 abbrev pub FitsHeadingAt : ℕ → ℕ → Type 0
 FitsHeadingAt place byte = (place < 5 → byte ≡ slice_index (codes "PART ") place)
     × (place ≡ 5 → (48 ≤ byte) × (byte ≤ 57))
 
--- `bytes` begin as a heading line does, or they are a prefix of `PART `.
+-- `bytes` begin with `PART ` and a digit, or they are a prefix of `PART `.
 abbrev pub HasBegunHeading : List ℕ → Type 0
 HasBegunHeading bytes = ((count : ℕ) × (count ≤ 5) × (bytes ≡ take count (codes "PART "))) ⊎ BeginsHeading bytes
 
--- `part` is an incomplete heading line, without LF, and `held` has its first bytes, up to 64.
+-- `part` is the beginning of a heading line, without LF. `held` has its first 64 bytes, or all if it has fewer.
 pub record HoldsLine (held part : List ℕ) : Type 0 where
   pub kept : held ≡ take 64 part
   pub unbroken : IsWithout 10 part
   pub begins : HasBegunHeading part
 
--- `first` has the first six bytes of the last line of `body`, or all bytes of a shorter last line. `line` is the
+-- `first` has the first six bytes of the last line of `body`, or the whole last line if it is shorter. `line` is the
 -- line before `body`.
 pub record HasTail (line body first : List ℕ) : Type 0 where
   pub settled : List ℕ
@@ -55,7 +55,8 @@ pub record HoldsBody (s : Day) (b : PartBody) (part body : List ℕ) : Type 0 wh
   pub allowed : All (λ b. IsTrue (is_text_byte b)) body
   pub kept : b.letters.items ≡ take 525 (letters_from None body)
 
--- `part` is part number `number`, its heading has the expected number of parts, and `b` holds its body.
+-- The part is number `number`, as its heading says. Its heading also has the expected number of parts. `b` holds the
+-- part's body.
 pub record HoldsPart (s : Day) (b : PartBody) (number : ℕ) (expected : Option ℕ) (part : List ℕ) : Type 0 where
   pub body : List ℕ
   pub holds : HoldsBody s b part body
@@ -66,7 +67,7 @@ abbrev pub HoldsStage : Day → FormStage → ℕ → Option ℕ → List ℕ �
 HoldsStage s (stages.Heading line) number expected part = HoldsLine line.items part × (length part < 6 → number ≡ 1)
 HoldsStage s (stages.Body b) number expected part = HoldsPart s b number expected part
 
--- A body with the letters `letters`, after the heading `h`, is deciphered to a text, whose bytes are `made`.
+-- The letters of a body after the heading `h` are deciphered to a text, and `made` are the bytes of this text.
 abbrev pub IsBodyPlaintext : Day → Heading → List ℕ → List ℕ → Type 0
 IsBodyPlaintext s h letters made = (text : List ℕ) × IsBodyAnswer s h.part h letters (Ok text)
     × (made ≡ plaintext_bytes s text)
@@ -79,13 +80,12 @@ IsDecipherAnswer s b others output answer =
     (λ _. IsBodyPlaintext s b.heading letters output)
     (λ fault. IsBodyAnswer s b.heading.part b.heading letters (Err fault))
 
--- `found` is the heading of `part`, which ends within its heading line. `None` means that `part` has no heading.
+-- `part` ends within its heading line. `found` is the heading in it, or `None` if there is no heading.
 abbrev pub IsOpenHeading : Day → List ℕ → Option Heading → Type 0
 IsOpenHeading s part found =
     MatchOption found ((h : Heading) (body : List ℕ) → ¬ (HasHeading s part h body)) (λ h. HasHeading s part h [])
 
--- `found` is the heading in the line `part`, whose LF was read. `None` means that a part with this first line has
--- no heading.
+-- `part` is a first line without its LF. `found` is the heading in it, or `None` if there is no heading.
 abbrev pub IsEndedHeading : Day → List ℕ → Option Heading → Type 0
 IsEndedHeading s part found =
     MatchOption found
@@ -98,7 +98,7 @@ pub record IsExpectedHeading (number : ℕ) (expected : Option ℕ) (found : Opt
   pub numbered : h.part ≡ number
   pub due : IsExpectedCount expected h.parts
 
--- Why `found` is refused: it is no heading, or a heading with another part number or number of parts.
+-- Why `found` is refused: there is no heading; or its part number or its number of parts is wrong.
 pub data IsHeadingFault (number : ℕ) (expected : Option ℕ) (found : Option Heading) (fault : FormFault) : Type 0 where
   HeadingMissing : found ≡ None → fault ≡ BadHeading number → IsHeadingFault number expected found fault
   HeadingOfOther : (h : Heading) → found ≡ Some h → (h.part ≢ number) ⊎ (¬ (IsExpectedCount expected h.parts))
@@ -107,7 +107,7 @@ pub data IsHeadingFault (number : ℕ) (expected : Option ℕ) (found : Option H
 
 -- ---- the form
 
--- the start of the part that the reader `r` is in; `front` are the form's bytes before this part
+-- the start of the part that the reader `r` is reading; `front` are the form's bytes before this part
 abbrev pub current_part_start : FormReader → List ℕ → PartStart
 current_part_start r front = record { number = r.number; expected = r.expected; bytes_before = length front }
 

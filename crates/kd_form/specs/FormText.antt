@@ -15,8 +15,8 @@ use Rattle.kd_form.specs.Sending.{space_letter, text_letters}
 use Rattle.kd_form.specs.FormParts.{BeginsHeading, parts_of}
 use Rattle.kd_form.specs.Receiving.{IsPartRead, IsExpectedCount, IsEarlyFault, IsPartFault}
 
--- How a part begins: the part's number, the number of all parts if an earlier heading has given it, and the number
--- of the form's bytes before the part.
+-- How a part begins. `number`: the part's number. `expected`: the number of all parts, if an earlier heading gave it.
+-- `bytes_before`: how many bytes of the form come before the part.
 pub record PartStart : Type 0 where
   pub number : ℕ
   pub expected : Option ℕ
@@ -25,17 +25,17 @@ pub record PartStart : Type 0 where
 abbrev pub first_part_start : PartStart
 first_part_start = record { number = 1; expected = None; bytes_before = 0 }
 
--- the start of the part after `part`; `part` begins at `p`, and its heading says that there are `count` parts
+-- the start of the part after `part`, if `part` begins at `p`, and its heading says that there are `count` parts
 abbrev pub next_part_start : PartStart → ℕ → List ℕ → PartStart
 next_part_start p count part = record
     { number = p.number + 1; expected = Some count; bytes_before = p.bytes_before + length part }
 
--- A property of the start of a part, and of the form's parts from this part on.
+-- A property of a part's start and the list of parts from there on, such as `AreAllPartsRead`.
 abbrev pub PartsProperty : Type 1
 PartsProperty = PartStart → List (List ℕ) → Type 0
 
--- The parts from `p` on are read in order, until the parts left satisfy `Holds`. `letters` are the deciphered
--- letters of the parts read.
+-- The parts are read in order, from the start `p` on, until the parts left satisfy `Holds`. `letters` are the
+-- deciphered letters of the parts read.
 abbrev pub ReadsPartsTo : Day → PartsProperty → PartStart → List (List ℕ) → List ℕ → Type 0
 ReadsPartsTo s Holds p [] letters = Holds p [] × (letters ≡ [])
 ReadsPartsTo s Holds p (part ∷ parts) letters =
@@ -59,7 +59,7 @@ plaintext_bytes s letters = map (plaintext_byte (space_letter s)) letters
 abbrev pub plaintext_with_end : Day → List ℕ → List ℕ
 plaintext_with_end s letters = plaintext_bytes s letters ++ 10 ∷ []
 
--- The form's parts are read until the parts left satisfy `Holds`, and `text` is the text of the parts read.
+-- The form's parts are read in order, until the parts left satisfy `Holds`. `text` is the text of the parts read.
 abbrev pub IsFormReadTo : Day → PartsProperty → List ℕ → List ℕ → Type 0
 IsFormReadTo s Holds form text =
     (letters : List ℕ) × ReadsPartsTo s Holds first_part_start (parts_of form) letters
@@ -79,8 +79,8 @@ pub record IsTextOf (s : Day) (form text : List ℕ) : Type 0 where
 -- ---- Why a form has no text: its first fault, for good or at the form's end, and the text before this fault.
 -- Test: forms_are_received, parts_are_missing_or_exchanged
 
--- The part that begins at `p` has `fault`, whatever bytes follow. If a next part has begun, this can be any fault
--- of the part. If not, the part's heading line has ended, and the fault shows before the part ends.
+-- The first part left, which begins at `p`, has `fault` whatever bytes follow. If another part follows, any fault of
+-- the part counts. Otherwise the part's heading line has ended, and only an early fault (`IsEarlyFault`) counts.
 abbrev pub IsPartFaultForGood : Day → FormFault → PartsProperty
 IsPartFaultForGood s fault p [] = ⊥
 IsPartFaultForGood s fault p (part ∷ []) =
@@ -95,18 +95,19 @@ pub data IsRefusedForGood (s : Day) (form text : List ℕ) (fault : FormFault) :
       → IsRefusedForGood s form text fault
   AtPart : IsFormReadTo s (IsPartFaultForGood s fault) form text → IsRefusedForGood s form text fault
 
--- If the form ends with these parts, it has `fault`: the last part has it, or the headings say more parts.
+-- The form ends with the parts left, and has `fault`. Either one part is left, and it has the fault; or none is left,
+-- but the headings say that there are more.
 abbrev pub IsPartFaultAtEnd : Day → FormFault → PartsProperty
 IsPartFaultAtEnd s fault p [] = (fault ≡ PartOrder) × (count : ℕ) × (p.expected ≡ Some count) × (p.number ≤ count)
 IsPartFaultAtEnd s fault p (part ∷ []) = IsPartFault s p.number p.expected p.bytes_before part fault
 IsPartFaultAtEnd s fault p (part ∷ next ∷ others) = ⊥
 
--- `form`, as a whole form, has `fault`, and `text` is the text of the parts before the fault. An empty form has one
+-- The form ends here and has `fault`. `text` is the text of the parts before the fault. An empty form counts as one
 -- empty part.
 abbrev pub IsRefusedAtEnd : Day → List ℕ → List ℕ → FormFault → Type 0
 IsRefusedAtEnd s form text fault = IsFormReadTo s (IsPartFaultAtEnd s fault) form text
 
--- The form has `fault`: whatever bytes follow, or if it ends here.
+-- The form has `fault`, either whatever bytes follow, or if the form ends here.
 abbrev pub IsReceiveFault : Day → List ℕ → FormFault → Type 0
 IsReceiveFault s form fault = (text : List ℕ) × (IsRefusedForGood s form text fault ⊎ IsRefusedAtEnd s form text fault)
 
@@ -114,7 +115,8 @@ IsReceiveFault s form fault = (text : List ℕ) × (IsRefusedForGood s form text
 abbrev pub IsLastPart : PartsProperty
 IsLastPart p parts = (part : List ℕ) × (parts ≡ part ∷ [])
 
--- `text` is what is written before the fault. Without a fault, it is the text of all parts but the last.
+-- What is written so far: `text` is the text of the parts before the fault or, without a fault, of all parts but the
+-- last.
 abbrev pub IsTextBefore : Day → Option FormFault → List ℕ → List ℕ → Type 0
 IsTextBefore s None form text = IsFormReadTo s IsLastPart form text
 IsTextBefore s (Some fault) form text = IsRefusedForGood s form text fault ⊎ IsRefusedAtEnd s form text fault
@@ -130,12 +132,12 @@ form_message s = record {
 
 -- ---- The text that an order's form has to give back.
 
--- the letters that are enciphered for a text's letters; on the Converter M-209, X fills the last group of five
+-- what is enciphered for the letters of a text: the letters; on the Converter M-209, X fills the last group of five
 abbrev pub sent_letters : Day → List ℕ → List ℕ
 sent_letters (OfRotors s) letters = letters
 sent_letters (OfPins s) letters = fill_last_group letters
 
--- `given` is the text to which the form of `order` has to be deciphered.
+-- `given` is the text that the receiver of the order's form must get.
 pub record IsPlaintextOf (s : Day) (order given : List ℕ) : Type 0 where
   pub keys : List Keys
   pub head : List ℕ

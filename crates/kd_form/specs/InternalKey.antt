@@ -7,7 +7,7 @@ use Rattle.std.specs.Prelude.{◌≡◌, ◌++◌, Contains, ◌⊎◌, ℕ, ◌
 use Rattle.kd_tables.specs.Rings.{ring_of}
 use Rattle.kd_state.specs.Machine.{AreOnWheels}
 
--- The places are in strictly rising order, at least `first`, and below `end`.
+-- The places rise strictly. Each is at least `first` and below `end`.
 abbrev pub AreRising : ℕ → ℕ → List ℕ → Type 0
 AreRising first end [] = Unit {0}
 AreRising first end (place ∷ places) = (first ≤ place) × (place < end) × AreRising (place + 1) end places
@@ -26,8 +26,8 @@ pub record ArePicked (letters places picked : List ℕ) : Type 0 where
   pub taken : picked ≡ map (λ place. slice_index letters place) places
   pub on_wheels : AreOnWheels picked
 
--- `key` has the letters at the lexicographically first places that `ArePicked` allows. So each wheel in turn takes
--- the next of `letters` that is on the wheel.
+-- `key` has the letters at the lexicographically first places that `ArePicked` allows. So each wheel in turn takes the
+-- next of `letters` that is on the wheel.
 pub record IsInternalKey (letters key : List ℕ) : Type 0 where
   pub places : List ℕ
   pub picked : ArePicked letters places key

@@ -1,5 +1,4 @@
--- The laws of orders and forms: each has one result or one fault, and a form gives back the letters of its
--- order.
+-- Laws: each order and each form has one result or one fault, and an order's form gives back the order's letters.
 use Rattle.std.specs.Prelude.{◌≡◌, ◌⊎◌, ℕ, List, ◌++◌}
 use Rattle.kd_state.specs.SheetDay.{Day, IsLegalDay}
 use Rattle.kd_form.specs.declared.fault.FormFault.{FormFault}
@@ -26,7 +25,7 @@ OrdersHaveOneFault =
 abbrev pub OrderIsAnswered : Day → List ℕ → Type 0
 OrderIsAnswered s order = ((form : List ℕ) × IsFormOf s order form) ⊎ ((fault : FormFault) × IsSendFault s order fault)
 
--- If an order has a fault for good, it keeps this fault whatever bytes follow.
+-- If an order is refused for good, appending bytes doesn't change the fault.
 abbrev pub OrdersStayRefused : Type 0
 OrdersStayRefused =
     (s : Day) (order more : List ℕ) (fault : FormFault) → IsOrderFaultForGood s order fault
@@ -48,7 +47,7 @@ FormsHaveOneFault =
     (s : Day) (form : List ℕ) (fault other : FormFault) → IsReceiveFault s form fault → IsReceiveFault s form other
     → fault ≡ other
 
--- If a form has a fault for good, it keeps this fault whatever bytes follow.
+-- If a form is refused for good, appending bytes doesn't change the fault.
 abbrev pub FormsStayRefused : Type 0
 FormsStayRefused =
     (s : Day) (form more text : List ℕ) (fault : FormFault) → IsRefusedForGood s form text fault
@@ -58,12 +57,12 @@ FormsStayRefused =
 abbrev pub FormIsAnswered : Day → List ℕ → Type 0
 FormIsAnswered s form = ((text : List ℕ) × IsTextOf s form text) ⊎ ((fault : FormFault) × IsReceiveFault s form fault)
 
--- For an order that becomes a form, there is a text to which the form has to be deciphered.
+-- If an order becomes a form, there is a text that the form's receiver must get.
 abbrev pub OrdersGiveLetters : Type 0
 OrdersGiveLetters = (s : Day) (order form : List ℕ) → IsFormOf s order form → (given : List ℕ)
     × IsPlaintextOf s order given
 
--- On a legal day, an order's form becomes the text to which it has to be deciphered.
+-- On a legal day, deciphering an order's form gives the text that the form's receiver must get.
 abbrev pub FormsGiveTheirOrders : Type 0
 FormsGiveTheirOrders =
     (s : Day) (order form given : List ℕ) → IsLegalDay s → IsFormOf s order form → IsPlaintextOf s order given

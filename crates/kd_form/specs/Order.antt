@@ -1,5 +1,5 @@
--- An order: its head, which is a line of keys for each part and the line TEXT; and then its text. Also: where a
--- head has its fault. Bytes are counted from 1.
+-- An order is its head (a line of keys for each part, then the line TEXT), and then the text to send. The last
+-- definition says where a head has its fault. Bytes are counted from 1.
 -- Test: orders_are_sent
 use Rattle.std.specs.Prelude.{codes, ◌≡◌, ◌≢◌, ◌⊎◌, ℕ, ◌+◌, ◌≤◌, List, [], ◌∷◌, ◌++◌, length}
 use Rattle.kd_state.specs.Words.{line_of}
@@ -17,14 +17,14 @@ IsLineWithEnd line bytes = (bytes ≡ line ++ 10 ∷ []) ⊎ (bytes ≡ line ++ 
 abbrev pub IsKeyLine : Keys → List ℕ → Type 0
 IsKeyLine keys bytes = IsLineWithEnd (line_of (key_words keys)) bytes
 
--- `bytes` begin with a line for each of `keys`, all for the day's model. The bytes after them satisfy `Holds`.
+-- `bytes` begin with a line for each of `keys`, all for the day's model. The bytes after these lines satisfy `Holds`.
 abbrev pub BeginsWithKeys : Day → List Keys → (List ℕ → Type 0) → List ℕ → Type 0
 BeginsWithKeys s [] Holds bytes = Holds bytes
 BeginsWithKeys s (keys ∷ more) Holds bytes =
     (line rest : List ℕ) × AreKeys s keys × IsKeyLine keys line × BeginsWithKeys s more Holds rest
     × (bytes ≡ line ++ rest)
 
--- `bytes` are the head of an order: at most 99 lines, with the keys `keys`, and the line TEXT.
+-- `bytes` are the head of an order: at most 99 lines of keys, one for each of `keys`, and the line TEXT.
 pub record IsOrderHead (s : Day) (keys : List Keys) (bytes : List ℕ) : Type 0 where
   pub lines : BeginsWithKeys s keys (IsLineWithEnd (codes "TEXT")) bytes
   pub few : length keys ≤ 99
@@ -38,14 +38,14 @@ pub record IsOrder (s : Day) (order : List ℕ) (keys : List Keys) (head text : 
   pub joined : order ≡ head ++ text
   pub is_head : IsOrderHead s keys head
 
--- `Incomplete`: the bytes are a proper prefix of bytes that satisfy `Is`. `Mismatch`: no bytes that begin
--- with these bytes satisfy `Is`.
+-- `Incomplete`: with some more bytes, the bytes satisfy `Is`. `Mismatch`: they don't satisfy `Is`, whatever bytes
+-- follow.
 abbrev pub IsPatternFault : (List ℕ → Type 0) → List ℕ → PatternFault → Type 0
 IsPatternFault Is bytes Incomplete = (more : List ℕ) × (more ≢ []) × Is (bytes ++ more)
 IsPatternFault Is bytes Mismatch = (more : List ℕ) → ¬ (Is (bytes ++ more))
 
--- The bytes before `position` are a proper prefix of a head, but with the byte at `position` they begin no head. If
--- the order ends within its head, `position` is one past the order's last byte.
+-- The bytes before `position` can be completed to a head, but not with the byte that is at `position`. If the order
+-- ends within its head, `position` is one past the order's last byte.
 pub record IsOrderHeadFault (s : Day) (order : List ℕ) (position : ℕ) : Type 0 where
   pub before : List ℕ
   pub rest : List ℕ

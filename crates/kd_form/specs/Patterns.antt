@@ -1,4 +1,4 @@
--- Patterns of lines: `_` means any capital letter, other bytes themselves. No public contract cites this file.
+-- Patterns of lines: `_` stands for any capital letter, each other byte for itself. No public contract cites this file.
 use Rattle.std.specs.Prelude.{◌≡◌, ℕ, ◌+◌, ◌-◌, ◌==◌, ◌++◌, ◌&&◌, nat_le, Bool, List, [], ◌∷◌, drop, slice_index}
 use Rattle.std.specs.Prelude.{if◌then◌else◌}
 use Rattle.kd_state.specs.Machine.{AreLetters}
@@ -36,6 +36,6 @@ fits_mark mark byte = if mark == 95 then nat_le 65 byte && nat_le byte 90 else b
 abbrev pub letters_for_mark : ℕ → ℕ → List ℕ
 letters_for_mark mark byte = if mark == 95 then (byte - 65) ∷ [] else []
 
--- `bytes` are a line of the pattern, and `new` is `old` with the line's letters appended.
+-- `bytes` are a line that fits the pattern, and `new` is `old` with the letters at each `_` appended.
 abbrev pub AreLettersAppended : List ℕ → List ℕ → List ℕ → List ℕ → Type 0
 AreLettersAppended pattern bytes old new = (more : List ℕ) × IsFilledLine pattern more bytes × (new ≡ old ++ more)

@@ -54,9 +54,9 @@ list_of_body letters = slice_range letters 8 10
 abbrev pub text_of_body : List ℕ → List ℕ
 text_of_body letters = slice_range letters 10 (length letters - 10)
 
--- The tests, in order: the indicators before and after the text are equal; each external letter is on its wheel;
--- the list letters are the day's; there is an internal key. The first test that fails gives the fault. Otherwise
--- the answer is the text, deciphered with the internal key in the windows at the start.
+-- The tests, in order: the indicators before and after the text satisfy `HasIndicatorsAround`; each external letter is
+-- on its wheel; the list letters are the day's; there is an internal key. The first test that fails gives the fault.
+-- Otherwise the answer is the text, deciphered with the internal key in the windows at the start.
 abbrev pub IsPinAnswer : Day → ℕ → List ℕ → AnswerRule FormFault (List ℕ)
 IsPinAnswer s part letters = do
   _ ← Demands (HasIndicatorsAround letters) (IndicatorsDiffer part)

@@ -36,14 +36,13 @@ pub record IsPartRead (s : Day) (number parts : ℕ) (part text : List ℕ) : Ty
   pub allowed : All (λ b. IsTrue (is_text_byte b)) body
   pub read : IsBodyAnswer s number heading (letters_from None body) (Ok text)
 
--- `parts` is the number of parts that an earlier heading has given, if there is an earlier heading.
+-- `parts` is the number of parts that the earlier headings say. Without an earlier heading, it may be any number.
 abbrev pub IsExpectedCount : Option ℕ → ℕ → Type 0
 IsExpectedCount None parts = Unit {0}
 IsExpectedCount (Some first) parts = first ≡ parts
 
--- The first fault of a part, if the fault shows before the part ends: the part has no valid heading; its
--- heading has a wrong part number or a wrong number of parts; or a byte of its body isn't allowed. The form
--- has `start` bytes before the part.
+-- The first fault of a part, if it shows before the part ends. It is one of these: no valid heading; a wrong part
+-- number or number of parts; a byte of the body that isn't allowed. The form has `start` bytes before the part.
 pub data IsEarlyFault (s : Day) (number : ℕ) (expected : Option ℕ) (start : ℕ) (part : List ℕ)
     (fault : FormFault) : Type 0 where
   InHeading : ((h : Heading) (body : List ℕ) → ¬ (HasHeading s part h body)) → fault ≡ BadHeading number

@@ -21,8 +21,8 @@ use Rattle.kd_form.specs.KeyPatterns.{IsAnyKeyLine}
 use Rattle.kd_form.specs.Sending.{text_letters, parts_needed, ArePartTextsMade, IsSendable}
 use Rattle.kd_form.specs.SendStream.{IsWritableCount}
 
--- After `count` lines of keys, `line` may be the next line of an order's head. It is the line TEXT or, if `count`
--- is below 99, another line of keys.
+-- `line` may come after `count` lines of keys in an order's head. It is the line TEXT or, if `count` is below 99,
+-- another line of keys.
 abbrev pub IsHeadLine : Day → ℕ → List ℕ → Type 0
 IsHeadLine s count line = (IsAnyKeyLine s line × (count < 99)) ⊎ IsLineWithEnd (codes "TEXT") line
 
@@ -43,8 +43,8 @@ pub record AreSuitedKeys (s : Day) (keys : List Keys) : Type 0 where
   pub suited : All (KeysSuitDay s) keys
   pub few : length keys ≤ 99
 
--- All parts of `letters` that can be written were written, with keys that suit the day. The writer `w` keeps the
--- letters after them, at most as many as a part can have.
+-- The keys suit the day. The writer `w` has taken `letters`, and has written all parts that can be written. It keeps
+-- the letters after these parts, at most as many as a part can have.
 pub record AreLettersTaken (s : Day) (keys : List Keys) (w : PartWriter) (letters sent : List ℕ) : Type 0 where
   pub suited : AreSuitedKeys s keys
   pub counted : w.count ≡ length letters
@@ -53,7 +53,7 @@ pub record AreLettersTaken (s : Day) (keys : List Keys) (w : PartWriter) (letter
   pub made : ArePartTextsMade s 1 (length keys) (take w.written keys)
       (pieces (part_size s) (take (part_size s * w.written) letters)) sent
 
--- Why a text with the letters `letters` can't be sent: there are none, or they need more or fewer parts than the
+-- Why a text with the letters `letters` can't be sent. Either there are none, or they need more or fewer parts than the
 -- order has lines of keys.
 abbrev pub IsTextEndFault : Day → List Keys → List ℕ → FormFault → Type 0
 IsTextEndFault s keys letters fault =

@@ -17,13 +17,13 @@ pub record IsAllowedPrefix (text front : List ℕ) : Type 0 where
   pub allowed : All (λ b. IsTrue (is_text_byte b)) front
   pub ends : (byte : ℕ) (more : List ℕ) → rest ≡ byte ∷ more → IsFalse (is_text_byte byte)
 
--- A part has at most `size` letters, and can be written once a letter of the next part has been read. So, once the
--- text's first `letters` letters have been read, `written` parts can be written, out of `parts`.
+-- `written` is how many of `parts` parts can be written once `letters` letters have been read. A part has at most
+-- `size` letters, and can be written once a letter of the next part has been read.
 pub record IsWritableCount (size parts letters written : ℕ) : Type 0 where
   pub due : (written ≡ 0) ⊎ ((written < parts) × (size * written < letters))
   pub most : (other : ℕ) → other < parts → size * other < letters → other ≤ written
 
--- `sent` is written before the end of the order is read. If the text hasn't begun, or the keys don't suit the day,
+-- `sent` is written before the end of the order is read. If the head isn't complete, or the keys don't suit the day,
 -- nothing is written. Otherwise `sent` has the parts that `IsWritableCount` counts.
 pub data IsSentBefore (s : Day) (order sent : List ℕ) : Type 0 where
   NothingSent : ((keys : List Keys) (head text : List ℕ) → IsOrder s order keys head text

@@ -10,7 +10,8 @@ use Rattle.kd_form.specs.declared.stream.interruption.Interruption.{Interruption
 use Rattle.kd_form.specs.declared.stream.interruption.Interruption.TheVariants.{Device, Refused}
 use Rattle.kd_form.specs.Streams.{Message, IsOpen, IsRefused, IsMessageAnswer, FallsShort}
 
--- The reader has read `bytes` and output `text`, as `holds` says, and no fault stands in `bytes`.
+-- The reader has read `bytes` and output `text`; this is what `holds` says of its state. The bytes have no fault so
+-- far.
 pub record HasReadSoFar (m : Message) (holds : List ℕ → List ℕ → Type 0) (bytes text : List ℕ) : Type 0 where
   pub is : holds bytes text
   pub open_yet : IsOpen m bytes text
@@ -22,7 +23,7 @@ pub record HasRoom (m : Message) (holds : List ℕ → List ℕ → Type 0) (roo
   pub held : HasReadSoFar m holds bytes text
   pub within : length bytes + room < 2 ^ 63
 
--- The reader, of which `old` holds, reads `byte` and outputs `made`; then `new` holds. Or a fault stands.
+-- The reader reads `byte`, and outputs `made`. Its state changes from `old` to `new`, unless the bytes have a fault.
 abbrev pub IsFeedAnswer : Message → (List ℕ → List ℕ → Type 0) → (List ℕ → List ℕ → Type 0) → ℕ → List ℕ
     → Result (Unit {0}) FormFault → Type 0
 IsFeedAnswer m old new byte made answer =
@@ -30,7 +31,7 @@ IsFeedAnswer m old new byte made answer =
     → MatchResult answer (λ _. HasReadSoFar m new (bytes ++ byte ∷ []) (text ++ made))
     (IsRefused m (bytes ++ byte ∷ []) text)
 
--- At the end of the message, the reader outputs `made`, the rest of the result.
+-- At the end of the message, the reader outputs `made`: the rest of the result, or what is written before the fault.
 abbrev pub IsEndAnswer : Message → (List ℕ → List ℕ → Type 0) → List ℕ → Result (Unit {0}) FormFault → Type 0
 IsEndAnswer m old made answer = (bytes text : List ℕ) → HasReadSoFar m old bytes text
     → IsMessageAnswer m bytes (text ++ made) answer
@@ -47,7 +48,7 @@ is_device_interruption _ = false
 
 -- ---- bytes, one after another
 
--- `text` is a proper prefix of what was due after some prefix of `bytes`.
+-- Some text had to be written after a prefix of `bytes`; `text` is a proper prefix of this text.
 pub record IsPrefixOfDue (m : Message) (bytes text : List ℕ) : Type 0 where
   pub front : List ℕ
   pub due : List ℕ
@@ -55,7 +56,7 @@ pub record IsPrefixOfDue (m : Message) (bytes text : List ℕ) : Type 0 where
   pub open_yet : IsOpen m front due
   pub of_due : FallsShort due text
 
--- The reader has read `bytes`, or a fault stands in them, or the sink failed.
+-- The reader has read `bytes`; or the bytes have a fault; or the sink failed.
 abbrev pub HasBeenFed : Message → (List ℕ → List ℕ → Type 0) → List ℕ → List ℕ → Result (Unit {0}) Interruption → Type 0
 HasBeenFed m new bytes text (Ok _) = HasReadSoFar m new bytes text
 HasBeenFed m new bytes text (Err (Refused fault)) = IsRefused m bytes text fault
@@ -75,7 +76,7 @@ IsFeedAllAnswer m old new more sink answer =
 
 -- ---- the end
 
--- All text that is due at the message's end was written. If the sink failed, a proper prefix of this text was.
+-- All text that is due at the message's end was written; if the sink failed, only a proper prefix of this text.
 abbrev pub HasBeenEnded : Message → List ℕ → List ℕ → Result (Unit {0}) Interruption → Type 0
 HasBeenEnded m bytes text (Ok _) = IsMessageAnswer m bytes text (Ok tt)
 HasBeenEnded m bytes text (Err (Refused fault)) = IsMessageAnswer m bytes text (Err fault)
@@ -92,7 +93,7 @@ abbrev pub IsFinishAnswer : Message → (List ℕ → List ℕ → Type 0) → P
 IsFinishAnswer m old sink answer = (bytes text : List ℕ) → HasReadSoFar m old bytes text
     → IsClosed m bytes text sink answer
 
--- the answer, with `fault_of_interruption` applied to an interruption
+-- the answer, with a `FormFault` in place of an interruption
 abbrev pub answer_with_fault : Result (Unit {0}) Interruption → Result (Unit {0}) FormFault
 answer_with_fault (Ok _) = Ok tt
 answer_with_fault (Err stop) = Err (fault_of_interruption stop)
@@ -115,8 +116,8 @@ pub data IsReadStopped (m : Message) (new : List ℕ → List ℕ → Type 0) (s
       → sink.has_failed ≡ (sink.had_failed || is_device_interruption {T = Unit {0}} (Err stop))
       → IsReadStopped m new source sink read text stop
 
--- `count` bytes were taken from the source and fed to the reader; `count` is 0 only at the source's end. Or an
--- interruption came.
+-- `count` bytes were taken from the source and fed to the reader, or reading was interrupted. `count` is 0 only at the
+-- source's end.
 abbrev pub HasBeenRead : Message → (List ℕ → List ℕ → Type 0) → Port → Port → List ℕ → List ℕ → List ℕ
     → Result ℕ Interruption
     → Type 0
@@ -144,12 +145,12 @@ IsReadNextAnswer m old new room source sink answer =
 
 -- ---- a whole message
 
--- The text that the message becomes was written; or the message has a fault; or the sink failed.
+-- The result of the message was written; or the message has a fault; or the sink failed.
 abbrev pub IsWriteMessageAnswer : Message → List ℕ → Port → Result (Unit {0}) Interruption → Type 0
 IsWriteMessageAnswer m bytes sink (Ok _) = (text : List ℕ) × m.becomes bytes text × Appends sink.had sink.has text
 IsWriteMessageAnswer m bytes sink (Err (Refused fault)) = m.refused bytes fault
 IsWriteMessageAnswer m bytes sink (Err Device) = Unit {0}
 
--- The message becomes a text.
+-- The message has a result.
 abbrev pub HasText : Message → List ℕ → Type 0
 HasText m bytes = (text : List ℕ) × m.becomes bytes text

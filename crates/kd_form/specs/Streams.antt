@@ -10,8 +10,8 @@ use Rattle.kd_form.specs.declared.fault.FormFault.{FormFault}
 use Rattle.kd_form.specs.declared.fault.FormFault.TheVariants.{NotReady, Device, NotOnKey, ReadTooLong}
 use Rattle.kd_form.specs.OnTheKey.{IsReadyOnKey, IsKeyFault}
 
--- A kind of message. It says of bytes which fault they keep whatever bytes follow; which fault they have as a whole
--- message; and what they become as a whole message. It also says what is written before a fault or, without a
+-- A kind of message, such as orders. `stands`: the fault that bytes have whatever bytes follow. `refused`: the fault of
+-- a whole message. `becomes`: the result of a whole message. `before`: what is written before the fault or, without a
 -- fault, before more bytes are read.
 pub record Message : Type 1 where
   pub stands : List ℕ → FormFault → Type 0
@@ -19,12 +19,12 @@ pub record Message : Type 1 where
   pub becomes : List ℕ → List ℕ → Type 0
   pub before : Option FormFault → List ℕ → List ℕ → Type 0
 
--- No fault stands in the bytes, and `text` is what is written before more bytes are read.
+-- The bytes have no fault so far, and `text` is what is written before more bytes are read.
 pub record IsOpen (m : Message) (bytes text : List ℕ) : Type 0 where
   pub unrefused : (fault : FormFault) → ¬ (m.stands bytes fault)
   pub written : m.before None bytes text
 
--- The bytes are the whole message. It becomes `text`, or it has a fault, before which `text` is written.
+-- The bytes are the whole message. Its result is `text`; or it has a fault, and `text` is written before the fault.
 abbrev pub IsMessageAnswer : Message → List ℕ → List ℕ → Result (Unit {0}) FormFault → Type 0
 IsMessageAnswer m bytes text answer =
     MatchResult answer (λ _. m.becomes bytes text) (λ fault. m.refused bytes fault × m.before (Some fault) bytes text)
@@ -33,7 +33,7 @@ IsMessageAnswer m bytes text answer =
 -- Code: `stream_message` reads a message chunk by chunk; the readers of orders and forms take it byte by byte.
 -- Test: orders_are_sent, forms_are_received
 
--- `text` has to be written: because a prefix of `read` was read, or because the source has ended after `read`.
+-- `text` has to be written when a prefix of `read` was read, or when the source has ended after `read`.
 pub data IsDue (m : Message) (source : Port) (read text : List ℕ) : Type 0 where
   ByThen : (front : List ℕ) → StartsWith read front → IsOpen m front text → IsDue m source read text
   ByTheEnd : (answer : Result (Unit {0}) FormFault) → IsAtEnd source.has → IsMessageAnswer m read text answer
@@ -49,10 +49,10 @@ pub record FallsShort (due text : List ℕ) : Type 0 where
   pub some : missing ≢ []
   pub joined : due ≡ text ++ missing
 
--- What a call has read and written when it returns. `MessageComplete`: the message is complete. `FaultForGood`: the
--- bytes have a fault whatever bytes follow. `FaultAtEnd`: only the whole message has a fault. `TooLong`: one byte
--- more than the limit was read. `SourceFails`: all text that was due for the bytes read is written. `SinkFails`: a
--- proper prefix of the text that was due is written.
+-- What a call has read and written when it returns. `MessageComplete`: the message has ended without a fault.
+-- `FaultForGood`: the bytes have a fault whatever bytes follow. `FaultAtEnd`: only the whole message has a fault.
+-- `TooLong`: one byte more than the limit was read. `SourceFails`: all text that was due for the bytes read is written.
+-- `SinkFails`: only a proper prefix of the text that was due is written.
 pub data IsStreamAnswer (m : Message) (source sink : Port) (read text : List ℕ)
     (answer : Result (Unit {0}) FormFault) : Type 0 where
   MessageComplete : length read ≤ read_limit → IsAtEnd source.has → m.becomes read text → HaveNotFailed source sink

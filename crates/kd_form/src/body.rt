@@ -36,7 +36,7 @@ fn push_group_line<const N: usize>(text: &mut ArrayString<N>, letters: &[Letter]
     text.push_str("\n");
 }
 
-/// Appends `letters` in groups of five, each after a space.
+/// Appends `letters` in groups of five, with a space before each group.
 fn push_groups<const N: usize>(text: &mut ArrayString<N>, letters: &[Letter])
     requires { array_string_len text.old + 2 * length letters.now ≤ N }
     ensures bytes { text.new.bytes ≡ text.old.bytes ++ words_after_spaces (letter_groups letters.now) }

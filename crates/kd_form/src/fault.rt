@@ -43,7 +43,7 @@ pub enum FormFault {
 }
 
 impl FormFault {
-    /// Returns the refusal's number and name, followed by the numbers in the variant.
+    /// Returns the refusal's number and name, and then the variant's numbers, if it has any.
     pub fn text(&self) -> Text
         ensures { result.bytes ≡ form_fault_text self.now }
     {

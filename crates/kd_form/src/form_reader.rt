@@ -28,7 +28,8 @@ pub(crate) struct FormReader {
     pub(crate) number: u8,
     /// The number of all parts that the headings give; `None` until the first part has been read.
     pub(crate) expected: Option<u8>,
-    /// What is kept of the current part. The variant says whether the next byte is in its heading line or body.
+    /// What is kept of the current part. The variant says whether the next byte belongs to the heading line or the
+    /// body.
     pub(crate) stage: FormStage,
 }
 

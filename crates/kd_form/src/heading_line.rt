@@ -33,7 +33,7 @@ fn read_fraction(word: &[u8]) -> Option<(u8, u8)>
     Some((part, parts))
 }
 
-/// Reads `word` as the number of a body's letters, if a body may have this number on the day's model.
+/// Reads `word` as a letter count that a body may have on the day's model.
 #[tactic(auto, using(crate::proofs::Headings::same_count))]
 fn read_letter_count(day: &SheetDay, word: &[u8]) -> Option<u16>
     ensures { MatchOption result

@@ -42,7 +42,7 @@ impl<'day> OwnMachine<'day> {
 
     /// Enciphers or deciphers `text` in place, with the letters of `window` in the windows at the start.
     ///
-    /// Returns false, unless `window` has one letter for each slot or pin wheel, each on its wheel.
+    /// Returns whether `window` has one letter for each slot or pin wheel, and each letter is on its wheel.
     pub(crate) fn encipher(&mut self, window: &[Letter], text: &mut [Letter]) -> bool
         ensures day { self.new ≡ self.old }
         ensures window { IsTrue result ↔ IsWindow (sheet_key self.old) window.now }

@@ -111,7 +111,8 @@ fn keep_letter(letters: &mut ArrayVec<Letter, KEPT>, letter: Option<Letter>)
 
 /// Appends `byte` if `line` has room; an LF empties `line`, because a new line begins.
 ///
-/// Only the first six bytes of a line are stored. For most bytes nothing is stored, and the next byte needn't wait.
+/// Only the first six bytes of a line are stored. For most bytes nothing is stored, so the next byte needn't wait for a
+/// store.
 fn keep_byte(line: &mut ArrayVec<u8, FIRST>, byte: u8)
     ensures ended { byte ≡ 10 → line.new.items ≡ [] }
     ensures longer { byte ≢ 10 → line.new.items ≡ take 6 (line.old.items ++ byte ∷ []) }

@@ -98,7 +98,7 @@ fn read_pin_letters(
 
 /// Deciphers `letters`, the body of the part with the heading `heading`.
 ///
-/// If the body is longer than any heading allows, `letters` may be a prefix that is also longer.
+/// A body that is too long for any heading may be cut, if it stays too long: the fault is `CountWrong` either way.
 pub(crate) fn read_body(
     day: &SheetDay,
     heading: &Heading,

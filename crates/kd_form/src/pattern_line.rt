@@ -15,9 +15,9 @@ const MOST: usize = 13;
 /// Why bytes aren't a line that fits a pattern.
 #[derive(Clone, Copy)]
 pub(crate) enum PatternFault {
-    /// Bytes are missing at the end: the bytes are a prefix of a line that fits.
+    /// Bytes are missing at the end: with some more bytes, the line fits.
     Incomplete,
-    /// No line that fits the pattern begins with the bytes.
+    /// The line doesn't fit the pattern, whatever bytes follow.
     Mismatch,
 }
 

@@ -20,8 +20,9 @@ use std::alloc::Global;
 
 /// Enciphers `order` into a form on `machine`, which must be on the day's key.
 ///
-/// Faults are tested in this order: `NotReady`, `NotOnKey`; faults of the order's head, of the keys of each part,
-/// and of the bytes of the text; then `EmptyText` and `PartKeys`. `NoMemory` comes only if the order has no fault.
+/// `NotReady` and `NotOnKey` are tested first. Then come the faults of the order's head, of the keys of each part, and
+/// of the bytes of the text. `EmptyText` and `PartKeys` are tested last. `NoMemory` comes only if the order has no
+/// fault.
 pub fn send(
     alloc: Global,
     machine: &Machine,

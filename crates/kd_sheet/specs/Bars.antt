@@ -1,4 +1,5 @@
--- The standings of bars in a machine file, and the readings of bars in a key sheet.
+-- The standings of bars in a machine file (the places of their lugs), and the readings of bars in a key sheet (the
+-- wheels' numbers at these places).
 -- Test: kd_trials/src/sheet/files.rt
 use Rattle.std.specs.Prelude.{ℕ, nat_eq, ◌+◌, ◌-◌, ◌==◌, ◌&&◌, ◌||◌, nat_le, Bool, not, List, [], ◌∷◌, length, Option}
 use Rattle.std.specs.Prelude.{Some, None, Result, ok_or, if◌then◌else◌}
@@ -11,8 +12,8 @@ use Rattle.kd_sheet.specs.declared.key.Key.TheVariants as keys
 use Rattle.kd_sheet.specs.declared.fault.SheetFault.{SheetFault}
 use Rattle.kd_sheet.specs.declared.fault.SheetFault.TheVariants.{BadRow}
 
--- What `reading` gives for the text `item`, or the fault `BadRow` with the item's number, counted from 1. `earlier` has
--- the values of the items before this item.
+-- The value that `reading` gives for the text `item`, or the fault `BadRow` with the item's number, counted from 1.
+-- `earlier` has the values of the items before this item.
 abbrev pub or_bad_row : {A : Type 0} → (List ℕ → Option A) → List A → Data → Result A SheetFault
 or_bad_row reading earlier item = ok_or (from_text reading item) (BadRow (length earlier + 1))
 
@@ -24,7 +25,7 @@ bars_in table = value_at keys.Bars table >>= read_array keys.Bars (nat_eq 27) (o
 abbrev pub is_reading_digit : ℕ → Bool
 is_reading_digit byte = nat_le 48 byte && nat_le byte 54
 
--- the reading, smaller number first, of a text such as `3-0`: two digits from 0 to 6 that differ or are both 0
+-- the reading, smaller number first, of a text such as `3-0`: the digits are from 0 to 6, and differ or are both 0
 unfoldable pub row_of_text : List ℕ → Option (ℕ × ℕ)
 row_of_text (one ∷ dash ∷ other ∷ []) =
     if ((is_reading_digit one && dash == 45) && is_reading_digit other) && (not (one == other) || one == 48)

@@ -15,7 +15,7 @@ use Rattle.kd_sheet.specs.declared.key.Key.{Key}
 use Rattle.kd_sheet.specs.declared.fault.SheetFault.{SheetFault}
 use Rattle.kd_sheet.specs.declared.fault.SheetFault.TheVariants.{NotToml, Missing, BadValue, NoMemory}
 
--- If the left operand is a value, `f` applied to this value; if it is a fault, this fault.
+-- Applies `f` to the left operand if this is a value; a fault stays as it is.
 infixl 10 ◌>>=◌
 abbrev pub ◌>>=◌ : {A B : Type 0} → Result A SheetFault → (A → Result B SheetFault) → Result B SheetFault
 (Ok x) >>= f = f x
@@ -73,7 +73,7 @@ items_list (item first rest) = first ∷ items_list rest
 abbrev pub as_items : Data → Option (List Data)
 as_items value = option_map items_list (as_array value)
 
--- the values that `reading` gives for the items of the array `value`, whose number must pass the test `fits`
+-- the values that `reading` gives for the items of the array `value`; their number must pass the test `fits`
 abbrev pub read_array : {A : Type 0} → Key → (ℕ → Bool) → (List A → Data → Result A SheetFault) → Data
     → Result (List A) SheetFault
 read_array key fits reading value = do

@@ -1,4 +1,5 @@
--- The machine that a machine file describes, key by key in the order of testing, or the file's first fault.
+-- How a machine file is read, key by key in the order of testing. The result is the machine that the file describes, or
+-- the first fault.
 -- Test: kd_trials/src/sheet/files.rt, kd_trials/src/sheet/faults.rt
 use Rattle.std.specs.Prelude.{ℕ, nat_le, List, length, Result, Ok, ok_or}
 use Rattle.toml.specs.Data.{Members, as_str}
@@ -32,7 +33,8 @@ model_in table = read_at keys.Model as_str table >>= (λ name. ok_or (model_by_n
 unfoldable pub reflector_in : Model → Members → Result Reflector SheetFault
 reflector_in model table = read_at keys.Reflector (from_text (reflector_by_name model)) table
 
--- The parts of a rotor machine. It has a ring and a letter for each wheel of the box, in box order.
+-- The parts of a rotor machine. The texts at `rings` and at `letters` have a letter for each wheel of the box, in box
+-- order (I, II, III and so on).
 unfoldable pub rotor_parts_in : Model → Members → Result RotorParts SheetFault
 rotor_parts_in model table = do
   reflector ← reflector_in model table

@@ -6,12 +6,12 @@ use Rattle.std.specs.Prelude.{if◌then◌else◌}
 use Rattle.std.specs.List.{list_all, filter_map}
 use Rattle.toml.specs.Data.{Data, integer}
 
--- the number that a value is, if it is a whole number from 1 to `last`
+-- the whole number in a TOML value, if it is from 1 to `last`
 abbrev pub number_up_to : ℕ → Data → Option ℕ
 number_up_to last (integer (pos number)) = if nat_le 1 number && nat_le number last then Some number else None
 number_up_to last _ = None
 
--- the letters that `items` mean, if they are exactly `count` numbers from 1, which means A, to 26
+-- the letters that `items` mean, if `items` are exactly `count` numbers from 1 (A) to 26 (Z)
 abbrev pub letters_of_numbers : ℕ → List Data → Option (List ℕ)
 letters_of_numbers count items =
     if length items == count && list_all (λ item. is_some (number_up_to 26 item)) items

@@ -16,7 +16,8 @@ use Rattle.kd_sheet.specs.declared.key.Key.TheVariants as keys
 use Rattle.kd_sheet.specs.declared.fault.SheetFault.{SheetFault}
 use Rattle.kd_sheet.specs.declared.fault.SheetFault.TheVariants.{BadValue, WheelTwice, WheelNotAllowed}
 
--- the wheel that `item` names: one that the model allows in the slot to the right of `slots`, and none of `slots` holds
+-- the wheel that `item` names, for the next slot after `slots`; the model must allow it there, and no slot of `slots`
+-- may hold it
 unfoldable pub wheel_for : Key → Model → List (Option Wheel) → Data → Result Wheel SheetFault
 wheel_for key model slots item = do
   wheel ← ok_or (from_text wheel_by_name item) (BadValue key)
@@ -24,7 +25,7 @@ wheel_for key model slots item = do
   demand (not (list_any (λ seat. option_map_or (same_wheel wheel) seat false) slots)) WheelTwice
   Ok wheel
 
--- the wheel that `item` names, for the slot to the right of `slots`; at the key `slots`, `""` means an empty slot
+-- the wheel that `item` names, for the next slot after `slots`; at the key `slots`, `""` means an empty slot
 unfoldable pub seat_for : Key → Model → List (Option Wheel) → Data → Result (Option Wheel) SheetFault
 seat_for keys.Slots model slots (string []) = Ok None
 seat_for key model slots item = wheel_for key model slots item >>= (λ wheel. Ok (Some wheel))

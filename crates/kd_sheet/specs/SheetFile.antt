@@ -1,4 +1,5 @@
--- The days that a key sheet describes, key by key in the order of testing, or the sheet's first fault.
+-- How a key sheet is read, key by key in the order of testing. The result is the days that the sheet describes, or the
+-- first fault.
 -- Test: kd_trials/src/sheet/files.rt, kd_trials/src/sheet/faults.rt
 use Rattle.std.specs.Prelude.{ℕ, nat_le, ◌==◌, not, List, [], ◌∷◌, Option, Some, Result, Ok, ok_or}
 use Rattle.std.specs.List.{list_any}
@@ -30,7 +31,7 @@ abbrev pub rings_of : ℕ → Data → Option (List ℕ)
 rings_of count (string text) = capital_letters count text
 rings_of count value = option_and_then (letters_of_numbers count) (as_items value)
 
--- the group of three capital letters that an item is; the groups before it don't matter
+-- an item as a group of three capital letters, whatever groups are before it
 unfoldable pub group_for : List (List ℕ) → Data → Result (List ℕ) SheetFault
 group_for earlier item = ok_or (from_text (capital_letters 3) item) (BadValue keys.Groups)
 

@@ -14,7 +14,8 @@ use toml::{Table, Value};
 ///
 /// `Given` is what the rule needs besides the items: for a wheel, the key and the model.
 pub trait FromItem<Given> {
-    /// The rule for an item: from `Given`, the values of the items before, and the item, to a value or a fault.
+    /// The rule for an item. It takes `Given`, the values of the items before, and the item; it gives a value or a
+    /// fault.
     ghost reading: { Given → List Self → Data → Result Self SheetFault };
 
     /// Reads `item`. `before` has the values of the items before it.

@@ -108,7 +108,7 @@ fn parts_in(table: &Table, model: Model) -> Result<Machine, SheetFault>
     }
 }
 
-/// Reads the machine that `table`, a machine file's table, describes, or returns the file's first fault.
+/// Reads the machine that a machine file's table describes, or returns the file's first fault.
 #[tactic(auto, unfolding(crate::specs::MachineFile::machine_in))]
 fn machine_in(table: &Table) -> Result<Machine, SheetFault>
     ensures { result ≡ machine_in (table_view table.now) }

@@ -49,7 +49,7 @@ pub fn shown_letters_in(table: &Table, key: Key) -> Result<[Letter; 6], SheetFau
     letters_on_wheels(value_at(table, key)?).ok_or(SheetFault::BadValue(key))
 }
 
-/// The place of the letter whose ASCII code is `byte`, counted from 0, if it is one of `letters`.
+/// The place in `letters`, counted from 0, of the letter with the ASCII code `byte`; `None` if it isn't there.
 fn place_of_byte(letters: &[Letter], byte: u8) -> Option<usize>
     ensures { result ≡ position (λ letter. letter + 65 == byte) letters.now }
 {

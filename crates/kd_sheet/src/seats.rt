@@ -18,7 +18,7 @@ fn wheel_by_name(name: &str) -> Option<Wheel>
     Wheel::from_text(name.as_bytes())
 }
 
-/// The wheel named `name`, if it may be in the slot to the right of `slots`.
+/// The wheel named `name`, if it may be in the next slot after `slots`.
 ///
 /// Otherwise the fault is `BadValue(key)`, `WheelNotAllowed` or `WheelTwice`.
 #[tactic(auto, using(crate::proofs::ReadBack::Described::Values::seating), unfolding(crate::specs::Seats::wheel_for))]

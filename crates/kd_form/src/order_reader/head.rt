@@ -29,7 +29,7 @@ pub(crate) enum HeadStep {
     Open,
     /// The head is complete; the text follows.
     Text,
-    /// No order has a head that begins with the bytes read.
+    /// The last byte read is wrong: with it, the bytes read can't be completed to an order's head.
     Bad,
 }
 
@@ -79,7 +79,7 @@ impl HeadReader {
 
 /// Reads the line after `count` lines of keys: returns its keys, or `None` for the line TEXT.
 ///
-/// The first byte decides whether it is read as keys or as TEXT. After 99 lines of keys, only TEXT is allowed.
+/// The first byte decides whether the line is read as keys or as TEXT. After 99 lines of keys, only TEXT is allowed.
 #[tactic(auto, using(crate::proofs::OrderSteps::next_text))]
 fn read_line(day: &SheetDay, count: usize, line: &[u8]) -> Result<Option<Keys>, PatternFault>
     ensures { MatchResult result

@@ -16,12 +16,12 @@ use kd_tables::Sink;
 /// The largest number of bytes that are read at once.
 pub(crate) const CHUNK: usize = 4096;
 
-/// A reader of one kind of message, chunk by chunk, which works with a day or a machine as its context.
+/// A reader of one kind of message, which takes many bytes at once. It works with a day or a machine, its `Context`.
 pub(crate) trait ChunkReader<Context> {
     /// The kind of message.
     ghost message: { Context → Message };
 
-    /// How the reader's state depends on the bytes read so far and the bytes output for them.
+    /// How the reader's state depends on the bytes read so far and on its output for them.
     ghost holds: { Context → Self → List ℕ → List ℕ → Type 0 };
 
     /// Reads the next bytes of the message, and writes the result's next bytes to `sink`.
@@ -50,12 +50,12 @@ pub(crate) trait ChunkReader<Context> {
 /// What a reader outputs after one byte: usually nothing, and at most one part.
 pub(crate) type PartText = ArrayVec<u8, LONGEST>;
 
-/// A reader of one kind of message, byte by byte, which keeps one part at a time.
+/// A reader of one kind of message, which takes one byte at a time, and keeps one part at a time.
 pub(crate) trait MessageReader {
     /// The kind of message.
     ghost message: { Day → Message };
 
-    /// How the reader's state depends on the bytes read so far and the bytes output for them.
+    /// How the reader's state depends on the bytes read so far and on its output for them.
     ghost holds: { Day → Self → List ℕ → List ℕ → Type 0 };
 
     /// Creates a reader that has read nothing.
@@ -71,7 +71,7 @@ pub(crate) trait MessageReader {
         ensures { IsFeedAnswer (message day.now) (holds day.now self.old) (holds day.now self.new) byte
             output.new.items result };
 
-    /// Ends the message, and puts the rest of the result into `output`, even if a fault is returned.
+    /// Ends the message, and puts into `output` what is still to be written, even if a fault is returned.
     fn end(&mut self, day: &SheetDay, output: &mut PartText) -> Result<(), FormFault>
         requires room { HasRoom (message day.now) (holds day.now self.old) 0 }
         requires empty { output.old.items ≡ [] }
