@@ -11,7 +11,7 @@ is_spare_at cables place = is_spare (slice_index_or cables place (None, None))
 abbrev pub comes_before : List (Option ℕ × Option ℕ) → ℕ → ℕ → Bool
 comes_before cables place spare = nat_lt place spare || not (is_spare_at cables place)
 
--- If a spare cable is assigned a pair, each cable that comes before it is assigned a pair too.
+-- If a spare cable is assigned a pair, all cables in use and all cables at lower places are assigned pairs, too.
 abbrev pub SparesComeLast : List (Option ℕ × Option ℕ) → ℕ → List ℕ → Type 0
 SparesComeLast cables pairs to =
     (spare place : ℕ) → spare < 13 → IsTrue (is_spare_at cables spare) → slice_index to spare < pairs
