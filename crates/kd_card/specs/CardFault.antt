@@ -26,12 +26,12 @@ use Rattle.kd_card.specs.CardText.{column_word, price_count, head_words, price_l
 abbrev pub IsDigit : ℕ → Type 0
 IsDigit byte = (48 ≤ byte) × (byte ≤ 57)
 
--- an unsigned number of any length: decimal digits without leading zeros
+-- The text is an unsigned number of any length: decimal digits without leading zeros.
 abbrev pub IsNumberText : List ℕ → Type 0
 IsNumberText [] = ⊥
 IsNumberText (digit ∷ digits) = IsDigit digit × All IsDigit digits × ((digit ≡ 48) → (digits ≡ []))
 
--- The text is a decimal number without leading zeros. If the argument is `true`, it may be negative, but not `-0`.
+-- The text is a decimal number without leading zeros. It may be negative if the argument is `true`, but isn't `-0`.
 abbrev pub IsNumeral : Bool → List ℕ → Type 0
 IsNumeral false text = IsNumberText text
 IsNumeral true text =
@@ -39,18 +39,18 @@ IsNumeral true text =
 
 -- ---- lines
 
--- a line that has `words`, with a space between two of them, the line's LF, and then `rest`
+-- `words` with a space between two words, then LF, and then `rest`
 abbrev pub line_then : List (List ℕ) → List ℕ → List ℕ
 line_then words rest = line_of words ++ 10 ∷ rest
 
--- The first line of `bytes`, split at each space, is `words`, and `rest` follows this line's LF.
+-- The first line of `bytes` ends with LF. Its words, split at each space, are `words`; `rest` follows the LF.
 pub record HasLineWords (bytes : List ℕ) (words : List (List ℕ)) (rest : List ℕ) : Type 0 where
   pub line : List ℕ
   pub first : IsFirstPart 10 bytes line rest
   pub parts : words_of line ≡ words
 
--- The result of reading a line that has to be `front` and the number `due`: the bytes after the line, or a fault.
--- If the line isn't `front` and a number, the fault is `BadLine`; if the number isn't `due`, it is `CountWrong`.
+-- The result of reading a line such as `SUM 12`, which has `front` and then a number: the bytes after the line, or a
+-- fault. If the line has another form or no LF, the fault is `BadLine`. If the number isn't `due`, it is `CountWrong`.
 abbrev pub IsValueAnswer : Bool → List ℕ → List ℕ → ℕ → List ℕ → AnswerRule CardFault (List ℕ)
 IsValueAnswer signed front due line bytes = do
   found ← Finds
@@ -65,8 +65,9 @@ IsLineAnswer line bytes = do
   _ ← Demands (bytes ≢ []) PriceMissing
   Finds (λ (found : List (List ℕ) × List ℕ). HasLineWords bytes found.0 found.1) (BadLine line)
 
--- The result of reading a line whose first word has to be `word key` for some `key`: this key, the other words of
--- the line, and the bytes after the line; or a fault.
+-- The result of reading a line whose first word stands for a value, as `CABLES` stands for prices of cables. The
+-- function `word` gives the word for each value. The result is the value, the other words of the line, and the bytes
+-- after the line; or a fault.
 abbrev pub IsFirstWordAnswer : {K : Type 0} → (K → List ℕ) → ℕ → List ℕ
     → AnswerRule CardFault (K × List (List ℕ) × List ℕ)
 IsFirstWordAnswer {K} word line bytes = do
@@ -76,7 +77,7 @@ IsFirstWordAnswer {K} word line bytes = do
 
 -- ---- the head and the settings
 
--- `bytes` are the first line of a card with this version and day, and then `rest`.
+-- `bytes` begin with a card's first line, such as `CARD 2 DAY 31`, with this version and day. Then comes `rest`.
 pub record BeginsWithHead (bytes : List ℕ) (version : Version) (day : ℕ) (rest : List ℕ) : Type 0 where
   pub text : bytes ≡ line_then (head_words version day) rest
   pub of_month : IsDayNumber day
@@ -84,8 +85,8 @@ pub record BeginsWithHead (bytes : List ℕ) (version : Version) (day : ℕ) (re
 abbrev pub IsHeadAnswer : List ℕ → AnswerRule CardFault (Version × ℕ × List ℕ)
 IsHeadAnswer bytes = Finds (λ (head : Version × ℕ × List ℕ). BeginsWithHead bytes head.0 head.1 head.2) BadHead
 
--- The result of reading a card's settings: all settings before the first line that isn't a setting, and the bytes
--- after them; or the fault `TooMany` if the first 193 lines are settings.
+-- The result of reading a card's settings: all settings before the first line that isn't a setting, and the bytes after
+-- these settings. If the first 193 lines are settings, the fault is `TooMany`.
 abbrev pub IsSettingsAnswer : List ℕ → AnswerRule CardFault (List Setting × List ℕ)
 IsSettingsAnswer bytes (Ok list) = BeginsWithAllSettings bytes list.0 list.1
 IsSettingsAnswer bytes (Err fault) =
@@ -97,7 +98,7 @@ IsCountAnswer number bytes = IsValueAnswer false (codes "SETTINGS ") (decimal nu
 
 -- ---- prices by number: two lines
 
--- the first word of a card's first price line
+-- the first word of a card's first price line: `CABLES` or `BARS` in version 1, `CABLE` or `BAR` in version 2
 abbrev pub first_text : Version → Group → List ℕ
 first_text ByNumber OfCables = codes "CABLES"
 first_text ByNumber OfBars = codes "BARS"
@@ -105,7 +106,7 @@ first_text ByKind OfCables = cable_sort.word
 first_text ByKind OfBars = bar_sort.word
 
 -- The result of reading `words` as `number` prices: the prices, or a fault. If a word isn't a price, the fault is
--- `BadLine line`; if there are more or fewer prices, it is `PriceMissing`.
+-- `BadLine line`. If there are more or fewer prices than `number`, it is `PriceMissing`.
 abbrev pub IsPricesAnswer : ℕ → ℕ → List (List ℕ) → AnswerRule CardFault (List ℤ)
 IsPricesAnswer number line words = do
   prices ← Finds (λ prices. (words ≡ map signed_decimal prices) × ArePricesInRange prices) (BadLine line)
@@ -137,21 +138,21 @@ pub record BeginsWithWord (word bytes : List ℕ) : Type 0 where
   pub rest : List ℕ
   pub has : HasLineWords bytes (word ∷ behind) rest
 
--- A group of lines that begin with `word` ends before `bytes`: `bytes` are empty, or begin with a line that has LF and
--- another first word.
+-- The lines of a group begin with `word`. The group ends before `bytes`: they are empty, or begin with a line that has
+-- LF and another first word.
 pub data EndsGroup (word bytes : List ℕ) : Type 0 where
   AtNothing : bytes ≡ [] → EndsGroup word bytes
   AtOther : (other : List ℕ) → BeginsWithWord other bytes → other ≢ word → EndsGroup word bytes
 
--- The first line of `bytes` is the line of `kind`, and `rest` follows that line. If there is a kind `last`, `kind`
--- comes after `last` in the order of kinds.
+-- `bytes` begin with the line of `kind`, a valid kind, and then comes `rest`. If there is a kind `last`, `kind` comes
+-- after it in the order of a card's lines.
 pub record IsNextKind {K X : Type 0} (sort : Sort K X) (last : Option K) (bytes : List ℕ) (kind : K) (rest : List ℕ)
     : Type 0 where
   pub good : IsKind sort kind
   pub after : ComesAfter sort last kind
   pub line : HasLineWords bytes (kind_words sort kind) rest
 
--- `bytes` don't begin with the line of a valid kind that comes after the kind `last`.
+-- No next kind follows: `bytes` don't begin with a valid kind's line, or this kind doesn't come after the kind `last`.
 abbrev pub HasNoNext : {K X : Type 0} → Sort K X → Option K → List ℕ → Type 0
 HasNoNext {K} sort last bytes = (kind : K) (rest : List ℕ) → ¬ (IsNextKind sort last bytes kind rest)
 
@@ -160,16 +161,17 @@ abbrev pub last_of : {K : Type 0} → Option K → List K → Option K
 last_of last [] = last
 last_of last (kind ∷ kinds) = last_of (Some kind) kinds
 
--- `bytes` are the lines of `kinds`, and then `rest`. The kinds are strictly ascending, after the kind `last` if
--- any. `rest` doesn't begin with the line of a valid kind that comes after all these kinds.
+-- `bytes` are the lines of `kinds`, and then `rest`. The kinds are valid and strictly ascending, and come after the
+-- kind `last`, if there is one. No next kind follows in `rest`.
 pub record BeginsWithKinds {K X : Type 0} (sort : Sort K X) (last : Option K) (bytes : List ℕ) (kinds : List K)
     (rest : List ℕ) : Type 0 where
   pub lines : bytes ≡ kinds_text sort kinds ++ rest
   pub in_order : AreKinds sort last kinds
   pub none_more : HasNoNext sort (last_of last kinds) rest
 
--- The result of reading a group of kinds: the kinds and the bytes after them, or a fault. It is `BadLine` if the
--- group doesn't end after its last valid kind, and `PriceMissing` if the kinds' counts don't add up to `number`.
+-- The result of reading a group of kinds: the kinds and the bytes after them, or a fault. The fault is `BadLine` if a
+-- line has the group's first word, but no valid next kind, or if a line has no LF. It is `PriceMissing` if the kinds'
+-- counts don't add up to `number`.
 -- Code: the reader keeps at most `number` kinds, and stops adding counts at `number + 1`.
 abbrev pub IsGroupAnswer : {K X : Type 0} → Sort K X → ℕ → ℕ → List ℕ → AnswerRule CardFault (List K × List ℕ)
 IsGroupAnswer {K} sort number line bytes = do
@@ -178,7 +180,7 @@ IsGroupAnswer {K} sort number line bytes = do
   _ ← Demands (counted sort group.0 ≡ number) PriceMissing
   Yields group
 
--- The result of reading a group of kinds for the rows of the table of costs, and then a group for its columns: both
+-- The result of reading two groups of kinds, first for the rows of the table of costs, then for its columns: both
 -- groups and the bytes after them, or a fault.
 abbrev pub IsGroupsAnswer : {R X C Y : Type 0} → Sort R X → Sort C Y → ℕ → ℕ → List ℕ
     → AnswerRule CardFault (List R × List C × List ℕ)
@@ -209,8 +211,8 @@ IsAllPricesAnswer ByKind line bytes = IsByKindPricesAnswer line bytes
 abbrev pub IsSumAnswer : ℤ → ℕ → List ℕ → AnswerRule CardFault (List ℕ)
 IsSumAnswer sum line bytes = IsValueAnswer true (codes "SUM ") (signed_decimal sum) line bytes
 
--- The result of reading the bytes after the settings (the number of settings, the prices and their sum): the day,
--- the settings and the prices of the card, or a fault.
+-- The result of reading the lines `SETTINGS`, prices and `SUM` after a card's settings: the whole card (`day`,
+-- `settings` and the prices), or a fault.
 abbrev pub IsRestAnswer : Version → ℕ → List Setting → ℕ → List ℕ → AnswerRule CardFault (ℕ × List Setting × PriceParts)
 IsRestAnswer version day settings number bytes = do
   rest ← IsCountAnswer number bytes

@@ -1,4 +1,4 @@
--- The text of a card: lines that end with LF. Each has words, with one space between two words.
+-- The text of a card: lines that end with LF. In each line, one space stands between two words.
 use Rattle.std.specs.Prelude.{codes, decimal, ◌≡◌, ℕ, ◌≤◌, List, [], ◌∷◌, ◌++◌, length, map, None, All}
 use Rattle.std.specs.List.{flat_map}
 use Rattle.std.specs.Fmt.{signed_decimal}
@@ -15,7 +15,7 @@ use Rattle.kd_card.specs.declared.group.Group.TheVariants.{OfCables, OfBars}
 use Rattle.kd_card.specs.Kinds.{Sort, kind_words, cable_sort, pair_sort, bar_sort, row_sort, counted, AreKinds}
 use Rattle.kd_card.specs.Prices.{version_of, price_sum, ArePrices}
 
--- the first word of a card's second price line, if each cable, pair, nothing, bar or row has its own price
+-- the first word of the second price line on a card of version 1, where each pair, nothing or row has its own price
 abbrev pub column_word : Group → List ℕ
 column_word OfCables = codes "PAIRS"
 column_word OfBars = codes "ROWS"
@@ -30,7 +30,7 @@ pub record IsGroup {K X : Type 0} (sort : Sort K X) (number : ℕ) (kinds : List
   pub in_order : AreKinds sort None kinds
   pub count : counted sort kinds ≡ number
 
--- the words of a card's first line: 1 if each cable, pair, bar or row has a price, 2 if each kind has one
+-- the words of a card's first line, such as `CARD 2 DAY 31`: version 2 if each kind has one price, otherwise version 1
 abbrev pub head_words : Version → ℕ → List (List ℕ)
 head_words ByNumber day = codes "CARD" ∷ codes "1" ∷ codes "DAY" ∷ decimal day ∷ []
 head_words ByKind day = codes "CARD" ∷ codes "2" ∷ codes "DAY" ∷ decimal day ∷ []
@@ -39,7 +39,7 @@ head_words ByKind day = codes "CARD" ∷ codes "2" ∷ codes "DAY" ∷ decimal d
 abbrev pub lines_text : List (List (List ℕ)) → List ℕ
 lines_text lines = flat_map (λ words. line_of words ++ 10 ∷ []) lines
 
--- the words of each price line: two lines if each cable, pair, bar or row has a price, else one for each kind
+-- the price lines, each as a list of words: one line for each kind if kinds have the prices, otherwise two lines
 abbrev pub price_lines : PriceParts → List (List (List ℕ))
 price_lines (Cables row col) = (codes "CABLES" ∷ map signed_decimal row) ∷ (codes "PAIRS" ∷ map signed_decimal col) ∷ []
 price_lines (Bars row col) = (codes "BARS" ∷ map signed_decimal row) ∷ (codes "ROWS" ∷ map signed_decimal col) ∷ []

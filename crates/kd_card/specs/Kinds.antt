@@ -1,4 +1,4 @@
--- Kinds. A kind stands for equal cables, columns, bars or rows: it has their number, and the price of each.
+-- Kinds: a kind is one entry for equal cables, columns, bars or rows, with their count and the price of each.
 use Rattle.std.specs.Prelude.{codes, decimal, ◌≡◌, ℕ, ◌+◌, ◌<◌, ◌≤◌, List, [], ◌∷◌, ◌++◌, length, map, replicate}
 use Rattle.std.specs.Prelude.{flat_map, ℤ, unsigned_abs, Option, Some, None, is_some, IsPermutation, zip}
 use Rattle.std.specs.{Cmp.Lexicographic.slice_cmp, Ordering.nat_cmp, declared.cmp.Ordering.TheVariants.Less}
@@ -21,8 +21,8 @@ abbrev pub letters_text : List ℕ → List ℕ
 letters_text [] = codes "-"
 letters_text (letter ∷ letters) = flat_map letter_text (letter ∷ letters)
 
--- A kind of cables may have no letter, a single letter in the first place, or two letters in alphabetical order.
--- `IsPairInOrder`: a kind of columns may have no pair, or a pair with its letters in alphabetical order.
+-- A kind of cables has no letter, a single letter in the first place, or two letters in alphabetical order.
+-- `IsPairInOrder`: a kind of columns has no pair, or a pair with its letters in alphabetical order.
 abbrev pub AreEnds : Option ℕ → Option ℕ → Type 0
 AreEnds None None = Unit {0}
 AreEnds None (Some other) = ⊥
@@ -35,10 +35,11 @@ IsPairInOrder (Some pair) = (pair.0 < pair.1) × (pair.1 < 26)
 
 -- ---- the four sorts of kinds
 
--- How a card writes and orders the kinds of one sort: of cables, columns, bars or rows. `word` is the first word of
--- a kind's line. `kind` is a kind as its thing (letters, standing or reading), count and price. `text` is the text
--- of a thing. On a card, each thing satisfies `InForm`, and the lines are in the order of their things' keys. So
--- a cable without a first letter, and a column without a pair, come last.
+-- The format of the lines of kinds: of cables, columns, bars or rows. `word` is the first word of a line, such as
+-- `CABLE`. `kind` splits a kind into its key (letters, standing or reading), its count and its price. `text` is the
+-- text of a key, such as `AB`. On a card, each key satisfies `InForm`. The last field turns a key into numbers; lines
+-- are in the dictionary order of these numbers. So a cable without a first letter, and a column without a pair, come
+-- last.
 pub record Sort (K X : Type 0) : Type 1 where
   pub word : List ℕ
   pub kind : K → KindOf X
@@ -82,17 +83,17 @@ row_sort = record {
   key = λ reading. reading.0 ∷ reading.1 ∷ [];
 }
 
--- The thing `x` comes before `y` in the order of lines: the key of `x` comes first in dictionary order.
--- Code: things are compared by derived orders, which the law `ordered` of `Kind` proves equal to this order.
+-- The key `x` (letters, standing or reading) comes before the key `y` in the dictionary order of a card's lines.
+-- Code: keys are compared by derived orders, which the law `ordered` of `Kind` proves equal to this order.
 abbrev pub ThingComesBefore : {K X : Type 0} → Sort K X → X → X → Type 0
 ThingComesBefore sort x y = slice_cmp nat_cmp (sort.key x) (sort.key y) ≡ Less
 
--- A card may have a kind with this thing (letters, a standing or a reading), and writes the thing as `text`.
+-- A card may have a kind with this key (letters, a standing or a reading), and writes the key as `text`.
 pub record HasText {K X : Type 0} (sort : Sort K X) (text : List ℕ) (thing : X) : Type 0 where
   pub form : sort.InForm thing
   pub written : sort.text thing ≡ text
 
--- A card writes this thing (letters, a standing or a reading), and no other thing, as `text`.
+-- A card writes this key (letters, a standing or a reading), and no other key, as `text`.
 pub record IsOnlyThing {K X : Type 0} (sort : Sort K X) (text : List ℕ) (thing : X) : Type 0 where
   pub has : HasText sort text thing
   pub only : (other : X) → HasText sort text other → other ≡ thing
@@ -104,7 +105,8 @@ abbrev pub ComesAfter : {K X : Type 0} → Sort K X → Option K → K → Type 
 ComesAfter sort None next = Unit {0}
 ComesAfter sort (Some last) next = ThingComesBefore sort (sort.kind last).thing (sort.kind next).thing
 
--- The kind is valid: its thing satisfies `InForm`, its count is from 1 to 255, and its price from -9999 to 9999.
+-- The kind is valid: its key is in the form that a card writes (two letters, for example, are in alphabetical order).
+-- Its count is from 1 to 255, and its price from -9999 to 9999.
 pub record IsKind {K X : Type 0} (sort : Sort K X) (kind : K) : Type 0 where
   pub form : sort.InForm (sort.kind kind).thing
   pub some : 1 ≤ (sort.kind kind).count
@@ -121,18 +123,18 @@ abbrev pub counted : {K X : Type 0} → Sort K X → List K → ℕ
 counted sort [] = 0
 counted sort (kind ∷ kinds) = (sort.kind kind).count + counted sort kinds
 
--- the price of each kind, as many times as the kind's count says
+-- each kind's price, repeated as often as the kind's count says
 abbrev pub prices_of_kinds : {K X : Type 0} → Sort K X → List K → List ℤ
 prices_of_kinds sort kinds = flat_map (λ k. replicate (sort.kind k).count (sort.kind k).price) kinds
 
--- the thing of each kind with the kind's price, as many times as the kind's count says
+-- each kind's key together with the kind's price, repeated as often as the kind's count says
 abbrev pub expansion : {X : Type 0} → List (KindOf X) → List (X × ℤ)
 expansion kinds = flat_map (λ kind. replicate kind.count (kind.thing, kind.price)) kinds
 
--- The kinds are those of `things` with `prices`: listing each kind as many times as its count says gives the things
--- with their prices, in some order.
--- Code: `kinds_of` sorts things with their prices, and counts equal ones; `prices_of` takes each thing out of its
--- kind. Neither makes the `expansion`.
+-- Repeating each of `kinds` as often as its count says gives exactly these keys (letters, standings or readings) with
+-- these prices, in some order.
+-- Code: `kinds_of` sorts keys with their prices, and counts equal ones. For each key, `prices_of` lowers the count of
+-- the key's kind by one. Neither makes the `expansion`.
 pub record AreKindsOf {K X : Type 0} (sort : Sort K X) (things : List X) (prices : List ℤ) (kinds : List K) : Type 0
   where
     pub number : length prices ≡ length things
@@ -140,7 +142,7 @@ pub record AreKindsOf {K X : Type 0} (sort : Sort K X) (things : List X) (prices
 
 -- ---- lines
 
--- the words of a kind's line: `CABLE`, `PAIR`, `BAR` or `ROW`, then the thing's text, the count and the price
+-- the words of a kind's line, such as `CABLE AB 1 -2`: the first word, the key's text, the count and the price
 abbrev pub kind_words : {K X : Type 0} → Sort K X → K → List (List ℕ)
 kind_words sort k = sort.word ∷ sort.text (sort.kind k).thing ∷ decimal (sort.kind k).count
     ∷ signed_decimal (sort.kind k).price ∷ []

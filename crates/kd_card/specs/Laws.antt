@@ -14,14 +14,15 @@ use Rattle.kd_card.specs.CardFault.{IsCardAnswer, IsCardFault}
 use Rattle.kd_card.specs.Proving.{AreSettingsNeeded, AreModelPrices, ProvesByNumber, Proves, IsShortest, LeadsToTheDay}
 use Rattle.kd_card.specs.Proving.{priced_count}
 
--- The settings for loose things are as many as the loose things.
+-- The number of settings for loose things is the number of loose things. A loose thing, such as a ring or a pin, isn't
+-- as the day says; cables and bars are never loose.
 abbrev pub LooseThingsAreCounted : Type 0
 LooseThingsAreCounted =
     (m : Parts) (s : Day) → IsMachine m → IsLegalDay s → model_of m ≡ day_model s
     → length (loose_lines m s) ≡ loose_count m s
 
--- If prices fit, the length of each list that reaches the day is at least the number of loose things plus the sum
--- of the prices.
+-- If prices fit, they bound the length of each list that reaches the day: the length is at least the number of loose
+-- things plus the sum of the prices.
 abbrev pub FittingPricesBoundLists : Type 0
 FittingPricesBoundLists =
     (m : Parts) (s : Day) (prices : PriceParts) (settings : List Setting) → IsMachine m → IsLegalDay s
@@ -29,17 +30,17 @@ FittingPricesBoundLists =
     → PricesFit (cost_table m s) prices → LeadsToTheDay m s settings
     → (pos (loose_count m s) +ℤ price_sum prices) ≤ℤ pos (length settings)
 
--- A list that reaches the day needs each setting, if it has no more unpriced settings than there are loose things.
--- Unpriced settings change no cable and no bar.
+-- If a list reaches the day, and has at most as many unpriced settings as there are loose things, each of its settings
+-- is needed. A setting is unpriced if it changes no cable and no bar.
 abbrev pub AsFewAreNeeded : Type 0
 AsFewAreNeeded =
     (m : Parts) (s : Day) (settings : List Setting) → IsLegalDay s → model_of m ≡ day_model s
     → LeadsToTheDay m s settings
     → length settings ≤ loose_count m s + priced_count settings → AreSettingsNeeded m s settings
 
--- If a card proves itself, and each cable and column (or each bar and row) has its own price, its list is as long
--- as the number of loose things plus the sum of prices. `ProvingCardsAreShortest`: each card that proves itself is
--- shortest.
+-- If a card by number proves itself, the number of its settings is the number of loose things plus the sum of its
+-- prices. By number means that each cable and column, or each bar and row, has its own price.
+-- `ProvingCardsAreShortest`: no list that reaches the day is shorter than a card that proves itself.
 abbrev pub ProvingCardsAreAsLong : Type 0
 ProvingCardsAreAsLong =
     (m : Parts) (s : Day) (settings : List Setting) (prices : PriceParts) → ProvesByNumber m s settings prices
@@ -51,8 +52,9 @@ ProvingCardsAreShortest =
     → ArePrices prices → Proves m s settings prices
     → IsShortest m s settings
 
--- If a card with a price for each cable and column, or each bar and row, proves itself, no price can be raised
--- alone: each row and each column of the table of costs has a cell where the two prices add up to the cost.
+-- If a card by number proves itself, none of its prices can be raised alone: each row and each column of the table of
+-- costs has a cell where the prices of row and column add up to the cost. By number means that each cable and column,
+-- or each bar and row, has its own price.
 abbrev pub ProvingPricesAreTight : Type 0
 ProvingPricesAreTight =
     (m : Parts) (s : Day) (settings : List Setting) (prices : PriceParts) → IsMachine m → IsLegalDay s

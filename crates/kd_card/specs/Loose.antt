@@ -1,5 +1,5 @@
--- The settings for loose things, in a fixed order. Loose things are those that aren't as the day says, except
--- cables and bars.
+-- The settings for loose things, in a fixed order. A loose thing, such as a ring or a pin, isn't as the day says;
+-- cables and bars are never loose.
 use Rattle.std.specs.Prelude.{ℕ, nat_eq, Bool, false, not, List, [], ◌∷◌, ◌++◌, ◌+◌, flat_map, find, zip, Option}
 use Rattle.std.specs.Prelude.{if◌then◌else◌}
 use Rattle.std.specs.Option.{option_map_or}
@@ -18,11 +18,11 @@ use Rattle.kd_state.specs.Machine.{ring_at, letter_at}
 use Rattle.kd_state.specs.SheetDay.{Day, OfRotors, OfPins}
 use Rattle.kd_state.specs.Costs.{exactly_one}
 
--- the setting `x`; or no setting if `so` is true: then the machine already has what `x` would set
+-- the setting `x`, or no setting if `so` is true, that is, if the machine already is as `x` would set it
 abbrev pub setting_unless : Bool → Setting → List Setting
 setting_unless so x = if so then [] else x ∷ []
 
--- the settings `lines` for each item of a list, one item after another; the items are numbered from `number` on
+-- the settings that `lines` gives for each item and its number, item after item; the first number is `number`
 abbrev pub lines_from : {Z : Type 0} → (ℕ → Z → List Setting) → ℕ → List Z → List Setting
 lines_from lines number [] = []
 lines_from lines number (z ∷ zs) = lines number z ++ lines_from lines (number + 1) zs
@@ -42,7 +42,7 @@ abbrev pub slot_turn_line : RotorParts → ℕ → SheetWheel → List Setting
 slot_turn_line m slot w =
     setting_unless (option_map_or (nat_eq w.letter) (letter_at m w.wheel) false) (Turn slot w.letter)
 
--- the setting PIN, if a pin isn't as the day says; and these settings for all pins of a wheel
+-- the setting PIN, if a pin isn't as the day says; `wheel_pin_lines`: these settings for all pins of a wheel
 abbrev pub pin_line : ℕ → ℕ × (Bool × Bool) → List Setting
 pin_line wheel z = setting_unless (not (exactly_one z.1.0 z.1.1)) (PinTo wheel z.0 z.1.1)
 
@@ -53,7 +53,7 @@ wheel_pin_lines wheel z = flat_map (pin_line wheel) (zip (ring_of wheel) (zip z.
 abbrev pub pin_wheel_turn_line : ℕ → ℕ × ℕ → List Setting
 pin_wheel_turn_line wheel z = setting_unless (nat_eq z.0 z.1) (Turn wheel z.1)
 
--- the settings for all loose things of a machine, in a fixed order; rings are in the order of the box
+-- the settings for all loose things of a machine, in a fixed order; rings come in the order of the wheels in the box
 abbrev pub loose_lines : Parts → Day → List Setting
 loose_lines (Rotor m) (OfRotors s) =
     lines_from slot_seat_line 1 (zip m.slots s.wheels)

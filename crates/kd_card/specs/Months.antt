@@ -10,15 +10,15 @@ pub record ReachesDay (m : Parts) (s : Day) (settings : List Setting) (n : Parts
   pub leads : Leads m settings n
   pub reads : ReadsAs n s
 
--- The settings reach the day, and there are valid prices with which they make a card that proves itself.
+-- The settings reach the day. With some valid prices, they make a card that proves itself.
 pub record IsProvedCard (m : Parts) (s : Day) (settings : List Setting) (n : Parts) : Type 0 where
   pub reaches : ReachesDay m s settings n
   pub prices : PriceParts
   pub are_prices : ArePrices prices
   pub proves : Proves m s settings prices
 
--- There is one list of settings for each day, and `Sets` holds for each list and its day. The first list begins
--- with machine `m`, each next list with the machine that the list before it reaches.
+-- Each day has one list of settings, and `Sets` holds for each day and its list. The first list begins with machine
+-- `m`. Each later list begins with the machine that the list before it reaches.
 abbrev pub DayAfterDay : (Parts → Day → List Setting → Parts → Type 0) → Parts → List Day → List (List Setting) → Type 0
 DayAfterDay Sets m [] [] = Unit {0}
 DayAfterDay Sets m (s ∷ days) (settings ∷ lists) = (n : Parts) × Sets m s settings n × DayAfterDay Sets n days lists
@@ -28,8 +28,8 @@ DayAfterDay Sets m days lists = ⊥
 abbrev pub total_length : List (List Setting) → ℕ
 total_length lists = sum (map length lists)
 
--- On a rotor machine, cards that prove themselves also have the fewest settings over several days in total: lists
--- that reach the same days in turn, from the same first machine, have at least as many.
+-- On a rotor machine, cards that prove themselves also have the fewest settings in total over several days: no lists
+-- that reach the same days in turn, from the same first machine, have fewer.
 abbrev pub CardsAreFewestInAll : Type 0
 CardsAreFewestInAll =
     (m : Parts) (days : List Day) (cards lists : List (List Setting)) → IsMachine m → model_of m ≢ M209

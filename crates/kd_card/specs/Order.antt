@@ -1,4 +1,4 @@
--- The order that `Ord` gives standings is that of their kinds' lines: by the left lug's place, then by the right lug's.
+-- `Ord` sorts standings as a card sorts its lines of bars: by the left lug's place, then by the right lug's place.
 -- Standings that compare as equal are the same.
 use Rattle.std.specs.Prelude.{◌≡◌, ◌↔◌}
 use Rattle.std.proofs.Common.{arith}

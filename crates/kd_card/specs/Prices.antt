@@ -1,6 +1,6 @@
--- The prices of a card, and what it means that they fit a table of costs. If prices are by number, each cable,
--- pair, nothing, bar or row of the sheet has its own price. If they are by kind, each kind of them has one price.
--- Rows and columns of the table are counted from 0.
+-- The prices of a card, and what it means that they fit a table of costs. If prices are by number, each cable, pair,
+-- nothing, bar or row of the sheet has its own price. If they are by kind, equal cables (or pairs, nothings, bars,
+-- rows) share one price. Rows and columns of the table are counted from 0.
 use Rattle.std.specs.Prelude.{◌≡◌, ℕ, ◌<◌, ◌≤◌, List, [], ◌++◌, length, All, fold, slice_index, slice_index_or, ℤ}
 use Rattle.std.specs.Prelude.{None, pos, unsigned_abs, ◌+ℤ◌, ◌≤ℤ◌}
 use Rattle.kd_card.specs.declared.prices.PriceParts.{PriceParts}
@@ -15,14 +15,15 @@ version_of (CableKinds row col) = ByKind
 version_of (BarKinds row col) = ByKind
 version_of _ = ByNumber
 
--- a price for each row of the table of costs, a cable or a bar; if kinds have the prices, kind after kind
+-- a price for each row of the table of costs (each cable, or each bar); a kind's price is repeated as its count says
 abbrev pub row_prices : PriceParts → List ℤ
 row_prices (Cables row col) = row
 row_prices (Bars row col) = row
 row_prices (CableKinds row col) = prices_of_kinds cable_sort row.items
 row_prices (BarKinds row col) = prices_of_kinds bar_sort row.items
 
--- a price for each column of the table of costs: each pair and nothing, or each row of the sheet; kinds in order
+-- a price for each column of the table of costs (each pair and nothing, or each row of the sheet); a kind's price is
+-- repeated as its count says
 abbrev pub column_prices : PriceParts → List ℤ
 column_prices (Cables row col) = col
 column_prices (Bars row col) = col
@@ -39,13 +40,14 @@ table_rows _ = 27
 abbrev pub ArePricesInRange : List ℤ → Type 0
 ArePricesInRange prices = All (λ price. unsigned_abs price ≤ 9999) prices
 
--- If each kind has a price, the kinds of rows and the kinds of columns are valid and strictly ascending.
+-- If the prices are by kind, the kinds of the table's rows and of its columns are valid and strictly ascending.
 abbrev pub HaveKindsInOrder : PriceParts → Type 0
 HaveKindsInOrder (CableKinds row col) = AreKinds cable_sort None row.items × AreKinds pair_sort None col.items
 HaveKindsInOrder (BarKinds row col) = AreKinds bar_sort None row.items × AreKinds row_sort None col.items
 HaveKindsInOrder _ = Unit {0}
 
--- The prices are valid: one for each row and column of the table of costs, from -9999 to 9999. All kinds are valid.
+-- The prices are valid: one for each row and column of the table of costs, from -9999 to 9999. All kinds are valid and
+-- strictly ascending.
 pub record ArePrices (prices : PriceParts) : Type 0 where
   pub rows : length (row_prices prices) ≡ table_rows prices
   pub columns : length (column_prices prices) ≡ table_rows prices
@@ -57,11 +59,12 @@ pub record ArePrices (prices : PriceParts) : Type 0 where
 abbrev pub cost_at : List (List ℕ) → ℕ → ℕ → ℕ
 cost_at costs i j = slice_index (slice_index_or costs i []) j
 
--- the price of row `i`, if `prices` are those of rows, or of column `i`, if they are those of columns
+-- the price at place `i` of a list, counted from 0: of row `i`, or of column `i`, of the table of costs
 abbrev pub price_at : List ℤ → ℕ → ℤ
 price_at prices i = slice_index_or prices i (pos 0)
 
--- The prices of row `i` and column `j` (`PricesFit`: of each row and column) add up to at most the cost there.
+-- The prices of row `i` and column `j` add up to at most the cost in their cell. `PricesFit`: this holds for all rows
+-- and columns.
 abbrev pub PricesFitAt : List (List ℕ) → PriceParts → ℕ → ℕ → Type 0
 PricesFitAt costs prices i j =
     (price_at (row_prices prices) i +ℤ price_at (column_prices prices) j) ≤ℤ pos (cost_at costs i j)
@@ -73,7 +76,7 @@ PricesFit costs prices = (i j : ℕ) → i < table_rows prices → j < table_row
 abbrev pub price_sum : PriceParts → ℤ
 price_sum prices = fold (λ sum price. sum +ℤ price) (pos 0) (row_prices prices ++ column_prices prices)
 
--- The prices of row `i` and column `j` add up to exactly the cost where they meet.
+-- The prices of row `i` and column `j` add up to exactly the cost in their cell.
 abbrev pub IsPriceTightAt : List (List ℕ) → PriceParts → ℕ → ℕ → Type 0
 IsPriceTightAt costs prices i j =
     (price_at (row_prices prices) i +ℤ price_at (column_prices prices) j) ≡ pos (cost_at costs i j)

@@ -19,7 +19,7 @@ use Rattle.kd_card.specs.declared.prices.Version.TheVariants.{ByNumber}
 use Rattle.kd_card.specs.Kinds.{cable_sort, pair_sort, bar_sort, row_sort, AreKindsOf}
 use Rattle.kd_card.specs.Prices.{version_of, price_sum, PricesFit, ArePrices}
 
--- The prices are by number: of each cable and column of a rotor machine, or of each bar and row of a Converter M-209.
+-- The prices are by number: one for each cable and column (rotor machine), or one for each bar and row (Converter).
 abbrev pub AreModelPrices : Parts → PriceParts → Type 0
 AreModelPrices (Rotor m) (Cables row col) = Unit {0}
 AreModelPrices (Pin m) (Bars row col) = Unit {0}
@@ -40,7 +40,7 @@ priced_count settings = count_by is_priced_setting settings
 abbrev pub IsSettingNeeded : Parts → Day → Setting → Type 0
 IsSettingNeeded m s x = IsFalse (is_priced_setting x) → loose_count m s ≡ loose_count (machine_after m x) s + 1
 
--- Each setting is needed when it is carried out after the settings before it.
+-- If the settings are carried out in turn, each of them is needed.
 abbrev pub AreSettingsNeeded : Parts → Day → List Setting → Type 0
 AreSettingsNeeded m s [] = Unit {0}
 AreSettingsNeeded m s (x ∷ xs) = IsSettingNeeded m s x × AreSettingsNeeded (machine_after m x) s xs
@@ -51,15 +51,15 @@ LeadsToTheDay m s settings = (n : Parts) × Leads m settings n × ReadsAs n s
 
 -- ---- prices by kind mean prices by number
 
--- a column with the letters of its pair in alphabetical order; and all columns of a day's table of costs in this form
+-- a column with the letters of its pair in alphabetical order; `columns_in_order`: all 13 columns of a day in this form
 abbrev pub pair_in_order : Option (ℕ × ℕ) → Option (ℕ × ℕ)
 pair_in_order column = option_map (λ pair. smaller_first pair.0 pair.1) column
 
 abbrev pub columns_in_order : List (ℕ × ℕ) → List (Option (ℕ × ℕ))
 columns_in_order pairs = map pair_in_order (columns_of pairs)
 
--- The first prices belong to the kinds of the machine's cables and the day's columns, or of its bars and the day's
--- rows. The second prices give each cable, column, bar or row the price of its kind.
+-- The first prices are by kind: for the kinds of the machine's cables and the day's columns, or of the machine's bars
+-- and the day's rows. The second prices give each cable, column, bar or row the price of its kind.
 abbrev pub AreExpanded : Parts → Day → PriceParts → PriceParts → Type 0
 AreExpanded (Rotor m) (OfRotors s) (CableKinds row col) (Cables rows columns) =
     AreKindsOf cable_sort m.cables rows row.items × AreKindsOf pair_sort (columns_in_order s.pairs) columns col.items
@@ -67,8 +67,9 @@ AreExpanded (Pin m) (OfPins s) (BarKinds row col) (Bars rows columns) =
     AreKindsOf bar_sort m.bars rows row.items × AreKindsOf row_sort s.rows columns col.items
 AreExpanded _ _ _ _ = ⊥
 
--- `numbered` has a price for each cable and column, or each bar and row. If `prices` has these too, both are equal.
--- If `prices` has a price for each kind, `numbered` gives each cable, column, bar or row the price of its kind.
+-- `numbered` has a price for each cable and column, or each bar and row. If `prices` has these too, `numbered` is
+-- `prices`. If `prices` has a price for each kind, `numbered` gives each cable, column, bar or row the price of its
+-- kind.
 pub data Expands (m : Parts) (s : Day) (prices numbered : PriceParts) : Type 0 where
   Same : version_of prices ≡ ByNumber → prices ≡ numbered → Expands m s prices numbered
   Expanded : ArePrices prices → ArePrices numbered → AreExpanded m s prices numbered → Expands m s prices numbered
@@ -85,7 +86,7 @@ pub record ProvesByNumber (m : Parts) (s : Day) (settings : List Setting) (price
   pub sum : price_sum prices ≡ pos (priced_count settings)
   pub needed : AreSettingsNeeded m s settings
 
--- A card proves itself. `numbered` has its prices, expanded to one for each cable and column, or each bar and row.
+-- A card proves itself. `numbered` are its prices, expanded to a price for each cable and column, or each bar and row.
 pub record Proves (m : Parts) (s : Day) (settings : List Setting) (prices : PriceParts) : Type 0 where
   pub numbered : PriceParts
   pub expands : Expands m s prices numbered

@@ -1,5 +1,5 @@
--- What the private steps of reading a card find, and the first line's text before the day. No contract of a public
--- function cites these definitions.
+-- What the private functions that read a card find, and the text of a card before the day's number. No contract of a
+-- public function cites these definitions.
 use Rattle.std.specs.Prelude.{codes, ◌≡◌, ◌≤◌, ℕ, ℤ, unsigned_abs, All, List, [], length, Option, Some, None}
 use Rattle.std.specs.Fmt.{signed_decimal}
 use Rattle.kd_state.specs.Words.{words_of}
@@ -17,13 +17,13 @@ words_after_first (Some text) = words_of text
 abbrev pub IsPriceText : List ℕ → Type 0
 IsPriceText word = (price : ℤ) × (unsigned_abs price ≤ 9999) × (signed_decimal price ≡ word)
 
--- the text with which a card begins, before the day's number
+-- the text before the day's number in a card's first line, such as `CARD 1 DAY `
 abbrev pub head_prefix : Version → List ℕ
 head_prefix ByNumber = codes "CARD 1 DAY "
 head_prefix ByKind = codes "CARD 2 DAY "
 
--- The group of kinds ends before `bytes`. `IsBadKindAt`: the group doesn't end before `bytes`, but they don't begin
--- with the line of a valid kind that comes after the kind `last`.
+-- The group of kinds ends before `bytes`. `IsBadKindAt`: the group goes on, but with a bad line. The line has no LF, or
+-- no valid kind that comes after the kind `last`.
 pub record EndsKindsAt {K X : Type 0} (sort : Sort K X) (last : Option K) (bytes : List ℕ) : Type 0 where
   pub ends : EndsGroup sort.word bytes
   pub none_more : HasNoNext sort last bytes
@@ -32,7 +32,7 @@ pub record IsBadKindAt {K X : Type 0} (sort : Sort K X) (last : Option K) (bytes
   pub goes_on : ¬ (EndsGroup sort.word bytes)
   pub none_more : HasNoNext sort last bytes
 
--- `words` are the words of the line of `kind`, and not of a kind with another thing.
+-- `words` are the words of the line of `kind`, and of no kind with another key.
 pub record IsKindOfWords {K X : Type 0} (sort : Sort K X) (words : List (List ℕ)) (kind : K) : Type 0 where
   pub has : HasKindWords sort words kind
   pub only : (other : K) → HasKindWords sort words other → (sort.kind other).thing ≡ (sort.kind kind).thing

@@ -9,7 +9,7 @@ use thiserror::Error;
 /// Why bytes are not the text of a card. Lines are counted from 1.
 #[derive(Clone, Copy, Debug, PartialEq, Eq, Error)]
 pub enum CardFault {
-    /// The first line isn't `CARD 1 DAY` or `CARD 2 DAY` and a day of the month, or it has no LF.
+    /// The first line isn't like `CARD 2 DAY 31` (version 1 or 2, and a day from 1 to 31), or it has no LF.
     BadHead,
     /// The line with this number is missing, has no LF, or doesn't have the form that is expected there.
     BadLine(usize),
@@ -17,14 +17,14 @@ pub enum CardFault {
     TooMany,
     /// A price line is missing or has a wrong first word, or there are too few or too many prices.
     PriceMissing,
-    /// The number after `SETTINGS` isn't that of the settings, or the number after `SUM` isn't the sum of prices.
+    /// The number after `SETTINGS` isn't the number of settings, or the number after `SUM` isn't the sum of the prices.
     CountWrong,
     /// Bytes follow the last line of the card.
     Trailing,
 }
 
 impl CardFault {
-    /// The refusal's number and name, and the line number if the fault has one.
+    /// The text of the refusal, such as `8 BadLine 3`: number, name, and the line number if the fault has one.
     pub fn text(&self) -> Text
         ensures { result.bytes ≡ card_fault_text self.now }
     {

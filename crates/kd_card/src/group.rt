@@ -1,11 +1,11 @@
-//! What a card has prices of: cables and pairs, or bars and rows of the sheet.
+//! What a card's prices are for: cables and pairs, or bars and rows of the sheet.
 ghost use Rattle.std.specs.Prelude.{◌≡◌};
 ghost use Rattle.kd_card.specs.CardText.{column_word, price_count};
 ghost use Rattle.kd_card.specs.CardFault.{first_text};
 
 use super::prices::Version;
 
-/// What a card has prices of: the rows and the columns of a table of costs.
+/// What a card's prices are for: the rows and the columns of a table of costs.
 #[derive(Clone, Copy)]
 pub(crate) enum Group {
     /// Cables are the rows of the table; pairs and nothings are its columns.
@@ -15,7 +15,7 @@ pub(crate) enum Group {
 }
 
 impl Group {
-    /// The first word of a card's first price line.
+    /// The first word of a card's first price line, such as `CABLES`.
     pub(crate) fn first_text(self, version: Version) -> &'static str
         ensures { result.now ≡ first_text version self }
     {
@@ -27,7 +27,7 @@ impl Group {
         }
     }
 
-    /// The first word of the second price line of a card where each pair, nothing or row has its own price.
+    /// The first word of the second price line, `PAIRS` or `ROWS`, on a card where each pair or row has its own price.
     pub(crate) fn column_text(self) -> &'static str
         ensures { result.now ≡ column_word self }
     {

@@ -14,7 +14,9 @@ use arrayvec::{ArrayString, ArrayVec};
 use itoa::Buffer;
 use kd_state::{is_word, number_of_text, push_number, split_words};
 
-/// Parses a kind from `behind`: the text of its line after the first space, or `None` if the line has no space.
+/// Parses a kind from `behind`: its line without the first word, or `None` if the line has only one word.
+///
+/// For the line `CABLE AB 1 0`, `behind` is `AB 1 0`. The result is `None` if the words don't make a valid kind.
 #[tactic(auto, using(crate::proofs::Lines::words_in_place))]
 fn kind_behind<K: Kind>(behind: Option<&[u8]>) -> Option<K>
     ensures { let words = K.sort.word ∷ words_after_first (option_copied behind.entry) in
@@ -52,8 +54,8 @@ fn kind_of_words<K: Kind>(thing: &[u8], count: &[u8], price: &[u8]) -> Option<K>
 
 /// Reads the next kind of a group from the first line of `text`. Returns this kind, and the text after the line.
 ///
-/// `None` if the group ends here: `text` is empty, or its first word isn't the group's, `K::word()`. Otherwise, the
-/// line, which is line `line` of the card, is bad if it has no valid kind that comes after the kind `last`.
+/// `None` if the group ends here: `text` is empty, or its first line has LF and another first word than `K::word()`.
+/// Otherwise, line `line` of the card is bad if it has no LF, or no valid kind that comes after the kind `last`.
 fn next_kind<K: Kind>(
     text: &[u8],
     last: Option<K>,
@@ -100,8 +102,8 @@ pub(crate) fn read_kinds<'a, K: Kind, const N: usize>(
     'kind: loop {
         match next_kind::<K>(rest, last, at) {
             Ok(Some((kind, after))) => {
-                // A sum of counts above `N` is refused, so adding ends at `N + 1`. The counts of more than `N`
-                // kinds add up to more than `N`.
+                // A sum of counts above `N` is refused, so adding ends at `N + 1`. Each count is at least 1, so more
+                // than `N` kinds are refused, too, and `kinds` needn't have room for them.
                 number = (number + usize::from(kind.parts().count)).min(N + 1);
                 push_if_room(&mut kinds, &kind);
                 last = Some(kind);

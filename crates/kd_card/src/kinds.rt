@@ -1,4 +1,4 @@
-//! Kinds. A kind stands for equal cables, columns, bars or rows: it has their number, and the price of each.
+//! Kinds: a kind is one entry for equal cables, columns, bars or rows, with their count and the price of each.
 ghost use Rattle.std.specs.Prelude.{◌≡◌, ◌≢◌, ◌↔◌, ℕ, ◌+◌, ◌<◌, ◌≤◌, [], ◌∷◌, ◌++◌, length, replicate};
 ghost use Rattle.std.specs.Prelude.{IsTrue, MatchOption};
 ghost use Rattle.arrayvec.specs.ArrayVec.{array_vec_len};
@@ -33,7 +33,7 @@ pub struct PairKind {
     pub price: i16,
 }
 
-/// A kind of bars: all bars with the same standing, which is the places of a bar's two lugs.
+/// A kind of bars: all bars with the same standing, that is, with their lugs at the same two places.
 #[derive(Clone, Copy, Default)]
 pub struct BarKind {
     pub standing: Standing,
@@ -53,7 +53,7 @@ pub struct RowKind {
     pub price: i16,
 }
 
-/// A kind of cables, columns, bars or rows: what they have in common, their number, and the price of each.
+/// A kind of cables, columns, bars or rows: its key (letters, standing or reading), their count, and the price of each.
 #[derive(Clone, Copy, Default)]
 pub struct KindOf<T> {
     pub thing: T,
@@ -67,10 +67,10 @@ pub trait Kind: Copy + Default {
     ghost use Rattle.std.specs.declared.cmp.Ordering.TheVariants.{Less};
     ghost use Rattle.kd_card.specs.Kinds.{Sort, ThingComesBefore, HasText, IsOnlyThing};
 
-    /// What the cables, columns, bars or rows of one kind have in common.
+    /// The key of a kind: what its cables, columns, bars or rows have in common, such as their letters.
     type Thing: Thing;
 
-    /// How a card writes and orders the kinds of this sort (of cables, columns, bars or rows).
+    /// The format and the order of the lines of these kinds (of cables, columns, bars or rows).
     ghost sort: { Sort Self Self.Thing };
 
     /// The first word of a kind's line on a card: `CABLE`, `PAIR`, `BAR` or `ROW`.
@@ -86,21 +86,21 @@ pub trait Kind: Copy + Default {
     fn parts(&self) -> KindOf<Self::Thing>
         ensures { result ≡ sort.kind self.now };
 
-    /// Whether a card may have this kind. Two letters, for example, have to be in alphabetical order.
+    /// Whether a card may have a kind with this key. Two letters, for example, have to be in alphabetical order.
     fn is_in_form(&self) -> bool
         ensures { IsTrue result ↔ sort.InForm (sort.kind self.now).thing };
 
-    /// The text of the kind's letters, standing or reading in the kind's line on a card.
+    /// The text of the kind's key (letters, standing or reading) in the kind's line, such as `AB`.
     fn text(&self) -> ArrayString<8>
         ensures { result.bytes ≡ sort.text (sort.kind self.now).thing };
 
-    /// Parses the letters, the standing or the reading of a kind from their text in the kind's line.
+    /// Parses the key of a kind (letters, standing or reading) from its text in the kind's line.
     fn thing_of_text(text: &[u8]) -> Option<Self::Thing>
         ensures { MatchOption result
             ((thing : Self.Thing) → ¬ (HasText sort text.now thing))
             (IsOnlyThing sort text.now) };
 
-    /// The order that `Ord` gives `Thing` is the order of a card's lines, `ThingComesBefore sort`.
+    /// `Ord` sorts the keys of kinds as a card sorts the lines of these kinds.
     ghost ordered: { (x y : Self.Thing) → ThingComesBefore sort x y ↔ (Self.Thing.cmp x y ≡ Less) };
 }
 
@@ -357,7 +357,7 @@ fn two_letters(text: &[u8]) -> Option<(Letter, Letter)>
     }
 }
 
-/// Whether `kind` may follow the kind `last` in the order of a card's lines. Any kind may if `last` is `None`.
+/// Whether `kind` comes after the kind `last` in the order of a card's lines. If `last` is `None`, any kind does.
 pub(crate) fn comes_after<K: Kind>(last: Option<K>, kind: &K) -> bool
     ensures { IsTrue result ↔ ComesAfter K.sort last kind.now }
 {

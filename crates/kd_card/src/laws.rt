@@ -7,7 +7,7 @@ ghost use Rattle.kd_card.specs.Laws.{ProvingCardsAreAsLong, ProvingCardsAreShort
 
 /// Different cards have different texts, and no card's text is a proper prefix of another's.
 ///
-/// The text of a card has no fault. All other bytes have at most one first fault, which `read_card` returns.
+/// The text of a card has no fault. Bytes that aren't a card have one first fault, which `read_card` returns.
 pub fn no_two_cards_have_one_text()
     ensures card { TextsTellCards }
     ensures front { NoCardBeginsAnother }
@@ -16,7 +16,9 @@ pub fn no_two_cards_have_one_text()
     ensures one_fault { OneCardFault }
 {}
 
-/// The settings for loose things are as many as the loose things.
+/// The number of settings for loose things is the number of loose things.
+///
+/// A loose thing, such as a ring or a pin, isn't as the day says; cables and bars are never loose.
 #[tactic(auto, using(crate::proofs::Counting::loose_things_are_counted))]
 pub fn loose_things_are_counted()
     ensures { LooseThingsAreCounted }
@@ -30,18 +32,18 @@ pub fn fitting_prices_bound_lists()
     ensures { FittingPricesBoundLists }
 {}
 
-/// A list that reaches the day needs each setting, if it has no more unpriced settings than there are loose things.
+/// If a list reaches the day with at most as many unpriced settings as loose things, each of its settings is needed.
 ///
-/// A setting is unpriced if it changes no cable and no bar. The list needs an unpriced setting if that setting
-/// lowers the number of loose things by one.
+/// A setting is unpriced if it changes no cable and no bar. It is needed if it lowers the number of loose things by
+/// one. All other settings count as needed.
 #[tactic(auto, using(crate::proofs::Shortest::as_few_are_needed))]
 pub fn as_few_are_needed()
     ensures { AsFewAreNeeded }
 {}
 
-/// If a card proves itself by number, its list is as long as the number of loose things plus the sum of prices.
+/// If a card by number proves itself, its length is the number of loose things plus the sum of its prices.
 ///
-/// By number means that each cable and each column, or each bar and each row, has its own price.
+/// The length is the number of settings. By number, each cable and column, or each bar and row, has its own price.
 #[tactic(auto, using(crate::proofs::Shortest::proving_cards_are_as_long))]
 pub fn proving_cards_are_as_long()
     ensures { ProvingCardsAreAsLong }
@@ -52,18 +54,19 @@ pub fn proving_cards_are_shortest()
     ensures { ProvingCardsAreShortest }
 {}
 
-/// If a card proves itself with a price for each cable and column, or bar and row, no price can be raised alone.
+/// If a card by number proves itself, none of its prices can be raised alone.
 ///
-/// Each row and each column of the table of costs has a cell where the prices of row and column add up to the cost.
+/// By number, each cable and column, or each bar and row, has its own price. Each row and each column of the table of
+/// costs has a cell where the prices of row and column add up to the cost.
 #[tactic(auto, using(crate::proofs::Shortest::proving_prices_are_tight))]
 pub fn proving_prices_are_tight()
     ensures { ProvingPricesAreTight }
 {}
 
-/// On a rotor machine, cards that prove themselves also have the fewest settings over several days in total.
+/// On a rotor machine, cards that prove themselves also have the fewest settings in total over several days.
 ///
-/// Each card begins with the machine that the card before it reaches. Lists that reach the same days in turn, from
-/// the same first machine, have at least as many settings in total.
+/// Each card begins with the machine that the card before it reaches. Lists that reach the same days in turn, from the
+/// same first machine, have at least as many settings in total.
 #[tactic(auto, using(crate::proofs::Months::cards_are_fewest_in_all))]
 pub fn cards_are_fewest_in_all()
     ensures { CardsAreFewestInAll }

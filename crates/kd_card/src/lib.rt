@@ -1,4 +1,4 @@
-//! Cards. A card has settings that set a machine to a day, and prices that prove that no shorter list does. Reads
+//! Cards. A card has settings that set a machine to a day, and prices that can prove that no shorter list does. Reads
 //! and writes the text of a card.
 #![tactic(auto)]
 

@@ -1,11 +1,11 @@
-//! Appends a setting to the settings of a card, unless it isn't needed.
+//! Appends a setting to the settings of a card, if the machine needs it.
 ghost use Rattle.std.specs.Prelude.{◌≡◌, ◌+◌, ◌≤◌, ◌++◌};
 ghost use Rattle.arrayvec.specs.ArrayVec.{array_vec_len};
 ghost use Rattle.kd_card.specs.Loose.{setting_unless};
 
 use kd_state::{Setting, Settings};
 
-/// Appends `setting`, unless `so` is true: then the machine already has what `setting` would set.
+/// Appends `setting`, unless `so` is true, that is, the machine already is as `setting` would set it.
 pub fn push_unless(settings: &mut Settings, so: bool, setting: Setting)
     requires { array_vec_len settings.old + 1 ≤ 192 }
     ensures items { settings.new.items ≡ settings.old.items ++ setting_unless so setting }

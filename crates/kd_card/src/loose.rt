@@ -78,7 +78,7 @@ fn loose_letters(machine: &Machine, wheels: &[SheetWheel]) -> usize
         .count()
 }
 
-/// Counts the pins of all six wheels that differ from the day's.
+/// Counts the pins that differ from the day's, on all six wheels.
 fn loose_pins(present: &PinSet, wanted: &PinSet) -> usize
     ensures value { result ≡ sum (map (λ wheel. count_by (λ pin. exactly_one pin.0 pin.1) (zip wheel.0 wheel.1))
         (zip (pins_of present.now) (pins_of wanted.now))) }
@@ -92,7 +92,7 @@ fn loose_pins(present: &PinSet, wanted: &PinSet) -> usize
         + loose_wheel_pins(&present.w6, &wanted.w6)
 }
 
-/// Counts the pins of one wheel that differ from the day's.
+/// Counts the pins that differ from the day's, on one wheel.
 fn loose_wheel_pins(present: &[bool], wanted: &[bool]) -> usize
     ensures value { result ≡ count_by (λ pin. exactly_one pin.0 pin.1) (zip present.now wanted.now) }
     ensures few { result ≤ length present.now }

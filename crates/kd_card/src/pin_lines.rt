@@ -13,7 +13,7 @@ use kd_pins::PinSet;
 use kd_state::{PinEntry, PinParts, Setting, Settings};
 use kd_tables::{Letter, ring1, ring2, ring3, ring4, ring5, ring6};
 
-/// Lists a setting for each pin and each wheel letter of a Converter M-209 that isn't as on the day.
+/// Lists the settings for the pins and wheel letters of a Converter M-209 that aren't as the day says.
 ///
 /// Pins come first, then letters. No setting changes a bar.
 pub fn pin_settings(parts: &PinParts, entry: &PinEntry) -> Settings
@@ -26,7 +26,7 @@ pub fn pin_settings(parts: &PinParts, entry: &PinEntry) -> Settings
     settings
 }
 
-/// Appends the setting PIN for each pin whose state in `present` isn't the state in `wanted`, wheel by wheel.
+/// Appends the setting PIN for each pin that differs in `present` and `wanted`, wheel by wheel.
 fn push_pins(settings: &mut Settings, present: &PinSet, wanted: &PinSet)
     requires { array_vec_len settings.old + 131 ≤ 192 }
     ensures items { settings.new.items ≡ settings.old.items
@@ -60,7 +60,7 @@ fn push_pin_turns(settings: &mut Settings, number: u8, letters: &[Letter], windo
     }
 }
 
-/// Appends the setting PIN for each pin of one wheel that isn't as on the day, in the order of the wheel's letters.
+/// Appends the setting PIN for each pin on one wheel that differs from the day's, in the order of the wheel's letters.
 fn push_wheel_pins(
     settings: &mut Settings,
     wheel: u8,

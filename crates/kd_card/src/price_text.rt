@@ -28,7 +28,7 @@ fn is_number_text(text: &[u8]) -> bool
     }
 }
 
-/// Whether `text` is a decimal number without leading zeros. If `signed`, it may be negative, but not `-0`.
+/// Whether `text` is a decimal number without leading zeros. If `signed`, the number may be negative, but not `-0`.
 pub(crate) fn is_numeral(text: &[u8], signed: bool) -> bool
     ensures { IsTrue result ↔ IsNumeral signed text.now }
 {
@@ -53,9 +53,10 @@ pub(crate) fn price_of_text(text: &[u8]) -> Option<i16>
     is_word(text, buffer.format(price)).then_some(price)
 }
 
-/// Splits `text`: the first line's first word, its text after the first space, if any, and the next lines.
+/// Splits `text` into the first word, the text after it on the first line (`None` without a space), and the next lines.
 ///
-/// The first line has to be a price line. It is line `line` of the card, counted from 1.
+/// If `text` is empty, the fault is `PriceMissing`. If the first line, which is line `line` of the card, has no LF, the
+/// fault is `BadLine`.
 pub(crate) fn split_first(
     text: &[u8],
     line: usize,
@@ -97,7 +98,7 @@ pub(crate) fn first_group(
     }
 }
 
-/// The group, of cables or of bars, whose first price line begins with `word`; `None` if neither does.
+/// Whether price lines that begin with `word` are for cables or for bars. `None` if they are for neither.
 fn group_of_word(word: &[u8], version: Version) -> Option<Group>
     ensures { MatchOption result
         ((group : _) → word.now ≢ first_text version group)
@@ -112,7 +113,7 @@ fn group_of_word(word: &[u8], version: Version) -> Option<Group>
     }
 }
 
-/// Parses `number` prices from `behind`: the text of line `line` after its first space, or `None` if it has none.
+/// Parses `number` prices from `behind`: line `line` without its first word, or `None` if the line has only one word.
 pub(crate) fn prices_behind(
     behind: Option<&[u8]>,
     number: usize,

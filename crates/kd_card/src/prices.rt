@@ -23,7 +23,7 @@ pub enum Version {
 }
 
 impl Version {
-    /// The text with which a card begins, before the day's number.
+    /// The text before the day's number in a card's first line, such as `CARD 1 DAY `.
     pub(crate) fn front(self) -> &'static str
         ensures value { result.now ≡ head_prefix self }
         ensures few { length result.now ≡ 11 }
@@ -48,7 +48,7 @@ pub enum PriceParts {
     BarKinds(ArrayVec<BarKind, 27>, ArrayVec<RowKind, 27>),
 }
 
-/// Valid prices of a card: each price is from -9999 to 9999, and if kinds have the prices, the kinds are valid.
+/// Valid prices of a card: each price is from -9999 to 9999, and if the prices are by kind, the kinds are valid.
 #[derive(Drop)]
 pub struct Prices {
     parts: PriceParts,
@@ -101,8 +101,8 @@ impl Prices {
 
     /// Makes prices by kind: one for each kind of cables, and one for each kind of pairs or nothings.
     ///
-    /// `None` if `cables` or `pairs` aren't strictly ascending, or their counts don't add up to 13. Also `None` if
-    /// a kind has letters out of order, the count 0, or a price below -9999 or above 9999.
+    /// `None` if `cables` or `pairs` aren't strictly ascending, or the counts of either don't add up to 13. Also `None`
+    /// if a kind has letters out of order, the count 0, or a price below -9999 or above 9999.
     #[tactic(auto, using(crate::proofs::KindPrices::cables_are_prices))]
     pub fn cable_kinds(cables: &[CableKind], pairs: &[PairKind]) -> Option<Self>
         ensures { let parts =
@@ -115,8 +115,8 @@ impl Prices {
 
     /// Makes prices by kind: one for each kind of bars, and one for each kind of the sheet's rows.
     ///
-    /// `None` if `bars` or `rows` aren't strictly ascending, or their counts don't add up to 27. Also `None` if a
-    /// kind has the count 0, or a price below -9999 or above 9999.
+    /// `None` if `bars` or `rows` aren't strictly ascending, or the counts of either don't add up to 27. Also `None` if
+    /// a kind has the count 0, or a price below -9999 or above 9999.
     #[tactic(auto, using(crate::proofs::KindPrices::bars_are_prices))]
     pub fn bar_kinds(bars: &[BarKind], rows: &[RowKind]) -> Option<Self>
         ensures { let parts =
@@ -127,7 +127,7 @@ impl Prices {
         Some(Prices::of_parts(parts))
     }
 
-    /// Makes prices by number: one for each row and each column of the table of costs of `group`.
+    /// Makes prices by number, for cables or for bars as `group` says, from the prices of rows and columns.
     pub(crate) fn numbered(group: Group, rows: &[i16], columns: &[i16]) -> Self
         requires rows { length rows.now ≡ price_count group }
         requires columns { length columns.now ≡ price_count group }

@@ -175,9 +175,9 @@ fn read_kinded(text: &[u8], line: usize) -> Result<(Prices, &[u8]), CardFault>
     }
 }
 
-/// Reads the kinds of `N` rows, and then of `N` columns, of a table of costs, from line `line` of the card on.
+/// Reads two groups of kinds: for the `N` rows of a table of costs, and then for its `N` columns.
 ///
-/// Returns both lists of kinds, and the text after their lines.
+/// The first group begins on line `line` of the card. Returns both groups, and the text after their lines.
 fn read_groups<'a, R: Kind, C: Kind, const N: usize>(
     text: &'a [u8],
     line: usize,

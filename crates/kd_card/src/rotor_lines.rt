@@ -16,7 +16,7 @@ use arrayvec::ArrayVec;
 use kd_state::{Machine, RotorEntry, RotorParts, Setting, Settings, SheetWheel};
 use kd_tables::Wheel;
 
-/// Lists a setting for each slot, reflector, ring and letter of a rotor machine that isn't as on the day.
+/// Lists the settings for the slots, reflector, rings and letters of a rotor machine that aren't as the day says.
 ///
 /// Slots come first, then the reflector, rings and letters. `parts` are the parts of `machine`.
 #[tactic(auto, using(crate::proofs::Counting::few_in_box))]
@@ -37,7 +37,7 @@ pub fn rotor_settings(machine: &Machine, parts: &RotorParts, entry: &RotorEntry)
     settings
 }
 
-/// Appends the setting SEAT for each of `slots` that doesn't hold the day's wheel, which is in `wheels`.
+/// Appends the setting SEAT for each slot whose wheel in `slots` isn't the day's wheel in `wheels`.
 ///
 /// `number` is the number of the first of these slots. Slots are counted from 1.
 fn push_seats(settings: &mut Settings, number: u8, slots: &[Option<Wheel>], wheels: &[SheetWheel])
@@ -102,14 +102,14 @@ fn push_turns(
     }
 }
 
-/// Finds `wheel` among the day's wheels `wheels`, each of which has its ring's letter and its window letter.
+/// Finds `wheel` among the day's wheels. Each of `wheels` also has the day's letters for its ring and its window.
 fn find_wheel(wheels: &[SheetWheel], wheel: Wheel) -> Option<SheetWheel>
     ensures { result ≡ find (λ seated. same_wheel wheel seated.wheel) wheels.now }
 {
     wheels.iter().copied().find(|seated| wheel == seated.wheel)
 }
 
-/// Appends the setting RING for the day's wheel `wanted`, unless this is `None` or its ring is set already.
+/// Appends the setting RING for the day's wheel `wanted`, unless `wanted` is `None` or the wheel's ring is set already.
 fn push_ring(settings: &mut Settings, machine: &Machine, wanted: Option<SheetWheel>)
     requires { array_vec_len settings.old + 1 ≤ 192 }
     ensures items { let lines = option_map_or (λ seated.

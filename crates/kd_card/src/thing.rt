@@ -1,12 +1,13 @@
-//! What equal cables, columns, bars or rows have in common. A card lists its kinds in the order of these values.
+//! The key of a kind: what its equal cables, columns, bars or rows have in common. A card lists kinds in the order of
+//! their keys.
 ghost use Rattle.std.specs.Prelude.{◌≡◌};
 
 use kd_tables::{Letter, Reading, Standing};
 use std::marker::Model;
 
-/// What equal cables, columns, bars or rows have in common: letters, a pair, a standing or a reading.
+/// The key of a kind: the letters of its cables, a pair, a standing or a reading.
 ///
-/// A card lists its kinds in the order of these values, as the law `ordered` of `Kind` says.
+/// A card lists its kinds in the order of their keys, as the law `ordered` of `Kind` says.
 pub trait Thing: Copy + Default + Ord {
     ghost use Rattle.std.specs.Prelude.{◌≡◌};
     ghost use Rattle.std.specs.declared.cmp.Ordering.TheVariants.{Equal};
@@ -15,7 +16,7 @@ pub trait Thing: Copy + Default + Ord {
     ghost told_apart: { (x y : Self) → Self.cmp x y ≡ Equal → x ≡ y };
 }
 
-/// The letters of a cable. They have dictionary order; a cable whose first letter is `None` comes last.
+/// The letters of a cable. `Ord` is the dictionary order, but a cable whose first letter is `None` comes last.
 #[derive(Clone, Copy, PartialEq, Eq, PartialOrd, Ord)]
 pub struct Ends {
     is_last: bool,
@@ -66,7 +67,7 @@ impl Ends {
 
 /// A column of the table of costs: a pair, or a nothing, which is a column without a pair.
 ///
-/// Pairs have dictionary order; a nothing comes after all pairs.
+/// `Ord` is the dictionary order of pairs; a nothing comes after all pairs.
 #[derive(Clone, Copy, PartialEq, Eq, PartialOrd, Ord)]
 pub struct Column {
     is_last: bool,

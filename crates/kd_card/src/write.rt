@@ -21,7 +21,7 @@ use itoa::Buffer;
 use kd_state::{Setting, push_number};
 use kd_tables::{Device, Sink, put_all};
 
-/// A buffer size, in bytes, for the text of any card, which has at most 192 settings and 54 prices or kinds.
+/// A buffer size, in bytes, that is enough for any card: at most 192 settings, and 54 prices or kinds.
 const LONGEST: usize = 6144;
 
 /// Writes the text of `card` for day `day` of the month. If the sink fails, it has taken a prefix of the text.
@@ -52,7 +52,7 @@ fn card_text(day: u8, card: &Card) -> ArrayString<LONGEST>
     text
 }
 
-/// Appends a card's first line: the version of its prices, and `day`, the day of the month.
+/// Appends a card's first line, such as `CARD 2 DAY 31`: the version of its prices, and the day of the month.
 fn push_head<const N: usize>(text: &mut ArrayString<N>, version: Version, day: u8)
     requires { array_string_len text.old + 15 ≤ N }
     ensures bytes { text.new.bytes ≡ text.old.bytes ++ line_then (head_words version day) [] }
@@ -121,7 +121,7 @@ fn push_prices<const N: usize>(text: &mut ArrayString<N>, prices: &Prices)
     }
 }
 
-/// Appends a line for each kind of `rows`, and then for each kind of `columns`.
+/// Appends a line for each of the kinds `rows`, and then for each of the kinds `columns`.
 #[tactic(auto, using(crate::proofs::KindPrices::groups_joined))]
 fn push_groups<R: Kind, C: Kind, const N: usize>(
     text: &mut ArrayString<N>,

@@ -1,4 +1,4 @@
--- If only the first `number` cables are in use, the others are not needed for a day of at most `number` pairs.
+-- A day of at most `number` pairs needs only the first `number` cables, if no other cable is in use.
 use Rattle.std.specs.Prelude.{ℕ, ◌<◌, ◌≤◌, All, IsTrue, List, length}
 use Rattle.kd_state.specs.declared.machine.parts.Parts.{Parts}
 use Rattle.kd_state.specs.declared.machine.parts.Parts.TheVariants.{Rotor, Pin}
@@ -8,7 +8,7 @@ use Rattle.kd_state.specs.Setting.{Leads, cable_at}
 use Rattle.kd_state.specs.SheetDay.{Day, OfRotors, OfPins}
 use Rattle.kd_plan.specs.Spares.{is_spare, SparesStayFree}
 
--- No cable with a number above `number` is in use, that is, has a letter.
+-- All cables with numbers above `number` are spare: they have no letter.
 abbrev pub UsesNoneAbove : ℕ → Parts → Type 0
 UsesNoneAbove number (Rotor m) = (cable : ℕ) → number < cable → IsTrue (is_spare (cable_at m cable))
 UsesNoneAbove number (Pin m) = Unit {0}
@@ -24,8 +24,8 @@ NamesNoneAbove number (Pull cable letter) = cable ≤ number
 NamesNoneAbove number (Put cable letter) = cable ≤ number
 NamesNoneAbove number _ = Unit {0}
 
--- If only the first `number` cables are in use, and the day has at most `number` pairs, then settings that leave
--- spare cables free name only the first `number` cables, and only these are in use after the settings.
+-- Suppose that only the first `number` cables are in use, and that the day has at most `number` pairs. Then settings
+-- that leave spare cables free name no other cable, and afterwards no other cable is in use.
 abbrev pub FewCablesServe : Type 0
 FewCablesServe =
     (number : ℕ) (m n : Parts) (s : Day) (settings : List Setting) → UsesNoneAbove number m → HasPairsUpTo number s

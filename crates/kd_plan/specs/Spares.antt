@@ -12,12 +12,11 @@ use Rattle.kd_state.specs.SheetDay.{Day, OfRotors, OfPins}
 abbrev pub is_spare : Option ℕ × Option ℕ → Bool
 is_spare cable = is_none cable.0 && is_none cable.1
 
--- the number of spare cables that the pairs need: the number of pairs minus that of cables in use, but at least 0
+-- the number of spare cables that the pairs need: the number of pairs minus the number of cables in use, but at least 0
 abbrev pub spares_needed : List (Option ℕ × Option ℕ) → List (ℕ × ℕ) → ℕ
 spares_needed cables pairs = length pairs - count_by (λ cable. not (is_spare cable)) cables
 
--- If a setting puts a letter into a spare cable, this cable is among the first `spares_needed` spare cables,
--- counted from cable 1 on.
+-- The settings put letters only into cables in use and into the first `spares_needed` spare cables, counted from 1.
 abbrev pub SparesStayFree : Parts → Day → List Setting → Type 0
 SparesStayFree (Rotor m) (OfRotors s) settings =
     (cable letter : ℕ) → Contains settings (Put cable letter) → IsTrue (is_spare (cable_at m cable))

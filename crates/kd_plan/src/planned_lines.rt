@@ -8,7 +8,7 @@ use super::cable_lines::{CableMove, push_moves};
 use kd_card::{pin_settings, rotor_settings};
 use kd_state::{Machine, Parts, PinEntry, PinParts, RotorEntry, RotorParts, Settings};
 
-/// The settings for loose things, and then the settings that give each cable the letters of its column.
+/// Lists the settings for loose things, and then the settings that give each cable the letters of its column.
 ///
 /// `to` has the place of each cable's column, counted from 0. `parts` are the parts of `machine`.
 pub(crate) fn planned_rotor_lines(
@@ -28,7 +28,7 @@ pub(crate) fn planned_rotor_lines(
     settings
 }
 
-/// The settings for loose things, and then the settings that move lugs until each bar reads as its row.
+/// Lists the settings for loose things, and then the settings that move lugs until each bar reads as its row.
 ///
 /// `to` has the place of each bar's row, counted from 0.
 pub(crate) fn planned_pin_lines(parts: &PinParts, entry: &PinEntry, to: &[u8]) -> Settings

@@ -1,4 +1,4 @@
-//! Assigns pairs to cables in use first. Only the pairs left go to spare cables, which have no letter.
+//! Assigns pairs to cables in use first. Only the remaining pairs go to spare cables, which have no letter.
 ghost use Rattle.std.specs.Prelude.{◌≡◌, ℕ, ◌<◌, ◌≤◌, length, slice_index, IsTrue, MatchOption};
 ghost use Rattle.kd_assign.specs.Assignment.{IsOneToOne, assignment_cost};
 ghost use Rattle.kd_plan.specs.{Spares.{is_spare}, SparesLast.{comes_before, SparesComeLast}};
@@ -7,10 +7,10 @@ ghost use Rattle.kd_state.specs.Costs.{cable_costs};
 use kd_state::Cable;
 use kd_tables::Letter;
 
-/// Reassigns pairs in `to` from spare cables to cables in use, and to spare cables with lower numbers.
+/// Moves pairs in `to` from spare cables to cables in use, or to spare cables with lower numbers.
 ///
-/// The total cost doesn't grow. A spare cable with a pair costs 2; if it exchanges its column with a cable without
-/// a pair, the spare cable costs 0 afterwards, and the other cable at most 2 more than before.
+/// In each move, a spare cable and a cable without a pair swap their columns. The spare cable's cost falls from 2 to 0,
+/// and the other cable's cost grows by at most 2. So the total cost doesn't grow.
 pub(crate) fn keep_spares_free(cables: &[Cable; 13], pairs: &[(Letter, Letter)], to: &mut [u8; 13])
     requires { IsOneToOne to.old }
     ensures one_to_one { IsOneToOne to.new }

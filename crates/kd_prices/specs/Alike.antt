@@ -6,7 +6,7 @@ use Rattle.kd_state.specs.Machine.{cable_letters}
 use Rattle.kd_state.specs.SheetDay.{Day, OfRotors, OfPins}
 use Rattle.kd_state.specs.OnKey.{HaveSameLetters}
 
--- Cables `place` and `other` have the same letters; or bars `place` and `other` have their lugs at the same places.
+-- Cables `place` and `other` have the same letters; or bars `place` and `other` have the same standing.
 abbrev pub StandAlike : Parts → ℕ → ℕ → Type 0
 StandAlike (Rotor m) place other =
     HaveSameLetters

@@ -38,20 +38,20 @@ pub record AreNumbered (m : Parts) (s : Day) (prices : PriceParts) : Type 0 wher
   pub model : model_of m ≡ day_model s
   pub kind : AreModelPrices m prices
 
--- Row by row, the cell in row `i` and column `j` of a table comes before the cell in row `row` and column `column`.
+-- Row by row, the cell in row `i` and column `j` comes before the cell in row `row` and column `column`.
 abbrev pub ComesBefore : ℕ → ℕ → ℕ → ℕ → Type 0
 ComesBefore i j row column = (i < row) ⊎ ((i ≡ row) × (j < column))
 
--- The first cell for which `Holds` is false, row by row, is in row `row` and column `column`. The table has
--- `number` rows and `number` columns, counted from 0.
+-- Row by row, the first cell where `Holds` is false is in row `row` and column `column`. The table has `number` rows
+-- and `number` columns, counted from 0.
 pub record IsFirstWithout (Holds : ℕ → ℕ → Type 0) (number row column : ℕ) : Type 0 where
   pub row_within : row < number
   pub column_within : column < number
   pub here : ¬ (Holds row column)
   pub before : (i j : ℕ) → j < number → ComesBefore i j row column → Holds i j
 
--- Row `row` and column `column`, counted from 0, meet in the first cell, row by row, where their prices add up to
--- more than the cost.
+-- Row by row, the first cell whose prices add up to more than its cost is in row `row` and column `column`, counted
+-- from 0.
 abbrev pub IsFirstTooHigh : List (List ℕ) → PriceParts → ℕ → ℕ → Type 0
 IsFirstTooHigh costs prices row column = IsFirstWithout (PricesFitAt costs prices) (table_rows prices) row column
 
@@ -86,8 +86,9 @@ IsNeededAnswer m s settings (Ok all) = AreSettingsNeeded m s settings
 IsNeededAnswer m s settings (Err (NeedlessLine line)) = IsFirstNeedless m s settings line
 IsNeededAnswer m s settings (Err doubt) = ⊥
 
--- The result of checking the settings by a price for each cable and column, or each bar and row: success if the
--- settings lead to the day and the prices prove that no shorter list does; otherwise the first doubt.
+-- The result of checking a card by number: success if its settings lead to the day and its prices prove that no shorter
+-- list does; otherwise the first doubt. By number means that each cable and column, or each bar and row, has its own
+-- price.
 abbrev pub IsByNumberAnswer : Parts → Day → List Setting → PriceParts → AnswerRule Doubt (Unit {0})
 IsByNumberAnswer m s settings prices = do
   n ← IsCarriedAnswer m settings
@@ -96,8 +97,8 @@ IsByNumberAnswer m s settings prices = do
   _ ← Demands (price_sum prices ≡ pos (priced_count settings)) SumDiffers
   IsNeededAnswer m s settings
 
--- The result of checking the settings of a card by its prices: success if the card proves itself, otherwise the
--- first doubt. If each kind has one price, the price of each cable, column, bar or row is found first.
+-- The result of checking a card: success if the card proves itself, otherwise the first doubt. If each kind has one
+-- price, the price of each cable, column, bar or row is found first.
 abbrev pub IsCheckedAnswer : Parts → Day → List Setting → PriceParts → AnswerRule Doubt (Unit {0})
 IsCheckedAnswer m s settings prices = do
   _ ← Demands (AreOfOneModel m s prices) OtherModel
@@ -110,15 +111,15 @@ IsDoubt m s settings prices doubt = IsCheckedAnswer m s settings prices (Err dou
 
 -- ---- The steps of finding the first doubt. No public contract cites these definitions.
 
--- The result of checking the settings by the prices of `number` rows and `number` columns of the table of costs:
--- success if the settings lead to the day and are proved shortest; otherwise the first doubt.
+-- The result of checking settings by two lists of prices, of the `number` rows and the `number` columns of the table of
+-- costs: success if the settings lead to the day and are proved shortest; otherwise the first doubt.
 abbrev pub IsByPricesAnswer : Parts → Day → List Setting → ℕ → List ℤ → List ℤ → AnswerRule Doubt (Unit {0})
 IsByPricesAnswer m s settings number rows columns answer =
     (prices : PriceParts) → row_prices prices ≡ rows → column_prices prices ≡ columns → table_rows prices ≡ number
     → IsByNumberAnswer m s settings prices answer
 
--- The result of finding a price for each row and each column of the table of costs, from which `make` makes prices by
--- number: these prices, or the first doubt.
+-- The result of finding a price for each row and each column of the table of costs: both lists of prices, or the first
+-- doubt. `make` turns the lists into prices by number.
 abbrev pub ArePricesFound : Parts → Day → PriceParts → (List ℤ → List ℤ → PriceParts)
     → AnswerRule Doubt (List ℤ × List ℤ)
 ArePricesFound m s prices make = do

@@ -1,5 +1,5 @@
--- Grouping things with prices into kinds, and finding the price of a thing in the kinds. Things are the letters of
--- cables or columns, standings or readings. No contract of a public function cites these definitions.
+-- Grouping keys with prices into kinds, and finding the price of a key in the kinds. Keys are the letters of cables or
+-- columns, standings or readings. No contract of a public function cites these definitions.
 use Rattle.std.specs.Prelude.{◌≡◌, ◌≤◌, List, ◌∷◌, ◌++◌, map, replicate, count_by, ℤ, All}
 use Rattle.std.specs.Prelude.{IsPermutation, Bool, true, false, Option, unsigned_abs}
 use Rattle.std.specs.{List.{Contains, zip, Sorted.{IsSorted}}, Ordering.{ordering_then, int_cmp}}
@@ -7,28 +7,28 @@ use Rattle.std.specs.declared.cmp.Ordering.{Ordering}
 use Rattle.kd_card.specs.declared.kinds.KindOf.{KindOf}
 use Rattle.kd_card.specs.Kinds.{Sort, ComesAfter, AreKinds, expansion}
 
--- In this list of things with their prices, equal things have equal prices.
+-- In this list of keys (letters, standings or readings) with their prices, equal keys have equal prices.
 abbrev pub HaveOnePriceEach : {X : Type 0} → List (X × ℤ) → Type 0
 HaveOnePriceEach {X} pairs =
     (thing : X) (price other : ℤ) → Contains pairs (thing, price) → Contains pairs (thing, other) → price ≡ other
 
--- A thing in the form that a card writes, with a price from -9999 to 9999.
+-- The key (letters, a standing or a reading) has the form that a card writes, and its price is from -9999 to 9999.
 abbrev pub IsFine : {K X : Type 0} → Sort K X → X × ℤ → Type 0
 IsFine sort pair = sort.InForm pair.0 × (unsigned_abs pair.1 ≤ 9999)
 
--- a kind of one thing, which has this price
+-- a kind with this key and this price, and with the count 1
 abbrev pub kind_of_one : {X : Type 0} → X × ℤ → KindOf X
 kind_of_one pair = record { thing = pair.0; count = 1; price = pair.1 }
 
--- Things with their prices that have valid kinds: they are sorted by things, then by prices; equal things have equal
--- prices; and each is in the form that a card writes.
+-- Keys with prices that can be grouped into valid kinds. They are sorted by key, then by price. Equal keys have equal
+-- prices. Each key has the form that a card writes, and each price is from -9999 to 9999.
 pub record CanBeKinds {K X : Type 0} (sort : Sort K X) (cmp : X → X → Ordering) (pairs : List (X × ℤ)) : Type 0 where
   pub sorted : IsSorted (λ one other. ordering_then (cmp one.0 other.0) (int_cmp one.1 other.1)) pairs
   pub one_price : HaveOnePriceEach pairs
   pub fine : All (IsFine sort) pairs
 
--- `new` is `old`, and then the kinds of the things that `kind` counts and of `pairs`. These kinds are valid if the
--- things can be kinds. If there is a kind `last` before them, the thing of `kind` has to come after it.
+-- `new` is `old`, and then kinds that count the keys of `kind` and of `pairs`, with their prices. If these keys can be
+-- kinds, the added kinds are valid and strictly ascending. They come after a kind `last` if the key of `kind` does.
 pub record AppendsKinds {K X : Type 0} (sort : Sort K X) (cmp : X → X → Ordering) (kind : KindOf X)
     (pairs : List (X × ℤ)) (old new : List K) : Type 0 where
   pub made : List K
@@ -40,22 +40,22 @@ pub record AppendsKinds {K X : Type 0} (sort : Sort K X) (cmp : X → X → Orde
 
 -- ---- the price of each thing of a kind
 
--- None of the kinds counts things that are equal to this thing.
+-- None of the kinds has this key and a count above 0.
 abbrev pub HasNoneLeft : {X : Type 0} → (X → X → Bool) → List (KindOf X) → X → Type 0
 HasNoneLeft eq kinds thing = count_by (λ other. eq other.0 thing) (expansion kinds) ≡ 0
 
--- The kinds `left` are `kinds` with one `thing` less, which has this price.
+-- Taking one key (letters, a standing or a reading) with this price out of `kinds` leaves the kinds `left`.
 abbrev pub TakesOne : {X : Type 0} → List (KindOf X) → X → ℤ → List (KindOf X) → Type 0
 TakesOne kinds thing price left = IsPermutation (expansion kinds) ((thing, price) ∷ expansion left)
 
--- Of each thing, the kinds count at least as many as there are in `things`.
+-- The kinds count each key (letters, standing or reading) at least as often as the key is in the list.
 abbrev pub HaveThings : {X : Type 0} → (X → X → Bool) → List (KindOf X) → List X → Type 0
 HaveThings {X} eq kinds things =
     (thing : X)
     → count_by (λ other. eq other thing) things ≤ count_by (λ other. eq other.0 thing) (expansion kinds)
 
--- If the Bool is true, the kinds `left` are `kinds` without `things`, which have these prices. If it is false, `kinds`
--- don't have all of these things.
+-- If the Bool is true, taking the listed keys with these prices out of `kinds` leaves the kinds `left`. If it is false,
+-- `kinds` count some key less often than the key is in the list.
 abbrev pub TakesAll : {X : Type 0} → (X → X → Bool) → List (KindOf X) → List X → List ℤ → List (KindOf X) → Bool
     → Type 0
 TakesAll eq kinds things prices left true = IsPermutation (expansion kinds) (zip things prices ++ expansion left)

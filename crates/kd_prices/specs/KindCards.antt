@@ -10,7 +10,7 @@ use Rattle.kd_card.specs.Proving.{Expands}
 use Rattle.kd_prices.specs.Doubt.{AreNumbered}
 use Rattle.kd_prices.specs.Laws.{AreEqualWhereAlike}
 
--- Machine and day are of one model. Each cable and column, or bar and row, has its own price, and equal cables,
+-- Machine and day are of one model. Each cable and column, or each bar and row, has its own price. Equal cables,
 -- columns, bars or rows have equal prices.
 pub record CanBeByKind (m : Parts) (s : Day) (prices : PriceParts) : Type 0 where
   pub numbered : AreNumbered m s prices

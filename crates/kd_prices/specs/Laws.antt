@@ -30,7 +30,7 @@ pub record AreShortest (m : Parts) (s : Day) (settings : List Setting) (number :
   pub shortest : IsShortest m s settings
   pub count : length settings ≡ number
 
--- After any number of lines of a card that proves itself are carried out, the lines left are a shortest list.
+-- If a card proves itself, then at any point of carrying it out, the remaining lines are a shortest list.
 abbrev pub RestIsShortest : Type 0
 RestIsShortest =
     (m between : Parts) (s : Day) (settings : List Setting) (prices : PriceParts) (lines : ℕ) → IsMachine m
@@ -38,8 +38,8 @@ RestIsShortest =
     → Proves m s settings prices → lines ≤ length settings → Leads m (take lines settings) between
     → AreShortest between s (drop lines settings) (length settings - lines)
 
--- Cables with the same letters have equal prices, and all columns without a pair have equal prices; or bars with
--- their lugs at the same places have equal prices, and rows with the same reading have equal prices.
+-- On a rotor machine, cables with the same letters have equal prices, and all columns without a pair have equal prices.
+-- On a Converter, bars with the same standing have equal prices, and rows with the same reading have equal prices.
 pub record AreEqualWhereAlike (m : Parts) (s : Day) (prices : PriceParts) : Type 0 where
   pub rows :
       (place other : ℕ) → place < table_rows prices → other < table_rows prices → StandAlike m place other
@@ -48,8 +48,8 @@ pub record AreEqualWhereAlike (m : Parts) (s : Day) (prices : PriceParts) : Type
       (place other : ℕ) → place < table_rows prices → other < table_rows prices → ReadAlike s place other
       → price_at (column_prices prices) place ≡ price_at (column_prices prices) other
 
--- If a card proves itself, and has a price for each cable and column, or each bar and row, equal cables, nothings,
--- bars or rows have equal prices.
+-- On a card by number that proves itself, equal cables, nothings, bars or rows have equal prices. By number means that
+-- each cable and column, or each bar and row, has its own price.
 abbrev pub AlikePricesAreEqual : Type 0
 AlikePricesAreEqual =
     (m : Parts) (s : Day) (settings : List Setting) (prices : PriceParts) → IsMachine m → IsLegalDay s

@@ -32,7 +32,7 @@ pub fn check(machine: &Machine, day: &SheetDay, card: &Card) -> Result<(), Doubt
     first_doubt(machine, day, card)
 }
 
-/// Compares the models, finds a price for each row and column of the table of costs, and checks `card` by them.
+/// Compares the models, finds a price for each row and column of the table of costs, and checks the card by the prices.
 fn first_doubt(machine: &Machine, day: &SheetDay, card: &Card) -> Result<(), Doubt>
     ensures { IsCheckedAnswer machine.now day.now card.now.settings.items card.now.prices result }
 {

@@ -7,7 +7,7 @@ use kd_tables::{Refusal, Text};
 use std::fmt;
 use thiserror::Error;
 
-/// Why a card doesn't prove itself. Lines are settings of the card, counted from 1.
+/// Why a card doesn't prove itself. In a doubt, line 1 is the card's first setting.
 #[derive(Clone, Copy, Debug, PartialEq, Eq, Error)]
 pub enum Doubt {
     /// Machine and day are of different models, or the prices aren't for this machine.
@@ -33,7 +33,7 @@ pub enum Doubt {
 }
 
 impl Doubt {
-    /// The refusal's number and name, and then what the doubt names: a line, a reason, or a row and a column.
+    /// The text of the refusal, such as `17 NeedlessLine 2`: number, name, and a line, a reason, or a row and a column.
     pub fn text(&self) -> Text
         ensures { result.bytes ≡ doubt_text self.now }
     {

@@ -1,4 +1,4 @@
-//! Finds the price of each thing on a card by kind, where equal things share one price.
+//! Finds the price of each cable, column, bar or row on a card where each kind has one price.
 ghost use Rattle.std.specs.Prelude.{◌≡◌, ◌↔◌, ◌<◌, ◌≤◌, length, map, ℤ, List, true, IsTrue, MatchOption};
 ghost use Rattle.kd_card.specs.Kinds.{AreKindsOf};
 ghost use Rattle.kd_card.specs.CardText.{IsGroup};
@@ -8,9 +8,9 @@ ghost use Rattle.kd_prices.specs.Grouping.{HasNoneLeft, TakesOne, TakesAll};
 use arrayvec::ArrayVec;
 use kd_card::{Kind, KindOf};
 
-/// The price of each of `things`: the price of its kind, which is one of `kinds`.
+/// Finds the price of each cable, column, bar or row by its key in `things`: the price of the kind with this key.
 ///
-/// `None` if `kinds` or their counts aren't those of `things`.
+/// `None` unless `kinds` count exactly the keys in `things`.
 pub(crate) fn prices_of<K: Kind, const N: usize>(
     things: &[K::Thing],
     kinds: ArrayVec<K, N>,
@@ -26,9 +26,9 @@ pub(crate) fn prices_of<K: Kind, const N: usize>(
     take_prices(things, kinds.as_mut_slice(), &mut prices).then_some(prices)
 }
 
-/// Takes all of `things` out of `kinds`, and writes the price of each to its place in `prices`.
+/// For each key in `things`, lowers the count of its kind by one, and writes the kind's price to `prices`.
 ///
-/// The result is `false` if a thing's kind isn't among `kinds`, or its count is too low.
+/// The result is `false` if a key's kind isn't among `kinds`, or its count is too low.
 fn take_prices<K: Kind>(things: &[K::Thing], kinds: &mut [K], prices: &mut [i16]) -> bool
     requires prices { length prices.old ≡ length things.now }
     ensures len { length prices.new ≡ length prices.old }
@@ -47,9 +47,9 @@ fn take_prices<K: Kind>(things: &[K::Thing], kinds: &mut [K], prices: &mut [i16]
     }
 }
 
-/// Takes `thing` out of `kinds`: the count of its kind falls by one. The result is the price of the kind.
+/// Lowers the count of the kind with the key `thing` by one, and returns the price of this kind.
 ///
-/// `None` if the kind of `thing` isn't among `kinds`, or its count is 0.
+/// `None` if no kind has this key and a count above 0.
 fn take_one<K: Kind>(thing: &K::Thing, kinds: &mut [K]) -> Option<i16>
     ensures { MatchOption result
         (HasNoneLeft K.Thing.eq (map K.sort.kind kinds.old) thing.now)
@@ -68,7 +68,7 @@ fn take_one<K: Kind>(thing: &K::Thing, kinds: &mut [K]) -> Option<i16>
     }
 }
 
-/// Whether `kind` is the kind of `thing`, and its count is above 0.
+/// Whether `kind` has the key `thing` and a count above 0.
 fn has_one_left<K: Kind>(thing: &K::Thing, kind: &K) -> bool
     ensures { let parts = K.sort.kind kind.now in
         IsTrue result ↔ ((K.Thing.eq parts.thing thing.now ≡ true) × (0 < parts.count)) }

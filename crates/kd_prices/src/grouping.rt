@@ -1,4 +1,4 @@
-//! Groups things with prices: equal things with equal prices become one kind, with their number.
+//! Groups keys with prices into kinds: equal keys with equal prices become one kind, which has their count.
 ghost use Rattle.std.specs.Prelude.{◌≡◌, ◌↔◌, ◌+◌, ◌<◌, ◌≤◌, length, map, IsPermutation, All, IsTrue, true, None};
 ghost use Rattle.kd_card.specs.Kinds.{AreKinds, expansion};
 ghost use Rattle.kd_prices.specs.Grouping.{HaveOnePriceEach, IsFine, AppendsKinds, kind_of_one};
@@ -6,10 +6,10 @@ ghost use Rattle.kd_prices.specs.Grouping.{HaveOnePriceEach, IsFine, AppendsKind
 use arrayvec::ArrayVec;
 use kd_card::{Kind, KindOf, Thing};
 
-/// Groups equal things with equal prices into kinds, in ascending order.
+/// Groups equal keys with equal prices into kinds, in ascending order.
 ///
-/// `pairs` are things (the letters of a cable or column, a standing or a reading) with their prices. If equal
-/// things have different prices, each of the prices gets a kind, and `Prices` refuses these kinds.
+/// `pairs` are keys (the letters of a cable or column, a standing or a reading) with their prices. If equal keys have
+/// different prices, each of these prices gets a kind, and `Prices` refuses the kinds.
 pub(crate) fn kinds_of<K: Kind, const N: usize>(
     pairs: ArrayVec<(K::Thing, i16), N>,
 ) -> ArrayVec<K, N>
@@ -27,7 +27,7 @@ pub(crate) fn kinds_of<K: Kind, const N: usize>(
     kinds
 }
 
-/// Makes the kind that counts one thing, from the thing and its price.
+/// Makes a kind with the count 1 from a key and its price.
 fn kind_of_one<T: Thing>(pair: &(T, i16)) -> KindOf<T>
     ensures { result ≡ kind_of_one pair.now }
 {
@@ -39,9 +39,9 @@ fn kind_of_one<T: Thing>(pair: &(T, i16)) -> KindOf<T>
     }
 }
 
-/// Appends `kind` and the kinds of `pairs`, which are sorted.
+/// Appends `kind`, and then the kinds of `pairs`, which are sorted.
 ///
-/// If the first of `pairs` are the thing of `kind` with its price, `kind` counts them, too.
+/// The first of `pairs` are counted in `kind`, as long as they have its key and its price.
 fn push_kinds<K: Kind, const N: usize>(
     kind: KindOf<K::Thing>,
     pairs: &[(K::Thing, i16)],
@@ -66,7 +66,7 @@ fn push_kinds<K: Kind, const N: usize>(
     }
 }
 
-/// Whether `pair` is a thing of `kind` with the kind's price.
+/// Whether `pair` has the key and the price of `kind`.
 fn is_of_kind<T: Thing>(pair: &(T, i16), kind: &KindOf<T>) -> bool
     ensures { IsTrue result ↔ ((T.eq pair.now.0 kind.now.thing ≡ true) × (pair.now.1 ≡ kind.now.price)) }
 {

@@ -10,9 +10,9 @@ use kd_state::{Machine, OneModel, SheetDay};
 
 /// Converts `card` to a card where each kind has the price that its members have on `card`. The settings stay.
 ///
-/// `None` if machine and day are of different models, if the prices aren't for this machine, if `card` has one
-/// price for each kind already, or if two equal cables, columns, bars or rows have different prices. On a card that
-/// proves itself, equal cables, columns, bars or rows never have different prices.
+/// `None` if machine and day are of different models, if the prices aren't for this machine, or if they are by kind
+/// already. Also `None` if two equal cables, columns, bars or rows have different prices, which never happens on a card
+/// that proves itself.
 pub fn by_kind(machine: &Machine, day: &SheetDay, card: &Card) -> Option<Card>
     ensures some { IsSome result ↔ CanBeByKind machine.now day.now card.now.prices }
     ensures card { IfSome result (λ other. IsByKind machine.now day.now card.now other) }

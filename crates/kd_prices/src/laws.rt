@@ -1,4 +1,4 @@
-//! Laws on checked cards: on doubts, on the lines left of a card, and on the prices of equal cables or bars.
+//! Laws on checked cards: on doubts, on the remaining lines of a card, and on the prices of equal cables or bars.
 ghost use Rattle.kd_prices.specs.Laws.{ProvingCardsAreInNoDoubt, OneDoubt, RestIsShortest, AlikePricesAreEqual};
 
 /// If a card proves itself, there is no doubt about it. No card has two different first doubts.
@@ -7,15 +7,16 @@ pub fn a_card_is_in_one_doubt_at_most()
     ensures one { OneDoubt }
 {}
 
-/// After any number of lines of a card that proves itself are carried out, the lines left are a shortest list.
+/// If a card proves itself, then at any point of carrying it out, the remaining lines are a shortest list.
 pub fn rest_of_a_card_is_shortest()
     ensures { RestIsShortest }
 {}
 
-/// Equal cables, nothings, bars or rows have equal prices on a card that proves itself, though each has its own.
+/// On a card by number that proves itself, equal cables, nothings, bars or rows have equal prices.
 ///
-/// Cables are equal if they have the same letters, bars if their lugs are at the same places, and rows of the
-/// sheet if they have the same reading. All nothings (columns without a pair) are equal.
+/// By number means that each of them has its own price. Cables are equal if they have the same letters. Bars are equal
+/// if their lugs are at the same places, and rows of the sheet if they have the same reading. All nothings (columns
+/// without a pair) are equal.
 #[tactic(auto, using(crate::proofs::AlikePrices::alike_prices_are_equal))]
 pub fn alike_prices_are_equal()
     ensures { AlikePricesAreEqual }

@@ -1,4 +1,4 @@
-//! Converts cables and columns to `Ends` and `Column`, which have the order of a card's lines.
+//! Converts cables and columns to `Ends` and `Column`, which are sorted like a card's lines.
 ghost use Rattle.std.specs.Prelude.{◌≡◌, ◌+◌, ◌++◌, ◌≤◌, length, zip};
 ghost use Rattle.kd_card.specs.Proving.{columns_in_order, pair_in_order};
 
@@ -40,7 +40,7 @@ fn in_order(pair: Option<(Letter, Letter)>) -> Option<(Letter, Letter)>
     Some(letters_in_order(one, other))
 }
 
-/// Pairs each of `things` with its price, which has the same place in `prices`.
+/// Pairs each key in `things` with the price at the same place in `prices`.
 pub(crate) fn beside<T: Thing, const N: usize>(
     things: &[T],
     prices: &[i16; N],
@@ -53,7 +53,7 @@ pub(crate) fn beside<T: Thing, const N: usize>(
     pairs
 }
 
-/// Appends each of `things` with its price to `pairs`.
+/// Appends each key in `things`, with its price, to `pairs`.
 fn push_pairs<T: Thing, const N: usize>(
     pairs: &mut ArrayVec<(T, i16), N>,
     things: &[T],
