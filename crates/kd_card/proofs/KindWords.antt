@@ -1,10 +1,10 @@
--- The words of a kind's line determine what its things have in common, their number and their price.
+-- The words of a kind's line determine what its keys have in common, their number and their price.
 use Rattle.kd_card.proofs.Prelude.{common_steps, ◌≡◌, ◌≢◌, ℕ, ◌<◌, List, [], ◌∷◌, ◌++◌, get_or, drop, subst, refl, ℤ}
 use Rattle.kd_card.proofs.Prelude.{Option, Some, None, sym, ap, ◌∙◌, append_assoc, length-append, arith, decimal, All}
 use Rattle.kd_card.proofs.Prelude.{decimal_injective, signed_decimal_injective, All-append, All-weaker}
-use Rattle.kd_card.proofs.Prelude.{All-from_recursion, Place, place_text, standing_text, IsWord, IsWithout, Sort}
-use Rattle.kd_card.proofs.Prelude.{KindOf, cable_sort, pair_sort, bar_sort, row_sort, kind_words, AreEnds, IsKind}
-use Rattle.kd_card.proofs.Prelude.{ComesAfter, ThingComesBefore, kinds_text, HasKindWords, HasText, IsOnlyThing}
+use Rattle.kd_card.proofs.Prelude.{All-from_recursion, Place, place_text, standing_text, IsWord, IsWithout, KindFormat}
+use Rattle.kd_card.proofs.Prelude.{KindOf, cable_format, pair_format, bar_format, row_format, kind_words, AreEnds, IsKind}
+use Rattle.kd_card.proofs.Prelude.{ComesAfter, KeyComesBefore, kinds_text, HasKindWords, HasText, IsOnlyKey}
 use Rattle.kd_card.proofs.Prelude.{signed_decimal, append-nil, HasLineWords, BeginsWithWord, EndsGroup, AtNothing}
 use Rattle.kd_card.proofs.Prelude.{AtOther, IsNextKind, HasNoNext, numbers_are_words, texts_tell_first_parts}
 use Rattle.kd_card.proofs.Prelude.{word_by_bytes, word_by_test, EndsKindsAt, IsBadKindAt, IsKindOfWords, letters_text}
@@ -12,7 +12,7 @@ use Rattle.kd_card.proofs.Prelude.{cable_letters, column_letters}
 use Rattle.kd_tables.specs.Places.{reading_text}
 use Rattle.kd_card.proofs.Lines.{bytes_above, same_words, some_bytes, bytes_are_word, signed_word, mag-small}
 
--- ---- the texts of things
+-- ---- the texts of keys
 
 place_above : (p : Place) → All (λ b. 45 < b) (place_text p)
 place_above p = bytes_above 45 (place_text p) (grind arith)
@@ -38,52 +38,52 @@ same_standing a b c d e = grind (arith, common_steps, texts_tell_first_parts, pl
 same_reading : (x y : ℕ × ℕ) → reading_text x ≡ reading_text y → x ≡ y
 same_reading (a, b) (c, d) e = grind arith
 
-pub one_cable : (text : List ℕ) (x : Option ℕ × Option ℕ) → HasText cable_sort text x → IsOnlyThing cable_sort text x
+pub one_cable : (text : List ℕ) (x : Option ℕ × Option ℕ) → HasText cable_format text x → IsOnlyKey cable_format text x
 one_cable text (a, b) has = grind (arith, common_steps, same_ends)
 
-pub one_pair : (text : List ℕ) (x : Option (ℕ × ℕ)) → HasText pair_sort text x → IsOnlyThing pair_sort text x
+pub one_pair : (text : List ℕ) (x : Option (ℕ × ℕ)) → HasText pair_format text x → IsOnlyKey pair_format text x
 one_pair text x has = record { has = has; only = λ y other. same_pair y x (other.written ∙ sym has.written) }
 
-pub one_standing : (text : List ℕ) (x : Place × Place) → HasText bar_sort text x → IsOnlyThing bar_sort text x
+pub one_standing : (text : List ℕ) (x : Place × Place) → HasText bar_format text x → IsOnlyKey bar_format text x
 one_standing text (a, b) has = grind (arith, common_steps, same_standing)
 
-pub one_reading : (text : List ℕ) (x : ℕ × ℕ) → HasText row_sort text x → IsOnlyThing row_sort text x
+pub one_reading : (text : List ℕ) (x : ℕ × ℕ) → HasText row_format text x → IsOnlyKey row_format text x
 one_reading text x has = record { has = has; only = λ y other. same_reading y x (other.written ∙ sym has.written) }
 
 -- ---- what the four sorts have in common
 
-pub record IsSort {K X : Type 0} (sort : Sort K X) : Type 0 where
-  pub word : IsWord sort.word
-  pub text : (x : X) → IsWord (sort.text x)
-  pub only : (text : List ℕ) (x : X) → HasText sort text x → IsOnlyThing sort text x
-  pub same : (k l : K) → sort.kind k ≡ sort.kind l → k ≡ l
+pub record IsFormat {K X : Type 0} (format : KindFormat K X) : Type 0 where
+  pub word : IsWord format.word
+  pub text : (x : X) → IsWord (format.text x)
+  pub only : (text : List ℕ) (x : X) → HasText format text x → IsOnlyKey format text x
+  pub same : (k l : K) → format.kind k ≡ format.kind l → k ≡ l
 
-pub cables_are : IsSort cable_sort
+pub cables_are : IsFormat cable_format
 cables_are = grind (arith, common_steps, word_by_test, bytes_are_word, word_by_bytes, one_cable)
 
-pub pairs_are : IsSort pair_sort
+pub pairs_are : IsFormat pair_format
 pairs_are = grind (arith, common_steps, word_by_test, bytes_are_word, word_by_bytes, one_pair)
 
-pub bars_are : IsSort bar_sort
+pub bars_are : IsFormat bar_format
 bars_are = grind (arith, common_steps, word_by_test, word_by_bytes, length-append, standing_above, one_standing)
 
-pub rows_are : IsSort row_sort
+pub rows_are : IsFormat row_format
 rows_are = grind (arith, common_steps, word_by_test, bytes_are_word, word_by_bytes, one_reading)
 
 -- ---- the words of a line
 
-module _ {K X : Type 0} {sort : Sort K X} (is : IsSort sort) where
-  pub kind_is_words : (kind : K) → IsKind sort kind → All IsWord (kind_words sort kind)
+module _ {K X : Type 0} {format : KindFormat K X} (is : IsFormat format) where
+  pub kind_is_words : (kind : K) → IsKind format kind → All IsWord (kind_words format kind)
   kind_is_words kind good = grind (arith, common_steps, All-from_recursion, numbers_are_words, signed_word)
 
-  pub same_kind : (kind other : K) → IsKind sort kind → IsKind sort other
-      → kind_words sort kind ≡ kind_words sort other
+  pub same_kind : (kind other : K) → IsKind format kind → IsKind format other
+      → kind_words format kind ≡ kind_words format other
       → kind ≡ other
   same_kind kind other a b e =
-      let a_kind = sort.kind kind in
-      let b_kind = sort.kind other in
-      let things : a_kind.thing ≡ b_kind.thing =
-      (is.only (sort.text b_kind.thing) b_kind.thing (record { form = b.form; written = refl })).only a_kind.thing
+      let a_kind = format.kind kind in
+      let b_kind = format.kind other in
+      let keys : a_kind.key ≡ b_kind.key =
+      (is.only (format.text b_kind.key) b_kind.key (record { form = b.form; written = refl })).only a_kind.key
       (record { form = a.form; written = ap (λ w. get_or w 1 []) e }) in
       let counts : a_kind.count ≡ b_kind.count =
       decimal_injective a_kind.count b_kind.count (omega arith) (omega arith) (ap (λ w. get_or w 2 []) e) in
@@ -91,49 +91,49 @@ module _ {K X : Type 0} {sort : Sort K X} (is : IsSort sort) where
       signed_decimal_injective a_kind.price b_kind.price (mag-small a_kind.price a.reach)
       (mag-small b_kind.price b.reach)
       (ap (λ w. get_or w 3 []) e) in
-      let make : X → ℕ → ℤ → KindOf X = λ thing count price. record { thing = thing; count = count; price = price } in
+      let make : X → ℕ → ℤ → KindOf X = λ key count price. record { key = key; count = count; price = price } in
       is.same kind other
-      (ap (λ thing. make thing a_kind.count a_kind.price) things
-      ∙ ap (λ count. make b_kind.thing count a_kind.price) counts ∙ ap (make b_kind.thing b_kind.count) prices)
+      (ap (λ key. make key a_kind.count a_kind.price) keys
+      ∙ ap (λ count. make b_kind.key count a_kind.price) counts ∙ ap (make b_kind.key b_kind.count) prices)
 
 -- ---- reading a line of a group
 
 one_word : {bytes word other : List ℕ} → BeginsWithWord word bytes → BeginsWithWord other bytes → word ≡ other
 one_word a b = ap (λ words. get_or words 0 []) (same_words a.has b.has).0
 
-same_after : {K X : Type 0} (sort : Sort K X) (last : Option K) (kind other : K)
-    → (sort.kind other).thing ≡ (sort.kind kind).thing → ComesAfter sort last other → ComesAfter sort last kind
-same_after sort None kind other same after = tt
-same_after sort (Some before) kind other same after = subst (ThingComesBefore sort (sort.kind before).thing) same after
+same_after : {K X : Type 0} (format : KindFormat K X) (last : Option K) (kind other : K)
+    → (format.kind other).key ≡ (format.kind kind).key → ComesAfter format last other → ComesAfter format last kind
+same_after format None kind other same after = tt
+same_after format (Some before) kind other same after = subst (KeyComesBefore format (format.kind before).key) same after
 
-module _ {K X : Type 0} {sort : Sort K X} where
-  -- The line of a kind begins with the word of its sort.
+module _ {K X : Type 0} {format : KindFormat K X} where
+  -- The line of a kind begins with the word of its format.
   pub kind_begins : {last : Option K} {bytes : List ℕ} {kind : K} {rest : List ℕ}
-      → IsNextKind sort last bytes kind rest → BeginsWithWord sort.word bytes
-  kind_begins {kind} {rest} next = record { behind = drop 1 (kind_words sort kind); rest = rest; has = next.line }
+      → IsNextKind format last bytes kind rest → BeginsWithWord format.word bytes
+  kind_begins {kind} {rest} next = record { behind = drop 1 (kind_words format kind); rest = rest; has = next.line }
 
-  pub end_has_no_next : {bytes : List ℕ} (last : Option K) → EndsGroup sort.word bytes → HasNoNext sort last bytes
+  pub end_has_no_next : {bytes : List ℕ} (last : Option K) → EndsGroup format.word bytes → HasNoNext format last bytes
   end_has_no_next last (AtNothing none) kind rest next = some_bytes next.line none
   end_has_no_next last (AtOther word begins differs) kind rest next = differs (one_word begins (kind_begins next))
 
-  pub ends_at : {bytes : List ℕ} (last : Option K) → EndsGroup sort.word bytes → EndsKindsAt sort last bytes
+  pub ends_at : {bytes : List ℕ} (last : Option K) → EndsGroup format.word bytes → EndsKindsAt format last bytes
   ends_at last ends = record { ends = ends; none_more = end_has_no_next last ends }
 
   -- If there are bytes, but no whole line begins them, the group doesn't end before them, and no kind follows.
   pub unended : {bytes : List ℕ} (last : Option K) → bytes ≢ []
-      → ((found : List (List ℕ) × List ℕ) → ¬ (HasLineWords bytes found.0 found.1)) → IsBadKindAt sort last bytes
+      → ((found : List (List ℕ) × List ℕ) → ¬ (HasLineWords bytes found.0 found.1)) → IsBadKindAt format last bytes
   unended last some none = record {
     goes_on = λ ends. elim ends [
       | AtNothing empty ↦ some empty
       | AtOther word begins differs ↦ none (word ∷ begins.behind, begins.rest) begins.has
     ];
-    none_more = λ kind rest next. none (kind_words sort kind, rest) next.line;
+    none_more = λ kind rest next. none (kind_words format kind, rest) next.line;
   }
 
-  -- If a line begins with the sort's word but isn't the line of a kind after `last`, the group doesn't end before it,
+  -- If a line begins with the format's word but isn't the line of a kind after `last`, the group doesn't end before it,
   -- and no kind follows.
-  pub no_kind : {bytes : List ℕ} (last : Option K) → BeginsWithWord sort.word bytes → HasNoNext sort last bytes
-      → IsBadKindAt sort last bytes
+  pub no_kind : {bytes : List ℕ} (last : Option K) → BeginsWithWord format.word bytes → HasNoNext format last bytes
+      → IsBadKindAt format last bytes
   no_kind last begins none = record {
     goes_on = λ ends. elim ends [
       | AtNothing empty ↦ some_bytes begins.has empty
@@ -143,24 +143,24 @@ module _ {K X : Type 0} {sort : Sort K X} where
   }
 
   module _ {text : List ℕ} {words : List (List ℕ)} {rest : List ℕ} (has : HasLineWords text words rest) where
-    pub words_are : {last : Option K} {kind : K} {more : List ℕ} → IsNextKind sort last text kind more
-        → HasKindWords sort words kind
+    pub words_are : {last : Option K} {kind : K} {more : List ℕ} → IsNextKind format last text kind more
+        → HasKindWords format words kind
     words_are next = record { good = next.good; written = (same_words next.line has).0 }
 
-    pub out_of_order : {last : Option K} {kind : K} → IsKindOfWords sort words kind → ¬ (ComesAfter sort last kind)
-        → HasNoNext sort last text
+    pub out_of_order : {last : Option K} {kind : K} → IsKindOfWords format words kind → ¬ (ComesAfter format last kind)
+        → HasNoNext format last text
     out_of_order {last} {kind} is low other more next =
-        low (same_after sort last kind other (is.only other (words_are next)) next.after)
+        low (same_after format last kind other (is.only other (words_are next)) next.after)
 
-pub no_count : {K X : Type 0} (sort : Sort K X) (thing count price : List ℕ) → decimal 0 ≡ count
-    → (kind : K) → ¬ (HasKindWords sort (sort.word ∷ thing ∷ count ∷ price ∷ []) kind)
-no_count sort thing count price zero kind has = grind (arith, common_steps, decimal_injective)
+pub no_count : {K X : Type 0} (format : KindFormat K X) (key count price : List ℕ) → decimal 0 ≡ count
+    → (kind : K) → ¬ (HasKindWords format (format.word ∷ key ∷ count ∷ price ∷ []) kind)
+no_count format key count price zero kind has = grind (arith, common_steps, decimal_injective)
 
 -- ---- writing a line
 
-pub line_in_pieces : {K X : Type 0} (sort : Sort K X) (front : List ℕ) (kind : K)
-    → (((((((front ++ sort.word) ++ 32 ∷ []) ++ sort.text (sort.kind kind).thing) ++ 32 ∷ [])
-    ++ decimal (sort.kind kind).count) ++ 32 ∷ []) ++ signed_decimal (sort.kind kind).price)
+pub line_in_pieces : {K X : Type 0} (format : KindFormat K X) (front : List ℕ) (kind : K)
+    → (((((((front ++ format.word) ++ 32 ∷ []) ++ format.text (format.kind kind).key) ++ 32 ∷ [])
+    ++ decimal (format.kind kind).count) ++ 32 ∷ []) ++ signed_decimal (format.kind kind).price)
     ++ 10 ∷ []
-    ≡ front ++ kinds_text sort (kind ∷ [])
-line_in_pieces sort front kind = simp (append_assoc, append-nil)
+    ≡ front ++ kinds_text format (kind ∷ [])
+line_in_pieces format front kind = simp (append_assoc, append-nil)

@@ -16,7 +16,7 @@ use Rattle.kd_card.proofs.Prelude.{HasFault, GoesOn, parse-signed_decimal, IsAsc
 use Rattle.kd_card.proofs.Prelude.{zero, ◌+◌, ◌*◌, inl, inr, fold, decimal, not, pointwise, not-false, Decides-eqb}
 use Rattle.kd_card.proofs.Prelude.{slice_eq-Decides, err_from_is_err_and, ◌+ℤ◌, digits_value, decimal_nonempty}
 use Rattle.kd_card.proofs.Prelude.{digits_decimal, decimal_digit, first_decimal, All-cons, All-append, All-from_get_or}
-use Rattle.kd_card.proofs.Prelude.{table_rows, ArePrices, Group, Sort, CountWrong, BeginsWithHead, kinds_text}
+use Rattle.kd_card.proofs.Prelude.{table_rows, ArePrices, CostTable, KindFormat, CountWrong, BeginsWithHead, kinds_text}
 use Rattle.kd_card.proofs.Prelude.{first_text, column_word, IsGroup, ByNumber, IsDigit, IsNumberText, IsNumeral}
 use Rattle.kd_card.proofs.Prelude.{IsValueAnswer, IsLineAnswer, IsFirstWordAnswer, IsPriceLineAnswer, IsGroupAnswer}
 use Rattle.kd_card.proofs.Prelude.{nil_from_length, numbers_are_words, word_by_bytes, word_by_test, ThenNext-Ok}
@@ -284,7 +284,7 @@ head_text version day rest e = rw e (grind arith)
 pub day_unbroken : (day : ℕ) → IsDayNumber day → IsWithout 10 (decimal day)
 day_unbroken day month = let last = month.last in (numbers_are_words day (omega arith)).unbroken
 
-pub first_is_word : (kind : Group) → IsWord (first_text ByNumber kind) × IsWord (column_word kind)
+pub first_is_word : (kind : CostTable) → IsWord (first_text ByNumber kind) × IsWord (column_word kind)
 first_is_word kind = grind (arith, word_by_test)
 
 pub prices_are_words : (word : List ℕ) (prices : List ℤ) → IsWord word → ArePricesInRange prices
@@ -402,11 +402,11 @@ line_said {K} word number {bytes} x says =
 
 -- ---- groups of kinds
 
-pub record HasGroup {K X : Type 0} (sort : Sort K X) (number : ℕ) (bytes : List ℕ) (kinds : List K) (rest : List ℕ)
+pub record HasGroup {K X : Type 0} (format : KindFormat K X) (number : ℕ) (bytes : List ℕ) (kinds : List K) (rest : List ℕ)
     : Type 0 where
-  pub lines : bytes ≡ kinds_text sort kinds ++ rest
-  pub group : IsGroup sort number kinds
+  pub lines : bytes ≡ kinds_text format kinds ++ rest
+  pub group : IsGroup format number kinds
 
-pub group_said : {K X : Type 0} {sort : Sort K X} {number : ℕ} (line : ℕ) {bytes : List ℕ} (x : List K × List ℕ)
-    → IsGroupAnswer sort number line bytes (Ok x) → HasGroup sort number bytes x.0 x.1
+pub group_said : {K X : Type 0} {format : KindFormat K X} {number : ℕ} (line : ℕ) {bytes : List ℕ} (x : List K × List ℕ)
+    → IsGroupAnswer format number line bytes (Ok x) → HasGroup format number bytes x.0 x.1
 group_said line x says = grind (arith, ThenNext-Ok)

@@ -4,10 +4,10 @@ use Rattle.kd_card.proofs.Prelude.{List, [], ◌∷◌, ◌++◌, length, map, g
 use Rattle.kd_card.proofs.Prelude.{arith, ℤ, unsigned_abs, append_assoc, AllByRecursion, signed_decimal}
 use Rattle.kd_card.proofs.Prelude.{decimal_injective, signed_decimal_injective, append-nil, recursion_from_All, Setting}
 use Rattle.kd_card.proofs.Prelude.{IsWord, setting_line, list_text, BeginsWithSettingLines, BeginsWithNoSetting}
-use Rattle.kd_card.proofs.Prelude.{PriceParts, Cables, Bars, CableKinds, BarKinds, Version, ByNumber, ByKind, Group}
-use Rattle.kd_card.proofs.Prelude.{OfCables, OfBars, Sort, Trailing, ThenNext, HasFault, GoesOn, Yields, Demands}
-use Rattle.kd_card.proofs.Prelude.{Option, Some, None, kinds_text, AreKinds, version_of, price_sum, cable_sort}
-use Rattle.kd_card.proofs.Prelude.{pair_sort, bar_sort, row_sort, ArePricesInRange, ArePrices, first_text, column_word}
+use Rattle.kd_card.proofs.Prelude.{PriceParts, Cables, Bars, CableKinds, BarKinds, Version, ByNumber, ByKind, CostTable}
+use Rattle.kd_card.proofs.Prelude.{OfCables, OfBars, KindFormat, Trailing, ThenNext, HasFault, GoesOn, Yields, Demands}
+use Rattle.kd_card.proofs.Prelude.{Option, Some, None, kinds_text, AreKinds, version_of, price_sum, cable_format}
+use Rattle.kd_card.proofs.Prelude.{pair_format, bar_format, row_format, ArePricesInRange, ArePrices, first_text, column_word}
 use Rattle.kd_card.proofs.Prelude.{price_count, lines_text, price_lines, card_text, IsGroup, IsCard, line_then}
 use Rattle.kd_card.proofs.Prelude.{IsValueAnswer, IsFirstWordAnswer, BeginsWithHead, BeginsWithAllSettings}
 use Rattle.kd_card.proofs.Prelude.{IsSettingsAnswer, IsPriceLineAnswer, IsByNumberPricesAnswer, BeginsWithWord}
@@ -22,7 +22,7 @@ use Rattle.kd_card.proofs.Lines.{line_has_words, value_line, same_words, two_lin
 use Rattle.kd_card.proofs.Lines.{numeral_word, signed_word, head_text, day_unbroken, first_is_word, prices_are_words}
 use Rattle.kd_card.proofs.Lines.{number_text, signed_text, price_sum_is_small, value_says, value_said, same_values}
 use Rattle.kd_card.proofs.Lines.{first_says, HasPrices, line_said, group_said, settings_words, price_words, sum_words}
-use Rattle.kd_card.proofs.KindWords.{IsSort, cables_are, pairs_are, bars_are, rows_are, kind_is_words, kind_begins}
+use Rattle.kd_card.proofs.KindWords.{IsFormat, cables_are, pairs_are, bars_are, rows_are, kind_is_words, kind_begins}
 use Rattle.kd_card.proofs.KindWords.{end_has_no_next, same_kind}
 use Rattle.kd_card.proofs.KindPrices.{text_of_more_kinds, text_of_two, cables_are_prices, bars_are_prices}
 
@@ -56,27 +56,27 @@ record AreAllPriceLines (by : Version) (bytes : List ℕ) (prices : PriceParts) 
   text : bytes ≡ lines_text (price_lines prices) ++ rest
   are : ArePrices prices
 
-by_number : (group : Group) (rows columns : List ℤ) {bytes middle rest : List ℕ}
-    → HasPrices bytes (first_text ByNumber group) (price_count group) rows middle
-    → HasPrices middle (column_word group) (price_count group) columns rest
-    → AreAllPriceLines ByNumber bytes (parts_by_number group rows columns) rest
-by_number group rows columns a b = grind (arith, common_steps, two_lines)
+by_number : (table : CostTable) (rows columns : List ℤ) {bytes middle rest : List ℕ}
+    → HasPrices bytes (first_text ByNumber table) (price_count table) rows middle
+    → HasPrices middle (column_word table) (price_count table) columns rest
+    → AreAllPriceLines ByNumber bytes (parts_by_number table rows columns) rest
+by_number table rows columns a b = grind (arith, common_steps, two_lines)
 
 -- If two groups of kinds are read from `bytes`, these are the lines of the kinds, and then the rest; and both
 -- groups are valid.
-pub groups_said : {R X C Y : Type 0} (rows : Sort R X) (columns : Sort C Y) (number line : ℕ) {bytes : List ℕ}
+pub groups_said : {R X C Y : Type 0} (rows : KindFormat R X) (columns : KindFormat C Y) (number line : ℕ) {bytes : List ℕ}
     (x : List R × List C × List ℕ) → IsGroupsAnswer rows columns number line bytes (Ok x)
     → (bytes ≡ lines_text (map (kind_words rows) x.0 ++ map (kind_words columns) x.1) ++ x.2)
     × IsGroup rows number x.0 × IsGroup columns number x.1
 groups_said {R} {C} rows columns number line {bytes} x says =
     grind (arith, common_steps, ThenNext-Ok, group_said, append_assoc, text_of_two, Yields-Ok)
 
-of_kinds : (group : Group) (line : ℕ) {bytes : List ℕ} (x : PriceParts × List ℕ)
-    → IsKindsOfAnswer group line bytes (Ok x)
+of_kinds : (table : CostTable) (line : ℕ) {bytes : List ℕ} (x : PriceParts × List ℕ)
+    → IsKindsOfAnswer table line bytes (Ok x)
     → AreAllPriceLines ByKind bytes x.0 x.1
 of_kinds OfCables line {bytes} x says =
     let groups = ThenNext-Ok says in
-    let said = groups_said cable_sort pair_sort 13 line groups.found groups.says in
+    let said = groups_said cable_format pair_format 13 line groups.found groups.says in
     subst (λ (y : PriceParts × List ℕ). AreAllPriceLines ByKind bytes y.0 y.1) (sym (Yields-Ok groups.next)) (record {
       version = refl;
       text = said.0;
@@ -84,7 +84,7 @@ of_kinds OfCables line {bytes} x says =
     })
 of_kinds OfBars line {bytes} x says =
     let groups = ThenNext-Ok says in
-    let said = groups_said bar_sort row_sort 27 line groups.found groups.says in
+    let said = groups_said bar_format row_format 27 line groups.found groups.says in
     subst (λ (y : PriceParts × List ℕ). AreAllPriceLines ByKind bytes y.0 y.1) (sym (Yields-Ok groups.next)) (record {
       version = refl;
       text = said.0;
@@ -177,40 +177,40 @@ price_line_says word number key prices rest is_word reach count e =
 
 -- ---- groups of kinds
 
-module _ {K X : Type 0} {sort : Sort K X} (is : IsSort sort) where
+module _ {K X : Type 0} {format : KindFormat K X} (is : IsFormat format) where
   next_kind : {last : Option K} (kind : K) (kinds : List K) (rest : List ℕ) {bytes : List ℕ}
-      → AreKinds sort last (kind ∷ kinds) → bytes ≡ kinds_text sort (kind ∷ kinds) ++ rest
-      → IsNextKind sort last bytes kind (kinds_text sort kinds ++ rest)
+      → AreKinds format last (kind ∷ kinds) → bytes ≡ kinds_text format (kind ∷ kinds) ++ rest
+      → IsNextKind format last bytes kind (kinds_text format kinds ++ rest)
   next_kind kind kinds rest are e = record {
     good = are.0;
     after = are.1;
     line =
-        line_has_words (kind_words sort kind) (kinds_text sort kinds ++ rest) (λ none. cc)
-        (kind_is_words is kind are.0) (e ∙ text_of_more_kinds sort kind kinds rest);
+        line_has_words (kind_words format kind) (kinds_text format kinds ++ rest) (λ none. cc)
+        (kind_is_words is kind are.0) (e ∙ text_of_more_kinds format kind kinds rest);
   }
 
   behind : {last : Option K} {kind : K} {kinds : List K} {bytes rest : List ℕ}
-      → BeginsWithKinds sort last bytes (kind ∷ kinds) rest
-      → BeginsWithKinds sort (Some kind) (kinds_text sort kinds ++ rest) kinds rest
+      → BeginsWithKinds format last bytes (kind ∷ kinds) rest
+      → BeginsWithKinds format (Some kind) (kinds_text format kinds ++ rest) kinds rest
   behind b = record { lines = refl; in_order = b.in_order.2; none_more = b.none_more }
 
   kinds_end : (last : Option K) (xs ys : List K) {bytes : List ℕ} (rest more : List ℕ)
-      → BeginsWithKinds sort last bytes xs rest → BeginsWithKinds sort last bytes ys more
+      → BeginsWithKinds format last bytes xs rest → BeginsWithKinds format last bytes ys more
       → (xs ≡ ys) × (rest ≡ more)
   kinds_end last [] [] rest more a b = (refl, sym a.lines ∙ b.lines)
   kinds_end last [] (y ∷ ys) rest more a b =
-      absurd (a.none_more y (kinds_text sort ys ++ more) (next_kind y ys more b.in_order (sym a.lines ∙ b.lines)))
+      absurd (a.none_more y (kinds_text format ys ++ more) (next_kind y ys more b.in_order (sym a.lines ∙ b.lines)))
   kinds_end last (x ∷ xs) [] rest more a b =
-      absurd (b.none_more x (kinds_text sort xs ++ rest) (next_kind x xs rest a.in_order (sym b.lines ∙ a.lines)))
+      absurd (b.none_more x (kinds_text format xs ++ rest) (next_kind x xs rest a.in_order (sym b.lines ∙ a.lines)))
   kinds_end last (x ∷ xs) (y ∷ ys) rest more a b =
       let first = next_kind x xs rest a.in_order a.lines in
       let same = same_words first.line (next_kind y ys more b.in_order b.lines).line in
       let heads : x ≡ y = same_kind is x y a.in_order.0 b.in_order.0 same.0 in
-      let other : BeginsWithKinds sort (Some x) (kinds_text sort xs ++ rest) ys more = rw (heads, same.1) (behind b) in
+      let other : BeginsWithKinds format (Some x) (kinds_text format xs ++ rest) ys more = rw (heads, same.1) (behind b) in
       let tails = kinds_end (Some x) xs ys rest more (behind a) other in
       (cc, tails.1)
 
-  only_group : (number line : ℕ) (bytes : List ℕ) → HasOneAnswer (IsGroupAnswer sort number line bytes)
+  only_group : (number line : ℕ) (bytes : List ℕ) → HasOneAnswer (IsGroupAnswer format number line bytes)
   only_group number line bytes =
       HasOneAnswer-ThenNext
       (HasOneAnswer-FindsAlways (λ x y a b. let same = kinds_end None x.0 y.0 x.1 y.1 a b in same_pair x y same.0
@@ -219,27 +219,27 @@ module _ {K X : Type 0} {sort : Sort K X} (is : IsSort sort) where
       (λ end ends. HasOneAnswer-ThenNext (HasOneAnswer-Demands _ _) (λ all count. HasOneAnswer-Yields group)))
 
   group_says : {number : ℕ} (line : ℕ) {bytes : List ℕ} (kinds : List K) (rest : List ℕ)
-      → IsGroup sort number kinds → bytes ≡ kinds_text sort kinds ++ rest → EndsGroup sort.word rest
-      → IsGroupAnswer sort number line bytes (Ok (kinds, rest))
+      → IsGroup format number kinds → bytes ≡ kinds_text format kinds ++ rest → EndsGroup format.word rest
+      → IsGroupAnswer format number line bytes (Ok (kinds, rest))
   group_says line kinds rest group e ends =
       GoesOn (kinds, rest)
       (record { lines = e; in_order = group.in_order; none_more = end_has_no_next (last_of None kinds) ends })
       (GoesOn tt ends (GoesOn tt group.count refl))
 
-  -- A group of kinds begins with the word of its sort.
+  -- A group of kinds begins with the word of its format.
   group_begins : {number : ℕ} {bytes : List ℕ} (kinds : List K) (rest : List ℕ) → 0 < number
-      → IsGroup sort number kinds → bytes ≡ kinds_text sort kinds ++ rest → BeginsWithWord sort.word bytes
+      → IsGroup format number kinds → bytes ≡ kinds_text format kinds ++ rest → BeginsWithWord format.word bytes
   group_begins [] rest some group e = let count = group.count in absurd (omega arith)
   group_begins (kind ∷ kinds) rest some group e =
       kind_begins (next_kind {last = None} kind kinds rest group.in_order e)
 
-only_groups : {R X C Y : Type 0} {rows : Sort R X} {columns : Sort C Y} → IsSort rows → IsSort columns
+only_groups : {R X C Y : Type 0} {rows : KindFormat R X} {columns : KindFormat C Y} → IsFormat rows → IsFormat columns
     → (number line : ℕ) (bytes : List ℕ) → HasOneAnswer (IsGroupsAnswer rows columns number line bytes)
 only_groups rows columns number line bytes =
     HasOneAnswer-ThenNext (only_group rows number line bytes)
     (λ first says. HasOneAnswer-ThenNext (only_group columns number _ _) (λ second say. HasOneAnswer-Yields _))
 
-groups_say : {R X C Y : Type 0} {rows : Sort R X} {columns : Sort C Y} → IsSort rows → IsSort columns
+groups_say : {R X C Y : Type 0} {rows : KindFormat R X} {columns : KindFormat C Y} → IsFormat rows → IsFormat columns
     → columns.word ≢ rows.word → (number line : ℕ) (xs : List R) (ys : List C) {bytes : List ℕ} (rest : List ℕ)
     → 0 < number → IsGroup rows number xs → IsGroup columns number ys → EndsGroup columns.word rest
     → bytes ≡ lines_text (map (kind_words rows) xs ++ map (kind_words columns) ys) ++ rest
@@ -266,20 +266,20 @@ only_all_prices ByKind line bytes =
     HasOneAnswer-ThenNext (only_first _ (λ group other e. grind arith) line bytes)
     (λ first says. only_kinds_of first.0)
   where
-    only_kinds_of : (group : Group) → HasOneAnswer (IsKindsOfAnswer group line bytes)
+    only_kinds_of : (table : CostTable) → HasOneAnswer (IsKindsOfAnswer table line bytes)
     only_kinds_of OfCables = HasOneAnswer-ThenNext (only_groups cables_are pairs_are 13 line bytes)
         (λ groups all. HasOneAnswer-Yields _)
     only_kinds_of OfBars = HasOneAnswer-ThenNext (only_groups bars_are rows_are 27 line bytes)
         (λ groups all. HasOneAnswer-Yields _)
 
-by_number_says : (group : Group) (line : ℕ) {bytes : List ℕ} (rows columns : List ℤ) (rest : List ℕ)
+by_number_says : (table : CostTable) (line : ℕ) {bytes : List ℕ} (rows columns : List ℤ) (rest : List ℕ)
     → ArePricesInRange rows
-    → ArePricesInRange columns → length rows ≡ price_count group → length columns ≡ price_count group
-    → bytes ≡ line_then (price_words (first_text ByNumber group) rows)
-    (line_then (price_words (column_word group) columns) rest)
-    → IsByNumberPricesAnswer line bytes (Ok (parts_by_number group rows columns, rest))
+    → ArePricesInRange columns → length rows ≡ price_count table → length columns ≡ price_count table
+    → bytes ≡ line_then (price_words (first_text ByNumber table) rows)
+    (line_then (price_words (column_word table) columns) rest)
+    → IsByNumberPricesAnswer line bytes (Ok (parts_by_number table rows columns, rest))
 by_number_says group line rows columns rest a b many also e =
-    let second = line_then (price_words (column_word group) columns) rest in
+    let second = line_then (price_words (column_word table) columns) rest in
     GoesOn (group, rows, second) (price_line_says _ _ group rows second (first_is_word group).0 a many e)
     (GoesOn (tt, columns, rest) (price_line_says _ _ tt columns rest (first_is_word group).1 b also refl) refl)
 
@@ -297,7 +297,7 @@ all_say (CableKinds row col) line rest are ends e =
     let say =
     groups_say cables_are pairs_are (λ same. omega (arith, ap (λ t. get_or t 0 0) same)) 13 line row.items col.items
     rest (omega arith) groups.0 groups.1
-    (ends pair_sort.word (λ same. omega (arith, ap (λ t. get_or t 0 0) same))) e in
+    (ends pair_format.word (λ same. omega (arith, ap (λ t. get_or t 0 0) same))) e in
     GoesOn (OfCables, say.0.behind, say.0.rest) (first_says _ OfCables say.0.behind say.0.rest say.0.has)
     (GoesOn (row.items, col.items, rest) say.1 refl)
 all_say (BarKinds row col) line rest are ends e =
@@ -305,7 +305,7 @@ all_say (BarKinds row col) line rest are ends e =
     let say =
     groups_say bars_are rows_are (λ same. omega (arith, ap (λ t. get_or t 0 0) same)) 27 line row.items col.items
     rest (omega arith) groups.0 groups.1
-    (ends row_sort.word (λ same. omega (arith, ap (λ t. get_or t 0 0) same))) e in
+    (ends row_format.word (λ same. omega (arith, ap (λ t. get_or t 0 0) same))) e in
     GoesOn (OfBars, say.0.behind, say.0.rest) (first_says _ OfBars say.0.behind say.0.rest say.0.has)
     (GoesOn (row.items, col.items, rest) say.1 refl)
 

@@ -42,9 +42,9 @@ pub use Rattle.kd_card.specs.CardFault.{IsByNumberPricesAnswer, IsPriceLineAnswe
 pub use Rattle.kd_card.specs.CardFault.{IsValueAnswer, first_text, line_then}
 pub use Rattle.kd_card.specs.CardText.{IsCard, IsGroup, card_text, column_word, head_words, lines_text, price_count}
 pub use Rattle.kd_card.specs.CardText.{price_lines}
-pub use Rattle.kd_card.specs.Kinds.{AreEnds, AreKinds, ComesAfter, ThingComesBefore, HasKindWords, HasText, IsKind}
-pub use Rattle.kd_card.specs.Kinds.{IsOnlyThing, IsPairInOrder, Sort, bar_sort, cable_sort, counted, kind_words}
-pub use Rattle.kd_card.specs.Kinds.{kinds_text, letters_text, pair_sort, prices_of_kinds, row_sort}
+pub use Rattle.kd_card.specs.Kinds.{AreEnds, AreKinds, ComesAfter, KeyComesBefore, HasKindWords, HasText, IsKind}
+pub use Rattle.kd_card.specs.Kinds.{IsOnlyKey, IsPairInOrder, KindFormat, bar_format, cable_format, counted, kind_words}
+pub use Rattle.kd_card.specs.Kinds.{kinds_text, letters_text, pair_format, prices_of_kinds, row_format}
 pub use Rattle.kd_card.specs.Laws.{CardsHaveNoFault, AsFewAreNeeded, FittingPricesBoundLists, NoCardBeginsAnother}
 pub use Rattle.kd_card.specs.Laws.{OneCardFault, ProvingCardsAreAsLong, ProvingCardsAreShortest, ProvingPricesAreTight}
 pub use Rattle.kd_card.specs.Laws.{TextsTellCards, CardsAreSaid}
@@ -57,10 +57,10 @@ pub use Rattle.kd_state.specs.FirstFaults.{HasOneAnswer-Demands, HasOneAnswer-Fi
 pub use Rattle.kd_state.specs.FirstFaults.{HasOneAnswer-FindsAlways, HasOneAnswer-ThenNext, ThenNext-Ok, Yields-Ok}
 pub use Rattle.kd_card.specs.declared.fault.CardFault.TheVariants.{BadHead, BadLine, CountWrong, PriceMissing, TooMany}
 pub use Rattle.kd_card.specs.declared.fault.CardFault.TheVariants.{Trailing}
-pub use Rattle.kd_card.specs.declared.group.Group.{Group}
+pub use Rattle.kd_card.specs.declared.cost_table.CostTable.{CostTable}
 pub use Rattle.kd_card.specs.declared.kinds.{BarKind.BarKind, CableKind.CableKind, KindOf.KindOf, PairKind.PairKind}
 pub use Rattle.kd_card.specs.declared.kinds.{RowKind.RowKind}
-pub use Rattle.kd_card.specs.declared.group.Group.TheVariants.{OfBars, OfCables}
+pub use Rattle.kd_card.specs.declared.cost_table.CostTable.TheVariants.{OfBars, OfCables}
 pub use Rattle.kd_card.specs.declared.prices.{PriceParts.PriceParts, Version.Version}
 pub use Rattle.kd_card.specs.declared.prices.PriceParts.TheVariants.{BarKinds, Bars, CableKinds, Cables}
 pub use Rattle.kd_card.specs.declared.prices.Version.TheVariants.{ByKind, ByNumber}

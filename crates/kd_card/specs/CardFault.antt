@@ -10,14 +10,14 @@ use Rattle.kd_card.specs.declared.prices.PriceParts.{PriceParts}
 use Rattle.kd_card.specs.declared.prices.PriceParts.TheVariants.{Cables, Bars, CableKinds, BarKinds}
 use Rattle.kd_card.specs.declared.prices.Version.{Version}
 use Rattle.kd_card.specs.declared.prices.Version.TheVariants.{ByNumber, ByKind}
-use Rattle.kd_card.specs.declared.group.Group.{Group}
-use Rattle.kd_card.specs.declared.group.Group.TheVariants.{OfCables, OfBars}
+use Rattle.kd_card.specs.declared.cost_table.CostTable.{CostTable}
+use Rattle.kd_card.specs.declared.cost_table.CostTable.TheVariants.{OfCables, OfBars}
 use Rattle.kd_card.specs.declared.fault.CardFault.{CardFault}
 use Rattle.kd_card.specs.declared.fault.CardFault.TheVariants.{BadHead, BadLine, TooMany, PriceMissing, CountWrong}
 use Rattle.kd_card.specs.declared.fault.CardFault.TheVariants.{Trailing}
 use Rattle.kd_state.specs.FirstFaults.{AnswerRule, ◌>>=◌, Yields, Finds, Demands, FindsAlways}
-use Rattle.kd_card.specs.Kinds.{Sort, cable_sort, pair_sort, bar_sort, row_sort, kind_words, kinds_text, counted}
-use Rattle.kd_card.specs.Kinds.{IsKind, AreKinds, ComesAfter}
+use Rattle.kd_card.specs.Kinds.{KindFormat, cable_format, pair_format, bar_format, row_format, kind_words, kinds_text}
+use Rattle.kd_card.specs.Kinds.{counted, IsKind, AreKinds, ComesAfter}
 use Rattle.kd_card.specs.Prices.{price_sum, ArePricesInRange}
 use Rattle.kd_card.specs.CardText.{column_word, price_count, head_words, price_lines}
 
@@ -99,11 +99,11 @@ IsCountAnswer number bytes = IsValueAnswer false (codes "SETTINGS ") (decimal nu
 -- ---- prices by number: two lines
 
 -- the first word of a card's first price line: `CABLES` or `BARS` in version 1, `CABLE` or `BAR` in version 2
-abbrev pub first_text : Version → Group → List ℕ
+abbrev pub first_text : Version → CostTable → List ℕ
 first_text ByNumber OfCables = codes "CABLES"
 first_text ByNumber OfBars = codes "BARS"
-first_text ByKind OfCables = cable_sort.word
-first_text ByKind OfBars = bar_sort.word
+first_text ByKind OfCables = cable_format.word
+first_text ByKind OfBars = bar_format.word
 
 -- The result of reading `words` as `number` prices: the prices, or a fault. If a word isn't a price, the fault is
 -- `BadLine line`. If there are more or fewer prices than `number`, it is `PriceMissing`.
@@ -120,7 +120,7 @@ IsPriceLineAnswer word number line bytes = do
   prices ← IsPricesAnswer (number first.0) line first.1
   Yields (first.0, prices, first.2)
 
-abbrev pub parts_by_number : Group → List ℤ → List ℤ → PriceParts
+abbrev pub parts_by_number : CostTable → List ℤ → List ℤ → PriceParts
 parts_by_number OfCables rows columns = Cables rows columns
 parts_by_number OfBars rows columns = Bars rows columns
 
@@ -146,15 +146,15 @@ pub data EndsGroup (word bytes : List ℕ) : Type 0 where
 
 -- `bytes` begin with the line of `kind`, a valid kind, and then comes `rest`. If there is a kind `last`, `kind` comes
 -- after it in the order of a card's lines.
-pub record IsNextKind {K X : Type 0} (sort : Sort K X) (last : Option K) (bytes : List ℕ) (kind : K) (rest : List ℕ)
-    : Type 0 where
-  pub good : IsKind sort kind
-  pub after : ComesAfter sort last kind
-  pub line : HasLineWords bytes (kind_words sort kind) rest
+pub record IsNextKind {K X : Type 0} (format : KindFormat K X) (last : Option K) (bytes : List ℕ) (kind : K)
+    (rest : List ℕ) : Type 0 where
+  pub good : IsKind format kind
+  pub after : ComesAfter format last kind
+  pub line : HasLineWords bytes (kind_words format kind) rest
 
 -- No next kind follows: `bytes` don't begin with a valid kind's line, or this kind doesn't come after the kind `last`.
-abbrev pub HasNoNext : {K X : Type 0} → Sort K X → Option K → List ℕ → Type 0
-HasNoNext {K} sort last bytes = (kind : K) (rest : List ℕ) → ¬ (IsNextKind sort last bytes kind rest)
+abbrev pub HasNoNext : {K X : Type 0} → KindFormat K X → Option K → List ℕ → Type 0
+HasNoNext {K} format last bytes = (kind : K) (rest : List ℕ) → ¬ (IsNextKind format last bytes kind rest)
 
 -- the last of `kinds`, or `last` if `kinds` is empty
 abbrev pub last_of : {K : Type 0} → Option K → List K → Option K
@@ -163,38 +163,38 @@ last_of last (kind ∷ kinds) = last_of (Some kind) kinds
 
 -- `bytes` are the lines of `kinds`, and then `rest`. The kinds are valid and strictly ascending, and come after the
 -- kind `last`, if there is one. No next kind follows in `rest`.
-pub record BeginsWithKinds {K X : Type 0} (sort : Sort K X) (last : Option K) (bytes : List ℕ) (kinds : List K)
+pub record BeginsWithKinds {K X : Type 0} (format : KindFormat K X) (last : Option K) (bytes : List ℕ) (kinds : List K)
     (rest : List ℕ) : Type 0 where
-  pub lines : bytes ≡ kinds_text sort kinds ++ rest
-  pub in_order : AreKinds sort last kinds
-  pub none_more : HasNoNext sort (last_of last kinds) rest
+  pub lines : bytes ≡ kinds_text format kinds ++ rest
+  pub in_order : AreKinds format last kinds
+  pub none_more : HasNoNext format (last_of last kinds) rest
 
 -- The result of reading a group of kinds: the kinds and the bytes after them, or a fault. The fault is `BadLine` if a
 -- line has the group's first word, but no valid next kind, or if a line has no LF. It is `PriceMissing` if the kinds'
 -- counts don't add up to `number`.
 -- Code: the reader keeps at most `number` kinds, and stops adding counts at `number + 1`.
-abbrev pub IsGroupAnswer : {K X : Type 0} → Sort K X → ℕ → ℕ → List ℕ → AnswerRule CardFault (List K × List ℕ)
-IsGroupAnswer {K} sort number line bytes = do
-  group ← FindsAlways (λ (group : List K × List ℕ). BeginsWithKinds sort None bytes group.0 group.1)
-  _ ← Demands (EndsGroup sort.word group.1) (BadLine (line + length group.0))
-  _ ← Demands (counted sort group.0 ≡ number) PriceMissing
+abbrev pub IsGroupAnswer : {K X : Type 0} → KindFormat K X → ℕ → ℕ → List ℕ → AnswerRule CardFault (List K × List ℕ)
+IsGroupAnswer {K} format number line bytes = do
+  group ← FindsAlways (λ (group : List K × List ℕ). BeginsWithKinds format None bytes group.0 group.1)
+  _ ← Demands (EndsGroup format.word group.1) (BadLine (line + length group.0))
+  _ ← Demands (counted format group.0 ≡ number) PriceMissing
   Yields group
 
 -- The result of reading two groups of kinds, first for the rows of the table of costs, then for its columns: both
 -- groups and the bytes after them, or a fault.
-abbrev pub IsGroupsAnswer : {R X C Y : Type 0} → Sort R X → Sort C Y → ℕ → ℕ → List ℕ
+abbrev pub IsGroupsAnswer : {R X C Y : Type 0} → KindFormat R X → KindFormat C Y → ℕ → ℕ → List ℕ
     → AnswerRule CardFault (List R × List C × List ℕ)
-IsGroupsAnswer row_sort column_sort number line bytes = do
-  rows ← IsGroupAnswer row_sort number line bytes
-  columns ← IsGroupAnswer column_sort number (line + length rows.0) rows.1
+IsGroupsAnswer row_format column_format number line bytes = do
+  rows ← IsGroupAnswer row_format number line bytes
+  columns ← IsGroupAnswer column_format number (line + length rows.0) rows.1
   Yields (rows.0, columns.0, columns.1)
 
-abbrev pub IsKindsOfAnswer : Group → ℕ → List ℕ → AnswerRule CardFault (PriceParts × List ℕ)
+abbrev pub IsKindsOfAnswer : CostTable → ℕ → List ℕ → AnswerRule CardFault (PriceParts × List ℕ)
 IsKindsOfAnswer OfCables line bytes = do
-  groups ← IsGroupsAnswer cable_sort pair_sort 13 line bytes
+  groups ← IsGroupsAnswer cable_format pair_format 13 line bytes
   Yields (CableKinds (record { items = groups.0 }) (record { items = groups.1 }), groups.2)
 IsKindsOfAnswer OfBars line bytes = do
-  groups ← IsGroupsAnswer bar_sort row_sort 27 line bytes
+  groups ← IsGroupsAnswer bar_format row_format 27 line bytes
   Yields (BarKinds (record { items = groups.0 }) (record { items = groups.1 }), groups.2)
 
 abbrev pub IsByKindPricesAnswer : ℕ → List ℕ → AnswerRule CardFault (PriceParts × List ℕ)

@@ -10,25 +10,26 @@ use Rattle.kd_card.specs.declared.prices.PriceParts.{PriceParts}
 use Rattle.kd_card.specs.declared.prices.PriceParts.TheVariants.{Cables, Bars, CableKinds, BarKinds}
 use Rattle.kd_card.specs.declared.prices.Version.{Version}
 use Rattle.kd_card.specs.declared.prices.Version.TheVariants.{ByNumber, ByKind}
-use Rattle.kd_card.specs.declared.group.Group.{Group}
-use Rattle.kd_card.specs.declared.group.Group.TheVariants.{OfCables, OfBars}
-use Rattle.kd_card.specs.Kinds.{Sort, kind_words, cable_sort, pair_sort, bar_sort, row_sort, counted, AreKinds}
+use Rattle.kd_card.specs.declared.cost_table.CostTable.{CostTable}
+use Rattle.kd_card.specs.declared.cost_table.CostTable.TheVariants.{OfCables, OfBars}
+use Rattle.kd_card.specs.Kinds.{KindFormat, kind_words, cable_format, pair_format, bar_format, row_format, counted}
+use Rattle.kd_card.specs.Kinds.{AreKinds}
 use Rattle.kd_card.specs.Prices.{version_of, price_sum, ArePrices}
 
 -- the first word of the second price line on a card of version 1, where each pair, nothing or row has its own price
-abbrev pub column_word : Group → List ℕ
+abbrev pub column_word : CostTable → List ℕ
 column_word OfCables = codes "PAIRS"
 column_word OfBars = codes "ROWS"
 
 -- the number of rows of the table of costs, which is also its number of columns
-abbrev pub price_count : Group → ℕ
+abbrev pub price_count : CostTable → ℕ
 price_count OfCables = 13
 price_count OfBars = 27
 
 -- The kinds are valid and strictly ascending, and their counts add up to `number`.
-pub record IsGroup {K X : Type 0} (sort : Sort K X) (number : ℕ) (kinds : List K) : Type 0 where
-  pub in_order : AreKinds sort None kinds
-  pub count : counted sort kinds ≡ number
+pub record IsGroup {K X : Type 0} (format : KindFormat K X) (number : ℕ) (kinds : List K) : Type 0 where
+  pub in_order : AreKinds format None kinds
+  pub count : counted format kinds ≡ number
 
 -- the words of a card's first line, such as `CARD 2 DAY 31`: version 2 if each kind has one price, otherwise version 1
 abbrev pub head_words : Version → ℕ → List (List ℕ)
@@ -43,8 +44,8 @@ lines_text lines = flat_map (λ words. line_of words ++ 10 ∷ []) lines
 abbrev pub price_lines : PriceParts → List (List (List ℕ))
 price_lines (Cables row col) = (codes "CABLES" ∷ map signed_decimal row) ∷ (codes "PAIRS" ∷ map signed_decimal col) ∷ []
 price_lines (Bars row col) = (codes "BARS" ∷ map signed_decimal row) ∷ (codes "ROWS" ∷ map signed_decimal col) ∷ []
-price_lines (CableKinds row col) = map (kind_words cable_sort) row.items ++ map (kind_words pair_sort) col.items
-price_lines (BarKinds row col) = map (kind_words bar_sort) row.items ++ map (kind_words row_sort) col.items
+price_lines (CableKinds row col) = map (kind_words cable_format) row.items ++ map (kind_words pair_format) col.items
+price_lines (BarKinds row col) = map (kind_words bar_format) row.items ++ map (kind_words row_format) col.items
 
 -- the text of a card: first line, settings, number of settings, prices, and sum of prices
 abbrev pub card_text : ℕ → List Setting → PriceParts → List ℕ

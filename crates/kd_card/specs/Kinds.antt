@@ -14,7 +14,7 @@ use Rattle.kd_card.specs.declared.kinds.PairKind.{PairKind}
 use Rattle.kd_card.specs.declared.kinds.BarKind.{BarKind}
 use Rattle.kd_card.specs.declared.kinds.RowKind.{RowKind}
 
--- ---- things: a cable's letters, a column's pair, a bar's standing, a row's reading
+-- ---- keys: a cable's letters, a column's pair, a bar's standing, a row's reading
 
 -- the text of a cable's or a column's letters in the line of its kind: the letters, or `-` if there are none
 abbrev pub letters_text : List ℕ → List ℕ
@@ -37,121 +37,122 @@ IsPairInOrder (Some pair) = (pair.0 < pair.1) × (pair.1 < 26)
 
 -- The format of the lines of kinds: of cables, columns, bars or rows. `word` is the first word of a line, such as
 -- `CABLE`. `kind` splits a kind into its key (letters, standing or reading), its count and its price. `text` is the
--- text of a key, such as `AB`. On a card, each key satisfies `InForm`. The last field turns a key into numbers; lines
+-- text of a key, such as `AB`. On a card, each key satisfies `InForm`. `order` turns a key into numbers; lines
 -- are in the dictionary order of these numbers. So a cable without a first letter, and a column without a pair, come
 -- last.
-pub record Sort (K X : Type 0) : Type 1 where
+pub record KindFormat (K X : Type 0) : Type 1 where
   pub word : List ℕ
   pub kind : K → KindOf X
   pub text : X → List ℕ
   pub InForm : X → Type 0
-  pub key : X → List ℕ
+  pub order : X → List ℕ
 
-abbrev pub cable_sort : Sort CableKind (Option ℕ × Option ℕ)
-cable_sort = record {
+abbrev pub cable_format : KindFormat CableKind (Option ℕ × Option ℕ)
+cable_format = record {
   word = codes "CABLE";
-  kind = λ k. record { thing = k.ends; count = k.count; price = k.price };
+  kind = λ k. record { key = k.ends; count = k.count; price = k.price };
   text = λ ends. letters_text (cable_letters ends);
   InForm = λ ends. AreEnds ends.0 ends.1;
-  key = λ ends. one_unless (is_some ends.0) ∷ cable_letters ends;
+  order = λ ends. one_unless (is_some ends.0) ∷ cable_letters ends;
 }
 
-abbrev pub pair_sort : Sort PairKind (Option (ℕ × ℕ))
-pair_sort = record {
+abbrev pub pair_format : KindFormat PairKind (Option (ℕ × ℕ))
+pair_format = record {
   word = codes "PAIR";
-  kind = λ k. record { thing = k.pair; count = k.count; price = k.price };
+  kind = λ k. record { key = k.pair; count = k.count; price = k.price };
   text = λ pair. letters_text (column_letters pair);
   InForm = IsPairInOrder;
-  key = λ pair. one_unless (is_some pair) ∷ column_letters pair;
+  order = λ pair. one_unless (is_some pair) ∷ column_letters pair;
 }
 
-abbrev pub bar_sort : Sort BarKind (Place × Place)
-bar_sort = record {
+abbrev pub bar_format : KindFormat BarKind (Place × Place)
+bar_format = record {
   word = codes "BAR";
-  kind = λ k. record { thing = k.standing; count = k.count; price = k.price };
+  kind = λ k. record { key = k.standing; count = k.count; price = k.price };
   text = standing_text;
   InForm = λ standing. IsBefore standing.0 standing.1;
-  key = λ standing. place_rank standing.0 ∷ place_rank standing.1 ∷ [];
+  order = λ standing. place_rank standing.0 ∷ place_rank standing.1 ∷ [];
 }
 
-abbrev pub row_sort : Sort RowKind (ℕ × ℕ)
-row_sort = record {
+abbrev pub row_format : KindFormat RowKind (ℕ × ℕ)
+row_format = record {
   word = codes "ROW";
-  kind = λ k. record { thing = k.reading; count = k.count; price = k.price };
+  kind = λ k. record { key = k.reading; count = k.count; price = k.price };
   text = reading_text;
   InForm = IsReading;
-  key = λ reading. reading.0 ∷ reading.1 ∷ [];
+  order = λ reading. reading.0 ∷ reading.1 ∷ [];
 }
 
 -- The key `x` (letters, standing or reading) comes before the key `y` in the dictionary order of a card's lines.
 -- Code: keys are compared by derived orders, which the law `ordered` of `Kind` proves equal to this order.
-abbrev pub ThingComesBefore : {K X : Type 0} → Sort K X → X → X → Type 0
-ThingComesBefore sort x y = slice_cmp nat_cmp (sort.key x) (sort.key y) ≡ Less
+abbrev pub KeyComesBefore : {K X : Type 0} → KindFormat K X → X → X → Type 0
+KeyComesBefore format x y = slice_cmp nat_cmp (format.order x) (format.order y) ≡ Less
 
 -- A card may have a kind with this key (letters, a standing or a reading), and writes the key as `text`.
-pub record HasText {K X : Type 0} (sort : Sort K X) (text : List ℕ) (thing : X) : Type 0 where
-  pub form : sort.InForm thing
-  pub written : sort.text thing ≡ text
+pub record HasText {K X : Type 0} (format : KindFormat K X) (text : List ℕ) (key : X) : Type 0 where
+  pub form : format.InForm key
+  pub written : format.text key ≡ text
 
 -- A card writes this key (letters, a standing or a reading), and no other key, as `text`.
-pub record IsOnlyThing {K X : Type 0} (sort : Sort K X) (text : List ℕ) (thing : X) : Type 0 where
-  pub has : HasText sort text thing
-  pub only : (other : X) → HasText sort text other → other ≡ thing
+pub record IsOnlyKey {K X : Type 0} (format : KindFormat K X) (text : List ℕ) (key : X) : Type 0 where
+  pub has : HasText format text key
+  pub only : (other : X) → HasText format text other → other ≡ key
 
 -- ---- kinds of a card
 
 -- If there is a kind `last`, the kind `next` comes after it in the order of a card's lines.
-abbrev pub ComesAfter : {K X : Type 0} → Sort K X → Option K → K → Type 0
-ComesAfter sort None next = Unit {0}
-ComesAfter sort (Some last) next = ThingComesBefore sort (sort.kind last).thing (sort.kind next).thing
+abbrev pub ComesAfter : {K X : Type 0} → KindFormat K X → Option K → K → Type 0
+ComesAfter format None next = Unit {0}
+ComesAfter format (Some last) next = KeyComesBefore format (format.kind last).key (format.kind next).key
 
 -- The kind is valid: its key is in the form that a card writes (two letters, for example, are in alphabetical order).
 -- Its count is from 1 to 255, and its price from -9999 to 9999.
-pub record IsKind {K X : Type 0} (sort : Sort K X) (kind : K) : Type 0 where
-  pub form : sort.InForm (sort.kind kind).thing
-  pub some : 1 ≤ (sort.kind kind).count
-  pub most : (sort.kind kind).count ≤ 255
-  pub reach : unsigned_abs (sort.kind kind).price ≤ 9999
+pub record IsKind {K X : Type 0} (format : KindFormat K X) (kind : K) : Type 0 where
+  pub form : format.InForm (format.kind kind).key
+  pub some : 1 ≤ (format.kind kind).count
+  pub most : (format.kind kind).count ≤ 255
+  pub reach : unsigned_abs (format.kind kind).price ≤ 9999
 
 -- The kinds are valid and strictly ascending. If there is a kind `last`, they come after it.
-abbrev pub AreKinds : {K X : Type 0} → Sort K X → Option K → List K → Type 0
-AreKinds sort last [] = Unit {0}
-AreKinds sort last (kind ∷ kinds) = IsKind sort kind × ComesAfter sort last kind × AreKinds sort (Some kind) kinds
+abbrev pub AreKinds : {K X : Type 0} → KindFormat K X → Option K → List K → Type 0
+AreKinds format last [] = Unit {0}
+AreKinds format last (kind ∷ kinds) =
+    IsKind format kind × ComesAfter format last kind × AreKinds format (Some kind) kinds
 
 -- the sum of the kinds' counts
-abbrev pub counted : {K X : Type 0} → Sort K X → List K → ℕ
-counted sort [] = 0
-counted sort (kind ∷ kinds) = (sort.kind kind).count + counted sort kinds
+abbrev pub counted : {K X : Type 0} → KindFormat K X → List K → ℕ
+counted format [] = 0
+counted format (kind ∷ kinds) = (format.kind kind).count + counted format kinds
 
 -- each kind's price, repeated as often as the kind's count says
-abbrev pub prices_of_kinds : {K X : Type 0} → Sort K X → List K → List ℤ
-prices_of_kinds sort kinds = flat_map (λ k. replicate (sort.kind k).count (sort.kind k).price) kinds
+abbrev pub prices_of_kinds : {K X : Type 0} → KindFormat K X → List K → List ℤ
+prices_of_kinds format kinds = flat_map (λ k. replicate (format.kind k).count (format.kind k).price) kinds
 
 -- each kind's key together with the kind's price, repeated as often as the kind's count says
 abbrev pub expansion : {X : Type 0} → List (KindOf X) → List (X × ℤ)
-expansion kinds = flat_map (λ kind. replicate kind.count (kind.thing, kind.price)) kinds
+expansion kinds = flat_map (λ kind. replicate kind.count (kind.key, kind.price)) kinds
 
 -- Repeating each of `kinds` as often as its count says gives exactly these keys (letters, standings or readings) with
 -- these prices, in some order.
 -- Code: `kinds_of` sorts keys with their prices, and counts equal ones. For each key, `prices_of` lowers the count of
 -- the key's kind by one. Neither makes the `expansion`.
-pub record AreKindsOf {K X : Type 0} (sort : Sort K X) (things : List X) (prices : List ℤ) (kinds : List K) : Type 0
-  where
-    pub number : length prices ≡ length things
-    pub expand : IsPermutation (zip things prices) (expansion (map sort.kind kinds))
+pub record AreKindsOf {K X : Type 0} (format : KindFormat K X) (keys : List X) (prices : List ℤ) (kinds : List K)
+    : Type 0 where
+  pub number : length prices ≡ length keys
+  pub expand : IsPermutation (zip keys prices) (expansion (map format.kind kinds))
 
 -- ---- lines
 
 -- the words of a kind's line, such as `CABLE AB 1 -2`: the first word, the key's text, the count and the price
-abbrev pub kind_words : {K X : Type 0} → Sort K X → K → List (List ℕ)
-kind_words sort k = sort.word ∷ sort.text (sort.kind k).thing ∷ decimal (sort.kind k).count
-    ∷ signed_decimal (sort.kind k).price ∷ []
+abbrev pub kind_words : {K X : Type 0} → KindFormat K X → K → List (List ℕ)
+kind_words format k = format.word ∷ format.text (format.kind k).key ∷ decimal (format.kind k).count
+    ∷ signed_decimal (format.kind k).price ∷ []
 
 -- The kind is valid, and `words` are the words of its line.
-pub record HasKindWords {K X : Type 0} (sort : Sort K X) (words : List (List ℕ)) (kind : K) : Type 0 where
-  pub good : IsKind sort kind
-  pub written : kind_words sort kind ≡ words
+pub record HasKindWords {K X : Type 0} (format : KindFormat K X) (words : List (List ℕ)) (kind : K) : Type 0 where
+  pub good : IsKind format kind
+  pub written : kind_words format kind ≡ words
 
 -- the lines of the kinds, each with LF at its end
-abbrev pub kinds_text : {K X : Type 0} → Sort K X → List K → List ℕ
-kinds_text sort kinds = flat_map (λ kind. line_of (kind_words sort kind) ++ 10 ∷ []) kinds
+abbrev pub kinds_text : {K X : Type 0} → KindFormat K X → List K → List ℕ
+kinds_text format kinds = flat_map (λ kind. line_of (kind_words format kind) ++ 10 ∷ []) kinds

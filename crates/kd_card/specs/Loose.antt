@@ -18,9 +18,9 @@ use Rattle.kd_state.specs.Machine.{ring_at, letter_at}
 use Rattle.kd_state.specs.SheetDay.{Day, OfRotors, OfPins}
 use Rattle.kd_state.specs.Costs.{exactly_one}
 
--- the setting `x`, or no setting if `so` is true, that is, if the machine already is as `x` would set it
+-- the setting `x`, or no setting if `already` is true, that is, if the machine already is as `x` would set it
 abbrev pub setting_unless : Bool → Setting → List Setting
-setting_unless so x = if so then [] else x ∷ []
+setting_unless already x = if already then [] else x ∷ []
 
 -- the settings that `lines` gives for each item and its number, item after item; the first number is `number`
 abbrev pub lines_from : {Z : Type 0} → (ℕ → Z → List Setting) → ℕ → List Z → List Setting

@@ -8,7 +8,7 @@ use Rattle.std.specs.declared.cmp.Ordering.TheVariants.{Less, Equal}
 use Rattle.kd_tables.specs.declared.place.Place.{Place}
 use Rattle.kd_tables.specs.Places.{place_rank}
 use Rattle.kd_tables.specs.contracts.place.PlaceOrd.TheImpl as places
-use Rattle.kd_card.specs.Kinds.{ThingComesBefore, bar_sort}
+use Rattle.kd_card.specs.Kinds.{KeyComesBefore, bar_format}
 
 abbrev place_cmp : Place → Place → Ordering
 place_cmp p q = places.ghosts.cmp p q
@@ -35,5 +35,5 @@ standings_told_apart (a, b) (c, d) e =
     let right = same_place b d both.1 in
     cc
 
-pub standings_ordered : (x y : Place × Place) → ThingComesBefore bar_sort x y ↔ (standing_cmp x y ≡ Less)
+pub standings_ordered : (x y : Place × Place) → KeyComesBefore bar_format x y ↔ (standing_cmp x y ≡ Less)
 standings_ordered x y = grind (arith, then_equal, place_cmp-ranks x.0 y.0, place_cmp-ranks x.1 y.1)

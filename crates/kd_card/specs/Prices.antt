@@ -7,7 +7,7 @@ use Rattle.kd_card.specs.declared.prices.PriceParts.{PriceParts}
 use Rattle.kd_card.specs.declared.prices.PriceParts.TheVariants.{Cables, Bars, CableKinds, BarKinds}
 use Rattle.kd_card.specs.declared.prices.Version.{Version}
 use Rattle.kd_card.specs.declared.prices.Version.TheVariants.{ByNumber, ByKind}
-use Rattle.kd_card.specs.Kinds.{cable_sort, pair_sort, bar_sort, row_sort, prices_of_kinds, AreKinds}
+use Rattle.kd_card.specs.Kinds.{cable_format, pair_format, bar_format, row_format, prices_of_kinds, AreKinds}
 
 -- whether prices are by number (one for each cable, pair, nothing, bar or row) or by kind (one for each kind)
 abbrev pub version_of : PriceParts → Version
@@ -19,16 +19,16 @@ version_of _ = ByNumber
 abbrev pub row_prices : PriceParts → List ℤ
 row_prices (Cables row col) = row
 row_prices (Bars row col) = row
-row_prices (CableKinds row col) = prices_of_kinds cable_sort row.items
-row_prices (BarKinds row col) = prices_of_kinds bar_sort row.items
+row_prices (CableKinds row col) = prices_of_kinds cable_format row.items
+row_prices (BarKinds row col) = prices_of_kinds bar_format row.items
 
 -- a price for each column of the table of costs (each pair and nothing, or each row of the sheet); a kind's price is
 -- repeated as its count says
 abbrev pub column_prices : PriceParts → List ℤ
 column_prices (Cables row col) = col
 column_prices (Bars row col) = col
-column_prices (CableKinds row col) = prices_of_kinds pair_sort col.items
-column_prices (BarKinds row col) = prices_of_kinds row_sort col.items
+column_prices (CableKinds row col) = prices_of_kinds pair_format col.items
+column_prices (BarKinds row col) = prices_of_kinds row_format col.items
 
 -- the number of rows of the table of costs, which is also its number of columns
 abbrev pub table_rows : PriceParts → ℕ
@@ -42,8 +42,8 @@ ArePricesInRange prices = All (λ price. unsigned_abs price ≤ 9999) prices
 
 -- If the prices are by kind, the kinds of the table's rows and of its columns are valid and strictly ascending.
 abbrev pub HaveKindsInOrder : PriceParts → Type 0
-HaveKindsInOrder (CableKinds row col) = AreKinds cable_sort None row.items × AreKinds pair_sort None col.items
-HaveKindsInOrder (BarKinds row col) = AreKinds bar_sort None row.items × AreKinds row_sort None col.items
+HaveKindsInOrder (CableKinds row col) = AreKinds cable_format None row.items × AreKinds pair_format None col.items
+HaveKindsInOrder (BarKinds row col) = AreKinds bar_format None row.items × AreKinds row_format None col.items
 HaveKindsInOrder _ = Unit {0}
 
 -- The prices are valid: one for each row and column of the table of costs, from -9999 to 9999. All kinds are valid and

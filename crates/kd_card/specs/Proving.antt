@@ -16,7 +16,7 @@ use Rattle.kd_state.specs.Costs.{columns_of, cost_table, loose_count}
 use Rattle.kd_card.specs.declared.prices.PriceParts.{PriceParts}
 use Rattle.kd_card.specs.declared.prices.PriceParts.TheVariants.{Cables, Bars, CableKinds, BarKinds}
 use Rattle.kd_card.specs.declared.prices.Version.TheVariants.{ByNumber}
-use Rattle.kd_card.specs.Kinds.{cable_sort, pair_sort, bar_sort, row_sort, AreKindsOf}
+use Rattle.kd_card.specs.Kinds.{cable_format, pair_format, bar_format, row_format, AreKindsOf}
 use Rattle.kd_card.specs.Prices.{version_of, price_sum, PricesFit, ArePrices}
 
 -- The prices are by number: one for each cable and column (rotor machine), or one for each bar and row (Converter).
@@ -62,9 +62,10 @@ columns_in_order pairs = map pair_in_order (columns_of pairs)
 -- and the day's rows. The second prices give each cable, column, bar or row the price of its kind.
 abbrev pub AreExpanded : Parts → Day → PriceParts → PriceParts → Type 0
 AreExpanded (Rotor m) (OfRotors s) (CableKinds row col) (Cables rows columns) =
-    AreKindsOf cable_sort m.cables rows row.items × AreKindsOf pair_sort (columns_in_order s.pairs) columns col.items
+    AreKindsOf cable_format m.cables rows row.items
+    × AreKindsOf pair_format (columns_in_order s.pairs) columns col.items
 AreExpanded (Pin m) (OfPins s) (BarKinds row col) (Bars rows columns) =
-    AreKindsOf bar_sort m.bars rows row.items × AreKindsOf row_sort s.rows columns col.items
+    AreKindsOf bar_format m.bars rows row.items × AreKindsOf row_format s.rows columns col.items
 AreExpanded _ _ _ _ = ⊥
 
 -- `numbered` has a price for each cable and column, or each bar and row. If `prices` has these too, `numbered` is

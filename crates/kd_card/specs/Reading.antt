@@ -5,7 +5,7 @@ use Rattle.std.specs.Fmt.{signed_decimal}
 use Rattle.kd_state.specs.Words.{words_of}
 use Rattle.kd_card.specs.declared.prices.Version.{Version}
 use Rattle.kd_card.specs.declared.prices.Version.TheVariants.{ByNumber, ByKind}
-use Rattle.kd_card.specs.Kinds.{Sort, IsKind, HasKindWords}
+use Rattle.kd_card.specs.Kinds.{KindFormat, IsKind, HasKindWords}
 use Rattle.kd_card.specs.CardFault.{EndsGroup, HasNoNext}
 
 -- the words of a line after its first word; the argument is the line's text after its first space, if any
@@ -24,20 +24,20 @@ head_prefix ByKind = codes "CARD 2 DAY "
 
 -- The group of kinds ends before `bytes`. `IsBadKindAt`: the group goes on, but with a bad line. The line has no LF, or
 -- no valid kind that comes after the kind `last`.
-pub record EndsKindsAt {K X : Type 0} (sort : Sort K X) (last : Option K) (bytes : List ℕ) : Type 0 where
-  pub ends : EndsGroup sort.word bytes
-  pub none_more : HasNoNext sort last bytes
+pub record EndsKindsAt {K X : Type 0} (format : KindFormat K X) (last : Option K) (bytes : List ℕ) : Type 0 where
+  pub ends : EndsGroup format.word bytes
+  pub none_more : HasNoNext format last bytes
 
-pub record IsBadKindAt {K X : Type 0} (sort : Sort K X) (last : Option K) (bytes : List ℕ) : Type 0 where
-  pub goes_on : ¬ (EndsGroup sort.word bytes)
-  pub none_more : HasNoNext sort last bytes
+pub record IsBadKindAt {K X : Type 0} (format : KindFormat K X) (last : Option K) (bytes : List ℕ) : Type 0 where
+  pub goes_on : ¬ (EndsGroup format.word bytes)
+  pub none_more : HasNoNext format last bytes
 
 -- `words` are the words of the line of `kind`, and of no kind with another key.
-pub record IsKindOfWords {K X : Type 0} (sort : Sort K X) (words : List (List ℕ)) (kind : K) : Type 0 where
-  pub has : HasKindWords sort words kind
-  pub only : (other : K) → HasKindWords sort words other → (sort.kind other).thing ≡ (sort.kind kind).thing
+pub record IsKindOfWords {K X : Type 0} (format : KindFormat K X) (words : List (List ℕ)) (kind : K) : Type 0 where
+  pub has : HasKindWords format words kind
+  pub only : (other : K) → HasKindWords format words other → (format.kind other).key ≡ (format.kind kind).key
 
 -- At most 27 kinds, each of them valid.
-pub record AreFewKinds {K X : Type 0} (sort : Sort K X) (kinds : List K) : Type 0 where
-  pub valid : All (IsKind sort) kinds
+pub record AreFewKinds {K X : Type 0} (format : KindFormat K X) (kinds : List K) : Type 0 where
+  pub valid : All (IsKind format) kinds
   pub few : length kinds ≤ 27

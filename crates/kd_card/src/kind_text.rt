@@ -19,37 +19,33 @@ use kd_state::{is_word, number_of_text, push_number, split_words};
 /// For the line `CABLE AB 1 0`, `behind` is `AB 1 0`. The result is `None` if the words don't make a valid kind.
 #[tactic(auto, using(crate::proofs::Lines::words_in_place))]
 fn kind_behind<K: Kind>(behind: Option<&[u8]>) -> Option<K>
-    ensures { let words = K.sort.word ∷ words_after_first (option_copied behind.entry) in
+    ensures { let words = K.format.word ∷ words_after_first (option_copied behind.entry) in
         MatchOption result
-        ((kind : K) → ¬ (HasKindWords K.sort words kind))
-        (IsKindOfWords K.sort words) }
+        ((kind : K) → ¬ (HasKindWords K.format words kind))
+        (IsKindOfWords K.format words) }
 {
     let words = split_words::<3>(behind?)?;
     match words.as_slice() {
-        [thing, count, price] => kind_of_words(thing, count, price),
+        [key, count, price] => kind_of_words(key, count, price),
         _ => None,
     }
 }
 
 /// Parses a kind from the last three words of its line. `None` if one of them isn't valid.
 #[tactic(auto, using(crate::proofs::KindWords::no_count))]
-fn kind_of_words<K: Kind>(thing: &[u8], count: &[u8], price: &[u8]) -> Option<K>
-    ensures { let words = K.sort.word ∷ thing.now ∷ count.now ∷ price.now ∷ [] in
+fn kind_of_words<K: Kind>(key: &[u8], count: &[u8], price: &[u8]) -> Option<K>
+    ensures { let words = K.format.word ∷ key.now ∷ count.now ∷ price.now ∷ [] in
         MatchOption result
-        ((kind : K) → ¬ (HasKindWords K.sort words kind))
-        (IsKindOfWords K.sort words) }
+        ((kind : K) → ¬ (HasKindWords K.format words kind))
+        (IsKindOfWords K.format words) }
 {
-    let thing = K::thing_of_text(thing)?;
+    let key = K::key_of_text(key)?;
     let count = number_of_text(count)?;
     let price = price_of_text(price)?;
     if count == 0 {
         return None;
     }
-    Some(K::of(KindOf {
-        thing,
-        count,
-        price,
-    }))
+    Some(K::of(KindOf { key, count, price }))
 }
 
 /// Reads the next kind of a group from the first line of `text`. Returns this kind, and the text after the line.
@@ -63,9 +59,9 @@ fn next_kind<K: Kind>(
 ) -> Result<Option<(K, &[u8])>, CardFault>
     ensures { MatchResult result
         (λ next. MatchOption next
-        (EndsKindsAt K.sort last text.now)
-        (λ found. IsNextKind K.sort last text.now found.0 found.1.now))
-        (λ fault. IsBadKindAt K.sort last text.now × (fault ≡ CardFault.BadLine line)) }
+        (EndsKindsAt K.format last text.now)
+        (λ found. IsNextKind K.format last text.now found.0 found.1.now))
+        (λ fault. IsBadKindAt K.format last text.now × (fault ≡ CardFault.BadLine line)) }
 {
     if text.is_empty() {
         return Ok(None);
@@ -91,8 +87,8 @@ pub(crate) fn read_kinds<'a, K: Kind, const N: usize>(
     requires few { N ≤ 27 }
     requires near { line < 300 }
     ensures { MatchResult result
-        (λ found. IsGroupAnswer K.sort N line text.now (Ok (found.0.items, found.1.now)))
-        (λ fault. IsGroupAnswer K.sort N line text.now (Err fault)) }
+        (λ found. IsGroupAnswer K.format N line text.now (Ok (found.0.items, found.1.now)))
+        (λ fault. IsGroupAnswer K.format N line text.now (Err fault)) }
 {
     let mut kinds = ArrayVec::new();
     let mut rest = text;
@@ -133,8 +129,8 @@ fn push_if_room<K: Kind, const N: usize>(kinds: &mut ArrayVec<K, N>, kind: &K)
 /// Appends a line for each of `kinds`.
 pub(crate) fn push_kinds<K: Kind, const N: usize>(text: &mut ArrayString<N>, kinds: &[K])
     requires room { array_string_len text.old + 26 * length kinds.now ≤ N }
-    requires kinds { All (IsKind K.sort) kinds.now }
-    ensures bytes { text.new.bytes ≡ text.old.bytes ++ kinds_text K.sort kinds.now }
+    requires kinds { All (IsKind K.format) kinds.now }
+    ensures bytes { text.new.bytes ≡ text.old.bytes ++ kinds_text K.format kinds.now }
     ensures len { array_string_len text.new ≤ array_string_len text.old + 26 * length kinds.now }
 {
     for kind in kinds {
@@ -145,8 +141,8 @@ pub(crate) fn push_kinds<K: Kind, const N: usize>(text: &mut ArrayString<N>, kin
 /// Appends the line of `kind`.
 fn push_kind<K: Kind, const N: usize>(text: &mut ArrayString<N>, kind: &K)
     requires room { array_string_len text.old + 26 ≤ N }
-    requires kind { IsKind K.sort kind.now }
-    ensures bytes { text.new.bytes ≡ text.old.bytes ++ kinds_text K.sort (kind.now ∷ []) }
+    requires kind { IsKind K.format kind.now }
+    ensures bytes { text.new.bytes ≡ text.old.bytes ++ kinds_text K.format (kind.now ∷ []) }
     ensures len { array_string_len text.new ≤ array_string_len text.old + 26 }
 {
     let parts = kind.parts();

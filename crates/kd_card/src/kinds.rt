@@ -3,10 +3,10 @@ ghost use Rattle.std.specs.Prelude.{◌≡◌, ◌≢◌, ◌↔◌, ℕ, ◌+�
 ghost use Rattle.std.specs.Prelude.{IsTrue, MatchOption};
 ghost use Rattle.arrayvec.specs.ArrayVec.{array_vec_len};
 ghost use Rattle.kd_state.specs.Machine.{cable_letters};
-ghost use Rattle.kd_card.specs.Kinds.{cable_sort, pair_sort, bar_sort, row_sort, letters_text};
+ghost use Rattle.kd_card.specs.Kinds.{cable_format, pair_format, bar_format, row_format, letters_text};
 ghost use Rattle.kd_card.specs.Kinds.{ComesAfter, IsKind, AreKinds, counted, prices_of_kinds};
 
-use super::thing::{Column, Ends, Thing};
+use super::kind_key::{Column, Ends, KindKey};
 use arrayvec::{ArrayString, ArrayVec};
 use kd_state::push_letter;
 use kd_tables::{Letter, Reading, Standing};
@@ -56,7 +56,7 @@ pub struct RowKind {
 /// A kind of cables, columns, bars or rows: its key (letters, standing or reading), their count, and the price of each.
 #[derive(Clone, Copy, Default)]
 pub struct KindOf<T> {
-    pub thing: T,
+    pub key: T,
     pub count: u8,
     pub price: i16,
 }
@@ -65,43 +65,43 @@ pub struct KindOf<T> {
 pub trait Kind: Copy + Default {
     ghost use Rattle.std.specs.Prelude.{◌≡◌, ◌↔◌, ◌≤◌, length, List, IsTrue, MatchOption};
     ghost use Rattle.std.specs.declared.cmp.Ordering.TheVariants.{Less};
-    ghost use Rattle.kd_card.specs.Kinds.{Sort, ThingComesBefore, HasText, IsOnlyThing};
+    ghost use Rattle.kd_card.specs.Kinds.{KindFormat, KeyComesBefore, HasText, IsOnlyKey};
 
     /// The key of a kind: what its cables, columns, bars or rows have in common, such as their letters.
-    type Thing: Thing;
+    type Key: KindKey;
 
     /// The format and the order of the lines of these kinds (of cables, columns, bars or rows).
-    ghost sort: { Sort Self Self.Thing };
+    ghost format: { KindFormat Self Self.Key };
 
     /// The first word of a kind's line on a card: `CABLE`, `PAIR`, `BAR` or `ROW`.
     fn word() -> &'static str
-        ensures value { result.now ≡ sort.word }
+        ensures value { result.now ≡ format.word }
         ensures few { length result.now ≤ 5 };
 
     /// Converts a `KindOf` to this type.
-    fn of(kind: KindOf<Self::Thing>) -> Self
-        ensures { sort.kind result ≡ kind };
+    fn of(kind: KindOf<Self::Key>) -> Self
+        ensures { format.kind result ≡ kind };
 
     /// Converts this kind to a `KindOf`.
-    fn parts(&self) -> KindOf<Self::Thing>
-        ensures { result ≡ sort.kind self.now };
+    fn parts(&self) -> KindOf<Self::Key>
+        ensures { result ≡ format.kind self.now };
 
     /// Whether a card may have a kind with this key. Two letters, for example, have to be in alphabetical order.
     fn is_in_form(&self) -> bool
-        ensures { IsTrue result ↔ sort.InForm (sort.kind self.now).thing };
+        ensures { IsTrue result ↔ format.InForm (format.kind self.now).key };
 
     /// The text of the kind's key (letters, standing or reading) in the kind's line, such as `AB`.
     fn text(&self) -> ArrayString<8>
-        ensures { result.bytes ≡ sort.text (sort.kind self.now).thing };
+        ensures { result.bytes ≡ format.text (format.kind self.now).key };
 
     /// Parses the key of a kind (letters, standing or reading) from its text in the kind's line.
-    fn thing_of_text(text: &[u8]) -> Option<Self::Thing>
+    fn key_of_text(text: &[u8]) -> Option<Self::Key>
         ensures { MatchOption result
-            ((thing : Self.Thing) → ¬ (HasText sort text.now thing))
-            (IsOnlyThing sort text.now) };
+            ((key : Self.Key) → ¬ (HasText format text.now key))
+            (IsOnlyKey format text.now) };
 
     /// `Ord` sorts the keys of kinds as a card sorts the lines of these kinds.
-    ghost ordered: { (x y : Self.Thing) → ThingComesBefore sort x y ↔ (Self.Thing.cmp x y ≡ Less) };
+    ghost ordered: { (x y : Self.Key) → KeyComesBefore format x y ↔ (Self.Key.cmp x y ≡ Less) };
 }
 
 impl Kind for CableKind {
@@ -109,19 +109,19 @@ impl Kind for CableKind {
     ghost use Rattle.std.proofs.Common.{arith};
     ghost use Rattle.std.proofs.lemmas.Bool.Decides.{nat_tests};
 
-    type Thing = Ends;
+    type Key = Ends;
 
-    ghost sort = { cable_sort };
+    ghost format = { cable_format };
 
     fn word() -> &'static str {
         "CABLE"
     }
 
     fn of(kind: KindOf<Ends>) -> Self
-        ensures { cable_sort.kind result ≡ kind }
+        ensures { cable_format.kind result ≡ kind }
     {
         CableKind {
-            ends: kind.thing.letters(),
+            ends: kind.key.letters(),
             count: kind.count,
             price: kind.price,
         }
@@ -129,7 +129,7 @@ impl Kind for CableKind {
 
     fn parts(&self) -> KindOf<Ends> {
         KindOf {
-            thing: Ends::new(self.ends),
+            key: Ends::new(self.ends),
             count: self.count,
             price: self.price,
         }
@@ -149,7 +149,7 @@ impl Kind for CableKind {
     }
 
     #[tactic(auto, using(crate::proofs::KindWords::one_cable))]
-    fn thing_of_text(text: &[u8]) -> Option<Ends> {
+    fn key_of_text(text: &[u8]) -> Option<Ends> {
         match text {
             [b'-'] => Some(Ends::new((None, None))),
             [letter] => Some(Ends::new((Some(Letter::from_byte(*letter)?), None))),
@@ -171,19 +171,19 @@ impl Kind for PairKind {
     ghost use Rattle.std.proofs.Common.{arith};
     ghost use Rattle.std.proofs.lemmas.Bool.Decides.{nat_tests};
 
-    type Thing = Column;
+    type Key = Column;
 
-    ghost sort = { pair_sort };
+    ghost format = { pair_format };
 
     fn word() -> &'static str {
         "PAIR"
     }
 
     fn of(kind: KindOf<Column>) -> Self
-        ensures { pair_sort.kind result ≡ kind }
+        ensures { pair_format.kind result ≡ kind }
     {
         PairKind {
-            pair: kind.thing.pair(),
+            pair: kind.key.pair(),
             count: kind.count,
             price: kind.price,
         }
@@ -191,7 +191,7 @@ impl Kind for PairKind {
 
     fn parts(&self) -> KindOf<Column> {
         KindOf {
-            thing: Column::new(self.pair),
+            key: Column::new(self.pair),
             count: self.count,
             price: self.price,
         }
@@ -212,7 +212,7 @@ impl Kind for PairKind {
     }
 
     #[tactic(auto, using(crate::proofs::KindWords::one_pair))]
-    fn thing_of_text(text: &[u8]) -> Option<Column> {
+    fn key_of_text(text: &[u8]) -> Option<Column> {
         match text {
             [b'-'] => Some(Column::new(None)),
             _ => Some(Column::new(Some(two_letters(text)?))),
@@ -228,19 +228,19 @@ impl Kind for PairKind {
 impl Kind for BarKind {
     ghost use Rattle.kd_card.specs.Order.{standings_ordered};
 
-    type Thing = Standing;
+    type Key = Standing;
 
-    ghost sort = { bar_sort };
+    ghost format = { bar_format };
 
     fn word() -> &'static str {
         "BAR"
     }
 
     fn of(kind: KindOf<Standing>) -> Self
-        ensures { bar_sort.kind result ≡ kind }
+        ensures { bar_format.kind result ≡ kind }
     {
         BarKind {
-            standing: kind.thing,
+            standing: kind.key,
             count: kind.count,
             price: kind.price,
         }
@@ -248,7 +248,7 @@ impl Kind for BarKind {
 
     fn parts(&self) -> KindOf<Standing> {
         KindOf {
-            thing: self.standing,
+            key: self.standing,
             count: self.count,
             price: self.price,
         }
@@ -263,7 +263,7 @@ impl Kind for BarKind {
     }
 
     #[tactic(auto, using(crate::proofs::KindWords::one_standing))]
-    fn thing_of_text(text: &[u8]) -> Option<Standing> {
+    fn key_of_text(text: &[u8]) -> Option<Standing> {
         Standing::from_text(text)
     }
 
@@ -274,19 +274,19 @@ impl Kind for RowKind {
     ghost use Rattle.std.proofs.Common.{arith};
     ghost use Rattle.std.proofs.lemmas.Bool.Decides.{nat_tests};
 
-    type Thing = Reading;
+    type Key = Reading;
 
-    ghost sort = { row_sort };
+    ghost format = { row_format };
 
     fn word() -> &'static str {
         "ROW"
     }
 
     fn of(kind: KindOf<Reading>) -> Self
-        ensures { row_sort.kind result ≡ kind }
+        ensures { row_format.kind result ≡ kind }
     {
         RowKind {
-            reading: kind.thing,
+            reading: kind.key,
             count: kind.count,
             price: kind.price,
         }
@@ -294,7 +294,7 @@ impl Kind for RowKind {
 
     fn parts(&self) -> KindOf<Reading> {
         KindOf {
-            thing: self.reading,
+            key: self.reading,
             count: self.count,
             price: self.price,
         }
@@ -309,7 +309,7 @@ impl Kind for RowKind {
     }
 
     #[tactic(auto, using(crate::proofs::KindWords::one_reading))]
-    fn thing_of_text(text: &[u8]) -> Option<Reading> {
+    fn key_of_text(text: &[u8]) -> Option<Reading> {
         Reading::from_text(text)
     }
 
@@ -359,17 +359,17 @@ fn two_letters(text: &[u8]) -> Option<(Letter, Letter)>
 
 /// Whether `kind` comes after the kind `last` in the order of a card's lines. If `last` is `None`, any kind does.
 pub(crate) fn comes_after<K: Kind>(last: Option<K>, kind: &K) -> bool
-    ensures { IsTrue result ↔ ComesAfter K.sort last kind.now }
+    ensures { IsTrue result ↔ ComesAfter K.format last kind.now }
 {
     match last {
-        Some(last) => last.parts().thing < kind.parts().thing,
+        Some(last) => last.parts().key < kind.parts().key,
         None => true,
     }
 }
 
 /// Whether a card may have `kind`: it is in form (`is_in_form`), its count is above 0, and its price within ±9999.
 fn is_kind<K: Kind>(kind: &K) -> bool
-    ensures { IsTrue result ↔ IsKind K.sort kind.now }
+    ensures { IsTrue result ↔ IsKind K.format kind.now }
 {
     let parts = kind.parts();
     kind.is_in_form() && parts.count > 0 && parts.price.unsigned_abs() <= 9999
@@ -378,7 +378,7 @@ fn is_kind<K: Kind>(kind: &K) -> bool
 /// Whether `kinds` are valid and strictly ascending (after `last`, if any), and their counts add up to `number`.
 pub(crate) fn are_kinds<K: Kind>(kinds: &[K], last: Option<K>, number: usize) -> bool
     ensures value { IsTrue result
-        ↔ (AreKinds K.sort last kinds.now × (counted K.sort kinds.now ≡ number)) }
+        ↔ (AreKinds K.format last kinds.now × (counted K.format kinds.now ≡ number)) }
     ensures few { IsTrue result → length kinds.now ≤ number }
 {
     match kinds {
@@ -395,8 +395,8 @@ pub(crate) fn are_kinds<K: Kind>(kinds: &[K], last: Option<K>, number: usize) ->
 
 /// Lists the price of each kind as many times as the kind's count says, kind after kind.
 pub(crate) fn prices_of_kinds<K: Kind>(kinds: &[K]) -> ArrayVec<i16, 27>
-    requires { length (prices_of_kinds K.sort kinds.now) ≤ 27 }
-    ensures { result.items ≡ prices_of_kinds K.sort kinds.now }
+    requires { length (prices_of_kinds K.format kinds.now) ≤ 27 }
+    ensures { result.items ≡ prices_of_kinds K.format kinds.now }
 {
     let mut prices = ArrayVec::new();
     for kind in kinds {
@@ -406,7 +406,7 @@ pub(crate) fn prices_of_kinds<K: Kind>(kinds: &[K]) -> ArrayVec<i16, 27>
 }
 
 /// Appends the price of `kind` as many times as the kind's count says.
-fn push_prices<T: Thing>(prices: &mut ArrayVec<i16, 27>, kind: &KindOf<T>)
+fn push_prices<T: KindKey>(prices: &mut ArrayVec<i16, 27>, kind: &KindOf<T>)
     requires { array_vec_len prices.old + kind.now.count ≤ 27 }
     ensures { prices.new.items ≡ prices.old.items ++ replicate kind.now.count kind.now.price }
 {

@@ -3,8 +3,9 @@
 #![tactic(auto)]
 
 mod card;
+mod cost_table;
 mod fault;
-mod group;
+mod kind_key;
 mod kind_text;
 mod kinds;
 pub mod laws;
@@ -15,11 +16,11 @@ mod price_text;
 mod prices;
 mod read;
 mod rotor_lines;
-mod thing;
 mod write;
 
 pub use card::Card;
 pub use fault::CardFault;
+pub use kind_key::{Column, Ends, KindKey};
 pub use kinds::{BarKind, CableKind, Kind, KindOf, PairKind, RowKind};
 pub use line::push_unless;
 pub use loose::loose_count;
@@ -27,5 +28,4 @@ pub use pin_lines::pin_settings;
 pub use prices::{PriceParts, Prices, Version, sum_of_prices};
 pub use read::read_card;
 pub use rotor_lines::rotor_settings;
-pub use thing::{Column, Ends, Thing};
 pub use write::write_card;

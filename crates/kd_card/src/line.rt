@@ -5,13 +5,13 @@ ghost use Rattle.kd_card.specs.Loose.{setting_unless};
 
 use kd_state::{Setting, Settings};
 
-/// Appends `setting`, unless `so` is true, that is, the machine already is as `setting` would set it.
-pub fn push_unless(settings: &mut Settings, so: bool, setting: Setting)
+/// Appends `setting`, unless `already` is true, that is, the machine already is as `setting` would set it.
+pub fn push_unless(settings: &mut Settings, already: bool, setting: Setting)
     requires { array_vec_len settings.old + 1 ≤ 192 }
-    ensures items { settings.new.items ≡ settings.old.items ++ setting_unless so setting }
+    ensures items { settings.new.items ≡ settings.old.items ++ setting_unless already setting }
     ensures few { array_vec_len settings.new ≤ array_vec_len settings.old + 1 }
 {
-    if !so {
+    if !already {
         settings.push(setting);
     }
 }

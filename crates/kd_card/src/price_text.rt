@@ -9,8 +9,8 @@ ghost use Rattle.kd_card.specs.CardFault.{IsNumberText, IsNumeral, IsPricesAnswe
 ghost use Rattle.kd_card.specs.CardFault.{IsLineAnswer, IsFirstWordAnswer, first_text};
 ghost use Rattle.kd_card.specs.Reading.{IsPriceText, words_after_first};
 
+use super::cost_table::CostTable;
 use super::fault::CardFault;
-use super::group::Group;
 use super::prices::Version;
 use arrayvec::ArrayVec;
 use itoa::Buffer;
@@ -81,33 +81,33 @@ pub(crate) fn split_first(
 /// Reads the first word of the first price line. It shows whether the card has prices of cables or of bars.
 ///
 /// Also returns the line's text after its first space, if any, and the text of the next lines.
-pub(crate) fn first_group(
+pub(crate) fn table_of_line(
     text: &[u8],
     version: Version,
     line: usize,
-) -> Result<(Group, Option<&[u8]>, &[u8]), CardFault>
+) -> Result<(CostTable, Option<&[u8]>, &[u8]), CardFault>
     ensures { let says = IsFirstWordAnswer (first_text version) line text.now in
         MatchResult result
         (λ found. says (Ok (found.0, words_after_first (option_copied found.1), found.2.now)))
         (λ fault. says (Err fault)) }
 {
     let (first, behind, rest) = split_first(text, line)?;
-    match group_of_word(first, version) {
-        Some(group) => Ok((group, behind, rest)),
+    match table_of_word(first, version) {
+        Some(table) => Ok((table, behind, rest)),
         None => Err(CardFault::PriceMissing),
     }
 }
 
 /// Whether price lines that begin with `word` are for cables or for bars. `None` if they are for neither.
-fn group_of_word(word: &[u8], version: Version) -> Option<Group>
+fn table_of_word(word: &[u8], version: Version) -> Option<CostTable>
     ensures { MatchOption result
-        ((group : _) → word.now ≢ first_text version group)
-        (λ group. word.now ≡ first_text version group) }
+        ((table : _) → word.now ≢ first_text version table)
+        (λ table. word.now ≡ first_text version table) }
 {
-    if is_word(word, Group::OfCables.first_text(version)) {
-        Some(Group::OfCables)
-    } else if is_word(word, Group::OfBars.first_text(version)) {
-        Some(Group::OfBars)
+    if is_word(word, CostTable::OfCables.first_text(version)) {
+        Some(CostTable::OfCables)
+    } else if is_word(word, CostTable::OfBars.first_text(version)) {
+        Some(CostTable::OfBars)
     } else {
         None
     }

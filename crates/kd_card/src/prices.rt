@@ -8,7 +8,7 @@ ghost use Rattle.kd_card.specs.Reading.{head_prefix};
 ghost use Rattle.kd_card.specs.Prices.{ArePricesInRange, ArePrices};
 ghost use Rattle.kd_card.specs.CardText.{price_count, price_lines, IsGroup};
 
-use super::group::Group;
+use super::cost_table::CostTable;
 use super::kinds::{BarKind, CableKind, Kind, PairKind, RowKind, are_kinds, prices_of_kinds};
 use arrayvec::ArrayVec;
 use std::marker::Model;
@@ -128,19 +128,22 @@ impl Prices {
     }
 
     /// Makes prices by number, for cables or for bars as `group` says, from the prices of rows and columns.
-    pub(crate) fn numbered(group: Group, rows: &[i16], columns: &[i16]) -> Self
-        requires rows { length rows.now ≡ price_count group }
-        requires columns { length columns.now ≡ price_count group }
+    pub(crate) fn numbered(table: CostTable, rows: &[i16], columns: &[i16]) -> Self
+        requires rows { length rows.now ≡ price_count table }
+        requires columns { length columns.now ≡ price_count table }
         requires row_reach { ArePricesInRange rows.now }
         requires column_reach { ArePricesInRange columns.now }
-        ensures value { result ≡ parts_by_number group rows.now columns.now }
+        ensures value { result ≡ parts_by_number table rows.now columns.now }
         ensures are_prices { ArePrices result }
     {
-        match group {
-            Group::OfCables => {
+        match table {
+            CostTable::OfCables => {
                 Prices::of_parts(PriceParts::Cables(array_of(rows), array_of(columns)))
             }
-            Group::OfBars => Prices::of_parts(PriceParts::Bars(array_of(rows), array_of(columns))),
+            CostTable::OfBars => Prices::of_parts(PriceParts::Bars(
+                array_of(rows),
+                array_of(columns),
+            )),
         }
     }
 
@@ -211,11 +214,11 @@ impl Prices {
 
 /// Adds up the prices of the kinds `rows` and `columns`, each price as often as its kind's count says.
 fn sum_of_kinds<R: Kind, C: Kind>(rows: &[R], columns: &[C]) -> i32
-    requires rows { ArePricesInRange (kind_prices R.sort rows.now) }
-    requires columns { ArePricesInRange (kind_prices C.sort columns.now) }
-    requires few_rows { length (kind_prices R.sort rows.now) ≤ 27 }
-    requires few_columns { length (kind_prices C.sort columns.now) ≤ 27 }
-    ensures { let prices = kind_prices R.sort rows.now ++ kind_prices C.sort columns.now in
+    requires rows { ArePricesInRange (kind_prices R.format rows.now) }
+    requires columns { ArePricesInRange (kind_prices C.format columns.now) }
+    requires few_rows { length (kind_prices R.format rows.now) ≤ 27 }
+    requires few_columns { length (kind_prices C.format columns.now) ≤ 27 }
+    ensures { let prices = kind_prices R.format rows.now ++ kind_prices C.format columns.now in
         result ≡ fold (λ sum price. sum +ℤ price) (pos 0) prices }
 {
     sum_of_prices(
@@ -268,8 +271,8 @@ fn array_of<const N: usize>(prices: &[i16]) -> [i16; N]
 /// Copies `kinds`. `None` if they aren't valid and strictly ascending, or their counts don't add up to `N`.
 fn in_order<K: Kind, const N: usize>(kinds: &[K]) -> Option<ArrayVec<K, N>>
     ensures { MatchOption result
-        (¬ (IsGroup K.sort N kinds.now))
-        (λ copied. (copied.items ≡ kinds.now) × IsGroup K.sort N kinds.now) }
+        (¬ (IsGroup K.format N kinds.now))
+        (λ copied. (copied.items ≡ kinds.now) × IsGroup K.format N kinds.now) }
 {
     if are_kinds(kinds, None, N) {
         Some(copy_list(kinds))

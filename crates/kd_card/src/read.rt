@@ -7,11 +7,11 @@ ghost use Rattle.kd_card.specs.CardFault.{IsByNumberPricesAnswer, IsGroupsAnswer
 ghost use Rattle.kd_card.specs.CardFault.{IsAllPricesAnswer, IsSumAnswer, IsCardFault};
 
 use super::card::Card;
+use super::cost_table::CostTable;
 use super::fault::CardFault;
-use super::group::Group;
 use super::kind_text::read_kinds;
 use super::kinds::Kind;
-use super::price_text::{first_group, is_numeral, prices_behind, split_first};
+use super::price_text::{is_numeral, prices_behind, split_first, table_of_line};
 use super::prices::{PriceParts, Prices, Version};
 use arrayvec::ArrayVec;
 use itoa::Buffer;
@@ -143,11 +143,11 @@ fn read_numbered(text: &[u8], line: usize) -> Result<(Prices, &[u8]), CardFault>
         (λ found. IsByNumberPricesAnswer line text.now (Ok (found.0, found.1.now)))
         (λ fault. IsByNumberPricesAnswer line text.now (Err fault)) }
 {
-    let (group, behind, rest) = first_group(text, Version::ByNumber, line)?;
-    let number = group.number();
+    let (table, behind, rest) = table_of_line(text, Version::ByNumber, line)?;
+    let number = table.number();
     let rows = prices_behind(behind, number, line)?;
-    let (columns, rest) = read_price_line(rest, group.column_text(), number, line + 1)?;
-    let prices = Prices::numbered(group, rows.as_slice(), columns.as_slice());
+    let (columns, rest) = read_price_line(rest, table.column_text(), number, line + 1)?;
+    let prices = Prices::numbered(table, rows.as_slice(), columns.as_slice());
     Ok((prices, rest))
 }
 
@@ -160,15 +160,15 @@ fn read_kinded(text: &[u8], line: usize) -> Result<(Prices, &[u8]), CardFault>
         (λ found. IsByKindPricesAnswer line text.now (Ok (found.0, found.1.now)))
         (λ fault. IsByKindPricesAnswer line text.now (Err fault)) }
 {
-    match first_group(text, Version::ByKind, line)?.0 {
-        Group::OfCables => {
+    match table_of_line(text, Version::ByKind, line)?.0 {
+        CostTable::OfCables => {
             let (cables, pairs, rest) = read_groups(text, line)?;
             Ok((
                 Prices::of_parts(PriceParts::CableKinds(cables, pairs)),
                 rest,
             ))
         }
-        Group::OfBars => {
+        CostTable::OfBars => {
             let (bars, rows, rest) = read_groups(text, line)?;
             Ok((Prices::of_parts(PriceParts::BarKinds(bars, rows)), rest))
         }
@@ -184,7 +184,7 @@ fn read_groups<'a, R: Kind, C: Kind, const N: usize>(
 ) -> Result<(ArrayVec<R, N>, ArrayVec<C, N>, &'a [u8]), CardFault>
     requires few { N ≤ 27 }
     requires near { line < 200 }
-    ensures { let says = IsGroupsAnswer R.sort C.sort N line text.now in
+    ensures { let says = IsGroupsAnswer R.format C.format N line text.now in
         MatchResult result
         (λ found. says (Ok (found.0.items, found.1.items, found.2.now)))
         (λ fault. says (Err fault)) }

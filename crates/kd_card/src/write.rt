@@ -129,9 +129,9 @@ fn push_groups<R: Kind, C: Kind, const N: usize>(
     columns: &[C],
 )
     requires room { array_string_len text.old + 1404 ≤ N }
-    requires rows { AreFewKinds R.sort rows.now }
-    requires columns { AreFewKinds C.sort columns.now }
-    ensures bytes { let lines = map (kind_words R.sort) rows.now ++ map (kind_words C.sort) columns.now in
+    requires rows { AreFewKinds R.format rows.now }
+    requires columns { AreFewKinds C.format columns.now }
+    ensures bytes { let lines = map (kind_words R.format) rows.now ++ map (kind_words C.format) columns.now in
         text.new.bytes ≡ text.old.bytes ++ lines_text lines }
     ensures len { array_string_len text.new ≤ array_string_len text.old + 1404 }
 {

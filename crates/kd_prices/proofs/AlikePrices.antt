@@ -1,4 +1,4 @@
--- In a card by number that proves itself, equal things have equal prices. For equal rows have equal costs in each
+-- In a card by number that proves itself, equal keys have equal prices. For equal rows have equal costs in each
 -- column, and each row has a column where the two prices add up to the cost; likewise for equal columns.
 use Rattle.kd_prices.proofs.Prelude.{AlikePricesAreEqual, AreEqualWhereAlike, ArePricesTight, Bars, Cables, Day, List}
 use Rattle.kd_prices.proofs.Prelude.{None, OfPins, OfRotors, One, Parts, Pin, PriceParts, PricesFit, ReadAlike, Rotor}

@@ -1,6 +1,6 @@
--- When prices by number, one for each thing, can become prices by kind, one for equal things; and which these are.
+-- When prices by number, one for each key, can become prices by kind, one for equal keys; and which these are.
 use Rattle.kd_card.proofs.KindPrices.{bars_are_prices, cables_are_prices}
-use Rattle.kd_prices.proofs.AlikeThings.{AreTold, cables_told, columns_told, each_told, one_price_is}
+use Rattle.kd_prices.proofs.AlikeKeys.{AreTold, cables_told, columns_told, each_told, one_price_is}
 use Rattle.kd_prices.proofs.InForm.{cables_are_in_form, columns_are_in_form}
 use Rattle.kd_prices.proofs.Runs.{one_price}
 use Rattle.kd_prices.proofs.Taking.{size}
@@ -9,51 +9,51 @@ use Rattle.kd_prices.proofs.Prelude.{ArePricesInRange, BarKind, BarKinds, Bars, 
 use Rattle.kd_prices.proofs.Prelude.{CanBeByKind, Contains-permutation, Day, Expanded, Expands, HaveOnePriceEach}
 use Rattle.kd_prices.proofs.Prelude.{IfSome, IsFine, IsGroup, IsLegalDay, IsMachine, IsPermutation, List, MatchOption}
 use Rattle.kd_prices.proofs.Prelude.{None, OfPins, OfRotors, One, Option, PairKind, Parts, Pin, PinDay, PinParts}
-use Rattle.kd_prices.proofs.Prelude.{PriceParts, ReadAlike, Rotor, RotorDay, RotorParts, RowKind, Some, Sort}
-use Rattle.kd_prices.proofs.Prelude.{StandAlike, arith, bar_sort, cable_sort, columns_in_order, columns_of, day_model}
+use Rattle.kd_prices.proofs.Prelude.{PriceParts, ReadAlike, Rotor, RotorDay, RotorParts, RowKind, Some, KindFormat}
+use Rattle.kd_prices.proofs.Prelude.{StandAlike, arith, bar_format, cable_format, columns_in_order, columns_of, day_model}
 use Rattle.kd_prices.proofs.Prelude.{expansion, get_or-zip, length, length-map, length-zip, length_permutation, map}
-use Rattle.kd_prices.proofs.Prelude.{model_of, pair_in_order, pair_sort, price_at, refl, row_sort, subst, sym}
+use Rattle.kd_prices.proofs.Prelude.{model_of, pair_in_order, pair_format, price_at, refl, row_format, subst, sym}
 use Rattle.kd_prices.proofs.Prelude.{thirteen_columns, version_of, zip, ℕ, ℤ, ◌<◌, ◌∙◌, ◌≡◌}
 
--- what `kinds_of` ensures of the kinds of `things` with `prices`
-pub record AreGrouped {K X : Type 0} (sort : Sort K X) (things : List X) (prices : List ℤ) (kinds : List K) : Type 0
+-- what `kinds_of` ensures of the kinds of `keys` with `prices`
+pub record AreGrouped {K X : Type 0} (format : KindFormat K X) (keys : List X) (prices : List ℤ) (kinds : List K) : Type 0
   where
-    pub expand : IsPermutation (zip things prices) (expansion (map sort.kind kinds))
-    pub in_order : HaveOnePriceEach (zip things prices) → All (IsFine sort) (zip things prices)
-        → AreKinds sort None kinds
+    pub expand : IsPermutation (zip keys prices) (expansion (map format.kind kinds))
+    pub in_order : HaveOnePriceEach (zip keys prices) → All (IsFine format) (zip keys prices)
+        → AreKinds format None kinds
 
--- The kinds are those of the things with these prices, and they are valid exactly if equal things have equal prices.
-record AreKindsFor {K X : Type 0} (sort : Sort K X) (things : List X) (n : ℕ) (Alike : ℕ → ℕ → Type 0)
+-- The kinds are those of the keys with these prices, and they are valid exactly if equal keys have equal prices.
+record AreKindsFor {K X : Type 0} (format : KindFormat K X) (keys : List X) (n : ℕ) (Alike : ℕ → ℕ → Type 0)
     (prices : List ℤ) (kinds : List K) : Type 0 where
-  of : AreKindsOf sort things prices kinds
-  valid : ((i k : ℕ) → i < n → k < n → Alike i k → price_at prices i ≡ price_at prices k) → IsGroup sort n kinds
-  equal : IsGroup sort n kinds → (i k : ℕ) → i < n → k < n → Alike i k → price_at prices i ≡ price_at prices k
+  of : AreKindsOf format keys prices kinds
+  valid : ((i k : ℕ) → i < n → k < n → Alike i k → price_at prices i ≡ price_at prices k) → IsGroup format n kinds
+  equal : IsGroup format n kinds → (i k : ℕ) → i < n → k < n → Alike i k → price_at prices i ≡ price_at prices k
 
-are_kinds_for : {K X : Type 0} (sort : Sort K X) (things : List X) (d : X)
-    (Alike : ℕ → ℕ → Type 0) → AreTold things d Alike → All sort.InForm things → (n : ℕ) → length things ≡ n
+are_kinds_for : {K X : Type 0} (format : KindFormat K X) (keys : List X) (d : X)
+    (Alike : ℕ → ℕ → Type 0) → AreTold keys d Alike → All format.InForm keys → (n : ℕ) → length keys ≡ n
     → (prices : List ℤ) → length prices ≡ n → ArePricesInRange prices → (kinds : List K)
-    → AreGrouped sort things prices kinds → AreKindsFor sort things n Alike prices kinds
-are_kinds_for sort things d Alike told forms n many prices number reach kinds grouped =
-    let pairs = zip things prices in
-    let all = expansion (map sort.kind kinds) in
-    let iff = one_price_is things d Alike told prices n many number in
-    let fine : All (IsFine sort) pairs = λ i z inside.
-    let low : i < length things = omega (arith, length-zip things prices, many, number) in
+    → AreGrouped format keys prices kinds → AreKindsFor format keys n Alike prices kinds
+are_kinds_for format keys d Alike told forms n many prices number reach kinds grouped =
+    let pairs = zip keys prices in
+    let all = expansion (map format.kind kinds) in
+    let iff = one_price_is keys d Alike told prices n many number in
+    let fine : All (IsFine format) pairs = λ i z inside.
+    let low : i < length keys = omega (arith, length-zip keys prices, many, number) in
     let under : i < length prices = omega (arith, many, number) in
-    subst (IsFine sort) (sym (get_or-zip things prices i z low under)) (forms i z.0 low, reach i z.1 under) in
+    subst (IsFine format) (sym (get_or-zip keys prices i z low under)) (forms i z.0 low, reach i z.1 under) in
     record {
       of = record { number = number ∙ sym many; expand = grouped.expand };
       valid = λ equal.
           let same = length_permutation pairs all grouped.expand in
           record {
             in_order = grouped.in_order (iff.1 equal) fine;
-            count = omega (arith, size sort kinds, same, length-zip things prices, many, number);
+            count = omega (arith, size format kinds, same, length-zip keys prices, many, number);
           };
       equal = λ group.
-          iff.0 (λ thing price other a b.
-          one_price sort None kinds group.in_order thing price other
-          (Contains-permutation pairs all (thing, price) grouped.expand a)
-          (Contains-permutation pairs all (thing, other) grouped.expand b));
+          iff.0 (λ key price other a b.
+          one_price format None kinds group.in_order key price other
+          (Contains-permutation pairs all (key, price) grouped.expand a)
+          (Contains-permutation pairs all (key, other) grouped.expand b));
     }
 
 made_by_kind : (m : Parts) (s : Day) (prices made : PriceParts) → AreNumbered m s prices → version_of made ≡ ByKind
@@ -72,8 +72,8 @@ made_by_kind m s prices made numbered version valid equal expands (Some other) i
 
 pub cables_by_kind : (m : RotorParts) (s : RotorDay) (rows columns : List ℤ) (row : List CableKind)
     (col : List PairKind) → IsMachine (Rotor m) → IsLegalDay (OfRotors s) → ArePrices (Cables rows columns)
-    → model_of (Rotor m) ≡ day_model (OfRotors s) → AreGrouped cable_sort m.cables rows row
-    → AreGrouped pair_sort (columns_in_order s.pairs) columns col → (r : Option PriceParts)
+    → model_of (Rotor m) ≡ day_model (OfRotors s) → AreGrouped cable_format m.cables rows row
+    → AreGrouped pair_format (columns_in_order s.pairs) columns col → (r : Option PriceParts)
     → MatchOption r (¬ (ArePrices (CableKinds (record { items = row }) (record { items = col }))))
     (λ made. made ≡ CableKinds (record { items = row }) (record { items = col })) → IfSome r ArePrices
     → MatchOption r (¬ (CanBeByKind (Rotor m) (OfRotors s) (Cables rows columns)))
@@ -82,11 +82,11 @@ cables_by_kind m s rows columns row col machine legal are same first second =
     let thirteen : length (columns_in_order s.pairs) ≡ 13 = length-map (columns_of s.pairs) pair_in_order
     ∙ thirteen_columns s.pairs legal.pairs.few in
     let a =
-    are_kinds_for cable_sort m.cables (None, None)
+    are_kinds_for cable_format m.cables (None, None)
     (StandAlike (Rotor m)) (cables_told m machine) (cables_are_in_form m machine) 13 machine.legal.cables.count rows
     are.rows are.row_reach row first in
     let b =
-    are_kinds_for pair_sort (columns_in_order s.pairs) None (ReadAlike (OfRotors s)) (columns_told s legal) (columns_are_in_form s legal) 13
+    are_kinds_for pair_format (columns_in_order s.pairs) None (ReadAlike (OfRotors s)) (columns_told s legal) (columns_are_in_form s legal) 13
     thirteen columns are.columns are.column_reach col second in
     let groups = cables_are_prices row col in
     made_by_kind (Rotor m) (OfRotors s) (Cables rows columns)
@@ -97,19 +97,19 @@ cables_by_kind m s rows columns row col machine legal are same first second =
 
 pub bars_by_kind : (m : PinParts) (s : PinDay) (rows columns : List ℤ) (row : List BarKind) (col : List RowKind)
     → IsMachine (Pin m) → IsLegalDay (OfPins s) → ArePrices (Bars rows columns)
-    → model_of (Pin m) ≡ day_model (OfPins s) → AreGrouped bar_sort m.bars rows row
-    → AreGrouped row_sort s.rows columns col → (r : Option PriceParts)
+    → model_of (Pin m) ≡ day_model (OfPins s) → AreGrouped bar_format m.bars rows row
+    → AreGrouped row_format s.rows columns col → (r : Option PriceParts)
     → MatchOption r (¬ (ArePrices (BarKinds (record { items = row }) (record { items = col }))))
     (λ made. made ≡ BarKinds (record { items = row }) (record { items = col })) → IfSome r ArePrices
     → MatchOption r (¬ (CanBeByKind (Pin m) (OfPins s) (Bars rows columns)))
     (AreByKind (Pin m) (OfPins s) (Bars rows columns))
 bars_by_kind m s rows columns row col machine legal are same first second =
     let a =
-    are_kinds_for bar_sort m.bars (One, One)
+    are_kinds_for bar_format m.bars (One, One)
     (StandAlike (Pin m)) (each_told m.bars (One, One)) machine.legal.apart 27 machine.legal.bars rows are.rows
     are.row_reach row first in
     let b =
-    are_kinds_for row_sort s.rows (0, 0)
+    are_kinds_for row_format s.rows (0, 0)
     (ReadAlike (OfPins s)) (each_told s.rows (0, 0)) legal.rows 27 legal.count columns are.columns are.column_reach
     col second in
     let groups = bars_are_prices row col in

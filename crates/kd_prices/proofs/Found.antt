@@ -7,8 +7,8 @@ use Rattle.kd_prices.proofs.Prelude.{BarKinds, Bars, BelongTo, CableKind, CableK
 use Rattle.kd_prices.proofs.Prelude.{Expands, GoesOn, HasFault, IsCheckedAnswer, List, MatchOption, None, OfPins}
 use Rattle.kd_prices.proofs.Prelude.{OfRotors, Ok, Option, OtherModel, PairKind, Parts, Pin, PinDay, PinParts}
 use Rattle.kd_prices.proofs.Prelude.{PriceMissing, PriceParts, Result, Rotor, RotorDay, RotorParts, RowKind, Same}
-use Rattle.kd_prices.proofs.Prelude.{Setting, Some, ap, arith, bar_sort, cable_sort, column_prices, columns_in_order}
-use Rattle.kd_prices.proofs.Prelude.{day_model, length, model_of, pair_sort, refl, row_prices, row_sort, subst, sym, ℤ}
+use Rattle.kd_prices.proofs.Prelude.{Setting, Some, ap, arith, bar_format, cable_format, column_prices, columns_in_order}
+use Rattle.kd_prices.proofs.Prelude.{day_model, length, model_of, pair_format, refl, row_prices, row_format, subst, sym, ℤ}
 use Rattle.kd_prices.proofs.Prelude.{◌∙◌, ◌≡◌}
 
 same_fault : {F X : Type 0} {f g : F} → ◌≡◌ {A = Result X F} (Err f) (Err g) → f ≡ g
@@ -53,8 +53,8 @@ both_found P Q R S (Some x) (Some y) is also = (is, also)
 pub cable_kinds_found : (m : RotorParts) (s : RotorDay) (row : List CableKind) (col : List PairKind)
     → ArePrices (CableKinds (record { items = row }) (record { items = col })) → length m.cables ≡ 13
     → length (columns_in_order s.pairs) ≡ 13 → (answer : Result (List ℤ × List ℤ) Doubt)
-    → Finds (λ found. (AreKindsOf cable_sort m.cables found.0 row × ArePricesInRange found.0)
-    × (AreKindsOf pair_sort (columns_in_order s.pairs) found.1 col × ArePricesInRange found.1)) PriceMissing answer
+    → Finds (λ found. (AreKindsOf cable_format m.cables found.0 row × ArePricesInRange found.0)
+    × (AreKindsOf pair_format (columns_in_order s.pairs) found.1 col × ArePricesInRange found.1)) PriceMissing answer
     → ArePricesFound (Rotor m) (OfRotors s) (CableKinds (record { items = row }) (record { items = col })) Cables answer
 cable_kinds_found m s row col are many also (Ok found) both =
     GoesOn tt tt (Expanded are (record {
@@ -76,8 +76,8 @@ cable_kinds_found m s row col are many also (Err doubt) none =
 pub bar_kinds_found : (m : PinParts) (s : PinDay) (row : List BarKind) (col : List RowKind)
     → ArePrices (BarKinds (record { items = row }) (record { items = col })) → length m.bars ≡ 27 → length s.rows ≡ 27
     → (answer : Result (List ℤ × List ℤ) Doubt)
-    → Finds (λ found. (AreKindsOf bar_sort m.bars found.0 row × ArePricesInRange found.0)
-    × (AreKindsOf row_sort s.rows found.1 col × ArePricesInRange found.1)) PriceMissing answer
+    → Finds (λ found. (AreKindsOf bar_format m.bars found.0 row × ArePricesInRange found.0)
+    × (AreKindsOf row_format s.rows found.1 col × ArePricesInRange found.1)) PriceMissing answer
     → ArePricesFound (Pin m) (OfPins s) (BarKinds (record { items = row }) (record { items = col })) Bars answer
 bar_kinds_found m s row col are many also (Ok found) both =
     GoesOn tt tt (Expanded are (record {
@@ -96,10 +96,10 @@ bar_kinds_found m s row col are many also (Err doubt) none =
       none.1,
     )
 
--- prices that are for the other sort of machine
-pub other_sort : (m : Parts) (s : Day) (prices : PriceParts) (make : List ℤ → List ℤ → PriceParts)
+-- prices that are for the other format of machine
+pub other_format : (m : Parts) (s : Day) (prices : PriceParts) (make : List ℤ → List ℤ → PriceParts)
     → ¬ (BelongTo m prices) → ArePricesFound m s prices make (Err OtherModel)
-other_sort m s prices make other = HasFault OtherModel ((λ same. other), refl) refl
+other_format m s prices make other = HasFault OtherModel ((λ same. other), refl) refl
 
 pub cables_made : (m : RotorParts) (numbered : PriceParts) → AreModelPrices (Rotor m) numbered
     → Cables (row_prices numbered) (column_prices numbered) ≡ numbered

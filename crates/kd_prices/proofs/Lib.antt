@@ -8,5 +8,5 @@ pub mod Found
 pub mod Rest
 pub mod AlikePrices
 pub mod InForm
-pub mod AlikeThings
+pub mod AlikeKeys
 pub mod ByKind

@@ -1,10 +1,10 @@
--- A card's prices expand to at most one list of prices by number, which is for the same sort of machine.
+-- A card's prices expand to at most one list of prices by number, which is for the same format of machine.
 use Rattle.kd_prices.proofs.Runs.{prices_alike}
 use Rattle.kd_state.specs.declared.machine.one_model.OneModel.{OneModel}
 use Rattle.kd_prices.proofs.Prelude.{AreExpanded, AreModelPrices, AreNumbered, AreOfOneModel, ArePrices, AreTakenApart}
 use Rattle.kd_prices.proofs.Prelude.{BarKinds, Bars, BelongTo, ByNumber, CableKinds, Cables, Day, Expanded, Expands}
 use Rattle.kd_prices.proofs.Prelude.{List, OfPins, OfRotors, Parts, Pin, PriceParts, Proves, Rotor, Same, Setting, ap}
-use Rattle.kd_prices.proofs.Prelude.{arith, bar_sort, cable_sort, day_model, model_of, pair_sort, row_sort, sym}
+use Rattle.kd_prices.proofs.Prelude.{arith, bar_format, cable_format, day_model, model_of, pair_format, row_format, sym}
 use Rattle.kd_prices.proofs.Prelude.{version_of, ◌∙◌, ◌≡◌}
 use Rattle.kd_state.specs.declared.machine.one_model.OneModel.TheVariants as both
 
@@ -13,12 +13,12 @@ use Rattle.kd_state.specs.declared.machine.one_model.OneModel.TheVariants as bot
 same_lists : (m : Parts) (s : Day) (prices numbered other : PriceParts) → ArePrices prices
     → AreExpanded m s prices numbered → AreExpanded m s prices other → numbered ≡ other
 same_lists (Rotor m) (OfRotors s) (CableKinds row col) (Cables a b) (Cables c d) are one two =
-    let rows = prices_alike cable_sort _ row.items a c are.kinds.0 one.0 two.0 in
-    let columns = prices_alike pair_sort _ col.items b d are.kinds.1 one.1 two.1 in
+    let rows = prices_alike cable_format _ row.items a c are.kinds.0 one.0 two.0 in
+    let columns = prices_alike pair_format _ col.items b d are.kinds.1 one.1 two.1 in
     cc
 same_lists (Pin m) (OfPins s) (BarKinds row col) (Bars a b) (Bars c d) are one two =
-    let rows = prices_alike bar_sort _ row.items a c are.kinds.0 one.0 two.0 in
-    let columns = prices_alike row_sort _ col.items b d are.kinds.1 one.1 two.1 in
+    let rows = prices_alike bar_format _ row.items a c are.kinds.0 one.0 two.0 in
+    let columns = prices_alike row_format _ col.items b d are.kinds.1 one.1 two.1 in
     cc
 same_lists m s prices numbered other are one two = absurd (assumption)
 

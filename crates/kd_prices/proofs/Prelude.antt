@@ -1,8 +1,8 @@
 -- The definitions and lemmas that most proofs of this crate use.
 pub use Rattle.kd_card.proofs.Shortest.{no_rotors, proving_cards_are_shortest, proving_prices_are_tight}
 pub use Rattle.kd_card.specs.CardText.{IsGroup}
-pub use Rattle.kd_card.specs.Kinds.{AreEnds, AreKinds, AreKindsOf, IsKind, IsPairInOrder, Sort, bar_sort, cable_sort}
-pub use Rattle.kd_card.specs.Kinds.{expansion, pair_sort, row_sort}
+pub use Rattle.kd_card.specs.Kinds.{AreEnds, AreKinds, AreKindsOf, IsKind, IsPairInOrder, KindFormat, bar_format, cable_format}
+pub use Rattle.kd_card.specs.Kinds.{expansion, pair_format, row_format}
 pub use Rattle.kd_card.specs.Prices.{ArePrices, ArePricesInRange, ArePricesTight, PricesFit, column_prices, cost_at}
 pub use Rattle.kd_card.specs.Prices.{price_at, price_sum, row_prices, table_rows, version_of}
 pub use Rattle.kd_card.specs.Proving.{AreExpanded, AreModelPrices, AreSettingsNeeded, Expanded, Expands}

@@ -1,5 +1,5 @@
--- Sorted things with their prices are grouped into kinds. Valid kinds determine the price of each thing.
-use Rattle.kd_card.specs.Kinds.{ThingComesBefore}
+-- Sorted keys with their prices are grouped into kinds. Valid kinds determine the price of each key.
+use Rattle.kd_card.specs.Kinds.{KeyComesBefore}
 use Rattle.std.proofs.lemmas.Cmp.{nat_list_cmp_total}
 use Rattle.std.proofs.{Common.add-one, lemmas.List.{get_or-replicate, replicate_more, Elements.Contains-append_cases}}
 use Rattle.std.specs.{List.{refill, Sorted.IsSorted}, Ordering.{int_cmp, is_lt, ordering_reverse, ordering_then}}
@@ -7,14 +7,14 @@ use Rattle.kd_prices.proofs.Prelude.{All, All-append, All-contains, All-contains
 use Rattle.kd_prices.proofs.Prelude.{All-permutation, All-replicate, All-tail, All-weaker, AppendsKinds, AreKinds}
 use Rattle.kd_prices.proofs.Prelude.{AreKindsOf, CanBeKinds, Contains, Contains-permutation, Equal, Greater}
 use Rattle.kd_prices.proofs.Prelude.{HaveOnePriceEach, IsFine, IsKind, IsPermutation, IsPermutation-sym, IsTotalOrder}
-use Rattle.kd_prices.proofs.Prelude.{KindOf, Less, List, None, Option, Ordering, Some, Sort, [], ap, append_assoc}
+use Rattle.kd_prices.proofs.Prelude.{KindOf, Less, List, None, Option, Ordering, Some, KindFormat, [], ap, append_assoc}
 use Rattle.kd_prices.proofs.Prelude.{arith, common_steps, expansion, false, inl, inr, kind_of_one, length}
 use Rattle.kd_prices.proofs.Prelude.{length-replicate, map, refl, replicate, suc, sym, tied_itself, true≢false, zip, ℤ}
 use Rattle.kd_prices.proofs.Prelude.{◌++◌, ◌+◌, ◌↔◌, ◌∙◌, ◌∷◌, ◌≡◌, ◌≢◌, ◌≤◌, ◌⊎◌}
 
 -- ---- grouping
 
--- a thing that doesn't come before another one, and isn't tied with it, comes after it
+-- a key that doesn't come before another one, and isn't tied with it, comes after it
 comes_before : (p o then : Ordering) → o ≡ ordering_reverse p → is_lt (ordering_then p then) ≡ false → p ≢ Equal
     → o ≡ Less
 comes_before Less o then back h apart = absurd (true≢false h)
@@ -27,112 +27,112 @@ both_same one other = rw (← one, ← other) refl
 pub refilled : {X : Type 0} (xs new : List X) → length new ≡ length xs → refill (length xs) xs new ≡ new
 refilled xs new same = grind (arith, common_steps)
 
-module _ {K X : Type 0} (sort : Sort K X) (cmp : X → X → Ordering) where
-  can_tail : (pair : X × ℤ) (pairs : List (X × ℤ)) → CanBeKinds sort cmp (pair ∷ pairs) → CanBeKinds sort cmp pairs
+module _ {K X : Type 0} (format : KindFormat K X) (cmp : X → X → Ordering) where
+  can_tail : (pair : X × ℤ) (pairs : List (X × ℤ)) → CanBeKinds format cmp (pair ∷ pairs) → CanBeKinds format cmp pairs
   can_tail pair pairs can = record {
     sorted = λ k d low inside. rw add-one (rw add-one at (can.sorted (suc k) d (omega arith) (omega (arith, inside))));
-    one_price = λ thing price other a b.
-        can.one_price thing price other (suc a.0, omega (arith, a.1), a.2) (suc b.0, omega (arith, b.1), b.2);
-    fine = All-tail (IsFine sort) pair pairs can.fine;
+    one_price = λ key price other a b.
+        can.one_price key price other (suc a.0, omega (arith, a.1), a.2) (suc b.0, omega (arith, b.1), b.2);
+    fine = All-tail (IsFine format) pair pairs can.fine;
   }
 
   pub all_kinds : (pairs sorted rest : List (X × ℤ)) (pair : X × ℤ) (kinds : List K) → IsPermutation pairs sorted
       → IsSorted (λ one other. ordering_then (cmp one.0 other.0) (int_cmp one.1 other.1)) sorted
-      → sorted ≡ pair ∷ rest → AppendsKinds sort cmp (kind_of_one pair) rest [] kinds
-      → HaveOnePriceEach pairs → All (IsFine sort) pairs → AreKinds sort None kinds
+      → sorted ≡ pair ∷ rest → AppendsKinds format cmp (kind_of_one pair) rest [] kinds
+      → HaveOnePriceEach pairs → All (IsFine format) pairs → AreKinds format None kinds
   all_kinds pairs sorted rest pair kinds moved rise split appends one fine =
       let back = Contains-permutation sorted pairs in
       let moved_back = IsPermutation-sym pairs sorted moved in
-      let can : CanBeKinds sort cmp sorted = record {
+      let can : CanBeKinds format cmp sorted = record {
         sorted = rise;
-        one_price = λ thing price other a b.
-            one thing price other (back (thing, price) moved_back a) (back (thing, other) moved_back b);
-        fine = All-permutation (IsFine sort) pairs sorted moved fine;
+        one_price = λ key price other a b.
+            one key price other (back (key, price) moved_back a) (back (key, other) moved_back b);
+        fine = All-permutation (IsFine format) pairs sorted moved fine;
       } in
       rw appends.is (appends.in_order None (rw split at can) (λ first same. tt))
 
   module _ (kind : KindOf X) (some : 1 ≤ kind.count) (few : kind.count ≤ 255) (old new : List K) where
-    valid : (made : K) (pairs : List (X × ℤ)) → sort.kind made ≡ kind
-        → CanBeKinds sort cmp ((kind.thing, kind.price) ∷ pairs) → IsKind sort made
+    valid : (made : K) (pairs : List (X × ℤ)) → format.kind made ≡ kind
+        → CanBeKinds format cmp ((kind.key, kind.price) ∷ pairs) → IsKind format made
     valid made pairs is can =
-        let fine = All-head (IsFine sort) (kind.thing, kind.price) pairs can.fine in
+        let fine = All-head (IsFine format) (kind.key, kind.price) pairs can.fine in
         record { form = rw is fine.0; some = rw is some; most = rw is few; reach = rw is fine.1 }
 
-    pub appends_one : (made : K) → sort.kind made ≡ kind → new ≡ old ++ made ∷ []
-        → AppendsKinds sort cmp kind [] old new
+    pub appends_one : (made : K) → format.kind made ≡ kind → new ≡ old ++ made ∷ []
+        → AppendsKinds format cmp kind [] old new
     appends_one made is same = record {
       made = made ∷ [];
       is = same;
       expand = rw is refl;
-      in_order = λ last can comes. (valid made [] is can, comes made (ap (λ (k : KindOf X). k.thing) is), tt);
+      in_order = λ last can comes. (valid made [] is can, comes made (ap (λ (k : KindOf X). k.key) is), tt);
     }
 
-    pub counts_more : (pair : X × ℤ) (pairs : List (X × ℤ)) → pair ≡ (kind.thing, kind.price)
-        → AppendsKinds sort cmp (record kind { count = kind.count + 1 }) pairs old new
-        → AppendsKinds sort cmp kind (pair ∷ pairs) old new
+    pub counts_more : (pair : X × ℤ) (pairs : List (X × ℤ)) → pair ≡ (kind.key, kind.price)
+        → AppendsKinds format cmp (record kind { count = kind.count + 1 }) pairs old new
+        → AppendsKinds format cmp kind (pair ∷ pairs) old new
     counts_more pair pairs same inner = record {
       made = inner.made;
       is = inner.is;
       expand = rw same (inner.expand ∙ rw (← replicate_more, append_assoc));
       in_order = λ last can comes.
-          inner.in_order last (rw same at (can_tail (kind.thing, kind.price) (pair ∷ pairs) can)) comes;
+          inner.in_order last (rw same at (can_tail (kind.key, kind.price) (pair ∷ pairs) can)) comes;
     }
 
     pub begins_another : IsTotalOrder cmp → ((x y : X) → cmp x y ≡ Equal → x ≡ y)
-        → ((x y : X) → ThingComesBefore sort x y ↔ (cmp x y ≡ Less)) → (made : K) (pair : X × ℤ) (pairs : List (X × ℤ))
-        → sort.kind made ≡ kind → ¬ ((pair.0 ≡ kind.thing) × (pair.1 ≡ kind.price))
-        → AppendsKinds sort cmp (kind_of_one pair) pairs (old ++ made ∷ []) new
-        → AppendsKinds sort cmp kind (pair ∷ pairs) old new
+        → ((x y : X) → KeyComesBefore format x y ↔ (cmp x y ≡ Less)) → (made : K) (pair : X × ℤ) (pairs : List (X × ℤ))
+        → format.kind made ≡ kind → ¬ ((pair.0 ≡ kind.key) × (pair.1 ≡ kind.price))
+        → AppendsKinds format cmp (kind_of_one pair) pairs (old ++ made ∷ []) new
+        → AppendsKinds format cmp kind (pair ∷ pairs) old new
     begins_another order told ordered made pair pairs is other inner = record {
       made = made ∷ inner.made;
       is = inner.is ∙ append_assoc old (made ∷ []) inner.made;
-      expand = rw is (ap (λ rest. replicate kind.count (kind.thing, kind.price) ++ rest) inner.expand);
+      expand = rw is (ap (λ rest. replicate kind.count (kind.key, kind.price) ++ rest) inner.expand);
       in_order = λ last can comes.
-          let thing = ap (λ (k : KindOf X). k.thing) is in
-          let apart : cmp pair.0 kind.thing ≢ Equal = λ tied.
-          let same = told pair.0 kind.thing tied in
-          let price = can.one_price kind.thing pair.1 kind.price in
+          let key = ap (λ (k : KindOf X). k.key) is in
+          let apart : cmp pair.0 kind.key ≢ Equal = λ tied.
+          let same = told pair.0 kind.key tied in
+          let price = can.one_price kind.key pair.1 kind.price in
           other (same, price (1, omega arith, ap (λ x. (x, pair.1)) same) (0, omega arith, refl)) in
           let less =
-          comes_before (cmp pair.0 kind.thing) (cmp kind.thing pair.0) (int_cmp pair.1 kind.price)
-          (order.antisymm kind.thing pair.0) (can.sorted 0 pair (omega arith) (omega arith)) apart in (
+          comes_before (cmp pair.0 kind.key) (cmp kind.key pair.0) (int_cmp pair.1 kind.price)
+          (order.antisymm kind.key pair.0) (can.sorted 0 pair (omega arith) (omega arith)) apart in (
             valid made (pair ∷ pairs) is can,
-            comes made thing,
-            inner.in_order (Some made) (can_tail (kind.thing, kind.price) (pair ∷ pairs) can)
-                (λ next is_next. (ordered (sort.kind made).thing (sort.kind next).thing).1 (rw (thing, is_next) less)),
+            comes made key,
+            inner.in_order (Some made) (can_tail (kind.key, kind.price) (pair ∷ pairs) can)
+                (λ next is_next. (ordered (format.kind made).key (format.kind next).key).1 (rw (key, is_next) less)),
           );
     }
 
 -- ---- prices of valid kinds
 
-module _ {K X : Type 0} (sort : Sort K X) where
-  not_before_itself : (x : X) → ¬ (ThingComesBefore sort x x)
-  not_before_itself x before = let tied = tied_itself nat_list_cmp_total (sort.key x) in cc
+module _ {K X : Type 0} (format : KindFormat K X) where
+  not_before_itself : (x : X) → ¬ (KeyComesBefore format x x)
+  not_before_itself x before = let tied = tied_itself nat_list_cmp_total (format.order x) in cc
 
-  comes_before-trans : (x y z : X) → ThingComesBefore sort x y → ThingComesBefore sort y z
-      → ThingComesBefore sort x z
-  comes_before-trans x y z one other = nat_list_cmp_total.trans (sort.key x) (sort.key y) (sort.key z) one other
+  comes_before-trans : (x y z : X) → KeyComesBefore format x y → KeyComesBefore format y z
+      → KeyComesBefore format x z
+  comes_before-trans x y z one other = nat_list_cmp_total.trans (format.order x) (format.order y) (format.order z) one other
 
-  behind : (last : K) (kinds : List K) → AreKinds sort (Some last) kinds
-      → All (λ (z : X × ℤ). ThingComesBefore sort (sort.kind last).thing z.0) (expansion (map sort.kind kinds))
-  behind last [] are = All-nil (λ (z : X × ℤ). ThingComesBefore sort (sort.kind last).thing z.0)
+  behind : (last : K) (kinds : List K) → AreKinds format (Some last) kinds
+      → All (λ (z : X × ℤ). KeyComesBefore format (format.kind last).key z.0) (expansion (map format.kind kinds))
+  behind last [] are = All-nil (λ (z : X × ℤ). KeyComesBefore format (format.kind last).key z.0)
   behind last (kind ∷ kinds) are =
-      let k = sort.kind kind in
-      let After : X → X × ℤ → Type 0 = λ x z. ThingComesBefore sort x z.0 in
-      let x = (sort.kind last).thing in
-      All-append (After x) (replicate k.count (k.thing, k.price)) (expansion (map sort.kind kinds))
-      (All-replicate (After x) k.count (k.thing, k.price) are.1)
-      (All-weaker (After k.thing) (After x) (λ z. comes_before-trans x k.thing z.0 are.1) (expansion (map sort.kind kinds))
+      let k = format.kind kind in
+      let After : X → X × ℤ → Type 0 = λ x z. KeyComesBefore format x z.0 in
+      let x = (format.kind last).key in
+      All-append (After x) (replicate k.count (k.key, k.price)) (expansion (map format.kind kinds))
+      (All-replicate (After x) k.count (k.key, k.price) are.1)
+      (All-weaker (After k.key) (After x) (λ z. comes_before-trans x k.key z.0 are.1) (expansion (map format.kind kinds))
       (behind kind kinds are.2))
 
-  first_or_later : (last : Option K) (kind : K) (kinds : List K) (z : X × ℤ) → AreKinds sort last (kind ∷ kinds)
-      → Contains (expansion (map sort.kind (kind ∷ kinds))) z
-      → (z ≡ ((sort.kind kind).thing, (sort.kind kind).price))
-      ⊎ (ThingComesBefore sort (sort.kind kind).thing z.0 × Contains (expansion (map sort.kind kinds)) z)
+  first_or_later : (last : Option K) (kind : K) (kinds : List K) (z : X × ℤ) → AreKinds format last (kind ∷ kinds)
+      → Contains (expansion (map format.kind (kind ∷ kinds))) z
+      → (z ≡ ((format.kind kind).key, (format.kind kind).price))
+      ⊎ (KeyComesBefore format (format.kind kind).key z.0 × Contains (expansion (map format.kind kinds)) z)
   first_or_later last kind kinds z are has =
-      let k = sort.kind kind in
-      let pair : X × ℤ = (k.thing, k.price) in
-      let rest = expansion (map sort.kind kinds) in
+      let k = format.kind kind in
+      let pair : X × ℤ = (k.key, k.price) in
+      let rest = expansion (map format.kind kinds) in
       elim (Contains-append_cases (replicate k.count pair) rest z has) [
         | inl here ↦
             let inside = here.1 in
@@ -140,46 +140,46 @@ module _ {K X : Type 0} (sort : Sort K X) where
             (omega (arith, inside, length-replicate k.count pair)))
         | inr there ↦
             inr (
-              All-contains (λ (z : X × ℤ). ThingComesBefore sort k.thing z.0) rest z (behind kind kinds are.2) there,
+              All-contains (λ (z : X × ℤ). KeyComesBefore format k.key z.0) rest z (behind kind kinds are.2) there,
               there,
             )
       ]
 
-  pub one_price : (last : Option K) (kinds : List K) → AreKinds sort last kinds
-      → HaveOnePriceEach (expansion (map sort.kind kinds))
+  pub one_price : (last : Option K) (kinds : List K) → AreKinds format last kinds
+      → HaveOnePriceEach (expansion (map format.kind kinds))
   one_price last [] are x price other one two = absurd (omega (arith, one.1))
   one_price last (kind ∷ kinds) are x price other one two =
-      let thing = (sort.kind kind).thing in
+      let key = (format.kind kind).key in
       elim (first_or_later last kind kinds (x, price) are one) [
         | inl here ↦ elim (first_or_later last kind kinds (x, other) are two) [
           | inl same ↦ ap (λ (z : X × ℤ). z.1) (here ∙ sym same)
-          | inr far ↦ absurd (not_before_itself thing (rw (ap (λ (z : X × ℤ). z.0) here) at far.0))
+          | inr far ↦ absurd (not_before_itself key (rw (ap (λ (z : X × ℤ). z.0) here) at far.0))
         ]
         | inr there ↦ elim (first_or_later last kind kinds (x, other) are two) [
-          | inl same ↦ absurd (not_before_itself thing (rw (ap (λ (z : X × ℤ). z.0) same) at there.0))
+          | inl same ↦ absurd (not_before_itself key (rw (ap (λ (z : X × ℤ). z.0) same) at there.0))
           | inr far ↦ one_price (Some kind) kinds are.2 x price other there.1 far.1
         ]
       ]
 
-same_prices : {X : Type 0} (all : List (X × ℤ)) → HaveOnePriceEach all → (things : List X) (prices others : List ℤ)
-    → length prices ≡ length things → length others ≡ length things → All (Contains all) (zip things prices)
-    → All (Contains all) (zip things others) → prices ≡ others
+same_prices : {X : Type 0} (all : List (X × ℤ)) → HaveOnePriceEach all → (keys : List X) (prices others : List ℤ)
+    → length prices ≡ length keys → length others ≡ length keys → All (Contains all) (zip keys prices)
+    → All (Contains all) (zip keys others) → prices ≡ others
 same_prices all one [] [] [] number same has have = refl
-same_prices {X} all one (x ∷ things) (p ∷ prices) (q ∷ others) number same has have =
+same_prices {X} all one (x ∷ keys) (p ∷ prices) (q ∷ others) number same has have =
     let In : X × ℤ → Type 0 = Contains all in
-    let first = one x p q (All-head In (x, p) (zip things prices) has) (All-head In (x, q) (zip things others) have) in
+    let first = one x p q (All-head In (x, p) (zip keys prices) has) (All-head In (x, q) (zip keys others) have) in
     let rest =
-    same_prices all one things prices others (omega arith) (omega arith) (All-tail In (x, p) (zip things prices) has)
-    (All-tail In (x, q) (zip things others) have) in
+    same_prices all one keys prices others (omega arith) (omega arith) (All-tail In (x, p) (zip keys prices) has)
+    (All-tail In (x, q) (zip keys others) have) in
     cc
-same_prices all one things prices others number same has have = absurd (omega arith)
+same_prices all one keys prices others number same has have = absurd (omega arith)
 
-pub prices_alike : {K X : Type 0} (sort : Sort K X) (things : List X) (kinds : List K) (prices others : List ℤ) → AreKinds sort None kinds
-    → AreKindsOf sort things prices kinds → AreKindsOf sort things others kinds → prices ≡ others
-prices_alike {X = X} sort things kinds prices others are of also =
-    let all = expansion (map sort.kind kinds) in
-    let has = λ (prices : List ℤ) (of : AreKindsOf sort things prices kinds).
-    All-permutation (Contains all) all (zip things prices) (IsPermutation-sym (zip things prices) all of.expand)
+pub prices_alike : {K X : Type 0} (format : KindFormat K X) (keys : List X) (kinds : List K) (prices others : List ℤ) → AreKinds format None kinds
+    → AreKindsOf format keys prices kinds → AreKindsOf format keys others kinds → prices ≡ others
+prices_alike {X = X} format keys kinds prices others are of also =
+    let all = expansion (map format.kind kinds) in
+    let has = λ (prices : List ℤ) (of : AreKindsOf format keys prices kinds).
+    All-permutation (Contains all) all (zip keys prices) (IsPermutation-sym (zip keys prices) all of.expand)
     (All-contains_itself all) in
-    same_prices all (one_price sort None kinds are) things prices others of.number also.number (has prices of)
+    same_prices all (one_price format None kinds are) keys prices others of.number also.number (has prices of)
     (has others also)

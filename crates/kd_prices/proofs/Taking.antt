@@ -1,6 +1,6 @@
--- Things are taken out of kinds, one by one. If all can be taken, the kinds' prices are the prices of the things.
+-- Keys are taken out of kinds, one by one. If all can be taken, the kinds' prices are the prices of the keys.
 use Rattle.kd_card.specs.Kinds.{counted}
-use Rattle.kd_prices.specs.Grouping.{HasNoneLeft, HaveThings, TakesAll, TakesOne}
+use Rattle.kd_prices.specs.Grouping.{HasNoneLeft, HaveKeys, TakesAll, TakesOne}
 use Rattle.std.proofs.lemmas.List.Folds.{sum_by-replicate}
 use Rattle.std.proofs.lemmas.List.Sorted.{IsPermutation-append_right, IsPermutation-cons, IsPermutation-middle}
 use Rattle.std.proofs.lemmas.List.Sorted.{IsPermutation-refl, IsPermutation-trans, sum_by-IsPermutation}
@@ -10,12 +10,12 @@ use borrow.Rule.Slice.PartMut.{put_mid}
 use Rattle.kd_prices.proofs.Prelude.{All, All-append, All-cons, All-head, All-nil, All-permutation, All-replicate}
 use Rattle.kd_prices.proofs.Prelude.{All-tail, AreKinds, AreKindsOf, ArePricesInRange, Bool, Equal, Greater, IsGroup}
 use Rattle.kd_prices.proofs.Prelude.{IsPermutation, IsPermutation-sym, IsTotalOrder, KindOf, Less, List, MatchOption}
-use Rattle.kd_prices.proofs.Prelude.{None, Option, Ordering, Some, Sort, [], ap, append-nil, arith, common_steps}
+use Rattle.kd_prices.proofs.Prelude.{None, Option, Ordering, Some, KindFormat, [], ap, append-nil, arith, common_steps}
 use Rattle.kd_prices.proofs.Prelude.{expansion, false, length, length-append, length-replicate, length-zip}
 use Rattle.kd_prices.proofs.Prelude.{length_permutation, map, refl, replicate, set, subst, suc, sym, tied_itself, true}
 use Rattle.kd_prices.proofs.Prelude.{true≢false, unsigned_abs, zip, ℕ, ℤ, ◌++◌, ◌-◌, ◌<◌, ◌↔◌, ◌∙◌, ◌∷◌, ◌≡◌, ◌≤◌}
 
--- ---- equal things
+-- ---- equal keys
 
 is_equal : (o : Ordering) → is_eq o ≡ true → o ≡ Equal
 is_equal Less e = absurd (true≢false (sym e))
@@ -30,39 +30,39 @@ eq_decides cmp order eq matches told x y = (
   λ same. rw same (matches y y ∙ ap is_eq (tied_itself order y)),
 )
 
--- ---- one thing
+-- ---- one key
 
 abbrev once : Bool → ℕ
 once holds = if holds then 1 else 0
 
-module _ {X : Type 0} (thing : X) (kind : KindOf X) (kinds : List (KindOf X)) where
-  none_in_first : (eq : X → X → Bool) (same : Bool) → eq kind.thing thing ≡ same
-      → ¬ ((same ≡ true) × (0 < kind.count)) → HasNoneLeft eq kinds thing → HasNoneLeft eq (kind ∷ kinds) thing
+module _ {X : Type 0} (key : X) (kind : KindOf X) (kinds : List (KindOf X)) where
+  none_in_first : (eq : X → X → Bool) (same : Bool) → eq kind.key key ≡ same
+      → ¬ ((same ≡ true) × (0 < kind.count)) → HasNoneLeft eq kinds key → HasNoneLeft eq (kind ∷ kinds) key
   none_in_first eq same is other none = grind (arith, sum_by-append, sum_by-replicate)
 
-  pub takes_first : kind.thing ≡ thing → 0 < kind.count
-      → TakesOne (kind ∷ kinds) thing kind.price (record kind { count = kind.count - 1 } ∷ kinds)
+  pub takes_first : kind.key ≡ key → 0 < kind.count
+      → TakesOne (kind ∷ kinds) key kind.price (record kind { count = kind.count - 1 } ∷ kinds)
   takes_first same some =
-      let pair : X × ℤ = (kind.thing, kind.price) in
+      let pair : X × ℤ = (kind.key, kind.price) in
       let number : suc (kind.count - 1) ≡ kind.count = omega arith in
       let rest = replicate (kind.count - 1) pair ++ expansion kinds in
       rw (← same) (subst (λ n. IsPermutation (replicate n pair ++ expansion kinds) (pair ∷ rest)) number
       (IsPermutation-refl (pair ∷ rest)))
 
   pub takes_later : (eq : X → X → Bool) (price : Option ℤ) (left : List (KindOf X))
-      → ¬ ((eq kind.thing thing ≡ true) × (0 < kind.count))
-      → MatchOption price (HasNoneLeft eq kinds thing) (λ price. TakesOne kinds thing price left)
-      → MatchOption price (HasNoneLeft eq (kind ∷ kinds) thing)
-      (λ price. TakesOne (kind ∷ kinds) thing price (kind ∷ left))
-  takes_later eq None left other none = none_in_first eq (eq kind.thing thing) refl other none
+      → ¬ ((eq kind.key key ≡ true) × (0 < kind.count))
+      → MatchOption price (HasNoneLeft eq kinds key) (λ price. TakesOne kinds key price left)
+      → MatchOption price (HasNoneLeft eq (kind ∷ kinds) key)
+      (λ price. TakesOne (kind ∷ kinds) key price (kind ∷ left))
+  takes_later eq None left other none = none_in_first eq (eq kind.key key) refl other none
   takes_later eq (Some price) left other takes =
-      let run = replicate kind.count (kind.thing, kind.price) in
-      let taken : List (X × ℤ) = (thing, price) ∷ expansion left in
-      IsPermutation-trans (run ++ expansion kinds) (run ++ taken) ((thing, price) ∷ (run ++ expansion left))
+      let run = replicate kind.count (kind.key, kind.price) in
+      let taken : List (X × ℤ) = (key, price) ∷ expansion left in
+      IsPermutation-trans (run ++ expansion kinds) (run ++ taken) ((key, price) ∷ (run ++ expansion left))
       (IsPermutation-append_right run (expansion kinds) taken takes)
-      (IsPermutation-middle run (thing, price) (expansion left))
+      (IsPermutation-middle run (key, price) (expansion left))
 
--- ---- all things
+-- ---- all keys
 
 pub no_item : {X : Type 0} (xs : List X) → length xs ≡ 0 → xs ≡ []
 no_item [] none = refl
@@ -73,17 +73,17 @@ pub put_rest : (xs ys : List ℤ) (x : ℤ) → 0 < length xs
 put_rest [] ys x some = absurd (omega arith)
 put_rest (y ∷ xs) ys x some = grind (arith, common_steps)
 
-module _ {X : Type 0} (eq : X → X → Bool) (kinds : List (KindOf X)) (thing : X) (things : List X) where
-  pub takes_none : eq thing thing ≡ true → HasNoneLeft eq kinds thing → ¬ (HaveThings eq kinds (thing ∷ things))
+module _ {X : Type 0} (eq : X → X → Bool) (kinds : List (KindOf X)) (key : X) (keys : List X) where
+  pub takes_none : eq key key ≡ true → HasNoneLeft eq kinds key → ¬ (HaveKeys eq kinds (key ∷ keys))
   takes_none same none have =
-      omega (arith, have thing, none, ap once same, sum_by-cons (λ other. once (eq other thing)) thing things)
+      omega (arith, have key, none, ap once same, sum_by-cons (λ other. once (eq other key)) key keys)
 
   pub takes_more : (price : ℤ) (prices : List ℤ) (new left : List (KindOf X)) (done : Bool)
-      → TakesOne kinds thing price new → TakesAll eq new things prices left done
-      → TakesAll eq kinds (thing ∷ things) (price ∷ prices) left done
+      → TakesOne kinds key price new → TakesAll eq new keys prices left done
+      → TakesAll eq kinds (key ∷ keys) (price ∷ prices) left done
   takes_more price prices new left true one all =
-      let pair : X × ℤ = (thing, price) in
-      let rest = zip things prices ++ expansion left in
+      let pair : X × ℤ = (key, price) in
+      let rest = zip keys prices ++ expansion left in
       IsPermutation-trans (expansion kinds) (pair ∷ expansion new) (pair ∷ rest) one
       (IsPermutation-cons pair (expansion new) rest all)
   takes_more price prices new left false one none = λ have. none (λ other.
@@ -91,69 +91,69 @@ module _ {X : Type 0} (eq : X → X → Bool) (kinds : List (KindOf X)) (thing :
       omega (
         arith,
         have other,
-        sum_by-cons (λ x. once (eq x other)) thing things,
-        sum_by-IsPermutation f (expansion kinds) ((thing, price) ∷ expansion new) one,
-        sum_by-cons f (thing, price) (expansion new),
+        sum_by-cons (λ x. once (eq x other)) key keys,
+        sum_by-IsPermutation f (expansion kinds) ((key, price) ∷ expansion new) one,
+        sum_by-cons f (key, price) (expansion new),
       ))
 
 -- ---- the prices of kinds
 
-counted_beside : {X : Type 0} (f : X → ℕ) (things : List X) (prices : List ℤ) → length prices ≡ length things
-    → sum_by (λ (z : X × ℤ). f z.0) (zip things prices) ≡ sum_by f things
+counted_beside : {X : Type 0} (f : X → ℕ) (keys : List X) (prices : List ℤ) → length prices ≡ length keys
+    → sum_by (λ (z : X × ℤ). f z.0) (zip keys prices) ≡ sum_by f keys
 counted_beside f [] prices same = refl
-counted_beside f (t ∷ things) [] same = absurd (omega arith)
-counted_beside {X} f (t ∷ things) (q ∷ prices) same =
-    let rest = counted_beside f things prices (omega arith) in
-    omega (arith, sum_by-cons (λ (z : X × ℤ). f z.0) (t, q) (zip things prices), sum_by-cons f t things, rest)
+counted_beside f (t ∷ keys) [] same = absurd (omega arith)
+counted_beside {X} f (t ∷ keys) (q ∷ prices) same =
+    let rest = counted_beside f keys prices (omega arith) in
+    omega (arith, sum_by-cons (λ (z : X × ℤ). f z.0) (t, q) (zip keys prices), sum_by-cons f t keys, rest)
 
 abbrev IsNear : {X : Type 0} → X × ℤ → Type 0
 IsNear z = unsigned_abs z.1 ≤ 9999
 
-near_prices : {X : Type 0} (things : List X) (prices : List ℤ) → length prices ≡ length things
-    → All (λ (z : X × ℤ). IsNear z) (zip things prices) → ArePricesInRange prices
-near_prices things [] same all = All-nil (λ price. unsigned_abs price ≤ 9999)
+near_prices : {X : Type 0} (keys : List X) (prices : List ℤ) → length prices ≡ length keys
+    → All (λ (z : X × ℤ). IsNear z) (zip keys prices) → ArePricesInRange prices
+near_prices keys [] same all = All-nil (λ price. unsigned_abs price ≤ 9999)
 near_prices [] (q ∷ prices) same all = absurd (omega arith)
-near_prices {X} (x ∷ things) (q ∷ prices) same all =
+near_prices {X} (x ∷ keys) (q ∷ prices) same all =
     All-cons (λ price. unsigned_abs price ≤ 9999) q prices
-    (All-head (λ (z : X × ℤ). IsNear z) (x, q) (zip things prices) all)
-    (near_prices things prices (omega arith) (All-tail (λ (z : X × ℤ). IsNear z) (x, q) (zip things prices) all))
+    (All-head (λ (z : X × ℤ). IsNear z) (x, q) (zip keys prices) all)
+    (near_prices keys prices (omega arith) (All-tail (λ (z : X × ℤ). IsNear z) (x, q) (zip keys prices) all))
 
-module _ {K X : Type 0} (sort : Sort K X) where
-  pub size : (kinds : List K) → length (expansion (map sort.kind kinds)) ≡ counted sort kinds
+module _ {K X : Type 0} (format : KindFormat K X) where
+  pub size : (kinds : List K) → length (expansion (map format.kind kinds)) ≡ counted format kinds
   size [] = refl
   size (kind ∷ kinds) = grind (arith, common_steps, length-append, length-replicate, size kinds)
 
-  all_near : (last : Option K) (kinds : List K) → AreKinds sort last kinds
-      → All (λ (z : X × ℤ). IsNear z) (expansion (map sort.kind kinds))
+  all_near : (last : Option K) (kinds : List K) → AreKinds format last kinds
+      → All (λ (z : X × ℤ). IsNear z) (expansion (map format.kind kinds))
   all_near last [] are = All-nil (λ (z : X × ℤ). IsNear z)
   all_near last (kind ∷ kinds) are =
-      let k = sort.kind kind in
-      All-append (λ (z : X × ℤ). IsNear z) (replicate k.count (k.thing, k.price)) (expansion (map sort.kind kinds))
-      (All-replicate (λ (z : X × ℤ). IsNear z) k.count (k.thing, k.price) are.0.reach)
+      let k = format.kind kind in
+      All-append (λ (z : X × ℤ). IsNear z) (replicate k.count (k.key, k.price)) (expansion (map format.kind kinds))
+      (All-replicate (λ (z : X × ℤ). IsNear z) k.count (k.key, k.price) are.0.reach)
       (all_near (Some kind) kinds are.2)
 
-  pub prices_taken : (eq : X → X → Bool) (kinds : List K) (things : List X) (prices : List ℤ) (left : List (KindOf X))
-      → IsGroup sort (length things) kinds → length prices ≡ length things
-      → (done : Bool) → TakesAll eq (map sort.kind kinds) things prices left done
-      → MatchOption (then_some done prices) ((prices : List ℤ) → ¬ (AreKindsOf sort things prices kinds))
-      (λ prices. AreKindsOf sort things prices kinds × ArePricesInRange prices)
-  prices_taken eq kinds things prices left group number true moved =
-      let pairs = zip things prices in
-      let all = expansion (map sort.kind kinds) in
+  pub prices_taken : (eq : X → X → Bool) (kinds : List K) (keys : List X) (prices : List ℤ) (left : List (KindOf X))
+      → IsGroup format (length keys) kinds → length prices ≡ length keys
+      → (done : Bool) → TakesAll eq (map format.kind kinds) keys prices left done
+      → MatchOption (then_some done prices) ((prices : List ℤ) → ¬ (AreKindsOf format keys prices kinds))
+      (λ prices. AreKindsOf format keys prices kinds × ArePricesInRange prices)
+  prices_taken eq kinds keys prices left group number true moved =
+      let pairs = zip keys prices in
+      let all = expansion (map format.kind kinds) in
       let lengths = length_permutation all (pairs ++ expansion left) moved in
       let same = length-append pairs (expansion left) in
-      let none = no_item (expansion left) (omega (arith, size kinds, length-zip things prices, group.count)) in
+      let none = no_item (expansion left) (omega (arith, size kinds, length-zip keys prices, group.count)) in
       let kept = rw (none, append-nil) at moved in (
         record { number = number; expand = IsPermutation-sym all pairs kept },
-        near_prices things prices number
+        near_prices keys prices number
             (All-permutation (λ (z : X × ℤ). IsNear z) all pairs kept (all_near None kinds group.in_order)),
       )
-  prices_taken eq kinds things prices left group number false none = λ others are.
-      none (λ thing.
-      let f : X × ℤ → ℕ = λ z. once (eq z.0 thing) in
-      let beside = counted_beside (λ x. once (eq x thing)) things others are.number in
+  prices_taken eq kinds keys prices left group number false none = λ others are.
+      none (λ key.
+      let f : X × ℤ → ℕ = λ z. once (eq z.0 key) in
+      let beside = counted_beside (λ x. once (eq x key)) keys others are.number in
       omega (
         arith,
         beside,
-        sum_by-IsPermutation f (zip things others) (expansion (map sort.kind kinds)) are.expand,
+        sum_by-IsPermutation f (zip keys others) (expansion (map format.kind kinds)) are.expand,
       ))

@@ -5,58 +5,59 @@ use Rattle.std.specs.Prelude.{IsPermutation, Bool, true, false, Option, unsigned
 use Rattle.std.specs.{List.{Contains, zip, Sorted.{IsSorted}}, Ordering.{ordering_then, int_cmp}}
 use Rattle.std.specs.declared.cmp.Ordering.{Ordering}
 use Rattle.kd_card.specs.declared.kinds.KindOf.{KindOf}
-use Rattle.kd_card.specs.Kinds.{Sort, ComesAfter, AreKinds, expansion}
+use Rattle.kd_card.specs.Kinds.{KindFormat, ComesAfter, AreKinds, expansion}
 
 -- In this list of keys (letters, standings or readings) with their prices, equal keys have equal prices.
 abbrev pub HaveOnePriceEach : {X : Type 0} → List (X × ℤ) → Type 0
 HaveOnePriceEach {X} pairs =
-    (thing : X) (price other : ℤ) → Contains pairs (thing, price) → Contains pairs (thing, other) → price ≡ other
+    (key : X) (price other : ℤ) → Contains pairs (key, price) → Contains pairs (key, other) → price ≡ other
 
 -- The key (letters, a standing or a reading) has the form that a card writes, and its price is from -9999 to 9999.
-abbrev pub IsFine : {K X : Type 0} → Sort K X → X × ℤ → Type 0
-IsFine sort pair = sort.InForm pair.0 × (unsigned_abs pair.1 ≤ 9999)
+abbrev pub IsFine : {K X : Type 0} → KindFormat K X → X × ℤ → Type 0
+IsFine format pair = format.InForm pair.0 × (unsigned_abs pair.1 ≤ 9999)
 
 -- a kind with this key and this price, and with the count 1
 abbrev pub kind_of_one : {X : Type 0} → X × ℤ → KindOf X
-kind_of_one pair = record { thing = pair.0; count = 1; price = pair.1 }
+kind_of_one pair = record { key = pair.0; count = 1; price = pair.1 }
 
 -- Keys with prices that can be grouped into valid kinds. They are sorted by key, then by price. Equal keys have equal
 -- prices. Each key has the form that a card writes, and each price is from -9999 to 9999.
-pub record CanBeKinds {K X : Type 0} (sort : Sort K X) (cmp : X → X → Ordering) (pairs : List (X × ℤ)) : Type 0 where
+pub record CanBeKinds {K X : Type 0} (format : KindFormat K X) (cmp : X → X → Ordering) (pairs : List (X × ℤ))
+    : Type 0 where
   pub sorted : IsSorted (λ one other. ordering_then (cmp one.0 other.0) (int_cmp one.1 other.1)) pairs
   pub one_price : HaveOnePriceEach pairs
-  pub fine : All (IsFine sort) pairs
+  pub fine : All (IsFine format) pairs
 
 -- `new` is `old`, and then kinds that count the keys of `kind` and of `pairs`, with their prices. If these keys can be
 -- kinds, the added kinds are valid and strictly ascending. They come after a kind `last` if the key of `kind` does.
-pub record AppendsKinds {K X : Type 0} (sort : Sort K X) (cmp : X → X → Ordering) (kind : KindOf X)
+pub record AppendsKinds {K X : Type 0} (format : KindFormat K X) (cmp : X → X → Ordering) (kind : KindOf X)
     (pairs : List (X × ℤ)) (old new : List K) : Type 0 where
   pub made : List K
   pub is : new ≡ old ++ made
-  pub expand : expansion (map sort.kind made) ≡ replicate kind.count (kind.thing, kind.price) ++ pairs
-  pub in_order : (last : Option K) → CanBeKinds sort cmp ((kind.thing, kind.price) ∷ pairs)
-      → ((first : K) → (sort.kind first).thing ≡ kind.thing → ComesAfter sort last first)
-      → AreKinds sort last made
+  pub expand : expansion (map format.kind made) ≡ replicate kind.count (kind.key, kind.price) ++ pairs
+  pub in_order : (last : Option K) → CanBeKinds format cmp ((kind.key, kind.price) ∷ pairs)
+      → ((first : K) → (format.kind first).key ≡ kind.key → ComesAfter format last first)
+      → AreKinds format last made
 
--- ---- the price of each thing of a kind
+-- ---- the price of each key of a kind
 
 -- None of the kinds has this key and a count above 0.
 abbrev pub HasNoneLeft : {X : Type 0} → (X → X → Bool) → List (KindOf X) → X → Type 0
-HasNoneLeft eq kinds thing = count_by (λ other. eq other.0 thing) (expansion kinds) ≡ 0
+HasNoneLeft eq kinds key = count_by (λ other. eq other.0 key) (expansion kinds) ≡ 0
 
 -- Taking one key (letters, a standing or a reading) with this price out of `kinds` leaves the kinds `left`.
 abbrev pub TakesOne : {X : Type 0} → List (KindOf X) → X → ℤ → List (KindOf X) → Type 0
-TakesOne kinds thing price left = IsPermutation (expansion kinds) ((thing, price) ∷ expansion left)
+TakesOne kinds key price left = IsPermutation (expansion kinds) ((key, price) ∷ expansion left)
 
 -- The kinds count each key (letters, standing or reading) at least as often as the key is in the list.
-abbrev pub HaveThings : {X : Type 0} → (X → X → Bool) → List (KindOf X) → List X → Type 0
-HaveThings {X} eq kinds things =
-    (thing : X)
-    → count_by (λ other. eq other thing) things ≤ count_by (λ other. eq other.0 thing) (expansion kinds)
+abbrev pub HaveKeys : {X : Type 0} → (X → X → Bool) → List (KindOf X) → List X → Type 0
+HaveKeys {X} eq kinds keys =
+    (key : X)
+    → count_by (λ other. eq other key) keys ≤ count_by (λ other. eq other.0 key) (expansion kinds)
 
 -- If the Bool is true, taking the listed keys with these prices out of `kinds` leaves the kinds `left`. If it is false,
 -- `kinds` count some key less often than the key is in the list.
 abbrev pub TakesAll : {X : Type 0} → (X → X → Bool) → List (KindOf X) → List X → List ℤ → List (KindOf X) → Bool
     → Type 0
-TakesAll eq kinds things prices left true = IsPermutation (expansion kinds) (zip things prices ++ expansion left)
-TakesAll eq kinds things prices left false = ¬ (HaveThings eq kinds things)
+TakesAll eq kinds keys prices left true = IsPermutation (expansion kinds) (zip keys prices ++ expansion left)
+TakesAll eq kinds keys prices left false = ¬ (HaveKeys eq kinds keys)

@@ -11,7 +11,7 @@ ghost use Rattle.kd_prices.specs.Doubt.{IsDoubt, IsCheckedAnswer, IsByPricesAnsw
 use super::doubt::Doubt;
 use super::expanding::prices_of;
 use super::fitting::first_too_high;
-use super::things::{columns_of, ends_of};
+use super::kind_keys::{columns_of, ends_of};
 use super::walking::{carry_settings, is_priced_setting};
 use kd_card::{Card, PriceParts, sum_of_prices};
 use kd_state::{

@@ -4,19 +4,17 @@ ghost use Rattle.kd_card.specs.Kinds.{AreKinds, expansion};
 ghost use Rattle.kd_prices.specs.Grouping.{HaveOnePriceEach, IsFine, AppendsKinds, kind_of_one};
 
 use arrayvec::ArrayVec;
-use kd_card::{Kind, KindOf, Thing};
+use kd_card::{Kind, KindKey, KindOf};
 
 /// Groups equal keys with equal prices into kinds, in ascending order.
 ///
 /// `pairs` are keys (the letters of a cable or column, a standing or a reading) with their prices. If equal keys have
 /// different prices, each of these prices gets a kind, and `Prices` refuses the kinds.
-pub(crate) fn kinds_of<K: Kind, const N: usize>(
-    pairs: ArrayVec<(K::Thing, i16), N>,
-) -> ArrayVec<K, N>
+pub(crate) fn kinds_of<K: Kind, const N: usize>(pairs: ArrayVec<(K::Key, i16), N>) -> ArrayVec<K, N>
     requires small { N ≤ 255 }
-    ensures expand { IsPermutation pairs.items (expansion (map K.sort.kind result.items)) }
-    ensures in_order { HaveOnePriceEach pairs.items → All (IsFine K.sort) pairs.items
-        → AreKinds K.sort None result.items }
+    ensures expand { IsPermutation pairs.items (expansion (map K.format.kind result.items)) }
+    ensures in_order { HaveOnePriceEach pairs.items → All (IsFine K.format) pairs.items
+        → AreKinds K.format None result.items }
 {
     let mut pairs = pairs;
     pairs.sort_unstable();
@@ -28,12 +26,12 @@ pub(crate) fn kinds_of<K: Kind, const N: usize>(
 }
 
 /// Makes a kind with the count 1 from a key and its price.
-fn kind_of_one<T: Thing>(pair: &(T, i16)) -> KindOf<T>
+fn kind_of_one<T: KindKey>(pair: &(T, i16)) -> KindOf<T>
     ensures { result ≡ kind_of_one pair.now }
 {
-    let (thing, price) = *pair;
+    let (key, price) = *pair;
     KindOf {
-        thing,
+        key,
         count: 1,
         price,
     }
@@ -43,14 +41,14 @@ fn kind_of_one<T: Thing>(pair: &(T, i16)) -> KindOf<T>
 ///
 /// The first of `pairs` are counted in `kind`, as long as they have its key and its price.
 fn push_kinds<K: Kind, const N: usize>(
-    kind: KindOf<K::Thing>,
-    pairs: &[(K::Thing, i16)],
+    kind: KindOf<K::Key>,
+    pairs: &[(K::Key, i16)],
     kinds: &mut ArrayVec<K, N>,
 )
     requires room { length kinds.old.items + length pairs.now < N }
     requires some { 1 ≤ kind.count }
     requires few { kind.count + length pairs.now ≤ 255 }
-    ensures { AppendsKinds K.sort K.Thing.cmp kind pairs.now kinds.old.items kinds.new.items }
+    ensures { AppendsKinds K.format K.Key.cmp kind pairs.now kinds.old.items kinds.new.items }
 {
     match pairs {
         [] => kinds.push(K::of(kind)),
@@ -67,8 +65,8 @@ fn push_kinds<K: Kind, const N: usize>(
 }
 
 /// Whether `pair` has the key and the price of `kind`.
-fn is_of_kind<T: Thing>(pair: &(T, i16), kind: &KindOf<T>) -> bool
-    ensures { IsTrue result ↔ ((T.eq pair.now.0 kind.now.thing ≡ true) × (pair.now.1 ≡ kind.now.price)) }
+fn is_of_kind<T: KindKey>(pair: &(T, i16), kind: &KindOf<T>) -> bool
+    ensures { IsTrue result ↔ ((T.eq pair.now.0 kind.now.key ≡ true) × (pair.now.1 ≡ kind.now.price)) }
 {
-    pair.0 == kind.thing && pair.1 == kind.price
+    pair.0 == kind.key && pair.1 == kind.price
 }

@@ -3,7 +3,7 @@ ghost use Rattle.std.specs.Prelude.{◌↔◌, IfSome, IsSome, MatchOption};
 ghost use Rattle.kd_prices.specs.KindCards.{CanBeByKind, IsByKind, AreByKind};
 
 use super::grouping::kinds_of;
-use super::things::{beside, columns_of, ends_of};
+use super::kind_keys::{beside, columns_of, ends_of};
 use arrayvec::ArrayVec;
 use kd_card::{Card, PriceParts, Prices};
 use kd_state::{Machine, OneModel, SheetDay};

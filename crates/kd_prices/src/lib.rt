@@ -8,8 +8,8 @@ mod expanding;
 mod fitting;
 mod grouping;
 mod kind_cards;
+mod kind_keys;
 pub mod laws;
-mod things;
 mod walking;
 
 pub use checking::check;

@@ -4,15 +4,15 @@ use Rattle.kd_card.proofs.kinds.prices_of_kinds.Goals as goal
 
 pub push_prices-requires : goal.push_prices-requires
 push_prices-requires g c =
-    let sort = g.K.Kind.sort in
+    let format = g.K.Kind.format in
     let kinds = c.args.kinds.now in
     let at = c.loop-kind.kind-index in
-    let within = counted_within sort kinds at c.loop-kind-test.true c.kind-item.is in
+    let within = counted_within format kinds at c.loop-kind-test.true c.kind-item.is in
     omega (
       arith,
       within,
-      length_of_kinds sort (take at kinds),
-      length_of_kinds sort kinds,
+      length_of_kinds format (take at kinds),
+      length_of_kinds format kinds,
       ap length c.loop-kind.invariant,
       ap (λ (k : KindOf _). k.count) c.parts.ensures,
       c.requires,

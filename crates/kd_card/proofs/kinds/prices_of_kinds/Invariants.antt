@@ -2,4 +2,4 @@ use Rattle.kd_card.proofs.Prelude.{◌≡◌, take, prices_of_kinds}
 use Rattle.kd_card.proofs.kinds.prices_of_kinds.Given as goal
 
 abbrev pub invariant-loop-kind : goal.invariant-loop-kind
-invariant-loop-kind g l = l.prices.items ≡ prices_of_kinds g.K.Kind.sort (take l.kind-index l.kinds)
+invariant-loop-kind g l = l.prices.items ≡ prices_of_kinds g.K.Kind.format (take l.kind-index l.kinds)

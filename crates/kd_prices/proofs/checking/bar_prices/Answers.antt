@@ -1,4 +1,4 @@
-use Rattle.kd_prices.proofs.Found.{bar_kinds_found, both_found, other_sort}
+use Rattle.kd_prices.proofs.Found.{bar_kinds_found, both_found, other_format}
 use Rattle.kd_prices.proofs.Prelude.{GoesOn, Same, inl, inr, refl, rules}
 use Rattle.kd_prices.proofs.checking.bar_prices.Goals as goal
 
@@ -16,7 +16,7 @@ returns-in-BarKinds-clause-found c =
     c.prices_of-columns.ensures)))
 
 pub returns-in-Cables-clause-found : goal.returns-in-Cables-clause-found
-returns-in-Cables-clause-found c = other_sort _ _ _ _ (λ belong. elim c.in-Cables.is [
+returns-in-Cables-clause-found c = other_format _ _ _ _ (λ belong. elim c.in-Cables.is [
   | inl is ↦ rw is.2 at belong
   | inr is ↦ rw is.2 at belong
 ])

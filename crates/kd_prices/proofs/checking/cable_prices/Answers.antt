@@ -1,4 +1,4 @@
-use Rattle.kd_prices.proofs.Found.{both_found, cable_kinds_found, other_sort}
+use Rattle.kd_prices.proofs.Found.{both_found, cable_kinds_found, other_format}
 use Rattle.kd_state.specs.Entry.{rotor_values}
 use Rattle.kd_prices.proofs.Prelude.{GoesOn, Same, inl, inr, refl}
 use Rattle.kd_prices.proofs.checking.cable_prices.Goals as goal
@@ -25,7 +25,7 @@ returns-in-CableKinds-clause-found c =
     at c.prices_of-columns.ensures))))
 
 pub returns-in-Bars-clause-found : goal.returns-in-Bars-clause-found
-returns-in-Bars-clause-found c = other_sort _ _ _ _ (λ belong. elim c.in-Bars.is [
+returns-in-Bars-clause-found c = other_format _ _ _ _ (λ belong. elim c.in-Bars.is [
   | inl is ↦ rw is.2 at belong
   | inr is ↦ rw is.2 at belong
 ])

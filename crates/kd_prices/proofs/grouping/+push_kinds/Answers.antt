@@ -6,7 +6,7 @@ use Rattle.kd_prices.proofs.grouping.+push_kinds.Goals as goal
 pub returns-in-empty : goal.returns-in-empty
 returns-in-empty g t c =
     rw (no_item c.args.pairs.now (omega arith))
-    (appends_one g.K.Kind.sort g.K.Thing.Ord.cmp c.args.kind c.requires.some (omega arith) c.args.kinds.now.items
+    (appends_one g.K.Kind.format g.K.Key.Ord.cmp c.args.kind c.requires.some (omega arith) c.args.kinds.now.items
     c.push.new.self.items c.of.result c.of.ensures c.push.ensures.items)
 
 pub returns-then-is_of_kind : goal.returns-then-is_of_kind
@@ -17,11 +17,11 @@ returns-then-is_of_kind g t c =
     let split : c.args.pairs.now ≡ pair ∷ rest = grind (arith, common_steps) in
     let is = c.is_of_kind.ensures.0 c.if-is_of_kind.true in
     let equal =
-    eq_decides g.K.Thing.Ord.cmp g.met.K.Thing.Ord.total g.K.Thing.PartialEq.eq g.met.K.Thing.Ord.matches_eq
-    g.met.K.Thing.Thing.told_apart pair.0 kind.thing in
+    eq_decides g.K.Key.Ord.cmp g.met.K.Key.Ord.total g.K.Key.PartialEq.eq g.met.K.Key.Ord.matches_eq
+    g.met.K.Key.KindKey.told_apart pair.0 kind.key in
     let fits : SFits w16 kind.price = search rules in
     rw split
-    (counts_more g.K.Kind.sort g.K.Thing.Ord.cmp kind c.requires.some (omega arith) c.args.kinds.now.items
+    (counts_more g.K.Kind.format g.K.Key.Ord.cmp kind c.requires.some (omega arith) c.args.kinds.now.items
     c.push_kinds.new.kinds.items pair rest (both_same (equal.0 is.0) is.1)
     (rw (to_z-of_z w16 kind.price fits) at c.push_kinds.ensures))
 
@@ -31,12 +31,12 @@ returns-else-is_of_kind g t c =
     let kind = c.args.kind in
     let rest = take (length c.args.pairs.now - 1) (drop 1 c.args.pairs.now) in
     let split : c.args.pairs.now ≡ pair ∷ rest = grind (arith, common_steps) in
-    let cmp = g.K.Thing.Ord.cmp in
-    let total = g.met.K.Thing.Ord.total in
-    let told = g.met.K.Thing.Thing.told_apart in
-    let equal = eq_decides cmp total g.K.Thing.PartialEq.eq g.met.K.Thing.Ord.matches_eq told pair.0 kind.thing in
+    let cmp = g.K.Key.Ord.cmp in
+    let total = g.met.K.Key.Ord.total in
+    let told = g.met.K.Key.KindKey.told_apart in
+    let equal = eq_decides cmp total g.K.Key.PartialEq.eq g.met.K.Key.Ord.matches_eq told pair.0 kind.key in
     rw split
-    (begins_another g.K.Kind.sort cmp kind c.requires.some (omega arith) c.args.kinds.now.items
+    (begins_another g.K.Kind.format cmp kind c.requires.some (omega arith) c.args.kinds.now.items
     c.push_kinds-else-is_of_kind.new.kinds.items total told g.met.K.Kind.ordered c.of-else-is_of_kind.result pair rest
     c.of-else-is_of_kind.ensures
     (λ same. let alike = c.is_of_kind.ensures.1 (equal.1 same.0, same.1) in cc)

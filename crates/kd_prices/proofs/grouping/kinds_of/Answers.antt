@@ -9,7 +9,7 @@ returns-in-len1-up-clause-in_order g c =
     c.as_slice.ensures.value ∙ refilled _ _ (c.sort_unstable.ensures.len ∙ ap length c.deref_mut.ensures.value) in
     let rest = take (length sorted - 1) (drop 1 sorted) in
     let split : sorted ≡ c.pair-item.result ∷ rest = grind (arith, common_steps) in
-    all_kinds g.K.Kind.sort g.K.Thing.Ord.cmp c.args.pairs.items sorted rest c.pair-item.result
+    all_kinds g.K.Kind.format g.K.Key.Ord.cmp c.args.pairs.items sorted rest c.pair-item.result
     c.push_kinds.new.kinds.items (rw same (rw c.deref_mut.ensures.value at c.sort_unstable.ensures.permutation))
     (rw same c.sort_unstable.ensures.sorted) split
     (rw (c.kind_of_one.ensures, c.new-kinds.ensures) at c.push_kinds.ensures)

@@ -8,7 +8,7 @@ use std::marker::Model;
 /// The key of a kind: the letters of its cables, a pair, a standing or a reading.
 ///
 /// A card lists its kinds in the order of their keys, as the law `ordered` of `Kind` says.
-pub trait Thing: Copy + Default + Ord {
+pub trait KindKey: Copy + Default + Ord {
     ghost use Rattle.std.specs.Prelude.{◌≡◌};
     ghost use Rattle.std.specs.declared.cmp.Ordering.TheVariants.{Equal};
 
@@ -116,7 +116,7 @@ impl Column {
     }
 }
 
-impl Thing for Ends {
+impl KindKey for Ends {
     ghost use Rattle.std.specs.Prelude.{Some, None};
     ghost use Rattle.std.proofs.Common.{arith};
     ghost use Rattle.std.proofs.lemmas.Bool.Decides.{nat_tests};
@@ -127,7 +127,7 @@ impl Thing for Ends {
     ] };
 }
 
-impl Thing for Column {
+impl KindKey for Column {
     ghost use Rattle.std.specs.Prelude.{Some, None};
     ghost use Rattle.std.proofs.Common.{arith};
     ghost use Rattle.std.proofs.lemmas.Bool.Decides.{nat_tests};
@@ -138,13 +138,13 @@ impl Thing for Column {
     ] };
 }
 
-impl Thing for Standing {
+impl KindKey for Standing {
     ghost use Rattle.kd_card.specs.Order.{standings_told_apart};
 
     ghost told_apart = { standings_told_apart };
 }
 
-impl Thing for Reading {
+impl KindKey for Reading {
     ghost use Rattle.std.proofs.Common.{arith};
     ghost use Rattle.std.proofs.lemmas.Bool.Decides.{nat_tests};
 

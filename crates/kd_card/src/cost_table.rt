@@ -7,23 +7,23 @@ use super::prices::Version;
 
 /// What a card's prices are for: the rows and the columns of a table of costs.
 #[derive(Clone, Copy)]
-pub(crate) enum Group {
+pub(crate) enum CostTable {
     /// Cables are the rows of the table; pairs and nothings are its columns.
     OfCables,
     /// Bars are the rows of the table; the rows of the key sheet are its columns.
     OfBars,
 }
 
-impl Group {
+impl CostTable {
     /// The first word of a card's first price line, such as `CABLES`.
     pub(crate) fn first_text(self, version: Version) -> &'static str
         ensures { result.now ≡ first_text version self }
     {
         match (version, self) {
-            (Version::ByNumber, Group::OfCables) => "CABLES",
-            (Version::ByNumber, Group::OfBars) => "BARS",
-            (Version::ByKind, Group::OfCables) => "CABLE",
-            (Version::ByKind, Group::OfBars) => "BAR",
+            (Version::ByNumber, CostTable::OfCables) => "CABLES",
+            (Version::ByNumber, CostTable::OfBars) => "BARS",
+            (Version::ByKind, CostTable::OfCables) => "CABLE",
+            (Version::ByKind, CostTable::OfBars) => "BAR",
         }
     }
 
@@ -32,8 +32,8 @@ impl Group {
         ensures { result.now ≡ column_word self }
     {
         match self {
-            Group::OfCables => "PAIRS",
-            Group::OfBars => "ROWS",
+            CostTable::OfCables => "PAIRS",
+            CostTable::OfBars => "ROWS",
         }
     }
 
@@ -42,8 +42,8 @@ impl Group {
         ensures { result ≡ price_count self }
     {
         match self {
-            Group::OfCables => 13,
-            Group::OfBars => 27,
+            CostTable::OfCables => 13,
+            CostTable::OfBars => 27,
         }
     }
 }

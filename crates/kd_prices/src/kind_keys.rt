@@ -3,7 +3,7 @@ ghost use Rattle.std.specs.Prelude.{◌≡◌, ◌+◌, ◌++◌, ◌≤◌, len
 ghost use Rattle.kd_card.specs.Proving.{columns_in_order, pair_in_order};
 
 use arrayvec::ArrayVec;
-use kd_card::{Column, Ends, Thing};
+use kd_card::{Column, Ends, KindKey};
 use kd_state::{column_at, letters_in_order};
 use kd_tables::Letter;
 
@@ -40,32 +40,32 @@ fn in_order(pair: Option<(Letter, Letter)>) -> Option<(Letter, Letter)>
     Some(letters_in_order(one, other))
 }
 
-/// Pairs each key in `things` with the price at the same place in `prices`.
-pub(crate) fn beside<T: Thing, const N: usize>(
-    things: &[T],
+/// Pairs each key in `keys` with the price at the same place in `prices`.
+pub(crate) fn beside<T: KindKey, const N: usize>(
+    keys: &[T],
     prices: &[i16; N],
 ) -> ArrayVec<(T, i16), N>
-    requires { length things.now ≡ N }
-    ensures { result.items ≡ zip things.now prices.now }
+    requires { length keys.now ≡ N }
+    ensures { result.items ≡ zip keys.now prices.now }
 {
     let mut pairs = ArrayVec::new();
-    push_pairs(&mut pairs, things, prices);
+    push_pairs(&mut pairs, keys, prices);
     pairs
 }
 
-/// Appends each key in `things`, with its price, to `pairs`.
-fn push_pairs<T: Thing, const N: usize>(
+/// Appends each key in `keys`, with its price, to `pairs`.
+fn push_pairs<T: KindKey, const N: usize>(
     pairs: &mut ArrayVec<(T, i16), N>,
-    things: &[T],
+    keys: &[T],
     prices: &[i16],
 )
-    requires { length pairs.old.items + length things.now ≤ N }
-    ensures { pairs.new.items ≡ pairs.old.items ++ zip things.now prices.now }
+    requires { length pairs.old.items + length keys.now ≤ N }
+    ensures { pairs.new.items ≡ pairs.old.items ++ zip keys.now prices.now }
 {
-    if let [thing, things @ ..] = things
+    if let [key, keys @ ..] = keys
         && let [price, prices @ ..] = prices
     {
-        pairs.push((*thing, *price));
-        push_pairs(pairs, things, prices);
+        pairs.push((*key, *price));
+        push_pairs(pairs, keys, prices);
     }
 }

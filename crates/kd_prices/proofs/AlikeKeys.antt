@@ -1,5 +1,5 @@
 -- Cables, bars and columns at two different places are equal exactly if `StandAlike` or `ReadAlike` holds for these
--- places. So equal things have equal prices exactly if prices are equal wherever one of the two holds.
+-- places. So equal keys have equal prices exactly if prices are equal wherever one of the two holds.
 use Rattle.kd_prices.proofs.{AlikePrices.{nothing_at, same_at}, InForm.cables_are_in_form}
 use Rattle.kd_state.specs.Setting.{has_letter}
 use Rattle.std.{proofs.lemmas.List.Elements.Contains-get_or, specs.List.IsDistinct}
@@ -38,21 +38,21 @@ pairs_told (p ∷ pairs) zero (suc k) apart e = absurd (away p pairs k apart.0.1
 pairs_told (p ∷ pairs) (suc i) zero apart e = absurd (away p pairs i apart.0.1 e)
 pairs_told (p ∷ pairs) (suc i) (suc k) apart e = grind (arith, pairs_told pairs i k apart.1.1 e)
 
--- ---- things that are equal
+-- ---- keys that are equal
 
--- Things at two places are equal if `Alike` holds for the places; if it doesn't, they are equal only if the two
+-- Keys at two places are equal if `Alike` holds for the places; if it doesn't, they are equal only if the two
 -- places are one.
 abbrev pub AreTold : {X : Type 0} → List X → X → (ℕ → ℕ → Type 0) → Type 0
-AreTold things d Alike =
-    (i k : ℕ) → i < length things → k < length things
-    → (get_or things i d ≡ get_or things k d → Alike i k ⊎ (i ≡ k))
-    × (Alike i k → get_or things i d ≡ get_or things k d)
+AreTold keys d Alike =
+    (i k : ℕ) → i < length keys → k < length keys
+    → (get_or keys i d ≡ get_or keys k d → Alike i k ⊎ (i ≡ k))
+    × (Alike i k → get_or keys i d ≡ get_or keys k d)
 
-pub each_told : {X : Type 0} (things : List X) (d : X)
-    → AreTold things d (λ i k. slice_get things i ≡ slice_get things k)
-each_told things d i k inside within = (
-  λ same. inl (slice_get-get_or things i d inside ∙ ap (λ x. Some x) same ∙ sym (slice_get-get_or things k d within)),
-  λ alike. same_at things i k d alike,
+pub each_told : {X : Type 0} (keys : List X) (d : X)
+    → AreTold keys d (λ i k. slice_get keys i ≡ slice_get keys k)
+each_told keys d i k inside within = (
+  λ same. inl (slice_get-get_or keys i d inside ∙ ap (λ x. Some x) same ∙ sym (slice_get-get_or keys k d within)),
+  λ alike. same_at keys i k d alike,
 )
 
 pub cables_told : (m : RotorParts) → IsMachine (Rotor m) → AreTold m.cables (None, None) (StandAlike (Rotor m))
@@ -86,31 +86,31 @@ columns_told s legal i k inside within =
 pair_at : {X : Type 0} (xs : List X) (i : ℕ) (d x : X) → i < length xs → get_or xs i x ≡ x → get_or xs i d ≡ x
 pair_at xs i d x inside is = get_or_default xs i d x inside ∙ is
 
-module _ {X : Type 0} (things : List X) (d : X) (Alike : ℕ → ℕ → Type 0) (told : AreTold things d Alike)
+module _ {X : Type 0} (keys : List X) (d : X) (Alike : ℕ → ℕ → Type 0) (told : AreTold keys d Alike)
     (prices : List ℤ)
-    (n : ℕ) (many : length things ≡ n) (size : length prices ≡ n) where
-  at : (i : ℕ) → i < n → get_or (zip things prices) i (d, pos 0) ≡ (get_or things i d, price_at prices i)
-  at i low = get_or-zip things prices i (d, pos 0) (omega (arith, many, low)) (omega (arith, size, low))
+    (n : ℕ) (many : length keys ≡ n) (size : length prices ≡ n) where
+  at : (i : ℕ) → i < n → get_or (zip keys prices) i (d, pos 0) ≡ (get_or keys i d, price_at prices i)
+  at i low = get_or-zip keys prices i (d, pos 0) (omega (arith, many, low)) (omega (arith, size, low))
 
-  has : (i : ℕ) → i < n → Contains (zip things prices) (get_or things i d, price_at prices i)
+  has : (i : ℕ) → i < n → Contains (zip keys prices) (get_or keys i d, price_at prices i)
   has i low =
-      subst (Contains (zip things prices)) (at i low)
-      (Contains-get_or (zip things prices) i (d, pos 0) (omega (arith, length-zip things prices, many, size, low)))
+      subst (Contains (zip keys prices)) (at i low)
+      (Contains-get_or (zip keys prices) i (d, pos 0) (omega (arith, length-zip keys prices, many, size, low)))
 
-  pub one_price_is : HaveOnePriceEach (zip things prices)
+  pub one_price_is : HaveOnePriceEach (zip keys prices)
       ↔ ((i k : ℕ) → i < n → k < n → Alike i k → price_at prices i ≡ price_at prices k)
   one_price_is = (
     λ one i k low under alike.
         let same = (told i k (omega (arith, many, low)) (omega (arith, many, under))).1 alike in
-        one (get_or things i d) (price_at prices i) (price_at prices k) (has i low)
-        (subst (λ x. Contains (zip things prices) (x, price_at prices k)) (sym same) (has k under)),
-    λ equal thing price other one two.
+        one (get_or keys i d) (price_at prices i) (price_at prices k) (has i low)
+        (subst (λ x. Contains (zip keys prices) (x, price_at prices k)) (sym same) (has k under)),
+    λ equal key price other one two.
         let inside = one.1 in
         let within = two.1 in
-        let low : one.0 < n = omega (arith, length-zip things prices, many, size, inside) in
-        let under : two.0 < n = omega (arith, length-zip things prices, many, size, within) in
-        let here = sym (at one.0 low) ∙ pair_at (zip things prices) one.0 (d, pos 0) (thing, price) one.1 one.2 in
-        let there = sym (at two.0 under) ∙ pair_at (zip things prices) two.0 (d, pos 0) (thing, other) two.1 two.2 in
+        let low : one.0 < n = omega (arith, length-zip keys prices, many, size, inside) in
+        let under : two.0 < n = omega (arith, length-zip keys prices, many, size, within) in
+        let here = sym (at one.0 low) ∙ pair_at (zip keys prices) one.0 (d, pos 0) (key, price) one.1 one.2 in
+        let there = sym (at two.0 under) ∙ pair_at (zip keys prices) two.0 (d, pos 0) (key, other) two.1 two.2 in
         let first = ap (λ (z : X × ℤ). z.1) here in
         let second = ap (λ (z : X × ℤ). z.1) there in
         let same = ap (λ (z : X × ℤ). z.0) here ∙ sym (ap (λ (z : X × ℤ). z.0) there) in
