@@ -2,6 +2,8 @@
 -- legal day is described by some table.
 pub mod Described
 unfoldable pub use Described.*
+use Rattle.kd_sheet.specs.MachineFile.{machine_of}
+use Rattle.toml.specs.Data as toml
 
 -- ---- arrays of texts
 
@@ -14,12 +16,12 @@ texts_read ts = ap Some (list_of-items_of (map string ts))
 
 -- an array of the texts of `things` is read back as `things` if each text is read back as its thing
 module _ {X : Type 0} (key : Key) (fits : ℕ → Bool) (text_of : X → List ℕ) (things : List X)
-    (reading : List X → Data → Result X SheetFault)
-    (each : (k : ℕ) (x : X) → slice_get things k ≡ Some x → reading (take k things) (string (text_of x)) ≡ Ok x) where
+    (parse : List X → Data → Result X SheetFault)
+    (each : (k : ℕ) (x : X) → slice_get things k ≡ Some x → parse (take k things) (string (text_of x)) ≡ Ok x) where
   pub array_again : fits (length things) ≡ true
-      → read_array key fits reading (array_of_texts (map text_of things)) ≡ Ok things
+      → read_array key fits parse (array_of_texts (map text_of things)) ≡ Ok things
   array_again passes =
-      let read = again reading text_of things each in
+      let read = again parse text_of things each in
       let items = map string (map text_of things) in
       let count : length items ≡ length things = grind (arith, length-map) in
       rw (list_of-items_of items, count, passes) read
@@ -32,20 +34,22 @@ letters_spelled [] within = (refl, refl)
 letters_spelled (letter ∷ letters) within = grind (arith, letters_spelled letters within.1, le-leb)
 
 pub capitals_again : (count : ℕ) (letters : List ℕ) → AreLetters count letters
-    → capital_letters count (letters_text letters) ≡ Some letters
+    → capital_letters (nat_eq count) (letters_text letters) ≡ Some letters
 capitals_again count letters are = grind (arith, common_steps, letters_spelled, recursion_from_All, eq-eqb)
 
-pub window_again : (window : List ℕ) → AreOnWheels window → letters_on_wheels (letters_text window) ≡ Some window
-unfolding letters_on_wheels
-window_again window are =
-    rw (capitals_again 6 window (record { count = are.count; within = letters_below window are }), are_own window are)
-    refl
+pub window_again : (key : Key) (table : Members) (window : List ℕ)
+    → value_at key table ≡ Ok (string (letters_text window)) → AreOnWheels window
+    → shown_letters_in key table ≡ Ok window
+unfolding shown_letters_in letters_at
+window_again key table window there are =
+    let spelled = capitals_again 6 window (record { count = are.count; within = letters_below window are }) in
+    rw (there, spelled, are_own window are) refl
 
 -- ---- reflector and wheels
 
 pub reflector_again : (model : Model) (reflector : Reflector) → list_any (same_reflector reflector) (reflectors_of model) ≡ true
-    → reflector_by_name model (reflector_text reflector) ≡ Some reflector
-unfolding reflector_by_name
+    → find_by_text reflector_text (reflectors_of model) (reflector_text reflector) ≡ Some reflector
+unfolding find_by_text
 reflector_again model reflector e = grind arith
 
 -- an array at `key` can have an item for this seat: any key allows a wheel, only the key `slots` an empty seat
@@ -72,7 +76,7 @@ seat_again key model slots (Some wheel) may allowed apart k at =
     let free = not_seated (take k slots) wheel (λ among.
     let stands : slice_get slots among.0 ≡ Some (Some wheel) = grind (arith, common_steps, gets) in
     omega (arith, apart among.0 k wheel stands at, among.1)) in
-    rw (seat_named key model (take k slots) wheel, wheel_by_name-text wheel, among_them, free) refl
+    rw (seat_named key model (take k slots) wheel, wheel_found wheel, among_them, free) refl
 
 pub seats_in_again : (key : Key) (model : Model) (table : Members) (slots : List (Option Wheel))
     → value_at key table ≡ Ok (array_of_texts (map seat_text slots)) → All (MayBeSeated key) slots
@@ -104,7 +108,7 @@ HasSingleFirst cable = single_first cable ≡ cable
 pub cables_again : (cables : List (Option ℕ × Option ℕ)) → AreCables cables
     → read_array keys.Cables (λ n. nat_le n 13) cable_for (array_of_texts (map cable_text cables))
     ≡ Ok (map single_first cables)
-unfolding cable_for cable_letters_of_text
+unfolding cable_for
 cables_again cables are =
     let read = map single_first cables in
     let same = (same_cables cables).0 in
@@ -199,23 +203,23 @@ rows_in_again s legal =
     grind (arith, le-leb, cases_eq, eq-eqb, is.equal, or-true, ne_eqb)) (eq-eqb _ _ (sym legal.count))
 
 pin_again : (s : PinDay) → IsLegalPinDay s → pin_day_in s.day (pin_day_table s) ≡ Ok (OfPins s)
-unfolding pin_day_in shown_letters_in letters_at
+unfolding pin_day_in letters_at
 pin_again s legal = grind (arith, then_read, rows_in_again, pins_in_again, window_again, capitals_again)
 
-pub legal_is_described : (day : Day) → IsLegalDay day → (table : Members) × (day_in [] table ≡ Ok day)
+pub legal_is_described : (day : Day) → IsLegalDay day → (item : Data) × (day_for [] item ≡ Ok day)
 unfolding model_in model_day_in
 legal_is_described (OfRotors s) legal =
     let has = (has_reflector-Decides (reflectors_of s.model) s.reflector).1 legal.reflector in (
-      rotor_day_table s,
-      day_again s.day s.model (rotor_day_table s) (OfRotors s) (grind (arith, le-leb, legal.day))
-          (rw (model_by_name-text s.model) refl)
+      toml.table (rotor_day_table s),
+      day_again s.day s.model (rotor_day_table s) (toml.table (rotor_day_table s)) (OfRotors s) refl
+          (grind (arith, le-leb, legal.day)) (rw (model_found s.model) refl)
           (day_by_model s.day s.model s.reflector (rotor_day_table s) (OfRotors s) has (rotor_again s legal)),
     )
 legal_is_described (OfPins s) legal =
-    let model = ap (λ found. ok_or found UnknownModel) (model_by_name-text M209) in (
-      pin_day_table s,
-      day_again s.day M209 (pin_day_table s) (OfPins s) (grind (arith, le-leb, legal.day)) model
-          (pin_again s legal),
+    let model = ap (λ found. ok_or found UnknownModel) (model_found M209) in (
+      toml.table (pin_day_table s),
+      day_again s.day M209 (pin_day_table s) (toml.table (pin_day_table s)) (OfPins s) refl
+          (grind (arith, le-leb, legal.day)) model (pin_again s legal),
     )
 
 -- ---- texts in double quotes
@@ -409,12 +413,11 @@ ruleset are_plain = (
   recursion_from_All,
 )
 
--- a table from which version, model and parts can be read is read as the machine of these parts
-machine_in-parts : (model : Model) (table : Members) (m : Parts)
+-- a document from which version, model and parts can be read is read as the machine of these parts
+machine_of-parts : (model : Model) (bytes : List ℕ) (table : Members) (m : Parts) → document_of bytes ≡ Ok table
     → read_at keys.Version (number_up_to 2) table ≡ Ok (file_version model) → model_in table ≡ Ok model
-    → parts_in model table ≡ Ok m → machine_in table ≡ Ok m
-unfolding machine_in
-machine_in-parts model table m version is parts = grind (arith, then_read, demand-passes, le-leb)
+    → parts_in model table ≡ Ok m → machine_of bytes ≡ Ok m
+machine_of-parts model bytes table m of_bytes version is parts = grind (arith, then_read, demand-passes, le-leb)
 
 -- ---- a rotor machine
 
@@ -491,12 +494,12 @@ pin_read m legal =
 bars_again : (m : PinParts) → IsLegalPin m → bars_in (pin_table m) ≡ Ok m.bars
 unfolding bars_in
 bars_again m legal =
-    array_again keys.Bars (nat_eq 27) standing_text m.bars (or_bad_row standing_by_text) (λ k bar at.
+    array_again keys.Bars (nat_eq 27) standing_text m.bars (or_bad_row (find_by_text standing_text standings)) (λ k bar at.
     rw (standing_again bar (All-slice_get (λ bar. IsBefore bar.0 bar.1) m.bars k bar legal.apart at)) refl)
     (eq-eqb _ _ (sym legal.bars))
 
 pin_parts_again : (m : PinParts) → IsLegalPin m → pin_parts_in (pin_table m) ≡ Ok m
-unfolding pin_parts_in shown_letters_in
+unfolding pin_parts_in
 pin_parts_again m legal = grind (arith, then_read, window_again, pins_in_again, bars_again)
 
 -- ---- each machine
@@ -505,14 +508,10 @@ pub parts_are_read_back : LegalPartsAreReadBack
 unfolding model_in parts_in
 parts_are_read_back (Rotor m) legal =
     let has = (has_reflector-Decides (reflectors_of m.model) m.reflector).1 legal.reflector in
-    let read =
-    machine_in-parts m.model (rotor_table m) _ (rw (version_again m.model) refl)
-    (rw (model_by_name-text m.model) refl)
-    (by_model m.model m.reflector (rotor_table m) _ has (rotor_parts_again m legal)) in
-    then_read (document_of (machine_text (Rotor m))) machine_in (rotor_table m) _ (rotor_read m legal) read
+    machine_of-parts m.model (machine_text (Rotor m)) (rotor_table m) _ (rotor_read m legal)
+    (rw (version_again m.model) refl) (rw (model_found m.model) refl)
+    (by_model m.model m.reflector (rotor_table m) _ has (rotor_parts_again m legal))
     ∙ ap (λ cables. Ok (Rotor (record m { cables = cables }))) (same_order m.cables)
 parts_are_read_back (Pin m) legal =
-    let read =
-    machine_in-parts M209 (pin_table m) _ refl (ap (λ found. ok_or found UnknownModel) (model_by_name-text M209))
-    (rw (pin_parts_again m legal) refl) in
-    then_read (document_of (machine_text (Pin m))) machine_in (pin_table m) _ (pin_read m legal) read
+    machine_of-parts M209 (machine_text (Pin m)) (pin_table m) _ (pin_read m legal) refl
+    (ap (λ found. ok_or found UnknownModel) (model_found M209)) (rw (pin_parts_again m legal) refl)

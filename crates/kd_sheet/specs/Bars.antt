@@ -1,37 +1,32 @@
 -- The standings of bars in a machine file (the places of their lugs), and the readings of bars in a key sheet (the
 -- wheels' numbers at these places).
 -- Test: kd_trials/src/sheet/files.rt
-use Rattle.std.specs.Prelude.{ℕ, nat_eq, ◌+◌, ◌-◌, ◌==◌, ◌&&◌, ◌||◌, nat_le, Bool, not, List, [], ◌∷◌, length, Option}
+use Rattle.std.specs.Prelude.{ℕ, nat_eq, ◌+◌, ◌-◌, ◌==◌, ◌&&◌, ◌||◌, nat_le, not, List, [], ◌∷◌, length, Option}
 use Rattle.std.specs.Prelude.{Some, None, Result, ok_or, if◌then◌else◌}
+use Rattle.std.specs.List.{list_all}
 use Rattle.toml.specs.Data.{Data, Members}
-use Rattle.kd_tables.specs.Places.{smaller_first}
+use Rattle.kd_tables.specs.Places.{smaller_first, standings, standing_text}
 use Rattle.kd_tables.specs.declared.place.Place.{Place}
 use Rattle.kd_sheet.specs.Document.{◌>>=◌, value_at, from_text, read_array}
-use Rattle.kd_sheet.specs.Names.{standing_by_text}
+use Rattle.kd_sheet.specs.Names.{find_by_text}
 use Rattle.kd_sheet.specs.declared.key.Key.TheVariants as keys
 use Rattle.kd_sheet.specs.declared.fault.SheetFault.{SheetFault}
 use Rattle.kd_sheet.specs.declared.fault.SheetFault.TheVariants.{BadRow}
 
--- The value that `reading` gives for the text `item`, or the fault `BadRow` with the item's number, counted from 1.
--- `earlier` has the values of the items before this item.
+-- the value that `parse` gives for the text `item`, or the fault `BadRow` with the item's number, counted from 1
 abbrev pub or_bad_row : {A : Type 0} → (List ℕ → Option A) → List A → Data → Result A SheetFault
-or_bad_row reading earlier item = ok_or (from_text reading item) (BadRow (length earlier + 1))
+or_bad_row parse earlier item = ok_or (from_text parse item) (BadRow (length earlier + 1))
 
--- the standings of the bars, from the array at the key `bars`, which has 27 items
 unfoldable pub bars_in : Members → Result (List (Place × Place)) SheetFault
-bars_in table = value_at keys.Bars table >>= read_array keys.Bars (nat_eq 27) (or_bad_row standing_by_text)
-
--- whether `byte` is an ASCII digit from 0 to 6
-abbrev pub is_reading_digit : ℕ → Bool
-is_reading_digit byte = nat_le 48 byte && nat_le byte 54
+bars_in table =
+    value_at keys.Bars table >>= read_array keys.Bars (nat_eq 27) (or_bad_row (find_by_text standing_text standings))
 
 -- the reading, smaller number first, of a text such as `3-0`: the digits are from 0 to 6, and differ or are both 0
 unfoldable pub row_of_text : List ℕ → Option (ℕ × ℕ)
 row_of_text (one ∷ dash ∷ other ∷ []) =
-    if ((is_reading_digit one && dash == 45) && is_reading_digit other) && (not (one == other) || one == 48)
+    if list_all (λ x. nat_le 48 x && nat_le x 54) (one ∷ other ∷ []) && dash == 45 && (not (one == other) || one == 48)
     then Some (smaller_first (one - 48) (other - 48)) else None
 row_of_text _ = None
 
--- the readings of the rows, from the array at the key `rows`, which has 27 items
 unfoldable pub rows_in : Members → Result (List (ℕ × ℕ)) SheetFault
 rows_in table = value_at keys.Rows table >>= read_array keys.Rows (nat_eq 27) (or_bad_row row_of_text)

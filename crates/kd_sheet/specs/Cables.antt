@@ -1,12 +1,10 @@
 -- The cables of a machine file, and the pairs of a key sheet, item by item.
 -- Test: kd_trials/src/sheet/files.rt
-use Rattle.std.specs.Prelude.{ℕ, ◌-◌, ◌&&◌, nat_le, List, [], ◌∷◌, ◌++◌, length, replicate, slice_get, slice_index}
-use Rattle.std.specs.Prelude.{Option, Some, None, Result, Ok, ok_or, if◌then◌else◌}
-use Rattle.std.specs.List.{list_all, flat_map}
+use Rattle.std.specs.Prelude.{ℕ, ◌-◌, nat_eq, nat_le, List, [], ◌∷◌, ◌++◌, length, replicate, slice_get, slice_index}
+use Rattle.std.specs.Prelude.{Option, None, Result, Ok, ok_or}
+use Rattle.std.specs.List.{flat_map}
 use Rattle.std.specs.Option.{option_map_or}
 use Rattle.toml.specs.Data.{Data, Members, get_member}
-use Rattle.kd_tables.specs.Tables.{letters_of}
-use Rattle.kd_tables.specs.Text.{is_capital}
 use Rattle.kd_state.specs.Machine.{letters_in_cables}
 use Rattle.kd_state.specs.Setting.{are_new_letters}
 use Rattle.kd_sheet.specs.Document.{◌>>=◌, ◌>>◌, demand, value_at, from_text, read_array}
@@ -16,14 +14,10 @@ use Rattle.kd_sheet.specs.declared.key.Key.TheVariants as keys
 use Rattle.kd_sheet.specs.declared.fault.SheetFault.{SheetFault}
 use Rattle.kd_sheet.specs.declared.fault.SheetFault.TheVariants.{BadValue, LetterTwice}
 
--- the letters of `text`, if it is at most two capital letters
-unfoldable pub cable_letters_of_text : List ℕ → Option (List ℕ)
-cable_letters_of_text text = if nat_le (length text) 2 && list_all is_capital text then Some (letters_of text) else None
-
 -- The cable that `item` describes, or a fault: its letters must differ from each other and from those of `cables`.
 unfoldable pub cable_for : List (Option ℕ × Option ℕ) → Data → Result (Option ℕ × Option ℕ) SheetFault
 cable_for cables item = do
-  letters ← ok_or (from_text cable_letters_of_text item) (BadValue keys.Cables)
+  letters ← ok_or (from_text (capital_letters (λ n. nat_le n 2)) item) (BadValue keys.Cables)
   demand (are_new_letters letters (letters_in_cables cables)) LetterTwice
   Ok (slice_get letters 0, slice_get letters 1)
 
@@ -37,10 +31,9 @@ cables_in table = do
 -- The pair that `item` describes, or a fault: its letters must differ from each other and from those of `pairs`.
 unfoldable pub pair_for : List (ℕ × ℕ) → Data → Result (ℕ × ℕ) SheetFault
 pair_for pairs item = do
-  letters ← ok_or (from_text (capital_letters 2) item) (BadValue keys.Plugs)
+  letters ← ok_or (from_text (capital_letters (nat_eq 2)) item) (BadValue keys.Plugs)
   demand (are_new_letters letters (flat_map (λ pair. pair.0 ∷ pair.1 ∷ []) pairs)) LetterTwice
   Ok (slice_index letters 0, slice_index letters 1)
 
--- the pairs of a day, at most 13, from the array at the key `plugs`
 unfoldable pub pairs_in : Members → Result (List (ℕ × ℕ)) SheetFault
 pairs_in table = value_at keys.Plugs table >>= read_array keys.Plugs (λ n. nat_le n 13) pair_for

@@ -17,22 +17,21 @@ use Rattle.kd_sheet.specs.declared.fault.SheetFault.TheVariants.{NotToml, Missin
 
 -- Applies `f` to the left operand if this is a value; a fault stays as it is.
 infixl 10 ◌>>=◌
-abbrev pub ◌>>=◌ : {A B : Type 0} → Result A SheetFault → (A → Result B SheetFault) → Result B SheetFault
+abbrev pub ◌>>=◌ : {A B E : Type 0} → Result A E → (A → Result B E) → Result B E
 (Ok x) >>= f = f x
 (Err fault) >>= f = Err fault
 
--- `reading` if `test` is `Ok`; otherwise the fault of `test`.
+-- `next` if `test` is `Ok`; otherwise the fault of `test`.
 infixl 10 ◌>>◌
 abbrev pub ◌>>◌ : {B : Type 0} → Result (Unit {0}) SheetFault → Result B SheetFault → Result B SheetFault
-test >> reading = test >>= (λ _. reading)
+test >> next = test >>= (λ _. next)
 
--- The values of the items, in order, or the first fault. `reading` reads an item: it takes the values of the items
--- before the item, and the item itself.
+-- the values of the items, in order, or the first fault; `parse` takes the earlier items' values, and an item
 abbrev pub read_items : {A : Type 0} → (List A → Data → Result A SheetFault) → List Data → Result (List A) SheetFault
-read_items reading [] = Ok []
-read_items reading (first ∷ rest) = do
-  value ← reading [] first
-  values ← read_items (λ earlier. reading (value ∷ earlier)) rest
+read_items parse [] = Ok []
+read_items parse (first ∷ rest) = do
+  value ← parse [] first
+  values ← read_items (λ earlier. parse (value ∷ earlier)) rest
   Ok (value ∷ values)
 
 -- `answer` equals `meant`, or `answer` is the fault `NoMemory`.
@@ -44,39 +43,33 @@ AgreesOrNoMemory answer meant = answer ≡ meant
 abbrev pub result_map : {A B : Type 0} → (A → B) → Result A SheetFault → Result B SheetFault
 result_map view answer = result_map_both view (λ fault. fault) answer
 
--- `Ok` if `test` is true, otherwise the fault `fault`
 abbrev pub demand : Bool → SheetFault → Result (Unit {0}) SheetFault
 demand test fault = if test then Ok tt else Err fault
 
--- the table of the TOML document `bytes`, or the fault `NotToml`
 unfoldable pub document_of : List ℕ → Result Members SheetFault
 document_of bytes = if is_utf8 bytes then ok_or (parse_document bytes) NotToml else Err NotToml
 
--- the value at `key`, or the fault `Missing`
 abbrev pub value_at : Key → Members → Result Data SheetFault
 value_at key table = ok_or (get_member (key_name key) table) (Missing key)
 
--- what `reading` gives for the value at `key`; `Missing` if the key is absent, `BadValue` if `reading` gives `None`
+-- what `parse` gives for the value at `key`; `Missing` if the key is absent, `BadValue` if `parse` gives `None`
 abbrev pub read_at : {A : Type 0} → Key → (Data → Option A) → Members → Result A SheetFault
-read_at key reading table = value_at key table >>= (λ value. ok_or (reading value) (BadValue key))
+read_at key parse table = value_at key table >>= (λ value. ok_or (parse value) (BadValue key))
 
--- what `reading` gives for the text `value`, or `None` if `value` isn't a text
 abbrev pub from_text : {A : Type 0} → (List ℕ → Option A) → Data → Option A
-from_text reading value = option_and_then reading (as_str value)
+from_text parse value = option_and_then parse (as_str value)
 
--- the items of an array, as a list
 abbrev pub items_list : Items → List Data
 items_list no_items = []
 items_list (item first rest) = first ∷ items_list rest
 
--- the items of the array `value`, or `None` if `value` isn't an array
 abbrev pub as_items : Data → Option (List Data)
 as_items value = option_map items_list (as_array value)
 
--- the values that `reading` gives for the items of the array `value`; their number must pass the test `fits`
+-- the values that `parse` gives for the items of the array `value`; their number must pass the test `fits`
 abbrev pub read_array : {A : Type 0} → Key → (ℕ → Bool) → (List A → Data → Result A SheetFault) → Data
     → Result (List A) SheetFault
-read_array key fits reading value = do
+read_array key fits parse value = do
   items ← ok_or (as_items value) (BadValue key)
   demand (fits (length items)) (BadValue key)
-  read_items reading items
+  read_items parse items

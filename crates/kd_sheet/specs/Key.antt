@@ -3,7 +3,6 @@ use Rattle.std.specs.Prelude.{codes, ℕ, List}
 use Rattle.kd_sheet.specs.declared.key.Key.{Key}
 use Rattle.kd_sheet.specs.declared.key.Key.TheVariants as keys
 
--- the name of a key, as it is spelt in a file
 abbrev pub key_name : Key → List ℕ
 key_name keys.Version = codes "version"
 key_name keys.Model = codes "model"

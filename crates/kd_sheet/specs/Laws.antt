@@ -1,17 +1,15 @@
--- The laws of machine files and key sheets: a written machine is read back, and a day is legal exactly if some TOML
--- table describes it.
-use Rattle.std.specs.Prelude.{◌≡◌, ◌↔◌, ℕ, List, [], Contains, Option, Some, Ok}
-use Rattle.toml.specs.Data as toml
-use Rattle.toml.specs.Data.{Data, Members}
+-- The laws of machine files and key sheets: a written machine is read back, and a day is legal exactly if some entry of
+-- a key sheet describes it.
+use Rattle.std.specs.Prelude.{◌≡◌, ◌↔◌, ℕ, List, [], Contains, Some, Ok}
+use Rattle.toml.specs.Data.{Data}
 use Rattle.kd_state.specs.declared.machine.parts.Parts.{Parts}
 use Rattle.kd_state.specs.Machine.{IsLegal, IsMachine, with_cables_in_order}
 use Rattle.kd_state.specs.SheetDay.{Day, IsLegalDay, day_number}
-use Rattle.kd_sheet.specs.Document.{read_at, as_items}
+use Rattle.kd_sheet.specs.Document.{read_items}
 use Rattle.kd_sheet.specs.MachineFile.{machine_of}
 use Rattle.kd_sheet.specs.MachineText.{machine_text}
-use Rattle.kd_sheet.specs.Sheet.{day_of}
-use Rattle.kd_sheet.specs.SheetFile.{day_in, sheet_in}
-use Rattle.kd_sheet.specs.declared.key.Key.TheVariants as keys
+use Rattle.kd_sheet.specs.Sheet.{day_of, month_of}
+use Rattle.kd_sheet.specs.SheetFile.{day_for}
 
 -- The file written for legal parts is read as the same parts, with each cable's letters in alphabetical order.
 abbrev pub LegalPartsAreReadBack : Type 0
@@ -21,13 +19,13 @@ LegalPartsAreReadBack = (m : Parts) → IsLegal m → machine_of (machine_text m
 abbrev pub WrittenFilesAreReadBack : Type 0
 WrittenFilesAreReadBack = (m : Parts) → IsMachine m → machine_of (machine_text m) ≡ Ok m
 
--- A day is legal exactly if some TOML table, as the first entry of a key sheet, describes this day.
+-- A day is legal exactly if some item, as the first entry of a key sheet, describes this day.
 abbrev pub LegalDaysAreDescribed : Type 0
-LegalDaysAreDescribed = (day : Day) → IsLegalDay day ↔ ((entry : Members) × (day_in [] entry ≡ Ok day))
+LegalDaysAreDescribed = (day : Day) → IsLegalDay day ↔ ((entry : Data) × (day_for [] entry ≡ Ok day))
 
 -- In a key sheet without a fault, day `number` is the day that the entry with this number describes.
 abbrev pub DaysAreTheEntries : Type 0
-DaysAreTheEntries = (table : Members) (items : List Data) (month : List (Option Day)) (number : ℕ) (day : Day)
-    → read_at keys.Day as_items table ≡ Ok items → sheet_in table ≡ Ok month
-    → (day_of month number ≡ Some day)
-    ↔ ((entry : Members) × Contains items (toml.table entry) × (day_in [] entry ≡ Ok day) × (day_number day ≡ number))
+DaysAreTheEntries = (entries : List Data) (days : List Day) (number : ℕ) (day : Day)
+    → read_items day_for entries ≡ Ok days
+    → (day_of (month_of days) number ≡ Some day)
+    ↔ ((entry : Data) × Contains entries entry × (day_for [] entry ≡ Ok day) × (day_number day ≡ number))

@@ -1,6 +1,6 @@
 -- Texts of capital letters.
 -- Test: kd_trials/src/sheet/files.rt
-use Rattle.std.specs.Prelude.{ℕ, ◌&&◌, ◌==◌, List, length, Option, Some, None, Result, if◌then◌else◌}
+use Rattle.std.specs.Prelude.{ℕ, nat_eq, Bool, ◌&&◌, List, length, Option, Some, None, Result, if◌then◌else◌}
 use Rattle.std.specs.List.{list_all}
 use Rattle.toml.specs.Data.{Members}
 use Rattle.kd_tables.specs.Tables.{letters_of}
@@ -9,10 +9,9 @@ use Rattle.kd_sheet.specs.Document.{read_at, from_text}
 use Rattle.kd_sheet.specs.declared.key.Key.{Key}
 use Rattle.kd_sheet.specs.declared.fault.SheetFault.{SheetFault}
 
--- the letters of `text`, if it is exactly `count` capital letters
-abbrev pub capital_letters : ℕ → List ℕ → Option (List ℕ)
-capital_letters count text = if length text == count && list_all is_capital text then Some (letters_of text) else None
+-- the letters of `text`, if it has only capital letters, and their number passes the test `fits`
+abbrev pub capital_letters : (ℕ → Bool) → List ℕ → Option (List ℕ)
+capital_letters fits text = if fits (length text) && list_all is_capital text then Some (letters_of text) else None
 
--- the letters of the text at `key`, which must be exactly `count` capital letters
 unfoldable pub letters_at : Key → ℕ → Members → Result (List ℕ) SheetFault
-letters_at key count table = read_at key (from_text (capital_letters count)) table
+letters_at key count table = read_at key (from_text (capital_letters (nat_eq count))) table

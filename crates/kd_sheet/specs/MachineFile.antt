@@ -1,11 +1,11 @@
 -- How a machine file is read, key by key in the order of testing. The result is the machine that the file describes, or
 -- the first fault.
 -- Test: kd_trials/src/sheet/files.rt, kd_trials/src/sheet/faults.rt
-use Rattle.std.specs.Prelude.{ℕ, nat_le, List, length, Result, Ok, ok_or}
+use Rattle.std.specs.Prelude.{ℕ, nat_le, List, [], ◌∷◌, length, Result, Ok, ok_or}
 use Rattle.toml.specs.Data.{Members, as_str}
-use Rattle.kd_tables.specs.Tables.{box_of}
+use Rattle.kd_tables.specs.Tables.{box_of, model_text, reflector_text, reflectors_of}
 use Rattle.kd_tables.specs.declared.model.Model.{Model}
-use Rattle.kd_tables.specs.declared.model.Model.TheVariants.{M209}
+use Rattle.kd_tables.specs.declared.model.Model.TheVariants.{EnigmaI, M3, M4, M209}
 use Rattle.kd_tables.specs.declared.reflector.Reflector.{Reflector}
 use Rattle.kd_state.specs.Machine.{with_cables_in_order}
 use Rattle.kd_state.specs.declared.machine.rotor_parts.RotorParts.{RotorParts}
@@ -17,7 +17,7 @@ use Rattle.kd_sheet.specs.Document.{◌>>=◌, ◌>>◌, demand, document_of, re
 use Rattle.kd_sheet.specs.Bars.{bars_in}
 use Rattle.kd_sheet.specs.Letters.{letters_at}
 use Rattle.kd_sheet.specs.MachineText.{file_version}
-use Rattle.kd_sheet.specs.Names.{model_by_name, reflector_by_name}
+use Rattle.kd_sheet.specs.Names.{find_by_text}
 use Rattle.kd_sheet.specs.Numbers.{number_up_to}
 use Rattle.kd_sheet.specs.PinWheels.{shown_letters_in, pins_in}
 use Rattle.kd_sheet.specs.Seats.{seats_in}
@@ -25,16 +25,14 @@ use Rattle.kd_sheet.specs.declared.key.Key.TheVariants as keys
 use Rattle.kd_sheet.specs.declared.fault.SheetFault.{SheetFault}
 use Rattle.kd_sheet.specs.declared.fault.SheetFault.TheVariants.{UnknownModel}
 
--- the model that a machine file, or a day of a key sheet, names
 unfoldable pub model_in : Members → Result Model SheetFault
-model_in table = read_at keys.Model as_str table >>= (λ name. ok_or (model_by_name name) UnknownModel)
+model_in table = read_at keys.Model as_str table
+    >>= (λ name. ok_or (find_by_text model_text (EnigmaI ∷ M3 ∷ M4 ∷ M209 ∷ []) name) UnknownModel)
 
--- the reflector of `model` that a machine file, or a day of a key sheet, names
 unfoldable pub reflector_in : Model → Members → Result Reflector SheetFault
-reflector_in model table = read_at keys.Reflector (from_text (reflector_by_name model)) table
+reflector_in model table = read_at keys.Reflector (from_text (find_by_text reflector_text (reflectors_of model))) table
 
--- The parts of a rotor machine. The texts at `rings` and at `letters` have a letter for each wheel of the box, in box
--- order (I, II, III and so on).
+-- the parts of a rotor machine; `rings` and `letters` have a letter for each wheel of the box, in the box's order
 unfoldable pub rotor_parts_in : Model → Members → Result RotorParts SheetFault
 rotor_parts_in model table = do
   reflector ← reflector_in model table
@@ -44,7 +42,6 @@ rotor_parts_in model table = do
   cables ← cables_in table
   Ok (record { model = model; slots = slots; reflector = reflector; rings = rings; letters = letters; cables = cables })
 
--- the parts of a Converter M-209
 unfoldable pub pin_parts_in : Members → Result PinParts SheetFault
 pin_parts_in table = do
   letters ← shown_letters_in keys.Letters table
@@ -52,19 +49,15 @@ pin_parts_in table = do
   bars ← bars_in table
   Ok (record { pins = pins; letters = letters; bars = bars })
 
--- the parts of a machine of `model`, with each cable's letters in alphabetical order
 unfoldable pub parts_in : Model → Members → Result Parts SheetFault
 parts_in M209 table = pin_parts_in table >>= (λ parts. Ok (Pin parts))
 parts_in model table = rotor_parts_in model table >>= (λ parts. Ok (with_cables_in_order (Rotor parts)))
 
--- The machine that a machine file's table describes, or the file's first fault. The file's version is 1 or 2.
-unfoldable pub machine_in : Members → Result Parts SheetFault
-machine_in table = do
+-- the machine that a machine file's bytes describe, or the file's first fault
+abbrev pub machine_of : List ℕ → Result Parts SheetFault
+machine_of bytes = do
+  table ← document_of bytes
   version ← read_at keys.Version (number_up_to 2) table
   model ← model_in table
   demand (nat_le (file_version model) version) UnknownModel
   parts_in model table
-
--- the machine that a machine file's bytes describe, or the file's first fault
-abbrev pub machine_of : List ℕ → Result Parts SheetFault
-machine_of bytes = document_of bytes >>= machine_in

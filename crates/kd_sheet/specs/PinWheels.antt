@@ -3,32 +3,25 @@
 use Rattle.std.specs.Prelude.{ℕ, nat_eq, ◌+◌, ◌&&◌, Bool, List, [], length, map, Option, Some, None, Result, Ok}
 use Rattle.std.specs.Prelude.{ok_or, if◌then◌else◌}
 use Rattle.std.specs.List.{list_all, enumerate_from}
-use Rattle.std.specs.Option.{option_and_then}
 use Rattle.toml.specs.Data.{Data, Members}
 use Rattle.kd_tables.specs.Rings.{ring_of}
 use Rattle.kd_tables.specs.Text.{letters_text}
 use Rattle.kd_pins.specs.declared.pin_set.PinSet.{PinSet}
 use Rattle.kd_state.specs.Pins.{pin_set}
 use Rattle.kd_state.specs.Setting.{has_letter, are_new_letters}
-use Rattle.kd_sheet.specs.Document.{◌>>=◌, value_at, read_at, from_text, read_array, read_items}
-use Rattle.kd_sheet.specs.Letters.{capital_letters}
+use Rattle.kd_sheet.specs.Document.{◌>>=◌, ◌>>◌, demand, value_at, from_text, read_array, read_items}
+use Rattle.kd_sheet.specs.Letters.{letters_at}
 use Rattle.kd_sheet.specs.declared.key.Key.{Key}
 use Rattle.kd_sheet.specs.declared.key.Key.TheVariants as keys
 use Rattle.kd_sheet.specs.declared.fault.SheetFault.{SheetFault}
 use Rattle.kd_sheet.specs.declared.fault.SheetFault.TheVariants.{BadValue}
 
--- whether wheel 1 has the first of `letters`, wheel 2 the second, and so on
-abbrev pub are_on_wheels : List ℕ → Bool
-are_on_wheels letters = list_all (λ numbered. has_letter (ring_of numbered.0) numbered.1) (enumerate_from 1 letters)
-
--- the letters of `text`, if it is six capital letters: the first is on wheel 1, the second on wheel 2, and so on
-unfoldable pub letters_on_wheels : List ℕ → Option (List ℕ)
-letters_on_wheels text =
-    option_and_then (λ letters. if are_on_wheels letters then Some letters else None) (capital_letters 6 text)
-
--- the letters that the six wheels show, from the text at `key`
+-- the letters that the six wheels show, from the text at `key`: the first letter is on wheel 1, and so on
 unfoldable pub shown_letters_in : Key → Members → Result (List ℕ) SheetFault
-shown_letters_in key table = read_at key (from_text letters_on_wheels) table
+shown_letters_in key table = do
+  letters ← letters_at key 6 table
+  demand (list_all (λ numbered. has_letter (ring_of numbered.0) numbered.1) (enumerate_from 1 letters)) (BadValue key)
+  Ok letters
 
 -- The pins of a wheel, in the order of its letters `ring`: a pin is effective if `text` has its letter. The result
 -- is `None` if a byte of `text` isn't a capital letter of the wheel, or comes twice.
@@ -45,7 +38,6 @@ pins_for earlier item = ok_or (from_text (pins_of_text (ring_of (length earlier 
 abbrev pub pins_of_items : List Data → Result PinSet SheetFault
 pins_of_items items = read_items pins_for items >>= (λ pins. Ok (pin_set pins))
 
--- the pins of the wheels, from the array at the key `pins`, which has six items
 unfoldable pub pins_in : Members → Result PinSet SheetFault
 pins_in table =
     value_at keys.Pins table >>= read_array keys.Pins (nat_eq 6) pins_for >>= (λ pins. Ok (pin_set pins))

@@ -5,22 +5,23 @@ use Rattle.std.specs.Prelude.{ok_or}
 use Rattle.std.specs.List.{list_any}
 use Rattle.std.specs.Option.{option_map_or}
 use Rattle.toml.specs.Data.{Data, string, Members}
-use Rattle.kd_tables.specs.Tables.{slots_of, wheels_for}
+use Rattle.kd_tables.specs.Tables.{slots_of, wheels_for, box_of, wheel_text}
 use Rattle.kd_tables.specs.declared.model.Model.{Model}
+use Rattle.kd_tables.specs.declared.model.Model.TheVariants.{M4}
 use Rattle.kd_tables.specs.declared.wheel.Wheel.{Wheel}
 use Rattle.kd_state.specs.SameParts.{same_wheel}
 use Rattle.kd_sheet.specs.Document.{◌>>=◌, ◌>>◌, demand, value_at, from_text, read_array}
-use Rattle.kd_sheet.specs.Names.{wheel_by_name}
+use Rattle.kd_sheet.specs.Names.{find_by_text}
 use Rattle.kd_sheet.specs.declared.key.Key.{Key}
 use Rattle.kd_sheet.specs.declared.key.Key.TheVariants as keys
 use Rattle.kd_sheet.specs.declared.fault.SheetFault.{SheetFault}
 use Rattle.kd_sheet.specs.declared.fault.SheetFault.TheVariants.{BadValue, WheelTwice, WheelNotAllowed}
 
--- the wheel that `item` names, for the next slot after `slots`; the model must allow it there, and no slot of `slots`
--- may hold it
+-- The wheel that `item` names, for the next slot after `slots`: the model must allow it there, and no slot of `slots`
+-- may hold it. The names are those of all ten wheels, which are in the box of an M4.
 unfoldable pub wheel_for : Key → Model → List (Option Wheel) → Data → Result Wheel SheetFault
 wheel_for key model slots item = do
-  wheel ← ok_or (from_text wheel_by_name item) (BadValue key)
+  wheel ← ok_or (from_text (find_by_text wheel_text (box_of M4)) item) (BadValue key)
   demand (list_any (same_wheel wheel) (wheels_for model (length slots + 1))) WheelNotAllowed
   demand (not (list_any (λ seat. option_map_or (same_wheel wheel) seat false) slots)) WheelTwice
   Ok wheel
@@ -30,6 +31,5 @@ unfoldable pub seat_for : Key → Model → List (Option Wheel) → Data → Res
 seat_for keys.Slots model slots (string []) = Ok None
 seat_for key model slots item = wheel_for key model slots item >>= (λ wheel. Ok (Some wheel))
 
--- the wheels in the model's slots, from the array at `key`, which has one item for each slot
 unfoldable pub seats_in : Key → Model → Members → Result (List (Option Wheel)) SheetFault
 seats_in key model table = value_at key table >>= read_array key (nat_eq (slots_of model)) (seat_for key model)

@@ -1,7 +1,7 @@
 -- How a key sheet is read, key by key in the order of testing. The result is the days that the sheet describes, or the
 -- first fault.
 -- Test: kd_trials/src/sheet/files.rt, kd_trials/src/sheet/faults.rt
-use Rattle.std.specs.Prelude.{ℕ, nat_le, ◌==◌, not, List, [], ◌∷◌, Option, Some, Result, Ok, ok_or}
+use Rattle.std.specs.Prelude.{ℕ, nat_eq, nat_le, ◌==◌, not, List, [], ◌∷◌, Option, Some, Result, Ok, ok_or}
 use Rattle.std.specs.List.{list_any}
 use Rattle.std.specs.Option.{option_and_then, option_map_or}
 use Rattle.toml.specs.Data.{Data, string, Members, get_member, as_table}
@@ -28,14 +28,12 @@ use Rattle.kd_sheet.specs.declared.fault.SheetFault.TheVariants.{BadValue, DayTw
 
 -- exactly `count` rings, from a text of capital letters, or from an array of numbers where 1 is A
 abbrev pub rings_of : ℕ → Data → Option (List ℕ)
-rings_of count (string text) = capital_letters count text
+rings_of count (string text) = capital_letters (nat_eq count) text
 rings_of count value = option_and_then (letters_of_numbers count) (as_items value)
 
--- an item as a group of three capital letters, whatever groups are before it
 unfoldable pub group_for : List (List ℕ) → Data → Result (List ℕ) SheetFault
-group_for earlier item = ok_or (from_text (capital_letters 3) item) (BadValue keys.Groups)
+group_for earlier item = ok_or (from_text (capital_letters (nat_eq 3)) item) (BadValue keys.Groups)
 
--- the groups, at most four; there are none if the key `groups` is missing
 unfoldable pub groups_in : Members → Result (List (List ℕ)) SheetFault
 groups_in table =
     option_map_or (read_array keys.Groups (λ n. nat_le n 4) group_for) (get_member (key_name keys.Groups) table) (Ok [])
@@ -46,7 +44,6 @@ sheet_wheels (Some wheel ∷ seats) (ring ∷ rings) (letter ∷ letters) =
     record { wheel = wheel; ring = ring; letter = letter } ∷ sheet_wheels seats rings letters
 sheet_wheels _ _ _ = []
 
--- the day of a rotor machine that a table describes
 unfoldable pub rotor_day_in : ℕ → Model → Members → Result Day SheetFault
 rotor_day_in day model table = do
   reflector ← reflector_in model table
@@ -59,7 +56,6 @@ rotor_day_in day model table = do
   Ok (OfRotors
       (record { day = day; model = model; reflector = reflector; wheels = wheels; pairs = pairs; groups = groups }))
 
--- the day of a Converter M-209 that a table describes
 unfoldable pub pin_day_in : ℕ → Members → Result Day SheetFault
 pin_day_in day table = do
   rows ← rows_in table
@@ -68,27 +64,19 @@ pin_day_in day table = do
   list ← letters_at keys.List 2 table
   Ok (OfPins (record { day = day; rows = rows; pins = pins; window = window; list = list }))
 
--- the day of `model` that a table describes
 unfoldable pub model_day_in : ℕ → Model → Members → Result Day SheetFault
 model_day_in day M209 table = pin_day_in day table
 model_day_in day model table = rotor_day_in day model table
 
--- The day that `table` describes, or the first fault. The fault is `DayTwice` if one of `days` has the same number.
-unfoldable pub day_in : List Day → Members → Result Day SheetFault
-day_in days table = do
+-- the day that `item` describes, or its first fault; `days` are the days of the items before `item`
+unfoldable pub day_for : List Day → Data → Result Day SheetFault
+day_for days item = do
+  table ← ok_or (as_table item) (BadValue keys.Day)
   number ← read_at keys.Day (number_up_to 31) table
   demand (not (list_any (λ day. day_number day == number) days)) (DayTwice number)
   model ← model_in table
   model_day_in number model table
 
--- the day that `item` describes, or its first fault; `days` are the days of the items before `item`
-unfoldable pub day_for : List Day → Data → Result Day SheetFault
-day_for days item = ok_or (as_table item) (BadValue keys.Day) >>= day_in days
-
--- the month that a key sheet's table describes, or the sheet's first fault
-unfoldable pub sheet_in : Members → Result (List (Option Day)) SheetFault
-sheet_in table = read_at keys.Day as_items table >>= read_items day_for >>= (λ days. Ok (month_of days))
-
 -- the month that a key sheet's bytes describe, or the sheet's first fault
 abbrev pub sheet_of : List ℕ → Result (List (Option Day)) SheetFault
-sheet_of bytes = document_of bytes >>= sheet_in
+sheet_of bytes = document_of bytes >>= read_at keys.Day as_items >>= read_items day_for >>= (λ days. Ok (month_of days))

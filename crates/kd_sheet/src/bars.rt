@@ -1,8 +1,9 @@
 //! Reads the bars' standings in a machine file, and the bars' readings in a key sheet.
-ghost use Rattle.std.specs.Prelude.{◌≡◌, ◌+◌, is_some, IfSome};
+ghost use Rattle.std.specs.Prelude.{◌≡◌, ◌+◌, ◌&&◌, nat_le, is_some, IfSome};
 ghost use Rattle.toml.specs.View.{view, table_view};
-ghost use Rattle.kd_sheet.specs.Bars.{or_bad_row, bars_in, is_reading_digit, row_of_text, rows_in};
-ghost use Rattle.kd_sheet.specs.{Document.{from_text}, Names.{standing_by_text}};
+ghost use Rattle.kd_tables.specs.Places.{standings, standing_text};
+ghost use Rattle.kd_sheet.specs.Bars.{or_bad_row, bars_in, row_of_text, rows_in};
+ghost use Rattle.kd_sheet.specs.{Document.{from_text}, Names.{find_by_text}};
 
 use super::fault::SheetFault;
 use super::items::{FromItem, read_each};
@@ -15,14 +16,14 @@ const BARS: usize = 27;
 
 /// Reads the standing that `item` names.
 fn standing_of_item(item: &Value) -> Option<Standing>
-    ensures { result ≡ from_text standing_by_text (view item.now) }
+    ensures { result ≡ from_text (find_by_text standing_text standings) (view item.now) }
 {
     Standing::from_text(item.as_str()?.as_bytes())
 }
 
 /// Reads an item as a bar's standing. A fault has the bar's number, counted from 1.
 impl FromItem<()> for Standing {
-    ghost reading = { λ _. or_bad_row standing_by_text };
+    ghost parse = { λ _. or_bad_row (find_by_text standing_text standings) };
 
     fn read_item(_given: &(), before: &[Self], item: &Value) -> Result<Self, SheetFault> {
         standing_of_item(item).ok_or(SheetFault::BadRow(before.len() as u8 + 1))
@@ -41,7 +42,7 @@ pub fn bars_in(table: &Table) -> Result<[Standing; BARS], SheetFault>
 /// The number that `byte` means, if it is an ASCII digit from 0 to 6.
 fn digit_value(byte: u8) -> Option<u8>
     ensures value { IfSome result (λ number. byte ≡ number + 48) }
-    ensures exists { is_some result ≡ is_reading_digit byte }
+    ensures exists { is_some result ≡ (nat_le 48 byte && nat_le byte 54) }
 {
     match byte {
         b'0'..=b'6' => Some(byte - b'0'),
@@ -62,7 +63,7 @@ fn row_of_item(item: &Value) -> Option<Reading>
 
 /// Reads an item as a row's reading. A fault has the row's number, counted from 1.
 impl FromItem<()> for Reading {
-    ghost reading = { λ _. or_bad_row row_of_text };
+    ghost parse = { λ _. or_bad_row row_of_text };
 
     fn read_item(_given: &(), before: &[Self], item: &Value) -> Result<Self, SheetFault> {
         row_of_item(item).ok_or(SheetFault::BadRow(before.len() as u8 + 1))

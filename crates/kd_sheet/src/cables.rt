@@ -1,10 +1,11 @@
 //! The cables of a machine file, and the pairs of a key sheet.
-ghost use Rattle.std.specs.Prelude.{◌≡◌, ◌≤◌, ◌-◌, [], ◌∷◌, ◌++◌, Some, None, length, replicate, slice_get, IfSome};
+ghost use Rattle.std.specs.Prelude.{◌≡◌, ◌≤◌, ◌-◌, [], ◌∷◌, ◌++◌, Some, None, length, nat_le, replicate, slice_get};
+ghost use Rattle.std.specs.Prelude.{IfSome};
 ghost use Rattle.std.specs.{List.{flat_map}, Option.{option_map}};
 ghost use Rattle.toml.specs.View.{view, table_view};
 ghost use Rattle.kd_state.specs.{Machine.{cable_letters}, Setting.{has_letter}};
-ghost use Rattle.kd_sheet.specs.Cables.{cable_letters_of_text, cable_for, cables_in, pair_for, pairs_in};
-ghost use Rattle.kd_sheet.specs.Document.{from_text, result_map};
+ghost use Rattle.kd_sheet.specs.Cables.{cable_for, cables_in, pair_for, pairs_in};
+ghost use Rattle.kd_sheet.specs.{Document.{from_text, result_map}, Letters.{capital_letters}};
 
 use super::document::{find_at, value_at};
 use super::fault::SheetFault;
@@ -26,12 +27,11 @@ type Pair = (Letter, Letter);
 pub type Pairs = ArrayVec<Pair, CABLES>;
 
 /// Reads a cable from a text of its letters, at most two.
-#[tactic(auto, unfolding(crate::specs::Cables::cable_letters_of_text))]
 fn cable_of_item(item: &Value) -> Option<Cable>
     ensures value { result ≡ option_map (λ letters. (slice_get letters 0, slice_get letters 1))
-        (from_text cable_letters_of_text (view item.now)) }
+        (from_text (capital_letters (λ n. nat_le n 2)) (view item.now)) }
     ensures letters { IfSome result (λ cable.
-        from_text cable_letters_of_text (view item.now) ≡ Some (cable_letters cable)) }
+        from_text (capital_letters (λ n. nat_le n 2)) (view item.now) ≡ Some (cable_letters cable)) }
 {
     let len = item.as_str()?.len();
     if len > 2 {
@@ -44,7 +44,7 @@ fn cable_of_item(item: &Value) -> Option<Cable>
 
 /// Reads an item as a cable. The cable must share no letter with the cables before it.
 impl FromItem<()> for Cable {
-    ghost reading = { λ _. cable_for };
+    ghost parse = { λ _. cable_for };
 
     #[tactic(auto, unfolding(crate::specs::Cables::cable_for))]
     fn read_item(_given: &(), before: &[Self], item: &Value) -> Result<Self, SheetFault> {
@@ -92,7 +92,7 @@ fn is_in_pairs(pairs: &[Pair], letter: Letter) -> bool
 
 /// Reads an item as a pair. The pair must share no letter with the pairs before it.
 impl FromItem<()> for Pair {
-    ghost reading = { λ _. pair_for };
+    ghost parse = { λ _. pair_for };
 
     #[tactic(auto, unfolding(crate::specs::Cables::pair_for))]
     fn read_item(_given: &(), before: &[Self], item: &Value) -> Result<Self, SheetFault> {

@@ -14,7 +14,7 @@ use super::document::{find_at, value_at};
 use super::fault::SheetFault;
 use super::items::{FromItem, read_up_to};
 use super::key::Key;
-use super::letters::{letters_of_text, slot_letters, slots_of_numbers};
+use super::letters::{letters_at, letters_of_text, slot_letters, slots_of_numbers};
 use super::machine_file::reflector_in;
 use super::pin_wheels::{pins_in, shown_letters_in};
 use super::seats::seats_in;
@@ -54,7 +54,7 @@ fn window_in(table: &Table, model: Model) -> Result<PerSlot<Letter>, SheetFault>
 
 /// Reads an item as a group: three capital letters.
 impl FromItem<()> for [Letter; 3] {
-    ghost reading = { λ _. group_for };
+    ghost parse = { λ _. group_for };
 
     #[tactic(auto, unfolding(crate::specs::SheetFile::group_for))]
     fn read_item(_given: &(), _before: &[Self], item: &Value) -> Result<Self, SheetFault> {
@@ -71,14 +71,6 @@ fn groups_in(table: &Table) -> Result<ArrayVec<[Letter; 3], 4>, SheetFault>
         Some(value) => read_up_to(value, Key::Groups),
         None => Ok(ArrayVec::new()),
     }
-}
-
-/// Reads the two letters that name the key list.
-#[tactic(auto, unfolding(crate::specs::Letters::letters_at))]
-fn list_in(table: &Table) -> Result<[Letter; 2], SheetFault>
-    ensures { result ≡ letters_at keys.List 2 (table_view table.now) }
-{
-    letters_of_text(value_at(table, Key::List)?).ok_or(SheetFault::BadValue(Key::List))
 }
 
 /// Appends the wheel of each slot, with the wheel's ring and window letter.
@@ -144,7 +136,7 @@ fn pin_day_in(table: &Table, day: u8) -> Result<SheetDay, SheetFault>
     let rows = rows_in(table)?;
     let pins = pins_in(table)?;
     let window = shown_letters_in(table, Key::Window)?;
-    let list = list_in(table)?;
+    let list = letters_at(table, Key::List)?;
     Ok(SheetDay::pin(day, rows, pins, window, list).unwrap())
 }
 

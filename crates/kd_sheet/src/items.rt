@@ -16,12 +16,12 @@ use toml::{Table, Value};
 pub trait FromItem<Given> {
     /// The rule for an item. It takes `Given`, the values of the items before, and the item; it gives a value or a
     /// fault.
-    ghost reading: { Given → List Self → Data → Result Self SheetFault };
+    ghost parse: { Given → List Self → Data → Result Self SheetFault };
 
     /// Reads `item`. `before` has the values of the items before it.
     fn read_item(given: &Given, before: &[Self], item: &Value) -> Result<Self, SheetFault>
         requires { length before.now < 27 }
-        ensures { result ≡ reading given.now before.now (view item.now) };
+        ensures { result ≡ parse given.now before.now (view item.now) };
 }
 
 /// Reads all `items`, at most `N`, or returns the first fault.
@@ -31,7 +31,7 @@ fn read_items<T: FromItem<G> + Copy + Default, G, const N: usize>(
 ) -> Result<ArrayVec<T, N>, SheetFault>
     requires { (length items.now ≤ N) × (N ≤ 27) }
     ensures value { result_map (λ values. values.items) result
-        ≡ read_items (T.reading given.now) (map view items.now) }
+        ≡ read_items (T.parse given.now) (map view items.now) }
     ensures count { IfOk result (λ values. length values.items ≡ length items.now) }
 {
     let mut values = ArrayVec::new();
@@ -54,7 +54,7 @@ pub fn read_each<T: FromItem<G> + Copy + Default, G, const N: usize>(
     requires { (count ≤ N) × (N ≤ 27) }
     ensures value { result_map (λ values. values.items) result
         ≡ (value_at key (table_view table.now)
-        followed_by read_array key (nat_eq count) (T.reading given.now)) }
+        followed_by read_array key (nat_eq count) (T.parse given.now)) }
     ensures count { IfOk result (λ values. length values.items ≡ count) }
 {
     let items = items_at(table, key)?;
@@ -71,7 +71,7 @@ pub fn read_up_to<T: FromItem<()> + Copy + Default, const N: usize>(
 ) -> Result<ArrayVec<T, N>, SheetFault>
     requires { N ≤ 27 }
     ensures { result_map (λ values. values.items) result
-        ≡ read_array key (λ n. nat_le n N) (T.reading tt) (view value.now) }
+        ≡ read_array key (λ n. nat_le n N) (T.parse tt) (view value.now) }
 {
     let items = items_in(value, key)?;
     if items.len() > N {

@@ -1,11 +1,10 @@
 //! Reads machine files: their versions, models and parts.
-ghost use Rattle.std.specs.Prelude.{◌≡◌, ◌≤◌, ◌<◌, length};
+ghost use Rattle.std.specs.Prelude.{◌≡◌, ◌≤◌, ◌<◌, ℕ, List, length, Ok};
 ghost use Rattle.toml.specs.View.{table_view};
-ghost use Rattle.kd_tables.specs.Tables.{box_of, slots_of};
-ghost use Rattle.kd_sheet.specs.Document.{AgreesOrNoMemory};
-ghost use Rattle.kd_sheet.specs.{Letters.{letters_at}, Names.{reflector_by_name}};
+ghost use Rattle.kd_tables.specs.Tables.{box_of, slots_of, reflector_text, reflectors_of};
+ghost use Rattle.kd_sheet.specs.Document.{AgreesOrNoMemory, document_of};
+ghost use Rattle.kd_sheet.specs.{Letters.{letters_at}, Names.{find_by_text}};
 ghost use Rattle.kd_sheet.specs.MachineFile.{model_in, reflector_in, rotor_parts_in, pin_parts_in, parts_in};
-ghost use Rattle.kd_sheet.specs.MachineFile.{machine_in};
 ghost use Rattle.kd_sheet.specs.MachineFile.{machine_of};
 
 use super::bars::bars_in;
@@ -35,9 +34,9 @@ pub fn model_in(table: &Table) -> Result<Model, SheetFault>
 }
 
 /// The reflector of `model` named `name`.
-#[tactic(auto, unfolding(crate::specs::Names::reflector_by_name))]
+#[tactic(auto, unfolding(crate::specs::Names::find_by_text))]
 fn reflector_by_name(model: Model, name: &str) -> Option<Reflector>
-    ensures { result ≡ reflector_by_name model name.now }
+    ensures { result ≡ find_by_text reflector_text (reflectors_of model) name.now }
 {
     for reflector in model.reflectors() {
         if reflector.text().as_str() == name {
@@ -109,9 +108,8 @@ fn parts_in(table: &Table, model: Model) -> Result<Machine, SheetFault>
 }
 
 /// Reads the machine that a machine file's table describes, or returns the file's first fault.
-#[tactic(auto, unfolding(crate::specs::MachineFile::machine_in))]
 fn machine_in(table: &Table) -> Result<Machine, SheetFault>
-    ensures { result ≡ machine_in (table_view table.now) }
+    ensures { (bytes : List ℕ) → Ok (table_view table.now) ≡ document_of bytes → result ≡ machine_of bytes }
 {
     let version = number_at(table, Key::Version, VERSION)?;
     match model_in(table)? {

@@ -5,14 +5,14 @@ ghost use Rattle.toml.specs.View.{view, table_view};
 ghost use Rattle.kd_tables.specs.Rings.{ring_of};
 ghost use Rattle.kd_state.specs.Setting.{has_letter};
 ghost use Rattle.kd_sheet.specs.Document.{from_text};
-ghost use Rattle.kd_sheet.specs.PinWheels.{letters_on_wheels, shown_letters_in, pins_of_text, pins_of_items, pins_in};
+ghost use Rattle.kd_sheet.specs.PinWheels.{shown_letters_in, pins_of_text, pins_of_items, pins_in};
 ghost use Rattle.kd_sheet.specs.declared.fault.SheetFault.TheVariants as faults;
 ghost use Rattle.kd_sheet.specs.declared.key.Key.TheVariants as keys;
 
-use super::document::{items_at, value_at};
+use super::document::items_at;
 use super::fault::SheetFault;
 use super::key::Key;
-use super::letters::letters_of_text;
+use super::letters::letters_at;
 use kd_pins::PinSet;
 use kd_tables::{Letter, Ring, place_on_wheel, ring1, ring2, ring3, ring4, ring5, ring6};
 use toml::{Table, Value};
@@ -32,21 +32,16 @@ fn are_on_wheels(wheel: u8, letters: &[Letter]) -> bool
     }
 }
 
-/// Reads six capital letters: the first must be on wheel 1, the second on wheel 2, and so on.
-#[tactic(auto, unfolding(crate::specs::PinWheels::letters_on_wheels))]
-fn letters_on_wheels(value: &Value) -> Option<[Letter; 6]>
-    ensures { result ≡ from_text letters_on_wheels (view value.now) }
-{
-    let letters = letters_of_text(value)?;
-    are_on_wheels(1, &letters).then_some(letters)
-}
-
-/// Reads the letters that the six wheels show, from the text at `key`.
+/// Reads the letters that the six wheels show: at `key`, the first is on wheel 1, the second on wheel 2, and so on.
 #[tactic(auto, unfolding(crate::specs::PinWheels::shown_letters_in))]
 pub fn shown_letters_in(table: &Table, key: Key) -> Result<[Letter; 6], SheetFault>
     ensures { result ≡ shown_letters_in key (table_view table.now) }
 {
-    letters_on_wheels(value_at(table, key)?).ok_or(SheetFault::BadValue(key))
+    let letters = letters_at(table, key)?;
+    if !are_on_wheels(1, &letters) {
+        return Err(SheetFault::BadValue(key));
+    }
+    Ok(letters)
 }
 
 /// The place in `letters`, counted from 0, of the letter with the ASCII code `byte`; `None` if it isn't there.

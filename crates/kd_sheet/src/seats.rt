@@ -1,8 +1,9 @@
 //! Reads which wheel is in each slot, from the left.
 ghost use Rattle.std.specs.Prelude.{◌≡◌, ◌<◌, length};
 ghost use Rattle.toml.specs.{Data.{string}, View.{table_view}};
-ghost use Rattle.kd_tables.specs.Tables.{slots_of};
-ghost use Rattle.kd_sheet.specs.{Names.{wheel_by_name}, Seats.{wheel_for, seat_for, seats_in}};
+ghost use Rattle.kd_tables.specs.Tables.{slots_of, box_of, wheel_text};
+ghost use Rattle.kd_tables.specs.declared.model.Model.TheVariants.{M4};
+ghost use Rattle.kd_sheet.specs.{Names.{find_by_text}, Seats.{wheel_for, seat_for, seats_in}};
 
 use super::fault::SheetFault;
 use super::items::{FromItem, read_each};
@@ -13,7 +14,7 @@ use toml::{Table, Value};
 
 /// The wheel named `name`.
 fn wheel_by_name(name: &str) -> Option<Wheel>
-    ensures { result ≡ wheel_by_name name.now }
+    ensures { result ≡ find_by_text wheel_text (box_of M4) name.now }
 {
     Wheel::from_text(name.as_bytes())
 }
@@ -43,7 +44,7 @@ fn wheel_for(
 
 /// Reads an item as the wheel in a slot. At the key `slots`, the empty text means that the slot is empty.
 impl FromItem<(Key, Model)> for Option<Wheel> {
-    ghost reading = { λ given. seat_for given.0 given.1 };
+    ghost parse = { λ given. seat_for given.0 given.1 };
 
     #[tactic(auto, unfolding(crate::specs::Seats::seat_for, crate::specs::Seats::wheel_for))]
     fn read_item(given: &(Key, Model), before: &[Self], item: &Value) -> Result<Self, SheetFault> {

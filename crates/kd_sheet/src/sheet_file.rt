@@ -17,7 +17,7 @@ use std::alloc::Global;
 use toml::Value;
 
 /// Reads the day that `item` describes, or returns its first fault. `sheet` has the days of earlier items.
-#[tactic(auto, using(crate::proofs::ReadBack::Described::day_of_is_some), unfolding(crate::specs::SheetFile::day_for, crate::specs::SheetFile::day_in))]
+#[tactic(auto, using(crate::proofs::ReadBack::Described::day_of_is_some), unfolding(crate::specs::SheetFile::day_for))]
 fn day_for(sheet: &Sheet, item: &Value) -> Result<SheetDay, SheetFault>
     ensures { (days : List Day) → sheet.now ≡ month_of days → result ≡ day_for days (view item.now) }
 {
@@ -46,7 +46,6 @@ fn month_of_items(items: &[Value]) -> Result<Sheet, SheetFault>
 ///
 /// `NoMemory` may replace any other result. In practice it means that memory ran out while the document was parsed;
 /// the contract doesn't say when it comes.
-#[tactic(auto, unfolding(crate::specs::SheetFile::sheet_in))]
 pub fn read_sheet(alloc: Global, bytes: &[u8]) -> Result<Sheet, SheetFault>
     ensures { AgreesOrNoMemory result (sheet_of bytes.now) }
 {

@@ -2,7 +2,6 @@
 -- a month, each at its number.
 pub mod Values
 unfoldable pub use Values.*
-use Rattle.toml.specs.Data as toml
 use Rattle.kd_sheet.specs.{Document.document_of, MachineFile.machine_of, SheetFile.sheet_of}
 use Rattle.kd_state.{proofs.Telling.Refusing.Changing.ordered_parts, specs.Machine.IsMachine}
 
@@ -10,7 +9,7 @@ use Rattle.kd_state.{proofs.Telling.Refusing.Changing.ordered_parts, specs.Machi
 
 reflector_there : (model : Model) (table : Members)
     → SucceedsWith (reflector_in model table) (Contains (reflectors_of model))
-unfolding reflector_in reflector_by_name
+unfolding reflector_in find_by_text
 reflector_there model table reflector e = grind (arith, bind-Ok, there_was, found_there)
 
 -- ---- groups, rows and bars
@@ -38,7 +37,7 @@ IsLegalStanding bar = IsBefore bar.0 bar.1
 bars_in_bars : (table : Members) → SucceedsWith (bars_in table) (HasEach IsLegalStanding 27)
 unfolding bars_in
 bars_in_bars table = each_read _ (All IsLegalStanding)
-    (each_is (or_bad_row standing_by_text) IsLegalStanding (λ earlier item bar e.
+    (each_is (or_bad_row (find_by_text standing_text standings)) IsLegalStanding (λ earlier item bar e.
     grind (arith, there_was, standing_read, none-some))) keys.Bars 27 table
 
 -- ---- pins, and the letters that pin wheels show
@@ -64,9 +63,10 @@ pins_in_fit table =
     (λ lists all. SucceedsWith-Ok HasAllPins _ (grind (arith, all.1)))
 
 letters_shown : (key : Key) (table : Members) → SucceedsWith (shown_letters_in key table) AreOnWheels
-unfolding shown_letters_in letters_on_wheels
-letters_shown key table letters e = grind
-    (arith, common_steps, there_was, some_if, AreOnWheels-by_test, capitals_are_letters)
+unfolding shown_letters_in
+letters_shown key table = SucceedsWith-bind _ _ _ _ (letters_at_are key 6 table) (λ letters are shown e.
+    let on = demand-Ok _ _ _ shown e in
+    subst AreOnWheels (same_found _ _ on.1) (AreOnWheels-by_test letters are.count on.0))
 
 -- ---- machines
 
@@ -136,29 +136,31 @@ unfolding model_day_in
 model_day number M209 table is = pin_day number table is
 model_day number model table is = rotor_day number model table is
 
-pub day_again : (number : ℕ) (model : Model) (table : Members) (day : Day)
+pub day_again : (number : ℕ) (model : Model) (table : Members) (item : Data) (day : Day)
+    → ok_or (as_table item) (BadValue keys.Day) ≡ Ok table
     → read_at keys.Day (number_up_to 31) table ≡ Ok number → model_in table ≡ Ok model
-    → model_day_in number model table ≡ Ok day → day_in [] table ≡ Ok day
-unfolding day_in
-day_again number model table day is of_model rest = grind (arith, then_read)
+    → model_day_in number model table ≡ Ok day → day_for [] item ≡ Ok day
+unfolding day_for
+day_again number model table item day of_item is of_model rest = grind (arith, then_read)
 
--- what holds of the day that `table` describes after `days`: it is legal, none of `days` has its number, and the
--- table alone describes it too
-pub record Tells (days : List Day) (table : Members) (day : Day) : Type 0 where
+-- what holds of the day that `item` describes after `days`: it is legal, none of `days` has its number, and the
+-- item alone describes it too
+pub record Tells (days : List Day) (item : Data) (day : Day) : Type 0 where
   pub legal : IsLegalDay day
   pub number : IsDayNumber (day_number day)
   pub free : list_any (λ other. day_number other == day_number day) days ≡ false
-  pub alone : day_in [] table ≡ Ok day
+  pub alone : day_for [] item ≡ Ok day
 
-pub Tells-day_in : (days : List Day) (table : Members) (day : Day) → day_in days table ≡ Ok day → Tells days table day
-unfolding day_in
-Tells-day_in days table day e =
-    let number = bind-Ok (read_at keys.Day (number_up_to 31) table) _ day e in
+pub Tells-day_for : (days : List Day) (item : Data) (day : Day) → day_for days item ≡ Ok day → Tells days item day
+unfolding day_for
+Tells-day_for days item day e =
+    let table = bind-Ok (ok_or (as_table item) (BadValue keys.Day)) _ day e in
+    let number = bind-Ok (read_at keys.Day (number_up_to 31) table.0) _ day table.2 in
     let new = demand-Ok _ _ _ day number.2 in
-    let model = bind-Ok (model_in table) _ day new.1 in
-    let within = day_number_within table number.0 number.1 in
-    let is = model_day number.0 model.0 table within day model.2 in
-    let alone = day_again number.0 model.0 table day number.1 model.1 model.2 in
+    let model = bind-Ok (model_in table.0) _ day new.1 in
+    let within = day_number_within table.0 number.0 number.1 in
+    let is = model_day number.0 model.0 table.0 within day model.2 in
+    let alone = day_again number.0 model.0 table.0 item day table.1 number.1 model.1 model.2 in
     record { legal = is.0; number = rw is.1 within; free = rw is.1 (not-true _ new.0); alone = alone }
 
 -- the day has this number
@@ -253,25 +255,9 @@ month_more days new is free =
 
 -- ---- the days of entries
 
--- the item is a table, and this table describes the day after `days`
-record IsEntry (days : List Day) (item : Data) (day : Day) : Type 0 where
-  entry : Members
-  is : item ≡ toml.table entry
-  tells : Tells days entry day
-
-entry_read : (days : List Day) (item : Data) (day : Day) → day_for days item ≡ Ok day → IsEntry days item day
-unfolding day_for
-entry_read days item day e =
-    let members = bind-Ok (ok_or (as_table item) (BadValue keys.Day)) _ day e in
-    record {
-      entry = members.0;
-      is = data_of_table item members.0 (there_was (as_table item) _ members.0 members.1);
-      tells = Tells-day_in days members.0 day members.2;
-    }
-
--- one of the items is a table that describes the day, and the day has this number
+-- one of the items describes the day, and the day has this number
 abbrev TellsOneOf : List Data → ℕ → Day → Type 0
-TellsOneOf items number day = (entry : Members) × Contains items (toml.table entry) × (day_in [] entry ≡ Ok day)
+TellsOneOf items number day = (entry : Data) × Contains items entry × (day_for [] entry ≡ Ok day)
     × (day_number day ≡ number)
 
 -- `find` finds the element at `k` if this element passes and no element before it does
@@ -284,21 +270,18 @@ first_found p (x ∷ xs) (suc k) d within here none = grind (arith, nat_tests, f
 -- searching `days` for a number finds the day that an entry of `items` describes
 module _ (items : List Data) (days : List Day) (read : read_items day_for items ≡ Ok days) where
   day_at : (k : ℕ) (e : Data) (d : Day) → k < length days
-      → (k < length items) × IsEntry (take k days) (get_or items k e) (get_or days k d)
+      → (k < length items) × Tells (take k days) (get_or items k e) (get_or days k d)
   day_at k e d within =
-      let left : k < length items = omega (arith, as_many day_for items days read) in (
-        left,
-        entry_read (take k days) (get_or items k e) (get_or days k d)
-            (read_items-get_or day_for items days read k e d left),
-      )
+      let left : k < length items = omega (arith, as_many day_for items days read) in
+      (left, Tells-day_for _ _ _ (read_items-get_or day_for items days read k e d left))
 
   found_told : (number : ℕ) (day : Day) → find (has_number number) days ≡ Some day → TellsOneOf items number day
   found_told number day e =
       let there = found_there (has_number number) days day e in
       let here = day_at there.0 no_item day there.1 in (
-        here.1.entry,
-        rw here.1.is at (Contains-get_or items there.0 no_item here.0),
-        rw there.2 at here.1.tells.alone,
+        get_or items there.0 no_item,
+        Contains-get_or items there.0 no_item here.0,
+        rw there.2 at here.1.alone,
         eqb-true (day_number day) number (find-passes (has_number number) days day e),
       )
 
@@ -306,24 +289,19 @@ module _ (items : List Data) (days : List Day) (read : read_items day_for items 
   told_found number day told =
       let place = told.1.0 in
       let within : place < length days = omega (arith, as_many day_for items days read, told.1.1) in
-      let here = (day_at place (toml.table told.0) day within).1 in
-      let entry : told.0 ≡ here.entry = cc (told.1.2, here.is) in
-      let same : day ≡ get_or days place day = same_found _ _ (sym told.2 ∙ ap (day_in []) entry ∙ here.tells.alone) in
+      let here = (day_at place told.0 day within).1 in
+      let same : day ≡ get_or days place day =
+      same_found _ _ (sym told.2 ∙ ap (day_for []) (sym told.1.2) ∙ here.alone) in
       first_found (has_number number) days place day within (eq-eqb _ _ (ap day_number (sym same) ∙ told.3))
-      (rw (ap day_number (sym same) ∙ told.3) at here.tells.free) ∙ ap Some (sym same)
+      (rw (ap day_number (sym same) ∙ told.3) at here.free) ∙ ap Some (sym same)
 
 pub days_are_the_entries : DaysAreTheEntries
-unfolding sheet_in
-days_are_the_entries members items month number day at e =
-    let days = bind-Ok (read_at keys.Day as_items members >>= read_items day_for) _ month e in
-    let read : read_items day_for items ≡ Ok days.0 =
-    subst (λ answer. (answer >>= read_items day_for) ≡ Ok days.0) at days.1 in
-    let same : month ≡ month_of days.0 = same_found _ _ (sym days.2) in rw same (
-      λ found. found_told items days.0 read number day
-          (sym (day_of_month days.0 number (within_month days.0 number day found)) ∙ found),
-      λ told. day_of_month days.0 number (subst IsDayNumber told.3 (Tells-day_in [] told.0 day told.2).number)
-          ∙ told_found items days.0 read number day told,
-    )
+days_are_the_entries items days number day read = (
+  λ found. found_told items days read number day
+      (sym (day_of_month days number (within_month days number day found)) ∙ found),
+  λ told. day_of_month days number (subst IsDayNumber told.3 (Tells-day_for [] told.0 day told.2).number)
+      ∙ told_found items days read number day told,
+)
 
 -- ---- a sheet that is read
 
@@ -342,12 +320,12 @@ pub next_month : (sheet after : List (Option Day)) (items : List Value) (place :
     → Ok new ≡ day_for so_far.days (view item) → after ≡ set sheet (day_number new - 1) (Some new)
     → IsMonthOf (map view items) after (drop (place + 1) (map view items))
 next_month sheet after items place item new left here so_far found put =
-    let entry = entry_read so_far.days (view item) new (sym found) in
+    let tells = Tells-day_for so_far.days (view item) new (sym found) in
     record {
       days = so_far.days ++ new ∷ [];
       read = so_far.read ∙ read_more day_for items place item left here so_far.days new found;
       month = put ∙ ap (λ month. set month (day_number new - 1) (Some new)) so_far.month
-          ∙ month_more so_far.days new entry.tells.number entry.tells.free;
+          ∙ month_more so_far.days new tells.number tells.free;
     }
 
 -- ---- a machine file describes a machine, and a sheet describes legal days
@@ -362,7 +340,6 @@ parts_are_machine model table =
     (λ parts legal. SucceedsWith-Ok IsMachine _ (ordered_parts parts legal))
 
 pub machine_of-IsMachine : (bytes : List ℕ) → SucceedsWith (machine_of bytes) IsMachine
-unfolding machine_in
 machine_of-IsMachine bytes =
     after_any (document_of bytes) _ IsMachine (λ table.
     after_any (read_at keys.Version (number_up_to 2) table) _ IsMachine (λ version.
@@ -371,10 +348,9 @@ machine_of-IsMachine bytes =
 
 pub sheet_of-legal : (bytes : List ℕ) (month : List (Option Day)) (number : ℕ) (day : Day) → sheet_of bytes ≡ Ok month
     → day_of month number ≡ Some day → IsLegalDay day
-unfolding sheet_in
 sheet_of-legal bytes month number day e found =
-    let table = bind-Ok (document_of bytes) _ month e in
-    let days = bind-Ok (read_at keys.Day as_items table.0 >>= read_items day_for) _ month table.2 in
-    let items = bind-Ok (read_at keys.Day as_items table.0) (read_items day_for) days.0 days.1 in
-    let entry = (days_are_the_entries table.0 items.0 month number day items.1 table.2).0 found in
-    (Tells-day_in [] entry.0 day entry.2).legal
+    let days = bind-Ok (document_of bytes >>= read_at keys.Day as_items >>= read_items day_for) _ month e in
+    let items = bind-Ok (document_of bytes >>= read_at keys.Day as_items) (read_items day_for) days.0 days.1 in
+    let same : month_of days.0 ≡ month = same_found _ _ days.2 in
+    let entry = (days_are_the_entries items.0 days.0 number day items.2).0 (rw same found) in
+    (Tells-day_for [] entry.0 day entry.2).legal

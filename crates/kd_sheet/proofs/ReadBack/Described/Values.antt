@@ -1,37 +1,38 @@
 -- Lemmas on the values of keys: names, numbers and letters, wheels in slots, cables and pairs, and pins.
 pub mod InTurn
 unfoldable pub use InTurn.*
+pub use Rattle.kd_tables.specs.declared.model.Model.TheVariants.{EnigmaI, M3, M4}
 use Rattle.std.proofs.lemmas.{List.{take_more}, List.Quantifiers.{position-Some}}
 use Rattle.std.{proofs.lemmas.List.Folds.{find_at, list_any-append}, specs.List.{position, position_or_len}}
 
 -- ---- names
 
--- a search by name finds nothing if no value has this name
-find_unnamed : {A : Type 0} (text_of : A → List ℕ) (name : List ℕ) → ((x : A) → text_of x ≢ name) → (xs : List A)
-    → find (λ x. bytes_eq (text_of x) name) xs ≡ None
-find_unnamed text_of name none [] = refl
-find_unnamed text_of name none (x ∷ xs) =
-    grind (arith, cases_Bool, none, bytes_eq-Decides, find_unnamed text_of name none xs)
+-- a search by text finds nothing if no value has this text
+find_unnamed : {A : Type 0} (text_of : A → List ℕ) (text : List ℕ) → ((x : A) → text_of x ≢ text) → (xs : List A)
+    → find_by_text text_of xs text ≡ None
+unfolding find_by_text
+find_unnamed text_of text none [] = refl
+find_unnamed text_of text none (x ∷ xs) =
+    grind (arith, cases_Bool, none, bytes_eq-Decides, find_unnamed text_of text none xs)
 
--- if a search finds each thing by the thing's own name, a search for any name finds the thing with this name, or
+-- if a search finds each thing by the thing's own text, a search for any text finds the thing with this text, or
 -- nothing if there is none
 pub find_named : {A : Type 0} (text_of : A → List ℕ) (xs : List A)
-    → ((x : A) → find (λ y. bytes_eq (text_of y) (text_of x)) xs ≡ Some x) → (name : List ℕ) (found : Option A)
-    → MatchOption found ((x : A) → text_of x ≢ name) (λ x. text_of x ≡ name)
-    → found ≡ find (λ x. bytes_eq (text_of x) name) xs
-find_named text_of xs own name None none = sym (find_unnamed text_of name none xs)
-find_named text_of xs own name (Some x) named =
-    sym (own x) ∙ ap (λ text. find (λ y. bytes_eq (text_of y) text) xs) named
+    → ((x : A) → find_by_text text_of xs (text_of x) ≡ Some x) → (text : List ℕ) (found : Option A)
+    → MatchOption found ((x : A) → text_of x ≢ text) (λ x. text_of x ≡ text)
+    → found ≡ find_by_text text_of xs text
+find_named text_of xs own text None none = sym (find_unnamed text_of text none xs)
+find_named text_of xs own text (Some x) named = sym (own x) ∙ ap (find_by_text text_of xs) named
 
--- each model is found by its name
-pub model_by_name-text : (model : Model) → model_by_name (model_text model) ≡ Some model
-unfolding model_by_name
-model_by_name-text model = grind arith
+-- each model, and each wheel, is found by its name
+pub model_found : (model : Model)
+    → find_by_text model_text (EnigmaI ∷ M3 ∷ M4 ∷ M209 ∷ []) (model_text model) ≡ Some model
+unfolding find_by_text
+model_found model = grind arith
 
--- each wheel is found by its name
-pub wheel_by_name-text : (wheel : Wheel) → wheel_by_name (wheel_text wheel) ≡ Some wheel
-unfolding wheel_by_name
-wheel_by_name-text wheel = grind arith
+pub wheel_found : (wheel : Wheel) → find_by_text wheel_text (box_of M4) (wheel_text wheel) ≡ Some wheel
+unfolding find_by_text
+wheel_found wheel = grind arith
 
 -- an element that `find` finds is in the list
 pub found_there : {X : Type 0} (p : X → Bool) (xs : List X) (x : X) → find p xs ≡ Some x → Contains xs x
@@ -44,20 +45,22 @@ find-passes p [] x e = absurd (none-some x e)
 find-passes p (y ∷ xs) x e = grind (arith, cases_Bool, same_Some, find-passes p xs x)
 
 -- each standing is found by its text
-pub standing_again : (bar : Place × Place) → IsBefore bar.0 bar.1 → standing_by_text (standing_text bar) ≡ Some bar
-unfolding standing_by_text
+pub standing_again : (bar : Place × Place) → IsBefore bar.0 bar.1
+    → find_by_text standing_text standings (standing_text bar) ≡ Some bar
+unfolding find_by_text
 standing_again bar before = grind arith
 
-pub standing_read : (text : List ℕ) (bar : Place × Place) → standing_by_text text ≡ Some bar → IsBefore bar.0 bar.1
-unfolding standing_by_text
+pub standing_read : (text : List ℕ) (bar : Place × Place) → find_by_text standing_text standings text ≡ Some bar
+    → IsBefore bar.0 bar.1
+unfolding find_by_text
 standing_read text bar e =
     ltb-true _ _ (All-contains (λ bar. nat_lt (place_rank bar.0) (place_rank bar.1) ≡ true) standings bar
     (AllPass-from_list_all (λ bar. nat_lt (place_rank bar.0) (place_rank bar.1)) standings refl)
     (found_there (λ standing. bytes_eq (standing_text standing) text) standings bar e))
 
 no_standing : (text : List ℕ) → ((bar : Place × Place) → IsBefore bar.0 bar.1 → standing_text bar ≢ text)
-    → (found : Option (Place × Place)) → standing_by_text text ≡ found → None ≡ found
-unfolding standing_by_text
+    → (found : Option (Place × Place)) → find_by_text standing_text standings text ≡ found → None ≡ found
+unfolding find_by_text
 no_standing text none None e = refl
 no_standing text none (Some bar) e =
     absurd (none bar (standing_read text bar e)
@@ -66,9 +69,10 @@ no_standing text none (Some bar) e =
 pub standing_told : (text : List ℕ) (found : Option (Place × Place))
     → MatchOption found ((bar : Place × Place) → IsBefore bar.0 bar.1 → standing_text bar ≢ text)
     (λ bar. standing_text bar ≡ text)
-    → IfSome found (λ bar. IsBefore bar.0 bar.1) → found ≡ standing_by_text text
-standing_told text None none before = no_standing text none (standing_by_text text) refl
-standing_told text (Some bar) named before = sym (standing_again bar before) ∙ ap standing_by_text named
+    → IfSome found (λ bar. IsBefore bar.0 bar.1) → found ≡ find_by_text standing_text standings text
+standing_told text None none before = no_standing text none (find_by_text standing_text standings text) refl
+standing_told text (Some bar) named before =
+    sym (standing_again bar before) ∙ ap (find_by_text standing_text standings) named
 
 -- ---- numbers and letters
 
@@ -88,7 +92,7 @@ pub letters_read : (text : List ℕ) → list_all is_capital text ≡ true → A
 letters_read text e =
     record { count = length-map text _; within = All-from_recursion (λ letter. letter < 26) _ (capitals_within text e) }
 
-pub capitals_are_letters : (count : ℕ) (text letters : List ℕ) → capital_letters count text ≡ Some letters
+pub capitals_are_letters : (count : ℕ) (text letters : List ℕ) → capital_letters (nat_eq count) text ≡ Some letters
     → AreLetters count letters
 capitals_are_letters count text letters e = grind (arith, some_if, eqb-true, letters_read)
 
@@ -249,13 +253,13 @@ module _ {X : Type 0} (letters_in : X → List ℕ) where
       }
 
   -- an array that is read has at most `count` items, and none of them shares a letter with another
-  pub all_free : (reading : List X → Data → Result X SheetFault)
-      → ((before : List X) (item : Data) (x : X) → reading before item ≡ Ok x → IsFree letters_in before x)
+  pub all_free : (parse : List X → Data → Result X SheetFault)
+      → ((before : List X) (item : Data) (x : X) → parse before item ≡ Ok x → IsFree letters_in before x)
       → (key : Key) (count : ℕ) (value : Data)
-      → SucceedsWith (read_array key (λ n. nat_le n count) reading value)
+      → SucceedsWith (read_array key (λ n. nat_le n count) parse value)
       (λ plugged. (length plugged ≤ count) × AreFree letters_in plugged)
-  all_free reading free =
-      some_read reading (AreFree letters_in) (keeps reading (AreFree letters_in)
+  all_free parse free =
+      some_read parse (AreFree letters_in) (keeps parse (AreFree letters_in)
       (record { within = All-nil (λ letter. letter < 26); apart = IsDistinct-nil })
       (λ plugged item x so_far is. one_more plugged x so_far (free plugged item x is)))
 
@@ -302,7 +306,7 @@ filled_up cables few free =
     record { count = grind (arith, common_steps); within = rw letters free.within; apart = rw letters free.apart }
 
 pub are_cables : (table : Members) → SucceedsWith (cables_in table) AreCables
-unfolding cables_in cable_for cable_letters_of_text
+unfolding cables_in cable_for
 are_cables table =
     SucceedsWith-bind _ _ _ _ (if_there (get_member (key_name keys.Cables) table) _ _ _
     (all_free cable_letters cable_for
@@ -331,8 +335,12 @@ are_pairs table =
 
 -- ---- the letters of the pin wheels, and of their effective pins
 
+-- whether wheel 1 has the first of `letters`, wheel 2 the second, and so on
 abbrev is_own : ℕ × ℕ → Bool
 is_own numbered = has_letter (ring_of numbered.0) numbered.1
+
+abbrev pub are_on_wheels : List ℕ → Bool
+are_on_wheels letters = list_all is_own (enumerate_from 1 letters)
 
 -- if the test passes, the letters are on their wheels
 pub AreOnWheels-by_test : (letters : List ℕ) → length letters ≡ 6 → are_on_wheels letters ≡ true → AreOnWheels letters

@@ -8,11 +8,11 @@ pub loop-item-preserved : goal.loop-item-preserved
 loop-item-preserved g c = record {
   count = omega arith;
   read = c.loop-item.invariant.read ∙ rw c.push.ensures.items (rw (← c.as_slice.ensures.value)
-      (read_more (g.T.FromItem.reading c.args.given.now) _ _ _ c.loop-item-test.true c.item-item.is _ _
+      (read_more (g.T.FromItem.parse c.args.given.now) _ _ _ c.loop-item-test.true c.item-item.is _ _
       c.in_ok-value.ensures));
 }
 
 pub returns-in_err-value-clause-value : goal.returns-in_err-value-clause-value
 returns-in_err-value-clause-value g c =
-    rw (c.loop-item.invariant.read ∙ read_stops (g.T.FromItem.reading c.args.given.now) _ _ _ c.loop-item-test.true
+    rw (c.loop-item.invariant.read ∙ read_stops (g.T.FromItem.parse c.args.given.now) _ _ _ c.loop-item-test.true
     c.item-item.is _ _ (rw c.as_slice.ensures.value at c.in_err-value.ensures)) (search rules)

@@ -5,6 +5,6 @@ use Rattle.kd_sheet.proofs.items.read_items.Given as goal
 abbrev pub invariant-loop-item : goal.invariant-loop-item
 invariant-loop-item g l = record {
   count : length l.values.items ≡ l.item-index;
-  read : read_items (g.T.FromItem.reading l.given) (map view l.items)
-      ≡ on (g.T.FromItem.reading l.given) l.values.items (drop l.item-index (map view l.items));
+  read : read_items (g.T.FromItem.parse l.given) (map view l.items)
+      ≡ on (g.T.FromItem.parse l.given) l.values.items (drop l.item-index (map view l.items));
 }

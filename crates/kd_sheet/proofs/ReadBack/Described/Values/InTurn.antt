@@ -1,5 +1,5 @@
--- Lemmas on reading a document, and on reading items one after another: which tests a reading that succeeds has
--- passed, and what holds of its value.
+-- Lemmas on reading a document, and on reading items one after another: which tests a step that succeeds has passed,
+-- and what holds of the step's value.
 pub use Rattle.kd_sheet.specs.Document.{demand, as_items, from_text, items_list, read_array, read_at, read_items}
 pub use Rattle.kd_sheet.specs.Document.{result_map}
 pub use Rattle.kd_sheet.specs.MachineText.{cable_text, key_line, array_text, pin_texts, pins_text, quoted_text}
@@ -26,7 +26,7 @@ pub use Rattle.kd_sheet.specs.{Bars.or_bad_row, Letters.capital_letters}
 pub use Rattle.kd_sheet.specs.{SheetFile.{rings_of, sheet_wheels}}
 pub use Rattle.kd_sheet.specs.{Document.{value_at, ◌>>=◌, ◌>>◌}, Sheet.{IsMonth, day_of, month_of}}
 pub use Rattle.kd_sheet.specs.{Key.key_name}
-pub use Rattle.kd_sheet.specs.{PinWheels.{are_on_wheels, pins_for}}
+pub use Rattle.kd_sheet.specs.{PinWheels.{pins_for}}
 pub use Rattle.kd_sheet.specs.{Laws.{DaysAreTheEntries, LegalPartsAreReadBack}}
 pub use Rattle.{kd_sheet.specs.{Numbers.{number_up_to}}, kd_state.specs.SameParts.same_wheel}
 pub use Rattle.kd_sheet.specs.{MachineText.file_version, declared.key.Key.Key}
@@ -39,7 +39,7 @@ pub use Rattle.kd_state.specs.{Setting.{are_new_letters, has_letter}}
 pub use Rattle.kd_state.specs.{declared.sheet_day.rotor_entry.SheetWheel.SheetWheel}
 pub use Rattle.kd_state.specs.SheetDay.{IsLegalRotorDay, OfPins, OfRotors, PinDay, RotorDay, day_number}
 pub use Rattle.kd_state.specs.SheetDay.{seats_of_wheels}
-pub use Rattle.{kd_state.specs.SameParts.{same_reflector, numbered_item}, std.proofs.Math.Bool.{and-false, or-true}}
+pub use Rattle.{kd_state.specs.SameParts.same_reflector, std.proofs.Math.Bool.{and-false, or-true}}
 pub use Rattle.kd_state.specs.declared.machine.parts.Parts.{TheVariants.{Pin, Rotor}, Parts}
 pub use Rattle.kd_state.specs.declared.machine.{pin_parts.PinParts.PinParts, rotor_parts.RotorParts.RotorParts}
 pub use Rattle.kd_tables.specs.Places.{IsBefore, IsReading, digit_text, place_rank, reading_text, standing_text}
@@ -53,26 +53,25 @@ pub use Rattle.std.proofs.lemmas.List.{FromFn.length-map-range_with_len, length-
 pub use Rattle.std.proofs.lemmas.{List.Concat.flat_map-append, Map.Keys.IsDistinct-IsPermutation}
 pub use Rattle.std.proofs.lemmas.List.Elements.{All-weaker, Contains-get_or, Decides-contains, recursion_from_All}
 pub use Rattle.std.proofs.lemmas.List.{Folds.{find-append, list_all-append}, Sorted.IsPermutation-append_comm}
-pub use Rattle.std.proofs.lemmas.List.Sums.{AllPass-from_list_all, list_all-from_AllPass, sum_by-cons}
+pub use Rattle.std.proofs.lemmas.List.Sums.{AllPass-from_list_all, list_all-from_AllPass}
 pub use Rattle.std.proofs.lemmas.{Slice.Eq.bytes_eq-Decides, Str.Ascii.IsAscii-from_all}
 pub use Rattle.std.proofs.lemmas.Str.{IsUtf8-from_ascii, IsUtf8-from_is_utf8, is_utf8-from_IsUtf8}
 pub use Rattle.std.specs.{Array.AllOfLen, Option.{option_and_then, option_map_or}}
-pub use Rattle.std.specs.List.{AllByRecursion, concat, count_by, enumerate_from, flat_map, list_all, list_any}
-pub use Rattle.toml.proofs.{Lines.data_of_table, ReadLines.{AllPrinted, read_lines, run}}
+pub use Rattle.std.specs.List.{AllByRecursion, concat, enumerate_from, flat_map, list_all, list_any}
+pub use Rattle.toml.proofs.ReadLines.{AllPrinted, read_lines, run}
 pub use Rattle.toml.specs.Data.{items_depth, items_have_valid_dates, member, no_members, string}
 pub use Rattle.toml.specs.{Tables.{Expression, close, key_value, no_nodes}, declared.value.Value.{Value, the_lemmas}}
 pub use Rattle.toml.specs.{Text.{IsItemsText, IsLinesText, IsValueText}, View.{array_view, items_of, table_view, view}}
-unfoldable pub use Rattle.kd_sheet.specs.MachineFile.{machine_in, model_in, parts_in, pin_parts_in}
-unfoldable pub use Rattle.kd_sheet.specs.SheetFile.{day_for, day_in, group_for, groups_in, model_day_in}
+unfoldable pub use Rattle.kd_sheet.specs.MachineFile.{model_in, parts_in, pin_parts_in}
+unfoldable pub use Rattle.kd_sheet.specs.SheetFile.{day_for, group_for, groups_in, model_day_in}
 unfoldable pub use Rattle.kd_sheet.specs.SheetFile.{pin_day_in, rotor_day_in}
 unfoldable pub use Rattle.toml_writer.specs.Text.{encoding_of, escaped, key_text, needs_escape, quotes_after}
 unfoldable pub use Rattle.kd_sheet.specs.{Bars.{bars_in, row_of_text, rows_in}, MachineText.machine_text}
-unfoldable pub use Rattle.kd_sheet.specs.Cables.{cable_for, cables_in, cable_letters_of_text, pair_for, pairs_in}
+unfoldable pub use Rattle.kd_sheet.specs.Cables.{cable_for, cables_in, pair_for, pairs_in}
 unfoldable pub use Rattle.kd_sheet.specs.{Document.document_of, MachineFile.{reflector_in, rotor_parts_in}}
-unfoldable pub use Rattle.{kd_sheet.specs.{Letters.letters_at, SheetFile.sheet_in}, toml_writer.specs.Text.string_text}
-unfoldable pub use Rattle.kd_sheet.specs.Names.{model_by_name, reflector_by_name, standing_by_text, wheel_by_name}
-unfoldable pub use Rattle.kd_sheet.specs.PinWheels.{letters_on_wheels, pins_in, pins_of_text}
-unfoldable pub use Rattle.kd_sheet.specs.PinWheels.{shown_letters_in}
+unfoldable pub use Rattle.{kd_sheet.specs.Letters.letters_at, toml_writer.specs.Text.string_text}
+unfoldable pub use Rattle.kd_sheet.specs.Names.{find_by_text}
+unfoldable pub use Rattle.kd_sheet.specs.PinWheels.{pins_in, pins_of_text, shown_letters_in}
 unfoldable pub use Rattle.kd_sheet.specs.Seats.{seat_for, seats_in, wheel_for}
 unfoldable pub use Rattle.{kd_tables.specs.Rings.ring_of, toml.specs.Tables.{along_dots, along_header, at_key, define}}
 unfoldable pub use Rattle.{std.specs.{Fmt.digits, List.IsDistinct}, toml.specs.Parse.{parse_document, skip_bom}}
@@ -102,7 +101,7 @@ pub items_found : (key : Key) (value : Data) (found : Option (Bor (Vec Value Glo
     → result_map (λ items. map view items.now.items) (ok_or found (BadValue key)) ≡ ok_or (as_items value) (BadValue key)
 items_found key value found e = grind (arith, option_map, list_of-items_of)
 
--- ---- steps of a reading
+-- ---- steps
 
 abbrev read_ok : {A : Type 0} → A → Result A SheetFault
 read_ok x = Ok x
@@ -110,24 +109,24 @@ read_ok x = Ok x
 pub same_found : {A : Type 0} (x y : A) → read_ok x ≡ read_ok y → x ≡ y
 same_found x y e = cc
 
--- if two readings in a row succeed, the first gave a value and the second succeeded on it
+-- if two steps in a row succeed, the first gave a value and the second succeeded on it
 pub bind-Ok : {A B : Type 0} (first : Result A SheetFault) (next : A → Result B SheetFault) (value : B)
     → (first >>= next) ≡ Ok value → (x : A) × (first ≡ Ok x) × (next x ≡ Ok value)
 bind-Ok first next value e = grind arith
 
--- if a reading that comes after a test succeeds, the test is true, and the reading alone has the same value
+-- if a step that comes after a test succeeds, the test is true, and the step alone has the same value
 pub demand-Ok : {B : Type 0} (test : Bool) (fault : SheetFault) (next : Result B SheetFault) (value : B)
     → (demand test fault >> next) ≡ Ok value → (test ≡ true) × (next ≡ Ok value)
 demand-Ok test fault next value e = grind arith
 
--- if the reading succeeds, its value satisfies `P`
+-- if the step succeeds, its value satisfies `P`
 abbrev pub SucceedsWith : {A : Type 0} → Result A SheetFault → (A → Type 0) → Type 0
 SucceedsWith answer P = (x : _) → answer ≡ Ok x → P x
 
 pub SucceedsWith-Ok : {A : Type 0} (P : A → Type 0) (x : A) → P x → SucceedsWith (Ok x) P
 SucceedsWith-Ok P x holds y e = subst P (same_found x y e) holds
 
--- `Q` holds of what two readings in a row give, if `P` holds of the first value and the second reading turns
+-- `Q` holds of what two steps in a row give, if `P` holds of the first value and the second step turns
 -- `P` into `Q`
 pub SucceedsWith-bind : {A B : Type 0} (first : Result A SheetFault) (next : A → Result B SheetFault) (P : A → Type 0)
     (Q : B → Type 0) → SucceedsWith first P → ((x : A) → P x → SucceedsWith (next x) Q)
@@ -139,12 +138,12 @@ pub after_any : {A B : Type 0} (first : Result A SheetFault) (next : A → Resul
     → ((x : A) → SucceedsWith (next x) Q) → SucceedsWith (first >>= next) Q
 after_any first next Q rest y e = let before = bind-Ok first next y e in rest before.0 y before.2
 
--- `P` holds of what a reading of an optional key gives, if it holds of each value read and of the default
-pub if_there : {A : Type 0} (there : Option Data) (reading : Data → Result A SheetFault) (none : A) (P : A → Type 0)
-    → ((value : Data) → SucceedsWith (reading value) P) → P none
-    → SucceedsWith (option_map_or reading there (Ok none)) P
-if_there None reading none P each holds = SucceedsWith-Ok P none holds
-if_there (Some value) reading none P each holds = each value
+-- `P` holds of what is read at an optional key, if it holds of each value read and of the default
+pub if_there : {A : Type 0} (there : Option Data) (parse : Data → Result A SheetFault) (none : A) (P : A → Type 0)
+    → ((value : Data) → SucceedsWith (parse value) P) → P none
+    → SucceedsWith (option_map_or parse there (Ok none)) P
+if_there None parse none P each holds = SucceedsWith-Ok P none holds
+if_there (Some value) parse none P each holds = each value
 
 -- if `ok_or` has the value `value` for an optional thing, the thing is there, and is `value`
 pub there_was : {A : Type 0} (thing : Option A) (fault : SheetFault) (value : A) → ok_or thing fault ≡ Ok value
@@ -155,7 +154,7 @@ pub some_if : {A : Type 0} (test : Bool) (x value : A) → cond test (Some x) No
     → (test ≡ true) × (x ≡ value)
 some_if test x value e = grind (arith, same_Some, none-some)
 
--- two readings in a row give what the second gives, if the first succeeds
+-- two steps in a row give what the second gives, if the first succeeds
 pub then_read : {A B : Type 0} (first : Result A SheetFault) (next : A
     → Result B SheetFault) (x : A) (result : Result B SheetFault) → first ≡ Ok x
     → next x ≡ result → (first >>= next) ≡ result
@@ -174,17 +173,17 @@ no_item = string []
 module _ {A : Type 0} where
   -- the result of reading `items` after the items with the values `values`
   abbrev pub on : (List A → Data → Result A SheetFault) → List A → List Data → Result (List A) SheetFault
-  on reading values items = read_items (λ more. reading (values ++ more)) items >>= (λ more. Ok (values ++ more))
+  on parse values items = read_items (λ more. parse (values ++ more)) items >>= (λ more. Ok (values ++ more))
 
-  pub on_none : (reading : List A → Data → Result A SheetFault) (items : List Data)
-      → read_items reading items ≡ on reading [] items
-  on_none reading items = grind arith
+  pub on_none : (parse : List A → Data → Result A SheetFault) (items : List Data)
+      → read_items parse items ≡ on parse [] items
+  on_none parse items = grind arith
 
-  pub on_all : (reading : List A → Data → Result A SheetFault) (values : List A) (items : List Data) (place : ℕ)
-      → length items ≤ place → on reading values (drop place items) ≡ Ok values
-  on_all reading values items place past = rw drop_all (ap Ok (append-nil values))
+  pub on_all : (parse : List A → Data → Result A SheetFault) (values : List A) (items : List Data) (place : ℕ)
+      → length items ≤ place → on parse values (drop place items) ≡ Ok values
+  on_all parse values items place past = rw drop_all (ap Ok (append-nil values))
 
-  module _ (reading : List A → Data → Result A SheetFault) (items : List Value) (place : ℕ) (item : Value)
+  module _ (parse : List A → Data → Result A SheetFault) (items : List Value) (place : ℕ) (item : Value)
       (left : place < length items) (here : item ≡ get_or items place item) (values : List A) where
     next : drop place (map view items) ≡ view item ∷ drop (place + 1) (map view items)
     next =
@@ -192,76 +191,76 @@ module _ {A : Type 0} where
         rw (drop_more (map view items) place (view item) (omega (arith, length-map items view)), viewed) refl
 
     -- an item that can be read adds its value to the values
-    pub read_more : (value : A) → Ok value ≡ reading values (view item)
-        → on reading values (drop place (map view items))
-        ≡ on reading (values ++ value ∷ []) (drop (place + 1) (map view items))
+    pub read_more : (value : A) → Ok value ≡ parse values (view item)
+        → on parse values (drop place (map view items))
+        ≡ on parse (values ++ value ∷ []) (drop (place + 1) (map view items))
     read_more value is = rw (next, append-nil, ← is) (simp append_assoc (grind arith))
 
     -- an item that can't be read makes its fault the result
-    pub read_stops : (fault : SheetFault) → Err fault ≡ reading values (view item)
-        → on reading values (drop place (map view items)) ≡ Err fault
+    pub read_stops : (fault : SheetFault) → Err fault ≡ parse values (view item)
+        → on parse values (drop place (map view items)) ≡ Err fault
     read_stops fault is = rw (next, append-nil, ← is) refl
 
   -- there are as many values as items
-  pub as_many : (reading : List A → Data → Result A SheetFault) (items : List Data)
-      → SucceedsWith (read_items reading items) (λ values. length values ≡ length items)
-  as_many reading [] values e = ap length (sym (same_found _ _ e))
-  as_many reading (item ∷ items) values e =
-      let first = bind-Ok (reading [] item) _ values e in
-      let more = bind-Ok (read_items (λ earlier. reading (first.0 ∷ earlier)) items) _ values first.2 in
+  pub as_many : (parse : List A → Data → Result A SheetFault) (items : List Data)
+      → SucceedsWith (read_items parse items) (λ values. length values ≡ length items)
+  as_many parse [] values e = ap length (sym (same_found _ _ e))
+  as_many parse (item ∷ items) values e =
+      let first = bind-Ok (parse [] item) _ values e in
+      let more = bind-Ok (read_items (λ earlier. parse (first.0 ∷ earlier)) items) _ values first.2 in
       ap length (sym (same_found _ _ more.2))
-      ∙ ap suc (as_many (λ earlier. reading (first.0 ∷ earlier)) items more.0 more.1)
+      ∙ ap suc (as_many (λ earlier. parse (first.0 ∷ earlier)) items more.0 more.1)
 
-  pub read_items-get_or : (reading : List A → Data → Result A SheetFault) (items : List Data) (values : List A)
-      → read_items reading items ≡ Ok values → (k : ℕ) (d : Data) (e : A) → k < length items
-      → reading (take k values) (get_or items k d) ≡ Ok (get_or values k e)
-  read_items-get_or reading [] values is k d e within = absurd (omega arith)
-  read_items-get_or reading (item ∷ items) values is zero d e within = grind (arith, bind-Ok)
-  read_items-get_or reading (item ∷ items) values is (suc k) d e within =
-      let first = bind-Ok (reading [] item) _ values is in
-      let more = bind-Ok (read_items (λ earlier. reading (first.0 ∷ earlier)) items) _ values first.2 in
-      subst (λ vs. reading (take (suc k) vs) (get_or items k d) ≡ Ok (get_or vs (suc k) e)) (same_found _ _ more.2)
-      (read_items-get_or (λ earlier. reading (first.0 ∷ earlier)) items more.0 more.1 k d e (omega arith))
+  pub read_items-get_or : (parse : List A → Data → Result A SheetFault) (items : List Data) (values : List A)
+      → read_items parse items ≡ Ok values → (k : ℕ) (d : Data) (e : A) → k < length items
+      → parse (take k values) (get_or items k d) ≡ Ok (get_or values k e)
+  read_items-get_or parse [] values is k d e within = absurd (omega arith)
+  read_items-get_or parse (item ∷ items) values is zero d e within = grind (arith, bind-Ok)
+  read_items-get_or parse (item ∷ items) values is (suc k) d e within =
+      let first = bind-Ok (parse [] item) _ values is in
+      let more = bind-Ok (read_items (λ earlier. parse (first.0 ∷ earlier)) items) _ values first.2 in
+      subst (λ vs. parse (take (suc k) vs) (get_or items k d) ≡ Ok (get_or vs (suc k) e)) (same_found _ _ more.2)
+      (read_items-get_or (λ earlier. parse (first.0 ∷ earlier)) items more.0 more.1 k d e (omega arith))
 
-  -- each value satisfies `P`, if every value that the reading can give does
-  pub each_is : (reading : List A → Data → Result A SheetFault) (P : A → Type 0)
-      → ((earlier : List A) (item : Data) (x : A) → reading earlier item ≡ Ok x → P x)
-      → (items : List Data) → SucceedsWith (read_items reading items) (All P)
-  each_is reading P has items values e k d within =
-      grind (arith, as_many, read_items-get_or reading items values e k no_item d, has)
+  -- each value satisfies `P`, if every value that `parse` can give does
+  pub each_is : (parse : List A → Data → Result A SheetFault) (P : A → Type 0)
+      → ((earlier : List A) (item : Data) (x : A) → parse earlier item ≡ Ok x → P x)
+      → (items : List Data) → SucceedsWith (read_items parse items) (All P)
+  each_is parse P has items values e k d within =
+      grind (arith, as_many, read_items-get_or parse items values e k no_item d, has)
 
   -- `Holds` holds of the list of all values, if it holds of the empty list and stays true with each further value
-  pub keeps : (reading : List A → Data → Result A SheetFault) (Holds : List A → Type 0) → Holds []
-      → ((done : List A) (item : Data) (value : A) → Holds done → reading done item ≡ Ok value
+  pub keeps : (parse : List A → Data → Result A SheetFault) (Holds : List A → Type 0) → Holds []
+      → ((done : List A) (item : Data) (value : A) → Holds done → parse done item ≡ Ok value
       → Holds (done ++ value ∷ []))
-      → (items : List Data) → SucceedsWith (read_items reading items) Holds
-  keeps reading Holds start more [] = SucceedsWith-Ok Holds [] start
-  keeps reading Holds start more (item ∷ items) =
-      SucceedsWith-bind (reading [] item) _ _ _ (λ value. more [] item value start) (λ value so_far.
-      SucceedsWith-bind (read_items (λ read. reading (value ∷ read)) items) _ _ _
-      (keeps (λ read. reading (value ∷ read)) (λ ys. Holds (value ∷ ys)) so_far (λ read. more (value ∷ read)) items)
+      → (items : List Data) → SucceedsWith (read_items parse items) Holds
+  keeps parse Holds start more [] = SucceedsWith-Ok Holds [] start
+  keeps parse Holds start more (item ∷ items) =
+      SucceedsWith-bind (parse [] item) _ _ _ (λ value. more [] item value start) (λ value so_far.
+      SucceedsWith-bind (read_items (λ read. parse (value ∷ read)) items) _ _ _
+      (keeps (λ read. parse (value ∷ read)) (λ ys. Holds (value ∷ ys)) so_far (λ read. more (value ∷ read)) items)
       (λ values all. SucceedsWith-Ok Holds (value ∷ values) all))
 
   -- if `Holds` holds of the values of all items that can be read, it holds of the result of `read_array`
-  module _ (reading : List A → Data → Result A SheetFault) (Holds : List A → Type 0)
-      (all : (items : List Data) → SucceedsWith (read_items reading items) Holds) (key : Key) (count : ℕ) where
+  module _ (parse : List A → Data → Result A SheetFault) (Holds : List A → Type 0)
+      (all : (items : List Data) → SucceedsWith (read_items parse items) Holds) (key : Key) (count : ℕ) where
     pub each_read : (table : Members)
-        → SucceedsWith (value_at key table >>= read_array key (nat_eq count) reading)
+        → SucceedsWith (value_at key table >>= read_array key (nat_eq count) parse)
         (λ values. (length values ≡ count) × Holds values)
     each_read table values e = grind (arith, bind-Ok, demand-Ok, eqb-true, as_many, all)
 
     pub some_read : (value : Data)
-        → SucceedsWith (read_array key (λ n. nat_le n count) reading value)
+        → SucceedsWith (read_array key (λ n. nat_le n count) parse value)
         (λ values. (length values ≤ count) × Holds values)
     some_read value values e = grind (arith, bind-Ok, demand-Ok, leb-true, as_many, all)
 
   -- a list of things is read back from their texts if each thing is
-  pub again : (reading : List A → Data → Result A SheetFault) (text_of : A → List ℕ) (all : List A)
-      → ((k : ℕ) (x : A) → slice_get all k ≡ Some x → reading (take k all) (string (text_of x)) ≡ Ok x)
-      → read_items reading (map string (map text_of all)) ≡ Ok all
-  again reading text_of [] each = refl
-  again reading text_of (x ∷ all) each =
-      rw (each 0 x refl, again (λ read. reading (x ∷ read)) text_of all (λ k. each (suc k))) refl
+  pub again : (parse : List A → Data → Result A SheetFault) (text_of : A → List ℕ) (all : List A)
+      → ((k : ℕ) (x : A) → slice_get all k ≡ Some x → parse (take k all) (string (text_of x)) ≡ Ok x)
+      → read_items parse (map string (map text_of all)) ≡ Ok all
+  again parse text_of [] each = refl
+  again parse text_of (x ∷ all) each =
+      rw (each 0 x refl, again (λ read. parse (x ∷ read)) text_of all (λ k. each (suc k))) refl
 
 -- if all elements of a list satisfy `P`, the element at place `k` does
 pub All-slice_get : {X : Type 0} (P : X → Type 0) (xs : List X) (k : ℕ) (x : X) → All P xs → slice_get xs k ≡ Some x
