@@ -1,8 +1,9 @@
 -- The prices of kinds: one for each key, and kinds that are read one after another.
 use Rattle.kd_card.proofs.Prelude.{rules, ◌≡◌, ◌↔◌, ℕ, ◌+◌, ◌≤◌, ◌<◌, List, [], ◌∷◌, ◌++◌, length, map, refl, sym, ap}
 use Rattle.kd_card.proofs.Prelude.{◌∙◌, length-append, arith, unsigned_abs, Option, Some, None, min, zero, suc}
-use Rattle.kd_card.proofs.Prelude.{length-replicate, All-append, All-nil, All-replicate, CableKinds, ℤ, BarKinds, KindFormat}
-use Rattle.kd_card.proofs.Prelude.{cable_format, pair_format, bar_format, row_format, counted, prices_of_kinds, AreKinds}
+use Rattle.kd_card.proofs.Prelude.{length-replicate, All-append, All-nil, All-replicate, CableKinds, ℤ, BarKinds}
+use Rattle.kd_card.proofs.Prelude.{KindFormat, cable_format, pair_format, bar_format, row_format, counted}
+use Rattle.kd_card.proofs.Prelude.{prices_of_kinds, AreKinds}
 use Rattle.kd_card.proofs.Prelude.{IsKind, kind_words, kinds_text, ArePricesInRange, ArePrices, flat_map-append}
 use Rattle.kd_card.proofs.Prelude.{flat_map-map, line_of, CostTable, price_count, lines_text, IsGroup, line_then}
 use Rattle.kd_card.proofs.Prelude.{common_steps, take, get_or, subst, append_assoc, All, All-cons, IsNextKind}
@@ -35,7 +36,8 @@ module _ {K X : Type 0} (format : KindFormat K X) where
       → kinds_text format (kind ∷ kinds) ++ rest ≡ line_then (kind_words format kind) (kinds_text format kinds ++ rest)
   text_of_more_kinds kind kinds rest = line_and_more (line_of (kind_words format kind)) (kinds_text format kinds) rest
 
-  pub counted-append : (kinds more : List K) → counted format (kinds ++ more) ≡ counted format kinds + counted format more
+  pub counted-append : (kinds more : List K)
+      → counted format (kinds ++ more) ≡ counted format kinds + counted format more
   counted-append [] more = omega arith
   counted-append (first ∷ kinds) more = omega (arith, counted-append kinds more)
 
@@ -65,8 +67,8 @@ grouped : {K X : Type 0} (format : KindFormat K X) (number : ℕ) (kinds : List 
 grouped format number kinds are count = record { in_order = are; count = sym (length_of_kinds format kinds) ∙ count }
 
 -- Prices by kind are valid exactly if both groups of kinds are.
-both_valued : {R X C Y : Type 0} (rows : KindFormat R X) (columns : KindFormat C Y) (number : ℕ) (xs : List R) (ys : List C)
-    (prices : PriceParts) → row_prices prices ≡ prices_of_kinds rows xs
+both_valued : {R X C Y : Type 0} (rows : KindFormat R X) (columns : KindFormat C Y) (number : ℕ) (xs : List R)
+    (ys : List C) (prices : PriceParts) → row_prices prices ≡ prices_of_kinds rows xs
     → column_prices prices ≡ prices_of_kinds columns ys → table_rows prices ≡ number
     → HaveKindsInOrder prices ↔ (AreKinds rows None xs × AreKinds columns None ys)
     → ArePrices prices ↔ (IsGroup rows number xs × IsGroup columns number ys)
@@ -89,8 +91,10 @@ pub few_cables : (rows : List CableKind) (columns : List PairKind)
     → ArePrices (CableKinds (record { items = rows }) (record { items = columns }))
     → AreFewKinds cable_format rows × AreFewKinds pair_format columns
 few_cables rows columns are =
-    let groups = (cables_are_prices rows columns).0 are in
-    (few_of_group cable_format 13 rows (omega arith) groups.0, few_of_group pair_format 13 columns (omega arith) groups.1)
+    let groups = (cables_are_prices rows columns).0 are in (
+      few_of_group cable_format 13 rows (omega arith) groups.0,
+      few_of_group pair_format 13 columns (omega arith) groups.1,
+    )
 
 pub few_bars : (rows : List BarKind) (columns : List RowKind)
     → ArePrices (BarKinds (record { items = rows }) (record { items = columns }))
@@ -171,8 +175,8 @@ reads_on {format} {text} {rest} {after} {kind} so_far next new keeps =
           keeps (omega (arith, ap length before)) ∙ ap (λ kinds. kinds ++ kind ∷ []) before;
     }
 
-pub all_read : {K X : Type 0} {format : KindFormat K X} {room line : ℕ} {text rest : List ℕ} {last : Option K} {number at : ℕ}
-    {kept : List K}
+pub all_read : {K X : Type 0} {format : KindFormat K X} {room line : ℕ} {text rest : List ℕ} {last : Option K}
+    {number at : ℕ} {kept : List K}
     → (read : HasRead format room line text rest last number at kept) → HasNoNext format last rest
     → BeginsWithKinds format None text read.read rest
 all_read {format} {text} {rest} read none =

@@ -3,7 +3,8 @@ use Rattle.kd_card.proofs.Prelude.{common_steps, ◌≡◌, ◌≢◌, ℕ, ◌<
 use Rattle.kd_card.proofs.Prelude.{Option, Some, None, sym, ap, ◌∙◌, append_assoc, length-append, arith, decimal, All}
 use Rattle.kd_card.proofs.Prelude.{decimal_injective, signed_decimal_injective, All-append, All-weaker}
 use Rattle.kd_card.proofs.Prelude.{All-from_recursion, Place, place_text, standing_text, IsWord, IsWithout, KindFormat}
-use Rattle.kd_card.proofs.Prelude.{KindOf, cable_format, pair_format, bar_format, row_format, kind_words, AreEnds, IsKind}
+use Rattle.kd_card.proofs.Prelude.{KindOf, cable_format, pair_format, bar_format, row_format, kind_words, AreEnds}
+use Rattle.kd_card.proofs.Prelude.{IsKind}
 use Rattle.kd_card.proofs.Prelude.{ComesAfter, KeyComesBefore, kinds_text, HasKindWords, HasText, IsOnlyKey}
 use Rattle.kd_card.proofs.Prelude.{signed_decimal, append-nil, HasLineWords, BeginsWithWord, EndsGroup, AtNothing}
 use Rattle.kd_card.proofs.Prelude.{AtOther, IsNextKind, HasNoNext, numbers_are_words, texts_tell_first_parts}
@@ -104,7 +105,8 @@ one_word a b = ap (λ words. get_or words 0 []) (same_words a.has b.has).0
 same_after : {K X : Type 0} (format : KindFormat K X) (last : Option K) (kind other : K)
     → (format.kind other).key ≡ (format.kind kind).key → ComesAfter format last other → ComesAfter format last kind
 same_after format None kind other same after = tt
-same_after format (Some before) kind other same after = subst (KeyComesBefore format (format.kind before).key) same after
+same_after format (Some before) kind other same after =
+    subst (KeyComesBefore format (format.kind before).key) same after
 
 module _ {K X : Type 0} {format : KindFormat K X} where
   -- The line of a kind begins with the word of its format.

@@ -402,8 +402,8 @@ line_said {K} word number {bytes} x says =
 
 -- ---- groups of kinds
 
-pub record HasGroup {K X : Type 0} (format : KindFormat K X) (number : ℕ) (bytes : List ℕ) (kinds : List K) (rest : List ℕ)
-    : Type 0 where
+pub record HasGroup {K X : Type 0} (format : KindFormat K X) (number : ℕ) (bytes : List ℕ) (kinds : List K)
+    (rest : List ℕ) : Type 0 where
   pub lines : bytes ≡ kinds_text format kinds ++ rest
   pub group : IsGroup format number kinds
 

@@ -7,8 +7,8 @@ use Rattle.kd_card.proofs.Prelude.{IsWord, setting_line, list_text, BeginsWithSe
 use Rattle.kd_card.proofs.Prelude.{PriceParts, Cables, Bars, CableKinds, BarKinds, Version, ByNumber, ByKind, CostTable}
 use Rattle.kd_card.proofs.Prelude.{OfCables, OfBars, KindFormat, Trailing, ThenNext, HasFault, GoesOn, Yields, Demands}
 use Rattle.kd_card.proofs.Prelude.{Option, Some, None, kinds_text, AreKinds, version_of, price_sum, cable_format}
-use Rattle.kd_card.proofs.Prelude.{pair_format, bar_format, row_format, ArePricesInRange, ArePrices, first_text, column_word}
-use Rattle.kd_card.proofs.Prelude.{price_count, lines_text, price_lines, card_text, IsGroup, IsCard, line_then}
+use Rattle.kd_card.proofs.Prelude.{pair_format, bar_format, row_format, ArePricesInRange, ArePrices, first_text}
+use Rattle.kd_card.proofs.Prelude.{column_word, price_count, lines_text, price_lines, card_text, IsGroup, IsCard, line_then}
 use Rattle.kd_card.proofs.Prelude.{IsValueAnswer, IsFirstWordAnswer, BeginsWithHead, BeginsWithAllSettings}
 use Rattle.kd_card.proofs.Prelude.{IsSettingsAnswer, IsPriceLineAnswer, IsByNumberPricesAnswer, BeginsWithWord}
 use Rattle.kd_card.proofs.Prelude.{EndsGroup, AtOther, IsNextKind, last_of, IsGroupAnswer, IsGroupsAnswer}
@@ -64,8 +64,8 @@ by_number table rows columns a b = grind (arith, common_steps, two_lines)
 
 -- If two groups of kinds are read from `bytes`, these are the lines of the kinds, and then the rest; and both
 -- groups are valid.
-pub groups_said : {R X C Y : Type 0} (rows : KindFormat R X) (columns : KindFormat C Y) (number line : ℕ) {bytes : List ℕ}
-    (x : List R × List C × List ℕ) → IsGroupsAnswer rows columns number line bytes (Ok x)
+pub groups_said : {R X C Y : Type 0} (rows : KindFormat R X) (columns : KindFormat C Y) (number line : ℕ)
+    {bytes : List ℕ} (x : List R × List C × List ℕ) → IsGroupsAnswer rows columns number line bytes (Ok x)
     → (bytes ≡ lines_text (map (kind_words rows) x.0 ++ map (kind_words columns) x.1) ++ x.2)
     × IsGroup rows number x.0 × IsGroup columns number x.1
 groups_said {R} {C} rows columns number line {bytes} x says =
@@ -206,7 +206,8 @@ module _ {K X : Type 0} {format : KindFormat K X} (is : IsFormat format) where
       let first = next_kind x xs rest a.in_order a.lines in
       let same = same_words first.line (next_kind y ys more b.in_order b.lines).line in
       let heads : x ≡ y = same_kind is x y a.in_order.0 b.in_order.0 same.0 in
-      let other : BeginsWithKinds format (Some x) (kinds_text format xs ++ rest) ys more = rw (heads, same.1) (behind b) in
+      let other : BeginsWithKinds format (Some x) (kinds_text format xs ++ rest) ys more =
+      rw (heads, same.1) (behind b) in
       let tails = kinds_end (Some x) xs ys rest more (behind a) other in
       (cc, tails.1)
 
@@ -278,10 +279,10 @@ by_number_says : (table : CostTable) (line : ℕ) {bytes : List ℕ} (rows colum
     → bytes ≡ line_then (price_words (first_text ByNumber table) rows)
     (line_then (price_words (column_word table) columns) rest)
     → IsByNumberPricesAnswer line bytes (Ok (parts_by_number table rows columns, rest))
-by_number_says group line rows columns rest a b many also e =
+by_number_says table line rows columns rest a b many also e =
     let second = line_then (price_words (column_word table) columns) rest in
-    GoesOn (group, rows, second) (price_line_says _ _ group rows second (first_is_word group).0 a many e)
-    (GoesOn (tt, columns, rest) (price_line_says _ _ tt columns rest (first_is_word group).1 b also refl) refl)
+    GoesOn (table, rows, second) (price_line_says _ _ table rows second (first_is_word table).0 a many e)
+    (GoesOn (tt, columns, rest) (price_line_says _ _ tt columns rest (first_is_word table).1 b also refl) refl)
 
 all_say : (prices : PriceParts) (line : ℕ) {bytes : List ℕ} (rest : List ℕ) → ArePrices prices
     → ((word : List ℕ) → word ≢ codes "SUM" → EndsGroup word rest) → bytes ≡ lines_text (price_lines prices) ++ rest
