@@ -1,26 +1,23 @@
 -- When prices by number, one for each key, can become prices by kind, one for equal keys; and which these are.
 use Rattle.kd_card.proofs.KindPrices.{bars_are_prices, cables_are_prices}
-use Rattle.kd_prices.proofs.AlikeKeys.{AreTold, cables_told, columns_told, each_told, one_price_is}
-use Rattle.kd_prices.proofs.InForm.{cables_are_in_form, columns_are_in_form}
-use Rattle.kd_prices.proofs.Runs.{one_price}
-use Rattle.kd_prices.proofs.Taking.{size}
-use Rattle.kd_prices.proofs.Prelude.{All, AreByKind, AreEqualWhereAlike, AreKinds, AreKindsOf, AreNumbered, ArePrices}
-use Rattle.kd_prices.proofs.Prelude.{ArePricesInRange, BarKind, BarKinds, Bars, ByKind, CableKind, CableKinds, Cables}
-use Rattle.kd_prices.proofs.Prelude.{CanBeByKind, Contains-permutation, Day, Expanded, Expands, HaveOnePriceEach}
-use Rattle.kd_prices.proofs.Prelude.{IfSome, IsFine, IsGroup, IsLegalDay, IsMachine, IsPermutation, List, MatchOption}
-use Rattle.kd_prices.proofs.Prelude.{None, OfPins, OfRotors, One, Option, PairKind, Parts, Pin, PinDay, PinParts}
-use Rattle.kd_prices.proofs.Prelude.{PriceParts, ReadAlike, Rotor, RotorDay, RotorParts, RowKind, Some, KindFormat}
-use Rattle.kd_prices.proofs.Prelude.{StandAlike, arith, bar_format, cable_format, columns_in_order, columns_of, day_model}
-use Rattle.kd_prices.proofs.Prelude.{expansion, get_or-zip, length, length-map, length-zip, length_permutation, map}
-use Rattle.kd_prices.proofs.Prelude.{model_of, pair_in_order, pair_format, price_at, refl, row_format, subst, sym}
-use Rattle.kd_prices.proofs.Prelude.{thirteen_columns, version_of, zip, ℕ, ℤ, ◌<◌, ◌∙◌, ◌≡◌}
+use Rattle.kd_prices.proofs.{AlikeKeys.{AreTold, cables_told, columns_told, each_told, one_price_is}, Runs.one_price}
+use Rattle.kd_prices.proofs.{InForm.{cables_are_in_form, columns_are_in_form}, Taking.size}
+use Rattle.kd_prices.proofs.Prelude.{All, Day, List, None, One, Parts, Pin, Rotor, Some, arith, length, refl, subst}
+use Rattle.kd_prices.proofs.Prelude.{AreByKind, columns_of, get_or-zip, length-map, length-zip, row_format, version_of}
+use Rattle.kd_prices.proofs.Prelude.{AreEqualWhereAlike, ArePricesInRange, Contains-permutation, length_permutation, ℕ}
+use Rattle.kd_prices.proofs.Prelude.{AreKinds, ArePrices, ByKind, CableKind, IsMachine, ReadAlike, day_model, expansion}
+use Rattle.kd_prices.proofs.Prelude.{AreKindsOf, AreNumbered, Bars, CanBeByKind, MatchOption, cable_format, pair_format}
+use Rattle.kd_prices.proofs.Prelude.{BarKind, Cables, Expands, IfSome, IsFine, IsGroup, OfPins, Option, PinDay, RowKind}
+use Rattle.kd_prices.proofs.Prelude.{BarKinds, Expanded, OfRotors, PairKind, PinParts, RotorDay, model_of, price_at, ℤ}
+use Rattle.kd_prices.proofs.Prelude.{CableKinds, IsLegalDay, KindFormat, PriceParts, RotorParts, StandAlike, bar_format}
+use Rattle.kd_prices.proofs.Prelude.{HaveOnePriceEach, IsPermutation, columns_in_order, pair_in_order, thirteen_columns}
+use Rattle.kd_prices.proofs.Prelude.{map, sym, zip, ◌<◌, ◌∙◌, ◌≡◌}
 
 -- what `kinds_of` ensures of the kinds of `keys` with `prices`
-pub record AreGrouped {K X : Type 0} (format : KindFormat K X) (keys : List X) (prices : List ℤ) (kinds : List K) : Type 0
-  where
-    pub expand : IsPermutation (zip keys prices) (expansion (map format.kind kinds))
-    pub in_order : HaveOnePriceEach (zip keys prices) → All (IsFine format) (zip keys prices)
-        → AreKinds format None kinds
+pub record AreGrouped {K X : Type 0} (format : KindFormat K X) (keys : List X) (prices : List ℤ) (kinds : List K)
+    : Type 0 where
+  pub expand : IsPermutation (zip keys prices) (expansion (map format.kind kinds))
+  pub in_order : HaveOnePriceEach (zip keys prices) → All (IsFine format) (zip keys prices) → AreKinds format None kinds
 
 -- The kinds are those of the keys with these prices, and they are valid exactly if equal keys have equal prices.
 record AreKindsFor {K X : Type 0} (format : KindFormat K X) (keys : List X) (n : ℕ) (Alike : ℕ → ℕ → Type 0)
@@ -86,8 +83,8 @@ cables_by_kind m s rows columns row col machine legal are same first second =
     (StandAlike (Rotor m)) (cables_told m machine) (cables_are_in_form m machine) 13 machine.legal.cables.count rows
     are.rows are.row_reach row first in
     let b =
-    are_kinds_for pair_format (columns_in_order s.pairs) None (ReadAlike (OfRotors s)) (columns_told s legal) (columns_are_in_form s legal) 13
-    thirteen columns are.columns are.column_reach col second in
+    are_kinds_for pair_format (columns_in_order s.pairs) None (ReadAlike (OfRotors s)) (columns_told s legal)
+    (columns_are_in_form s legal) 13 thirteen columns are.columns are.column_reach col second in
     let groups = cables_are_prices row col in
     made_by_kind (Rotor m) (OfRotors s) (Cables rows columns)
     (CableKinds (record { items = row }) (record { items = col })) (record { model = same; kind = tt }) refl
