@@ -4,7 +4,7 @@ pub use Rattle.kd_card.specs.CardText.{IsGroup}
 pub use Rattle.kd_card.specs.Kinds.{AreEnds, AreKinds, IsKind, expansion, row_format}
 pub use Rattle.kd_card.specs.Kinds.{AreKindsOf, IsPairInOrder, KindFormat, bar_format, cable_format, pair_format}
 pub use Rattle.kd_card.specs.Prices.{ArePrices, ArePricesInRange, ArePricesTight, column_prices, row_prices, table_rows}
-pub use Rattle.kd_card.specs.Prices.{PricesFit, cost_at, price_at, price_sum, version_of}
+pub use Rattle.kd_card.specs.Prices.{PricesFit, PricesFitAt, cost_at, price_at, price_sum, version_of}
 pub use Rattle.kd_card.specs.Proving.{AreExpanded, AreModelPrices, AreSettingsNeeded, IsSettingNeeded, columns_in_order}
 pub use Rattle.kd_card.specs.Proving.{Expanded, Expands, Proves, Same, pair_in_order, priced_count}
 pub use Rattle.kd_card.specs.declared.kinds.{BarKind.BarKind, CableKind.CableKind, PairKind.PairKind, RowKind.RowKind}
@@ -13,9 +13,9 @@ pub use Rattle.kd_card.specs.declared.prices.PriceParts.{PriceParts, TheVariants
 pub use Rattle.kd_card.specs.declared.prices.Version.TheVariants.{ByKind, ByNumber}
 pub use Rattle.kd_enigma.specs.Plugs.{NoLetterTwice, letters_in_pairs}
 pub use Rattle.kd_prices.specs.Alike.{ReadAlike, StandAlike}
-pub use Rattle.kd_prices.specs.Doubt.{AreNumbered, AreOfOneModel, BelongTo}
-pub use Rattle.kd_prices.specs.Doubt.{IsCheckedAnswer, IsFirstNeedless, IsFirstTooHigh, IsFirstWithout, IsNeededAnswer}
-pub use Rattle.kd_prices.specs.{Fitting.{FitsAtColumn, ListsFitAt}, KindCards.{AreByKind, CanBeByKind}}
+pub use Rattle.kd_prices.specs.Doubt.{BelongTo}
+pub use Rattle.kd_prices.specs.Doubt.{IsCheckedAnswer, IsFirstNeedless, IsFirstWithout, IsNeededAnswer}
+pub use Rattle.kd_prices.specs.{Fitting.{FitsAtColumn, ListsFitAt}, KindCards.{CanBeByKind}}
 pub use Rattle.kd_prices.specs.Grouping.{AppendsKinds, CanBeKinds, HaveOnePriceEach, IsFine, kind_of_one}
 pub use Rattle.kd_prices.specs.Laws.{AlikePricesAreEqual, AreEqualWhereAlike, RestIsShortest}
 pub use Rattle.kd_prices.specs.declared.doubt.Doubt.{Doubt}
@@ -50,4 +50,4 @@ pub use Rattle.std.proofs.lemmas.List.{get_or-map, length-map, take_more}
 pub use Rattle.std.proofs.lemmas.Result.{err_from_is_err_and}
 pub use Rattle.std.specs.{Cmp.IsTotalOrder, declared.cmp.Ordering.{Ordering, TheVariants.{Equal, Greater, Less}}}
 pub use Rattle.std.specs.List.{All, AllByRecursion, zip}
-pub use Rattle.std.specs.Prelude.{Err, IfErr, IfSome, IsOk, IsPermutation, Ok, Result, drop, map, take, ◌↔◌}
+pub use Rattle.std.specs.Prelude.{Err, IfErr, IfSome, IsSome, IsOk, IsPermutation, Ok, Result, drop, map, take, ◌↔◌}
