@@ -1,6 +1,6 @@
 -- A card that proves itself has no doubt, and a card has at most one.
 use Rattle.kd_prices.proofs.Leading.{Leads-not_refused, needed_at}
-use Rattle.kd_prices.proofs.Meaning.{are_numbered, of_one_model, one_expansion}
+use Rattle.kd_prices.proofs.Meaning.{are_numbered, belong, one_expansion}
 use Rattle.kd_prices.specs.Doubt.{IsCarriedAnswer, IsDoubt, IsFitsAnswer}
 use Rattle.kd_state.specs.Setting.{IsFirstIllegal}
 use Rattle.kd_prices.proofs.Prelude.{AreSettingsNeeded, Day, Doubt, Err, GoesOn, HasOneAnswer, HasOneAnswer-Demands}
@@ -101,17 +101,18 @@ module _ (m : Parts) (s : Day) (settings : List Setting) (prices : PriceParts) w
   pub only_checked : HasOneAnswer (IsCheckedAnswer m s settings prices)
   only_checked =
       HasOneAnswer-ThenNext (HasOneAnswer-Demands _ _)
-      (λ same model. HasOneAnswer-ThenNext (HasOneAnswer-Finds _ (one_expansion m s prices))
+      (λ same model. HasOneAnswer-ThenNext (HasOneAnswer-Demands _ _)
+      (λ same belong. HasOneAnswer-ThenNext (HasOneAnswer-Finds _ (one_expansion m s prices))
       (λ numbered expands. HasOneAnswer-ThenNext (only_carried m settings)
       (λ n leads. HasOneAnswer-ThenNext (HasOneAnswer-Demands _ _)
       (λ reads same. HasOneAnswer-ThenNext (only_fits (cost_table m s) numbered)
-      (λ fits are. HasOneAnswer-ThenNext (HasOneAnswer-Demands _ _) (λ sum is. only_needed m s settings))))))
+      (λ fits are. HasOneAnswer-ThenNext (HasOneAnswer-Demands _ _) (λ sum is. only_needed m s settings)))))))
 
   pub proving_says : Proves m s settings prices → IsCheckedAnswer m s settings prices (Ok tt)
   proving_says h =
       let by = h.proves in
-      GoesOn tt (of_one_model m s settings prices h) (GoesOn h.numbered h.expands
-      (GoesOn by.leads.0 by.leads.1 (GoesOn tt by.leads.2 (GoesOn tt by.fits (GoesOn tt by.sum by.needed)))))
+      GoesOn tt by.model (GoesOn tt (belong m s prices h.numbered h.expands by.kind) (GoesOn h.numbered h.expands
+      (GoesOn by.leads.0 by.leads.1 (GoesOn tt by.leads.2 (GoesOn tt by.fits (GoesOn tt by.sum by.needed))))))
 
   says_proving : IsCheckedAnswer m s settings prices (Ok tt) → Proves m s settings prices
   says_proving says = grind (arith, ThenNext-Ok, are_numbered)

@@ -111,7 +111,7 @@ module _ {K X : Type 0} (format : KindFormat K X) where
 
   comes_before-trans : (x y z : X) → KeyComesBefore format x y → KeyComesBefore format y z
       → KeyComesBefore format x z
-  comes_before-trans x y z one other = nat_list_cmp_total.trans (format.order x) (format.order y) (format.order z) one other
+  comes_before-trans x y z = nat_list_cmp_total.trans (format.order x) (format.order y) (format.order z)
 
   behind : (last : K) (kinds : List K) → AreKinds format (Some last) kinds
       → All (λ (z : X × ℤ). KeyComesBefore format (format.kind last).key z.0) (expansion (map format.kind kinds))
@@ -120,10 +120,10 @@ module _ {K X : Type 0} (format : KindFormat K X) where
       let k = format.kind kind in
       let After : X → X × ℤ → Type 0 = λ x z. KeyComesBefore format x z.0 in
       let x = (format.kind last).key in
-      All-append (After x) (replicate k.count (k.key, k.price)) (expansion (map format.kind kinds))
+      let rest = expansion (map format.kind kinds) in
+      All-append (After x) (replicate k.count (k.key, k.price)) rest
       (All-replicate (After x) k.count (k.key, k.price) are.1)
-      (All-weaker (After k.key) (After x) (λ z. comes_before-trans x k.key z.0 are.1) (expansion (map format.kind kinds))
-      (behind kind kinds are.2))
+      (All-weaker (After k.key) (After x) (λ z. comes_before-trans x k.key z.0 are.1) rest (behind kind kinds are.2))
 
   first_or_later : (last : Option K) (kind : K) (kinds : List K) (z : X × ℤ) → AreKinds format last (kind ∷ kinds)
       → Contains (expansion (map format.kind (kind ∷ kinds))) z
@@ -174,8 +174,8 @@ same_prices {X} all one (x ∷ keys) (p ∷ prices) (q ∷ others) number same h
     cc
 same_prices all one keys prices others number same has have = absurd (omega arith)
 
-pub prices_alike : {K X : Type 0} (format : KindFormat K X) (keys : List X) (kinds : List K) (prices others : List ℤ) → AreKinds format None kinds
-    → AreKindsOf format keys prices kinds → AreKindsOf format keys others kinds → prices ≡ others
+pub prices_alike : {K X : Type 0} (format : KindFormat K X) (keys : List X) (kinds : List K) (prices others : List ℤ)
+    → AreKinds format None kinds → AreKindsOf format keys prices kinds → AreKindsOf format keys others kinds → prices ≡ others
 prices_alike {X = X} format keys kinds prices others are of also =
     let all = expansion (map format.kind kinds) in
     let has = λ (prices : List ℤ) (of : AreKindsOf format keys prices kinds).

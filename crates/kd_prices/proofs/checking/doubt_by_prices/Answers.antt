@@ -1,5 +1,5 @@
-use Rattle.kd_prices.proofs.Prelude.{GoesOn, HasFault, IsFirstTooHigh, IsFirstWithout, List, ListsFitAt, NotTheSheet}
-use Rattle.kd_prices.proofs.Prelude.{PriceParts, PriceTooHigh, SFits, SumDiffers, ap, arith, column_prices}
+use Rattle.kd_prices.proofs.Prelude.{GoesOn, HasFault, IsFirstWithout, List, ListsFitAt, NotTheSheet}
+use Rattle.kd_prices.proofs.Prelude.{PriceParts, PriceTooHigh, PricesFitAt, SFits, SumDiffers, ap, arith, column_prices}
 use Rattle.kd_prices.proofs.Prelude.{err_from_is_err_and, false≢true, of_z, pos, price_sum, priced_count, refl}
 use Rattle.kd_prices.proofs.Prelude.{row_prices, rules, subst, sym, table_rows, to_z, to_z-of_z, to_z_pos, w32, ℕ, ℤ}
 use Rattle.kd_prices.proofs.Prelude.{◌+◌, ◌<◌, ◌^◌, ◌∙◌, ◌≡◌, ◌≢◌}
@@ -18,7 +18,7 @@ returns-then-not-reads_as g c = λ prices row column many.
 
 too_high : (prices : PriceParts) (costs : List (List ℕ)) (rows columns : List ℤ) (n i j : ℕ) → table_rows prices ≡ n
     → row_prices prices ≡ rows → column_prices prices ≡ columns → IsFirstWithout (ListsFitAt costs rows columns) n i j
-    → IsFirstTooHigh costs prices i j
+    → IsFirstWithout (PricesFitAt costs prices) (table_rows prices) i j
 too_high prices costs rows columns n i j many row column first =
     subst (λ r. IsFirstWithout (ListsFitAt costs r (column_prices prices)) (table_rows prices) i j) (sym row)
     (subst (λ c. IsFirstWithout (ListsFitAt costs rows c) (table_rows prices) i j) (sym column)

@@ -3,7 +3,7 @@ use Rattle.kd_prices.proofs.Prelude.{Bars, Cables, HasFault, OtherModel, err_fro
 use Rattle.kd_prices.proofs.checking.first_doubt.Goals as goal
 
 pub returns-in-None : goal.returns-in-None
-returns-in-None c = HasFault OtherModel ((λ same one. c.in-None.ensures.parted one.model), refl) refl
+returns-in-None c = HasFault OtherModel ((λ same model. c.in-None.ensures.parted model), refl) refl
 
 pub returns-in_err-rows-in-Some-Rotor : goal.returns-in_err-rows-in-Some-Rotor
 returns-in_err-rows-in-Some-Rotor c =
