@@ -1,12 +1,12 @@
 -- A month on a machine that uses only its first cables needs no other cable.
-use Rattle.kd_desk.proofs.Exclusions.{one_list}
-use Rattle.kd_desk.proofs.Prelude.{List, Ok, Parts, [], machine_of, subst, sym, ℕ, ◌∙◌, ◌∷◌, ◌≡◌}
+use Rattle.kd_desk.proofs.{Days.in_files, Exclusions.one_list}
+use Rattle.kd_desk.proofs.Prelude.{List, Ok, Parts, [], machine_of, subst, ℕ, ◌∷◌, ◌≡◌}
 use Rattle.kd_desk.specs.FewCables.{DayHasPairsUpTo, FewCablesServeAMonth, FileUsesNoneAbove, KeepsToFirst}
 use Rattle.kd_desk.specs.Month.{Papers, SetTheMachineInTurn}
 use Rattle.kd_desk.proofs.Months.{months_set_the_machine}
-use Rattle.kd_plan.proofs.Planning.{few_cables_serve}
+use Rattle.kd_plan.proofs.Planning.FewCables.{few_cables_serve}
 use Rattle.kd_plan.specs.FewCables.{NamesNoneAbove, UsesNoneAbove}
-use Rattle.std.proofs.Common.{All, arith}
+use Rattle.std.proofs.Common.{All}
 use Rattle.std.proofs.lemmas.List.Elements.{All-cons, All-head, All-nil, All-tail}
 
 UsesNoneAbove-same_file : (number : ℕ) (file : List ℕ) (n m : Parts) → machine_of file ≡ Ok n → machine_of file ≡ Ok m
@@ -19,9 +19,10 @@ keep_to_first : (number : ℕ) (file sheet days : List ℕ) (papers : List Paper
 keep_to_first number file sheet [] [] sets uses few = All-nil (KeepsToFirst number)
 keep_to_first number file sheet (day ∷ days) (paper ∷ papers) sets uses few =
     let on = sets.0 in
-    let pairs = All-head (DayHasPairsUpTo number sheet) day days few on.month on.s on.of_sheet on.of_month in
+    let found = in_files file sheet day on.m on.s on.found in
+    let pairs = All-head (DayHasPairsUpTo number sheet) day days few found.1.0 on.s found.1.1 found.1.2 in
     let leads = on.proved.reaches.leads in
-    let serve = few_cables_serve number on.m on.n on.s on.settings (uses on.m on.of_file) pairs on.spares leads in
+    let serve = few_cables_serve number on.m on.n on.s on.settings (uses on.m found.0) pairs on.spares leads in
     let next : FileUsesNoneAbove number paper.file = λ n of_file.
     UsesNoneAbove-same_file number paper.file on.n n on.of_next of_file serve.1 in
     let here : KeepsToFirst number paper = record {

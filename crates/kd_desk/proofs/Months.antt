@@ -1,9 +1,10 @@
 -- The cards and the files of a month.
-use Rattle.kd_desk.proofs.Prelude.{Applies, AreSettings, Carried, Day, DeskFault, Err, FindsDay, Found, IfOk, IsCard}
-use Rattle.kd_desk.proofs.Prelude.{IsLegalDay, IsMachine, IsTrue, LacksMemory, Leads, List, MatchResult, OfCard, Ok}
+use Rattle.kd_desk.proofs.Prelude.{Applies, AreSettings, Carried, Day, IfOk, IsCard}
+use Rattle.kd_desk.proofs.Prelude.{IsLegalDay, IsMachine, IsTrue, LacksMemory, Leads, List, OfCard, Ok}
 use Rattle.kd_desk.proofs.Prelude.{Option, Parts, Port, PriceParts, Result, Setting, Some, [], ap, arith}
 use Rattle.kd_desk.proofs.Prelude.{begins_as_card, day_number, inl, inr, machine_of, refl, subst, sym, ℕ, ◌∙◌, ◌∷◌, ◌≡◌}
-use Rattle.kd_desk.proofs.{Applying.of_read, Days.on_day, Exclusions.one_list, Failing.in_whole, Printing.printed}
+use Rattle.kd_desk.proofs.{Applying.of_read, Days.{found_in_files, found_on, found_once, in_files, on_day}}
+use Rattle.kd_desk.proofs.{Exclusions.one_list, Failing.in_whole, Printing.printed}
 use Rattle.{kd_desk.proofs.Prelude.◌⊎◌, kd_plan.specs.Planned.IsProvedPlannedCard}
 use Rattle.{kd_tables.specs.declared.model.Model.Model}
 use Rattle.kd_desk.specs.{Laws.{MonthsAreFewest, MonthsSetTheMachine}, Ports.WritesText, RunCard.{Prints, WritesCard}}
@@ -46,21 +47,6 @@ settings_of : (text : List ℕ) (day : ℕ) (settings : List Setting) (prices : 
     → IsCard text day settings prices → AreSettings text settings
 settings_of text day settings prices card = OfCard (begins_as_card-card text day settings prices card) day prices card
 
--- the files have a machine and a day, and `does` holds of both
-record IsMachineAndDay (file sheet : List ℕ) (number : ℕ) (does : Parts → Day → Type 0) : Type 0 where
-  m : Parts
-  of_file : machine_of file ≡ Ok m
-  month : List (Option Day)
-  of_sheet : sheet_of sheet ≡ Ok month
-  s : Day
-  of_month : day_of month number ≡ Some s
-  done : does m s
-
-found_on : (file sheet : List ℕ) (number : ℕ) (does : Parts → Day → Type 0) (found : Result (Parts × Day) DeskFault)
-    → FindsDay file sheet number found → MatchResult found (λ on. does on.0 on.1) (λ fault. success ≡ Err fault)
-    → IsMachineAndDay file sheet number does
-found_on file sheet number does found finds done = grind (arith)
-
 Applies-no_memory : (m : Parts) (bytes : List ℕ) (sink : Port) → Applies m bytes sink success ⊎ LacksMemory success
     → Applies m bytes sink success
 Applies-no_memory m bytes sink (inl applies) = applies
@@ -69,31 +55,30 @@ Applies-no_memory m bytes sink (inr lacks) = absurd (cc)
 SetTheMachine-written : (file sheet : List ℕ) (number : ℕ) (papers : Papers)
     → AreWritten file sheet number papers → SetTheMachine file sheet number papers
 SetTheMachine-written file sheet number papers are =
-    let on = found_on file sheet number _ are.printed.found are.printed.finds are.printed.done in
-    let card = card_printed on.m on.s number (sink_with papers.card) on.done in
-    let applies : Applies on.m papers.card (sink_with papers.file) success ⊎ LacksMemory success =
+    let on = found_on file sheet number _ are.printed in
+    let m = on.0.0 in
+    let card = card_printed m on.0.1 number (sink_with papers.card) on.2 in
+    let applies : Applies m papers.card (sink_with papers.file) success ⊎ LacksMemory success =
     subst (λ (r : Result Parts SheetFault).
-    IfOk r (λ m. Applies m papers.card (sink_with papers.file) success ⊎ LacksMemory success)) on.of_file are.applied in
-    let next = IsCarried-applied on.m papers.card (sink_with papers.file)
-    (Applies-no_memory on.m papers.card (sink_with papers.file) applies) in
+    IfOk r (λ m. Applies m papers.card (sink_with papers.file) success ⊎ LacksMemory success))
+    (in_files file sheet number m on.0.1 on.1).0 are.applied in
+    let next = IsCarried-applied m papers.card (sink_with papers.file)
+    (Applies-no_memory m papers.card (sink_with papers.file) applies) in
     let text : papers.card ≡ card.text = card.written.written.whole in
     let says = subst (λ bytes. AreSettings bytes card.settings) (sym text)
     (settings_of card.text number card.settings card.prices card.card) in
     let one = one_list papers.card next.settings card.settings next.of_card says in
-    let same = leads_to_one on.m next.n card.leaves.0 card.settings (subst (λ xs. Leads on.m xs next.n) one next.leads)
+    let same = leads_to_one m next.n card.leaves.0 card.settings (subst (λ xs. Leads m xs next.n) one next.leads)
     card.leaves.1 in
     let written : papers.file ≡ machine_text next.n = next.written.written.whole in
     record {
-      m = on.m;
-      of_file = on.of_file;
-      month = on.month;
-      of_sheet = on.of_sheet;
-      s = on.s;
-      of_month = on.of_month;
+      m = m;
+      s = on.0.1;
+      found = on.1;
       settings = card.settings;
       of_card = says;
-      shortest = card.plans.shortest;
-      spares = card.plans.spares;
+      shortest = card.shortest;
+      spares = card.spares;
       n = card.leaves.0;
       proved = record {
         reaches = record { leads = card.leaves.1; reads = card.leaves.2.reads };
@@ -119,9 +104,9 @@ DayAfterDay-months file sheet [] [] m month [] [] of_file of_sheet due are say =
 DayAfterDay-months file sheet (number ∷ numbers) (paper ∷ papers) m month (s ∷ days) (card ∷ cards) of_file of_sheet
     due on say =
     let here = on.0 in
-    let machine : here.m ≡ m = cc in
-    let day : here.s ≡ s = cc in
-    let proved = rw (machine, day, one_list paper.card here.settings card here.of_card say.0) at here.proved in
+    let found = found_in_files file sheet number m month s of_file of_sheet due.0 in
+    let same = found_once file sheet number here.m m here.s s here.found found in
+    let proved = rw (same.0, same.1, one_list paper.card here.settings card here.of_card say.0) at here.proved in
     let n = here.n in
     let rest = DayAfterDay-months paper.file sheet numbers papers n month days cards here.of_next of_sheet due.1 on.1
     say.1 in
@@ -143,7 +128,7 @@ pub papers_for : WrittenFilesAreReadBack → (m n : Parts) (s : Day) → IsMachi
     → (text : List ℕ) (day : ℕ) → day ≡ day_number s → IsCard text day card.settings.items card.prices
     → Leads m card.settings.items n → HasPapers m s n
 papers_for read_back m n s machine legal planned card plans kinds text day number is_card leads
-    file sheet month of_file of_sheet of_month =
+    file sheet found =
     let back = read_back n (lists_keep_machines m n card.settings.items machine is_card.in_range leads) in
     let prints = printed m s machine legal planned card plans kinds
     text day (sink_with text) success number is_card (in_whole text (sink_with text) refl) in
@@ -152,11 +137,9 @@ papers_for read_back m n s machine legal planned card plans kinds text day numbe
     (in_whole (machine_text n) (sink_with (machine_text n)) refl) in (
       record { card = text; file = machine_text n },
       record {
-        printed = on_day file sheet (day_number s) _ success m s (Found m month s of_file of_sheet of_month refl)
-            prints;
+        printed = on_day file sheet (day_number s) _ success m s (inl (sym found)) prints;
         applied = of_read (machine_of file) m (λ m. Applies m text (sink_with (machine_text n)) success)
-            (LacksMemory success)
-            (sym of_file) applies;
+            (LacksMemory success) (sym (in_files file sheet (day_number s) m s found).0) applies;
       },
       back,
     )
@@ -165,7 +148,8 @@ pub papers_on : (m n : Parts) (s : Day) (month : List (Option Day)) (number : �
     → day_number s ≡ number → day_of month number ≡ Some s → HasPapers m s n → HasPapersInTurn n month numbers
     → HasPapersInTurn m month (number ∷ numbers)
 papers_on m n s month number numbers same of_month first rest file sheet of_file of_sheet =
-    let papers = first file sheet month of_file of_sheet (rw same of_month) in
+    let found = found_in_files file sheet (day_number s) m month s of_file of_sheet (rw same of_month) in
+    let papers = first file sheet found in
     let more = rest papers.0.file sheet papers.2 of_sheet in (
       papers.0 ∷ more.0,
       (subst (λ k. AreWritten file sheet k papers.0) same papers.1, more.1),

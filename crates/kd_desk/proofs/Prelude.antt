@@ -1,8 +1,8 @@
 -- Names from std and from other crates that the proofs of this crate use.
 pub use Rattle.std.proofs.Common.{Bool, Bor, Err, IfOk, IfSome, IsErr, IsErrAnd, IsFalse, IsSomeAnd, IsTrue, List}
 pub use Rattle.std.proofs.Common.{MatchResult, None, Ok, Option, Result, Some, [], ap, append_assoc, ap₂, arith, codes}
-pub use Rattle.std.proofs.Common.{decimal, false, inl, inr, is_ok, length, map, option_map, refl, rules, subst, suc}
-pub use Rattle.std.proofs.Common.{sym, take, true, true≢false, ℕ, ◌++◌, ◌+◌, ◌-◌, ◌<◌, ◌||◌, ◌∙◌, ◌∷◌, ◌≡◌, ◌≢◌, ◌≤◌}
+pub use Rattle.std.proofs.Common.{decimal, false, inl, inr, is_ok, length, map, option_map, refl, rules, subst}
+pub use Rattle.std.proofs.Common.{sym, take, true, ℕ, ◌++◌, ◌+◌, ◌-◌, ◌||◌, ◌∙◌, ◌∷◌, ◌≡◌, ◌≢◌, ◌≤◌}
 pub use Rattle.std.proofs.Common.{◌⊎◌}
 pub use Rattle.std.{proofs.lemmas.Option.same_Some, specs.Io.KnownBytes.{Appends, Consumes}, specs.Option.ok_or}
 pub use Rattle.clap.specs.Simple.{app_of_fields}
@@ -16,7 +16,8 @@ pub use Rattle.kd_desk.specs.CommandLine.{unborrowed_command}
 pub use Rattle.kd_desk.specs.Files.{AreAskedFor, AskedName, MissesOne, AgreesOrNoMemory, IsReadWhole, KnownFile}
 pub use Rattle.kd_desk.specs.Files.{asked_and_had, asked_and_missed, known_file}
 pub use Rattle.kd_desk.specs.Messages.{TellOfOrders, TypesText, answer_to_message}
-pub use Rattle.kd_desk.specs.OnDay.{FindsDay, Found, LackedMemory, NoDay, NoMachine, NoSheet, IsAnswerOnDay}
+pub use Rattle.kd_desk.specs.OnDay.{IsAnswerOnDay}
+unfoldable pub use Rattle.kd_desk.specs.OnDay.{machine_and_day}
 pub use Rattle.kd_desk.specs.Program.{AsksFor, CarriesOut, IsCommandDone, KnownCommand, known_command}
 pub use Rattle.kd_desk.specs.RunApply.{Applies, Carried, NoSettings, RefusedLine}
 pub use Rattle.kd_desk.specs.RunCheck.{Checks, Doubtful, NoCard, ForOtherDay, Shortest, verdict_text}

@@ -31,7 +31,9 @@ module _ (m : Parts) (s : Day) (is_machine : IsMachine m) (legal : IsLegalDay s)
           prices = card.prices;
           version = kinds.version;
           proves = record { numbered = planned.prices; expands = kinds.expands; proves = same.proves };
-          plans = same;
+          planned = same.planned;
+          shortest = same.shortest;
+          spares = same.spares;
           leaves = leaves text card.settings.items planned.prices card.prices same dated;
           deciphers = decipher;
           text = text;

@@ -6,7 +6,7 @@ use Rattle.kd_sheet.specs.declared.fault.SheetFault.TheVariants.{NoMemory}
 use Rattle.kd_desk.{proofs.Failing.err_is, proofs.SaidCommands.same_command, specs.CommandLine.desk_grammar}
 use Rattle.{kd_desk.specs.declared.files.fault.FileFault.FileFault, std.proofs.Common.arith}
 use Rattle.kd_desk.proofs.Prelude.{◌≡◌, ℕ, Bool, true, false, List, [], ◌∷◌, ◌++◌, Option, Some, None, IfSome}
-use Rattle.kd_desk.proofs.Prelude.{IsSomeAnd, Result, Ok, Err, IsErrAnd, IsTrue, refl, sym, ap, ◌∙◌, subst, inl, inr}
+use Rattle.kd_desk.proofs.Prelude.{IsErr, IsSomeAnd, Result, Ok, Err, IsErrAnd, IsTrue, refl, sym, ap, ◌∙◌, subst, inl, inr}
 use Rattle.kd_desk.proofs.Prelude.{append_assoc, Row, subcommand_of, Stop, Unread, NamedCommand, IsCommandOf}
 use Rattle.kd_desk.proofs.Prelude.{IsCommandLineOf, KnownCommand, known_command, AreAskedFor, AsksFor, AskedName}
 use Rattle.kd_desk.proofs.Prelude.{MissesOne, asked_and_had, asked_and_missed, is_ok, CarriesOut, IsCommandDone}
@@ -139,6 +139,13 @@ module _ (source sink : Port) (answer : Result (Unit {0}) Stop) where
     pub done : (of_files : KnownCommand) → IsCommandDone of_files source sink answer
         → IfSome known (λ held. AgreesOrNoMemory (known_command held said) (Ok of_files)) → IfSome known Meant
     done of_files is gives = done_of of_files is known gives
+
+-- what holds after each error but `Device` holds if the command was refused before anything was written
+pub early : {X : Type 0} (told : Result (Unit {0}) DeskFault) → (IsErr told → told ≢ Err Device → X)
+    → IsTrue (is_refused_before told) → X
+early (Ok _) holds refused = absurd (cc)
+early (Err Device) holds refused = absurd (cc)
+early (Err fault) holds refused = holds refl (λ e. cc)
 
 -- If the program stopped before anything was written, the command was refused before that.
 pub refused_before : (file_failed : Bool) (told : Result (Unit {0}) DeskFault) (answer : Result (Unit {0}) Stop)

@@ -15,7 +15,7 @@ use Rattle.kd_sheet.specs.Sheet.{day_of}
 use Rattle.kd_sheet.specs.SheetFile.{sheet_of}
 use Rattle.kd_desk.specs.declared.fault.DeskFault.{DeskFault}
 use Rattle.kd_desk.specs.Headline.{IsSheetsMachine}
-use Rattle.kd_desk.specs.OnDay.{IsAnswerOnDay}
+use Rattle.kd_desk.specs.OnDay.{IsAnswerOnDay, machine_and_day}
 use Rattle.kd_desk.specs.RunApply.{Applies}
 use Rattle.kd_desk.specs.RunCard.{Prints}
 use Rattle.kd_desk.specs.RunSteps.{LacksMemory}
@@ -52,11 +52,8 @@ AreWrittenInTurn file sheet numbers papers = ⊥
 -- the day, and spare cables stay free.
 pub record SetTheMachine (file sheet : List ℕ) (number : ℕ) (papers : Papers) : Type 0 where
   pub m : Parts
-  pub of_file : machine_of file ≡ Ok m
-  pub month : List (Option Day)
-  pub of_sheet : sheet_of sheet ≡ Ok month
   pub s : Day
-  pub of_month : day_of month number ≡ Some s
+  pub found : machine_and_day file sheet number ≡ Ok (m, s)
   pub settings : List Setting
   pub of_card : AreSettings papers.card settings
   pub shortest : IsShortest m s settings
@@ -90,8 +87,7 @@ pub record HasDayOf (model : Model) (month : List (Option Day)) (number : ℕ) :
 -- From each machine file of `m`, the desk can write a card for the day `s`, and a next machine file. `n` is the machine
 -- of this next file.
 abbrev pub HasPapers : Parts → Day → Parts → Type 0
-HasPapers m s n = (file sheet : List ℕ) (month : List (Option Day)) → machine_of file ≡ Ok m → sheet_of sheet ≡ Ok month
-    → day_of month (day_number s) ≡ Some s
+HasPapers m s n = (file sheet : List ℕ) → machine_and_day file sheet (day_number s) ≡ Ok (m, s)
     → (papers : Papers) × AreWritten file sheet (day_number s) papers × (machine_of papers.file ≡ Ok n)
 
 -- Cards and machine files for the days `numbers` can be written, one day after another.

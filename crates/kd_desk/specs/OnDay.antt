@@ -1,32 +1,31 @@
 -- How the machine of a machine file and a day of a key sheet are found, and what is done with them.
 -- Test: refuses_the_sheet_next
-use Rattle.std.specs.Prelude.{◌≡◌, ℕ, List, Option, Some, None, Result, Ok, Err, MatchResult}
+use Rattle.std.specs.Prelude.{◌≡◌, ◌⊎◌, ℕ, List, Result, Ok, Err, MatchResult, ok_or}
+use Rattle.std.specs.Result.{result_map_both}
 use Rattle.kd_state.specs.declared.machine.parts.Parts.{Parts}
 use Rattle.kd_state.specs.SheetDay.{Day}
 use Rattle.kd_sheet.specs.declared.fault.SheetFault.{SheetFault}
-use Rattle.kd_sheet.specs.declared.fault.SheetFault.TheVariants.{NoMemory}
+use Rattle.kd_sheet.specs.Document.{◌>>=◌}
 use Rattle.kd_sheet.specs.MachineFile.{machine_of}
 use Rattle.kd_sheet.specs.Sheet.{day_of}
 use Rattle.kd_sheet.specs.SheetFile.{sheet_of}
 use Rattle.kd_desk.specs.declared.fault.DeskFault.{DeskFault}
 use Rattle.kd_desk.specs.declared.fault.DeskFault.TheVariants.{File, NoSuchDay}
+use Rattle.kd_desk.specs.RunSteps.{LacksMemory}
 
--- `found` is the machine of the machine file and day `number` of the sheet. Or it is the first fault: a fault of the
--- machine file, a fault of the sheet, or `NoSuchDay`. Or memory ran out while the files were read.
-pub data FindsDay (machine sheet : List ℕ) (number : ℕ) (found : Result (Parts × Day) DeskFault) : Type 0 where
-  LackedMemory : found ≡ Err (File NoMemory) → FindsDay machine sheet number found
-  NoMachine : (fault : SheetFault) → machine_of machine ≡ Err fault → found ≡ Err (File fault)
-      → FindsDay machine sheet number found
-  NoSheet : (m : Parts) (fault : SheetFault) → machine_of machine ≡ Ok m → sheet_of sheet ≡ Err fault
-      → found ≡ Err (File fault) → FindsDay machine sheet number found
-  NoDay : (m : Parts) (days : List (Option Day)) → machine_of machine ≡ Ok m → sheet_of sheet ≡ Ok days
-      → day_of days number ≡ None → found ≡ Err NoSuchDay → FindsDay machine sheet number found
-  Found : (m : Parts) (days : List (Option Day)) (s : Day) → machine_of machine ≡ Ok m → sheet_of sheet ≡ Ok days
-      → day_of days number ≡ Some s → found ≡ Ok (m, s) → FindsDay machine sheet number found
+abbrev pub or_file_fault : {A : Type 0} → Result A SheetFault → Result A DeskFault
+or_file_fault read = result_map_both (λ value. value) File read
 
--- The machine and the day that were found satisfy `does`; or one wasn't found, and the answer is the first fault.
-pub record IsAnswerOnDay (machine sheet : List ℕ) (number : ℕ) (does : Parts → Day → Type 0)
-    (answer : Result (Unit {0}) DeskFault) : Type 0 where
-  pub found : Result (Parts × Day) DeskFault
-  pub finds : FindsDay machine sheet number found
-  pub done : MatchResult found (λ both. does both.0 both.1) (λ fault. answer ≡ Err fault)
+-- the machine of a machine file, with day `number` of a key sheet; or the first fault, a file's or `NoSuchDay`
+unfoldable pub machine_and_day : List ℕ → List ℕ → ℕ → Result (Parts × Day) DeskFault
+machine_and_day machine sheet number = do
+  m ← or_file_fault (machine_of machine)
+  month ← or_file_fault (sheet_of sheet)
+  day ← ok_or (day_of month number) NoSuchDay
+  Ok (m, day)
+
+-- The machine and the day satisfy `does`; or they can't be found, and the answer is the first fault. Or memory ran out.
+abbrev pub IsAnswerOnDay : List ℕ → List ℕ → ℕ → (Parts → Day → Type 0) → Result (Unit {0}) DeskFault → Type 0
+IsAnswerOnDay machine sheet number does answer =
+    MatchResult (machine_and_day machine sheet number) (λ found. does found.0 found.1) (λ fault. answer ≡ Err fault)
+    ⊎ LacksMemory answer

@@ -11,8 +11,9 @@ use Rattle.kd_card.specs.declared.prices.PriceParts.{PriceParts}
 use Rattle.kd_card.specs.declared.prices.Version.TheVariants.{ByKind}
 use Rattle.kd_card.specs.CardText.{IsCard}
 use Rattle.kd_card.specs.Prices.{version_of}
-use Rattle.kd_card.specs.Proving.{Proves}
-use Rattle.kd_plan.specs.Planned.{IsProvedPlannedCard}
+use Rattle.kd_card.specs.Proving.{Proves, IsShortest}
+use Rattle.kd_plan.specs.Planned.{IsPlannedCard}
+use Rattle.kd_plan.specs.Spares.{SparesStayFree}
 use Rattle.kd_desk.specs.declared.fault.DeskFault.{DeskFault}
 use Rattle.kd_desk.specs.declared.fault.DeskFault.TheVariants.{OtherModel}
 use Rattle.kd_desk.specs.Headline.{LeavesTheSheetsMachine, EquallySetDecipherOn}
@@ -21,15 +22,16 @@ use Rattle.kd_desk.specs.Ports.{WritesText}
 
 -- The card for day `number` was written, or only a prefix of it if the device failed. Its prices are by kind: all equal
 -- cables, pairs, bars or rows have one price. The prices prove that no fewer settings reach the day. Spare cables stay
--- free. The settings lead to a machine that is ready and enciphers as the day's own machine does. A machine on the
--- day's key deciphers what an equally set machine enciphers.
+-- free. The settings lead to the sheet's machine. What one machine enciphers, an equally set machine deciphers.
 pub record WritesCard (m : Parts) (s : Day) (number : ℕ) (sink : Port)
     (answer : Result (Unit {0}) DeskFault) : Type 0 where
   pub settings : List Setting
   pub prices : PriceParts
   pub version : version_of prices ≡ ByKind
   pub proves : Proves m s settings prices
-  pub plans : IsProvedPlannedCard m s settings proves.numbered
+  pub planned : IsPlannedCard m s settings proves.numbered
+  pub shortest : IsShortest m s settings
+  pub spares : SparesStayFree m s settings
   pub leaves : LeavesTheSheetsMachine m s settings
   pub deciphers : EquallySetDecipherOn s
   pub text : List ℕ

@@ -7,7 +7,7 @@ use Rattle.kd_desk.specs.declared.fault.DeskFault.TheVariants.{File, Device, Rea
 use Rattle.kd_form.specs.Streams.{is_off_key}
 
 -- The call ran out of memory while it read a file.
-abbrev pub LacksMemory : Result (Unit {0}) DeskFault → Type 0
+abbrev pub LacksMemory : {A : Type 0} → Result A DeskFault → Type 0
 LacksMemory answer = answer ≡ Err (File NoMemory)
 
 -- The answer is `fault`, unless the call ran out of memory.

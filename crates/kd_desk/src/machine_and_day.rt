@@ -1,8 +1,9 @@
 //! Reads a machine from a machine file, and a day from a key sheet.
-ghost use Rattle.std.specs.Prelude.{◌≡◌, IfOk};
+ghost use Rattle.std.specs.Prelude.{◌≡◌, ◌≢◌, ◌⊎◌, IfErr, IfOk};
 ghost use Rattle.kd_state.specs.Machine.{IsMachine};
 ghost use Rattle.kd_state.specs.SheetDay.{IsLegalDay, day_number};
-ghost use Rattle.kd_desk.specs.OnDay.{FindsDay};
+ghost use Rattle.kd_desk.specs.{OnDay.{machine_and_day}, RunSteps.{LacksMemory}};
+ghost use Rattle.kd_desk.specs.declared.fault.DeskFault.TheVariants.{Device};
 
 use crate::fault::DeskFault;
 use kd_sheet::{read_machine, read_sheet};
@@ -12,13 +13,15 @@ use std::alloc::Global;
 /// Reads the machine in the machine file `machine`, and day `number` in the key sheet `sheet`.
 ///
 /// Faults are tested in this order: faults of the machine file, faults of the sheet, and `NoSuchDay`.
+#[tactic(auto, using(crate::proofs::Days::finding), unfolding(crate::specs::OnDay::machine_and_day))]
 pub fn find_day(
     alloc: Global,
     machine: &[u8],
     sheet: &[u8],
     number: u8,
 ) -> Result<(Machine, SheetDay), DeskFault>
-    ensures day { FindsDay machine.now sheet.now number result }
+    ensures day { (result ≡ machine_and_day machine.now sheet.now number) ⊎ LacksMemory result }
+    ensures fault { IfErr result (λ fault. fault ≢ Device) }
     ensures number { IfOk result (λ found. day_number found.1 ≡ number) }
     ensures legal { IfOk result (λ found. IsMachine found.0 × IsLegalDay found.1) }
 {

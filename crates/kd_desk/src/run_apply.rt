@@ -1,10 +1,10 @@
 //! The command `apply`: carries out settings on a machine, and writes the new machine file.
-ghost use Rattle.std.specs.Prelude.{◌≡◌, ◌⊎◌, ◌||◌, IfOk, IfErr, IsTrue};
+ghost use Rattle.std.specs.Prelude.{◌≡◌, ◌≢◌, ◌⊎◌, ◌||◌, Err, IfOk, IfErr, IsErr};
 ghost use Rattle.kd_sheet.specs.MachineFile.{machine_of};
-ghost use Rattle.kd_desk.specs.declared.fault.DeskFault.TheVariants.{File};
+ghost use Rattle.kd_desk.specs.declared.fault.DeskFault.TheVariants.{File, Device};
 ghost use Rattle.kd_tables.specs.Ports.{port};
 ghost use Rattle.kd_desk.specs.RunApply.{Applies};
-ghost use Rattle.kd_desk.specs.RunSteps.{LacksMemory, AnswersFault, is_device, is_refused_before};
+ghost use Rattle.kd_desk.specs.RunSteps.{LacksMemory, AnswersFault, is_device};
 
 use crate::fault::DeskFault;
 use crate::list_or_card::read_settings;
@@ -27,7 +27,7 @@ pub fn run_apply<W: Sink>(
     ensures refused { IfErr (machine_of machine.now) (λ fault. AnswersFault result (File fault)) }
     ensures applied { IfOk (machine_of machine.now) (λ m.
         Applies m list.now (port W.taken W.has_failed sink.old sink.new) result ⊎ LacksMemory result) }
-    ensures untouched { IsTrue (is_refused_before result) → sink.new ≡ sink.old }
+    ensures untouched { IsErr result → result ≢ Err Device → sink.new ≡ sink.old }
     ensures failed { W.has_failed sink.new ≡ (W.has_failed sink.old || is_device result) }
 {
     let machine = read_machine(alloc, machine)?;
@@ -38,7 +38,7 @@ pub fn run_apply<W: Sink>(
 pub fn apply<W: Sink>(machine: &Machine, list: &[u8], sink: &mut W) -> Result<(), DeskFault>
     ensures applied { Applies machine.now list.now
         (port W.taken W.has_failed sink.old sink.new) result }
-    ensures untouched { IsTrue (is_refused_before result) → sink.new ≡ sink.old }
+    ensures untouched { IsErr result → result ≢ Err Device → sink.new ≡ sink.old }
     ensures failed { W.has_failed sink.new ≡ (W.has_failed sink.old || is_device result) }
 {
     let settings = read_settings(list)?;

@@ -1,5 +1,5 @@
 //! The command `card`: prints the shortest card, whose settings lead from a machine to a day.
-ghost use Rattle.std.specs.Prelude.{◌≡◌, ◌||◌, IsTrue};
+ghost use Rattle.std.specs.Prelude.{◌≡◌, ◌≢◌, ◌||◌, Err, IsErr};
 ghost use Rattle.kd_card.specs.Proving.{ProvesByNumber};
 ghost use Rattle.kd_prices.specs.KindCards.{IsByKind};
 ghost use Rattle.kd_state.specs.Machine.{IsMachine};
@@ -7,7 +7,8 @@ ghost use Rattle.kd_state.specs.SheetDay.{IsLegalDay, day_number};
 ghost use Rattle.kd_desk.specs.OnDay.{IsAnswerOnDay};
 ghost use Rattle.kd_tables.specs.Ports.{port};
 ghost use Rattle.kd_desk.specs.RunCard.{Prints};
-ghost use Rattle.kd_desk.specs.RunSteps.{is_refused_before, is_device};
+ghost use Rattle.kd_desk.specs.RunSteps.{is_device};
+ghost use Rattle.kd_desk.specs.declared.fault.DeskFault.TheVariants.{Device};
 
 use crate::fault::DeskFault;
 use crate::machine_and_day::find_day;
@@ -31,7 +32,7 @@ pub fn run_card<W: Sink>(
 ) -> Result<(), DeskFault>
     ensures card { IsAnswerOnDay machine.now sheet.now number
         (λ m s. Prints m s number (port W.taken W.has_failed sink.old sink.new) result) result }
-    ensures untouched { IsTrue (is_refused_before result) → sink.new ≡ sink.old }
+    ensures untouched { IsErr result → result ≢ Err Device → sink.new ≡ sink.old }
     ensures failed { W.has_failed sink.new ≡ (W.has_failed sink.old || is_device result) }
 {
     let (machine, day) = find_day(alloc, machine, sheet, number)?;
@@ -42,7 +43,7 @@ pub fn run_card<W: Sink>(
 pub fn print_card<W: Sink>(machine: &Machine, day: &SheetDay, sink: &mut W) -> Result<(), DeskFault>
     ensures prints { Prints machine.now day.now (day_number day.now)
         (port W.taken W.has_failed sink.old sink.new) result }
-    ensures untouched { IsTrue (is_refused_before result) → sink.new ≡ sink.old }
+    ensures untouched { IsErr result → result ≢ Err Device → sink.new ≡ sink.old }
     ensures failed { W.has_failed sink.new ≡ (W.has_failed sink.old || is_device result) }
 {
     // The calls of `parts` and `entry` show the prover that the machine and the day are legal.

@@ -1,10 +1,11 @@
 //! The command `check`: says whether a card proves itself shortest.
-ghost use Rattle.std.specs.Prelude.{◌≡◌, ◌||◌, is_err, IsTrue};
+ghost use Rattle.std.specs.Prelude.{◌≡◌, ◌≢◌, ◌||◌, is_err, Err, IsErr};
 ghost use Rattle.kd_tables.specs.Writing.{Writes};
 ghost use Rattle.kd_desk.specs.OnDay.{IsAnswerOnDay};
 ghost use Rattle.kd_tables.specs.Ports.{port};
 ghost use Rattle.kd_desk.specs.RunCheck.{Checks, verdict_text};
-ghost use Rattle.kd_desk.specs.RunSteps.{is_refused_before, is_device};
+ghost use Rattle.kd_desk.specs.RunSteps.{is_device};
+ghost use Rattle.kd_desk.specs.declared.fault.DeskFault.TheVariants as faults;
 
 use crate::fault::DeskFault;
 use crate::machine_and_day::find_day;
@@ -32,7 +33,7 @@ pub fn run_check<W: Sink>(
 ) -> Result<(), DeskFault>
     ensures checks { IsAnswerOnDay machine.now sheet.now number
         (λ m s. Checks m s number card.now (port W.taken W.has_failed sink.old sink.new) result) result }
-    ensures untouched { IsTrue (is_refused_before result) → sink.new ≡ sink.old }
+    ensures untouched { IsErr result → result ≢ Err faults.Device → sink.new ≡ sink.old }
     ensures failed { W.has_failed sink.new ≡ (W.has_failed sink.old || is_device result) }
 {
     let (machine, day) = find_day(alloc, machine, sheet, number)?;
@@ -49,7 +50,7 @@ pub fn check_card<W: Sink>(
 ) -> Result<(), DeskFault>
     ensures checks { Checks machine.now day.now number card.now
         (port W.taken W.has_failed sink.old sink.new) result }
-    ensures untouched { IsTrue (is_refused_before result) → sink.new ≡ sink.old }
+    ensures untouched { IsErr result → result ≢ Err faults.Device → sink.new ≡ sink.old }
     ensures failed { W.has_failed sink.new ≡ (W.has_failed sink.old || is_device result) }
 {
     // The calls of `parts` and `entry` show the prover that the machine and the day are legal.

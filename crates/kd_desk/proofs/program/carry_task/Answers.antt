@@ -1,4 +1,4 @@
-use Rattle.kd_desk.proofs.{Prelude.false, Prelude.known_file, Runs.{nothing_left, refused_before}}
+use Rattle.kd_desk.proofs.{Prelude.false, Prelude.known_file, Runs.{early, nothing_left, refused_before}}
 use Rattle.kd_desk.proofs.program.carry_task.Goals as goal
 
 pub returns-in-Card-clause-does : goal.returns-in-Card-clause-does
@@ -32,12 +32,12 @@ returns-in-Message-clause-does g c =
 
 pub returns-in-Card-clause-untouched : goal.returns-in-Card-clause-untouched
 returns-in-Card-clause-untouched g c =
-    λ early. c.run_card.ensures.untouched (refused_before false _ _ c.of_answer.ensures early)
+    λ stopped. early _ c.run_card.ensures.untouched (refused_before false _ _ c.of_answer.ensures stopped)
 
 pub returns-in-Check-clause-untouched : goal.returns-in-Check-clause-untouched
 returns-in-Check-clause-untouched g c =
-    λ early. c.run_check.ensures.untouched (refused_before false _ _ c.of_answer-in-Check.ensures early)
+    λ stopped. early _ c.run_check.ensures.untouched (refused_before false _ _ c.of_answer-in-Check.ensures stopped)
 
 pub returns-in-Message-clause-untouched : goal.returns-in-Message-clause-untouched
 returns-in-Message-clause-untouched g c =
-    λ early. (c.carry_message-done.ensures.untouched (refused_before _ _ _ c.of_file_answer.ensures early)).1
+    λ stopped. (c.carry_message-done.ensures.untouched (refused_before _ _ _ c.of_file_answer.ensures stopped)).1
