@@ -21,9 +21,8 @@ abbrev both : Parts → Day → Result (Parts × Day) DeskFault
 both m s = Ok (m, s)
 
 both_of : (machine : Result Parts SheetFault) (sheet : Result (List (Option Day)) SheetFault) (number : ℕ) (m : Parts)
-    (s : Day)
-    → (or_file_fault machine >>= (λ n. or_file_fault sheet >>= (λ month. ok_or (day_of month number) NoSuchDay >>= both n)))
-    ≡ both m s
+    (s : Day) → (or_file_fault machine >>= (λ n. or_file_fault sheet
+    >>= (λ month. ok_or (day_of month number) NoSuchDay >>= both n))) ≡ both m s
     → (machine ≡ Ok m) × ((month : List (Option Day)) × (sheet ≡ Ok month) × (day_of month number ≡ Some s))
 both_of machine sheet number m s e = grind arith
 

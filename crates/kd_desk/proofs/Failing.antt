@@ -8,21 +8,15 @@ use Rattle.kd_desk.specs.{Ports.WritesText, declared.fault.DeskFault.TheVariants
 abbrev pub port_over : Option (List ℕ) → Option (List ℕ) → Bool → Bool → Port
 port_over had has before after = record { had = had; has = has; had_failed = before; has_failed = after }
 
--- after a failed call, the port has failed
-pub failed_now : (before after : Bool) → after ≡ (before || true) → IsTrue after
-failed_now before after e = grind (arith, e)
-
 -- if a call didn't fail, the port has failed exactly if it had failed before the call
-pub well_now : (before after : Bool) → after ≡ (before || false) → after ≡ before
-well_now before after e = grind (arith, e)
+pub has_failed-same : (before after : Bool) → after ≡ (before || false) → after ≡ before
+has_failed-same before after e = grind (arith, e)
 
 -- if the source doesn't fail in a call, a port fails exactly if the sink does
-pub sink_fails : (source sink : Port) (failed : Bool) → HasNotFailed source
-    → sink.has_failed ≡ (sink.had_failed || failed)
-    → FailureAgrees source sink failed
-sink_fails source sink false well is = (well, well_now sink.had_failed sink.has_failed is)
-sink_fails source sink true well is =
-    inr (record { failed = failed_now sink.had_failed sink.has_failed is; well = well })
+pub FailureAgrees-sink : (source sink : Port) (failed : Bool) → HasNotFailed source
+    → sink.has_failed ≡ (sink.had_failed || failed) → FailureAgrees source sink failed
+FailureAgrees-sink source sink false well is = (well, has_failed-same sink.had_failed sink.has_failed is)
+FailureAgrees-sink source sink true well is = inr (record { failed = grind arith; well = well })
 
 -- an answer that is an error, as `?` returns it, and whose error is `fault`, is `Err fault`
 pub err_is : {T F : Type 0} (answer : Result T F) (fault : F)

@@ -1,4 +1,4 @@
-use Rattle.kd_desk.proofs.{Failing.sink_fails, Prelude.refl, Runs.nothing_left}
+use Rattle.kd_desk.proofs.{Failing.FailureAgrees-sink, Prelude.refl, Runs.nothing_left}
 use Rattle.kd_desk.proofs.program.carry_out.Goals as goal
 
 pub returns-in-Type-clause-does : goal.returns-in-Type-clause-does
@@ -23,4 +23,4 @@ returns-in-Apply-clause-does g c =
     })
 
 pub returns-clause-failed : goal.returns-clause-failed
-returns-clause-failed g c = sink_fails _ _ _ refl c.carry_task.ensures.failed
+returns-clause-failed g c = FailureAgrees-sink _ _ _ refl c.carry_task.ensures.failed

@@ -1,4 +1,4 @@
-use Rattle.kd_desk.proofs.{Failing.err-holds, Failing.well_now, Prelude.IsReadWhole, Prelude.port}
+use Rattle.kd_desk.proofs.{Failing.err-holds, Failing.has_failed-same, Prelude.IsReadWhole, Prelude.port}
 use Rattle.std.proofs.KnownBytes.{Consumes-trans}
 use Rattle.kd_desk.proofs.files.content.read_whole.Goals as goal
 
@@ -8,5 +8,5 @@ returns-in_err-extend_from_slice-in-Ok g c =
     err-holds c.from_residual.result _ (λ answer. IsReadWhole source answer) c.from_residual.ensures.1 (record {
       read = _;
       given = Consumes-trans _ _ _ _ _ c.loop-buffer.invariant.given c.in-Ok.ensures.bytes.given;
-      is = cc (well_now _ _ c.in-Ok.ensures.failed);
+      is = cc (has_failed-same _ _ c.in-Ok.ensures.failed);
     })
