@@ -12,7 +12,7 @@ use Rattle.kd_card.specs.Loose.{lines_from, loose_lines, pin_line, pin_wheel_tur
 use Rattle.kd_card.specs.Loose.{slot_turn_line, setting_unless, wheel_pin_lines}
 use Rattle.kd_card.specs.Laws.{LooseThingsAreCounted}
 use Rattle.kd_state.proofs.Wheels.{allowed_in_box, has_wheel-Decides, same_wheel-Decides, same_wheel_differs}
-use Rattle.kd_state.specs.{Machine.HasAllPins, Pins.wheel_pins, SheetDay.AreLegalSeats, SheetDay.seats_of_wheels}
+use Rattle.kd_state.specs.{Machine.HasAllPins, Pins.wheel_pins, Machine.AreLegalSeats, SheetDay.seats_of_wheels}
 use Rattle.kd_state.specs.declared.sheet_day.rotor_entry.SheetWheel.{SheetWheel}
 use Rattle.std.specs.List.{list_any}
 use Rattle.kd_pins.specs.PinWheels.{pins_of}

@@ -17,12 +17,12 @@ use Rattle.kd_card.{proofs.Counting.{in_box, lines_of_each}, specs.Loose.{settin
 use Rattle.kd_pins.specs.{PinWheels.pins_of, declared.pin_set.PinSet.PinSet}
 use Rattle.{kd_state.proofs.Slots.{has_letter-Decides, is_some-place_on, set_here}, kd_tables.specs.Rings.place_on}
 use Rattle.{kd_state.proofs.Telling.{Refusing.leads_join, letters_have_places}, std.specs.List.range_with_len}
-use Rattle.kd_state.specs.Machine.{AreOnWheels, HasAllPins, IsSeatedAt}
+use Rattle.kd_state.specs.Machine.{AreLegalSeats, AreOnWheels, HasAllPins, IsSeatedAt}
 use Rattle.kd_state.specs.{Pins.{pin_set, with_pin}}
-use Rattle.kd_state.specs.{SheetDay.{AreLegalSeats, IsLegalPinDay, IsLegalRotorDay, seats_of_wheels}}
+use Rattle.kd_state.specs.SheetDay.{IsLegalPinDay, IsLegalRotorDay, seats_of_wheels}
 use Rattle.kd_state.specs.declared.sheet_day.rotor_entry.SheetWheel.{SheetWheel}
 use Rattle.std.specs.List.{list_any}
-use Rattle.kd_tables.specs.{Tables.{IsAllowed, box_of}, declared.{reflector.Reflector.Reflector, wheel.Wheel.Wheel}}
+use Rattle.kd_tables.specs.{Tables.{box_of, wheels_for}, declared.{reflector.Reflector.Reflector, wheel.Wheel.Wheel}}
 use Rattle.std.proofs.{Common.{find}, lemmas.{Bool.cond_both, Simd.map-map}}
 use Rattle.std.proofs.lemmas.List.{Quantifiers.all_pairs_remove, Recursion.found_at, map-append, set-get_or, set_at}
 use Rattle.std.proofs.lemmas.List.{FromFn.{fill_by_all, get_or-range_with_len, length-range_with_len}, Sums.fold_push}
@@ -150,7 +150,7 @@ module _ (m : RotorParts) where
   behind now w slots = cond (option_map_or (same_wheel w.wheel) now false) slots (map (seat_without w.wheel) slots)
 
   seat_led : (front slots : List (Option Wheel)) (now : Option Wheel) (w : SheetWheel) (number : ℕ)
-      → number ≡ suc (length front) → IsAllowed m.model number w.wheel → IsAbsent front w
+      → number ≡ suc (length front) → Contains (wheels_for m.model number) w.wheel → IsAbsent front w
       → Led (with_slots (front ++ now ∷ slots)) (slot_seat_line number (now, w))
       (with_slots (front ++ Some w.wheel ∷ behind now w slots))
   seat_led front slots now w number e allowed absent = grind (arith, common_steps, false, led_unless, set_at, allowed)
@@ -158,7 +158,7 @@ module _ (m : RotorParts) where
   seats_led : (front slots : List (Option Wheel)) (wheels : List SheetWheel) (number : ℕ) → number ≡ suc (length front)
       → length slots ≡ length wheels
       → ((k n : ℕ) (wheel : Wheel) → n ≡ k + number → IsSeatedAt (seats_of_wheels wheels) k wheel
-      → IsAllowed m.model n wheel)
+      → Contains (wheels_for m.model n) wheel)
       → All (IsAbsent front) wheels → AllPairs (λ (w v : SheetWheel). w.wheel ≢ v.wheel) wheels
       → Led (with_slots (front ++ slots)) (lines_from slot_seat_line number (zip slots wheels))
       (with_slots (front ++ seats_of_wheels wheels))

@@ -81,7 +81,7 @@ pub use Rattle.kd_state.specs.Line.{BeginsWithSettingLines, BeginsWithNoSetting,
 pub use Rattle.kd_state.specs.Line.{IsSettingInRange, list_text, setting_line, setting_words}
 pub use Rattle.kd_state.specs.Machine.{IsLegal, IsMachine, cable_letters, letter_at, model_of, letters_in_cables}
 pub use Rattle.kd_state.specs.Machine.{ring_at}
-pub use Rattle.kd_state.specs.OnKey.{AreThePairs, IsPairJoined, IsCablePaired, ReadsAs, HaveSameLetters}
+pub use Rattle.kd_state.specs.OnKey.{AreThePairs, HasPairLetters, ReadsAs, HaveSameLetters}
 pub use Rattle.kd_state.specs.Setting.{Carries, Leads, cable_at, cable_with, cable_without, machine_after, has_letter}
 pub use Rattle.kd_state.specs.Setting.{refusal_reasons, wheel_in_slot, why_refused, with_lug}
 pub use Rattle.kd_state.specs.{Changes.{HasLugsInOrder}, Setting.{seat_without}}

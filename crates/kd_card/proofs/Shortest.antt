@@ -8,7 +8,7 @@ use Rattle.kd_card.proofs.Prelude.{flat_map, eq-eqb, All-contains, recursion_fro
 use Rattle.kd_card.proofs.Prelude.{sum_by-IsPermutation, Contains-permutation, IsPermutation-refl, IsPermutation-sym}
 use Rattle.kd_card.proofs.Prelude.{IsPermutation-cons, IsPermutation-trans, IsPermutation-remove, Place, One, alphabet}
 use Rattle.kd_card.proofs.Prelude.{reading_of, IsBefore, letters_in_pairs, cable_letters, letters_in_cables, has_letter}
-use Rattle.kd_card.proofs.Prelude.{HaveSameLetters, IsCablePaired, IsPairJoined, AreThePairs, exactly_one, cable_cost}
+use Rattle.kd_card.proofs.Prelude.{HaveSameLetters, HasPairLetters, AreThePairs, exactly_one, cable_cost}
 use Rattle.kd_card.proofs.Prelude.{bar_cost, columns_of, tests_tell_letters, thirteen_columns, rules}
 use Rattle.kd_card.proofs.Prelude.{Contains-append_right, sum_by, HasLugsInOrder, Contains-tail, ◌<◌, Bool, pos, ◌+ℤ◌}
 use Rattle.kd_card.proofs.Prelude.{◌≤ℤ◌, ints, length_permutation, All-permutation, Model, reflectors_of, Parts, Rotor}
@@ -21,6 +21,7 @@ use Rattle.kd_card.proofs.Prelude.{ProvingPricesAreTight, get_or_default, get_or
 use Rattle.kd_card.proofs.Prelude.{AsFewAreNeeded, why_refused, IsPriceTightAt, column_prices, cost_at, table_rows}
 use Rattle.kd_card.proofs.Prelude.{common_steps, price_at, row_prices, All-from_get_or, Contains-get_or, AllZip-long}
 use Rattle.kd_card.proofs.Prelude.{length-map}
+use Rattle.std.proofs.Common.{Any}
 use Rattle.{kd_state.specs.Costs.standings_as, std.proofs.lemmas.List.Edits.length-remove}
 use Rattle.kd_card.proofs.Duality.{pairing_cost, reordered, fold_of_both, prices_moved, fitting_prices, tight_at}
 use Rattle.kd_card.proofs.Duality.{sum_of, prices_with, FitTogether, FitAll}
@@ -200,9 +201,12 @@ cables_paired cables pairs prices has once few count h =
     let matching : AreMatched cables pairs = record {
       cables_once = once_of_distinct (letters_in_cables cables) has.apart;
       pairs_once = once;
-      pair = λ cable among some. let any = (All-contains (IsCablePaired pairs) cables cable h.pair among).joins some in
+      pair = λ cable among some. let any =
+          All-contains (λ (cable : Option ℕ × Option ℕ). cable_letters cable ≢ [] → Any (HasPairLetters cable) pairs)
+          cables cable h.pair among some in
           (any.1, (any.0, any.2, any.3), any.4.letters);
-      cable = λ pair among. let any = (All-contains (IsPairJoined cables) pairs pair h.cable among).joins in
+      cable = λ pair among. let any =
+          All-contains (λ (pair : ℕ × ℕ). Any (λ cable. HasPairLetters cable pair) cables) pairs pair h.cable among in
           (any.1, (any.0, any.2, any.3), any.4.letters);
     }
     in

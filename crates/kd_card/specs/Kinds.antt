@@ -5,7 +5,8 @@ use Rattle.std.specs.{Cmp.Lexicographic.slice_cmp, Ordering.nat_cmp, declared.cm
 use Rattle.std.specs.Fmt.{signed_decimal}
 use Rattle.kd_tables.specs.declared.place.Place.{Place}
 use Rattle.kd_tables.specs.Places.{standing_text, reading_text, place_rank, IsBefore, IsReading}
-use Rattle.kd_state.specs.Words.{letter_text, line_of}
+use Rattle.kd_tables.specs.Text as tables
+use Rattle.kd_state.specs.Words.{line_of}
 use Rattle.kd_state.specs.Machine.{cable_letters}
 use Rattle.kd_state.specs.Costs.{column_letters, one_unless}
 use Rattle.kd_card.specs.declared.kinds.KindOf.{KindOf}
@@ -19,7 +20,7 @@ use Rattle.kd_card.specs.declared.kinds.RowKind.{RowKind}
 -- the text of a cable's or a column's letters in the line of its kind: the letters, or `-` if there are none
 abbrev pub letters_text : List ℕ → List ℕ
 letters_text [] = codes "-"
-letters_text (letter ∷ letters) = flat_map letter_text (letter ∷ letters)
+letters_text (letter ∷ letters) = tables.letters_text (letter ∷ letters)
 
 -- A kind of cables has no letter, a single letter in the first place, or two letters in alphabetical order.
 -- `IsPairInOrder`: a kind of columns has no pair, or a pair with its letters in alphabetical order.

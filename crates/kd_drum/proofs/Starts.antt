@@ -8,7 +8,7 @@ use Rattle.kd_tables.{proofs.Rings.letter_leads_to_place, proofs.Wirings.text_ma
 use Rattle.std.proofs.{Math.Nat.mod-lt, lemmas.Bool.Decides.nat_tests, lemmas.List.FromFn.get_or-map-range_with_len}
 use Rattle.std.proofs.lemmas.List.{Sums.sum_by-le-sum_by, ext_get_or}
 use Rattle.kd_pins.specs.PinWheel.{TurnedWheel, is_effective, letter_shown, is_acting_pin_effective, wheel_at_place}
-use Rattle.kd_pins.specs.PinWheels.{pin_wheels, pins_on, acting_offset, pin_wheel_size}
+use Rattle.kd_pins.specs.PinWheels.{pin_wheels, pins_on, acting_offset}
 use Rattle.kd_drum.specs.Converter.{PinKey, pin_key_turned, shown_place, is_acting_after, bars_met, letter_after}
 use Rattle.kd_drum.specs.Converter.{pin_key_after}
 
@@ -16,33 +16,36 @@ use Rattle.kd_drum.specs.Converter.{pin_key_after}
 pub each_wheel : (P : ℕ → Type 0) → P 1 → P 2 → P 3 → P 4 → P 5 → P 6 → (wheel : ℕ) → 1 ≤ wheel → wheel ≤ 6 → P wheel
 each_wheel P e d g h o q wheel w y = grind arith
 
+abbrev ring_size : ℕ → ℕ
+ring_size wheel = length (ring_of wheel)
+
 -- A wheel has at least one place.
-pub has_places : (wheel : ℕ) → 1 ≤ wheel → wheel ≤ 6 → 0 < pin_wheel_size wheel
+pub has_places : (wheel : ℕ) → 1 ≤ wheel → wheel ≤ 6 → 0 < length (ring_of wheel)
 unfolding ring_of
 has_places =
-    each_wheel (λ wheel. 0 < pin_wheel_size wheel) (omega arith) (omega arith) (omega arith) (omega arith) (omega arith)
+    each_wheel (λ wheel. 0 < ring_size wheel) (omega arith) (omega arith) (omega arith) (omega arith) (omega arith)
     (omega arith)
 
 -- A wheel has a different letter at each place.
-is_ring : (wheel : ℕ) → 1 ≤ wheel → wheel ≤ 6 → IsRing (pin_wheel_size wheel) (ring_of wheel)
+is_ring : (wheel : ℕ) → 1 ≤ wheel → wheel ≤ 6 → IsRing (ring_size wheel) (ring_of wheel)
 unfolding ring_of
 is_ring =
     let text = λ (wheel : ℕ). slice_index_or ring_texts wheel [] in
     let is =
-    λ (wheel : ℕ) (h : is_ring_text (text wheel) ≡ true). text_makes_ring (pin_wheel_size wheel) (text wheel) refl h in
-    each_wheel (λ wheel. IsRing (pin_wheel_size wheel) (ring_of wheel)) (is 1 refl) (is 2 refl) (is 3 refl) (is 4 refl)
+    λ (wheel : ℕ) (h : is_ring_text (text wheel) ≡ true). text_makes_ring (ring_size wheel) (text wheel) refl h in
+    each_wheel (λ wheel. IsRing (ring_size wheel) (ring_of wheel)) (is 1 refl) (is 2 refl) (is 3 refl) (is 4 refl)
     (is 5 refl) (is 6 refl)
 
 start_after : (key : PinKey) (count wheel : ℕ) → 1 ≤ wheel → wheel ≤ 6
-    → shown_place (pin_key_after key count).letters wheel ≡ (shown_place key.letters wheel + count) % pin_wheel_size wheel
+    → shown_place (pin_key_after key count).letters wheel ≡ (shown_place key.letters wheel + count) % ring_size wheel
 start_after key count wheel low high =
-    let place = (shown_place key.letters wheel + count) % pin_wheel_size wheel in
-    let within : place < pin_wheel_size wheel = mod-lt (shown_place key.letters wheel + count)
+    let place = (shown_place key.letters wheel + count) % ring_size wheel in
+    let within : place < ring_size wheel = mod-lt (shown_place key.letters wheel + count)
     (has_places wheel low high) in
     ap (λ letter. unwrap_or (place_on (ring_of wheel) letter) 0)
     (get_or-map-range_with_len (letter_after key count) 1 6 (wheel - 1) wheel 0 (omega arith) (omega arith))
     ∙ ap (λ (found : Option ℕ). unwrap_or found 0)
-    (letter_leads_to_place (pin_wheel_size wheel) (ring_of wheel) (is_ring wheel low high) place within)
+    (letter_leads_to_place (ring_size wheel) (ring_of wheel) (is_ring wheel low high) place within)
 
 -- Moving on by `m`, `i` and `o` places, one after the other, is moving on by their sum, around `n` places.
 three_on : (s m i o n : ℕ) → ((s + m) % n + i + o) % n ≡ (s + (m + i) + o) % n
@@ -51,7 +54,7 @@ three_on s m i o n = grind (arith, mod-add-mod (s + m) n (i + o))
 letter_after_sum : (key : PinKey) (m n wheel : ℕ) → 1 ≤ wheel → wheel ≤ 6
     → letter_after (pin_key_after key m) n wheel ≡ letter_after key (m + n) wheel
 letter_after_sum key m n wheel low high =
-    grind (arith, start_after, mod-add-mod (shown_place key.letters wheel + m) (pin_wheel_size wheel) n)
+    grind (arith, start_after, mod-add-mod (shown_place key.letters wheel + m) (ring_size wheel) n)
 
 pub key_in_turn : ConverterKeyInTurn
 key_in_turn key m n =
@@ -71,10 +74,10 @@ alike_on_wheels wheel x y same = grind (arith, nat_tests, same)
 acts_after_sum : (key : PinKey) (m i wheel : ℕ)
     → is_acting_after key.pins (pin_key_after key m).letters i wheel ≡ is_acting_after key.pins key.letters (m + i) wheel
 acts_after_sum key m i wheel = alike_on_wheels wheel _ _ (λ low high.
-    ap (λ start. is_effective (pins_on key.pins wheel) ((start + i + acting_offset wheel) % pin_wheel_size wheel))
+    ap (λ start. is_effective (pins_on key.pins wheel) ((start + i + acting_offset wheel) % ring_size wheel))
     (start_after key m wheel low high)
     ∙ ap (is_effective (pins_on key.pins wheel))
-    (three_on (shown_place key.letters wheel) m i (acting_offset wheel) (pin_wheel_size wheel)))
+    (three_on (shown_place key.letters wheel) m i (acting_offset wheel) (ring_size wheel)))
 
 -- Tests that agree give equal counts.
 pub count_alike : {X : Type 0} (p q : X → Bool) (xs : List X) → ((x : X) → p x ≡ q x) → count_by p xs ≡ count_by q xs
@@ -91,7 +94,7 @@ start_place : (number size : ℕ) (wheel : TurnedWheel) → IsPinWheel number si
 start_place number size wheel h =
     grind (arith, letter_leads_to_place size wheel.ring h.turned.ring wheel.place h.turned.place)
 
-size_is : (number size : ℕ) (wheel : TurnedWheel) → IsPinWheel number size wheel → pin_wheel_size number ≡ size
+size_is : (number size : ℕ) (wheel : TurnedWheel) → IsPinWheel number size wheel → ring_size number ≡ size
 size_is number size wheel h = sym (ap length h.ring) ∙ h.turned.ring.full
 
 -- A wheel of the key shows `letter_after`, for `count` letters, once it is moved on by `count` places.
@@ -105,7 +108,7 @@ pub acts_now : (key : PinKey) (number size : ℕ) (wheel : TurnedWheel) → IsPi
     → slice_index key.letters (number - 1) ≡ letter_shown wheel → pins_on key.pins number ≡ wheel.pins
     → is_acting_pin_effective size wheel
     ≡ is_effective (pins_on key.pins number)
-    ((shown_place key.letters number + 0 + acting_offset number) % pin_wheel_size number)
+    ((shown_place key.letters number + 0 + acting_offset number) % ring_size number)
 acts_now key number size wheel h shown pins = grind (arith, key, start_place, size, size_is)
 
 -- Moving each wheel on by `count` places gives the key after `count` letters.

@@ -4,12 +4,12 @@
 -- Code: `Converter` turns its wheels at each letter. It reads the number of bars met from a table, which has an entry
 -- for each of the 64 sets of wheels.
 -- Test: bars_are_met, files_are_refused
-use Rattle.std.specs.Prelude.{ℕ, ◌+◌, ◌-◌, ◌%◌, ◌≤◌, nat_le, Bool, ◌&&◌, ◌||◌, List, map, slice_index, unwrap_or}
-use Rattle.std.specs.Prelude.{Contains}
+use Rattle.std.specs.Prelude.{ℕ, ◌+◌, ◌-◌, ◌%◌, ◌≤◌, nat_le, Bool, ◌&&◌, ◌||◌, List, length, map, slice_index}
+use Rattle.std.specs.Prelude.{Contains, unwrap_or}
 use Rattle.std.specs.List.{count_by, enumerate_from}
 use Rattle.kd_tables.specs.Rings.{ring_of, place_on}
 use Rattle.kd_pins.specs.PinWheel.{is_effective}
-use Rattle.kd_pins.specs.PinWheels.{pin_wheels, pins_on, acting_offset, pin_wheel_size}
+use Rattle.kd_pins.specs.PinWheels.{pin_wheels, pins_on, acting_offset}
 
 -- A key of the Converter. `pins`: the effective pins of its six wheels. `letters`: the letters that the wheels show.
 -- `rows`: for each bar, the numbers of the wheels at its two lugs.
@@ -31,27 +31,25 @@ IsEachOnItsWheel letters = (wheel : ℕ) → 1 ≤ wheel → wheel ≤ 6
 abbrev pub shown_place : List ℕ → ℕ → ℕ
 shown_place letters wheel = unwrap_or (place_on (ring_of wheel) (slice_index letters (wheel - 1))) 0
 
--- whether wheel `wheel` has an effective acting pin, `count` letters after the wheels show `letters`; false if there is
--- no wheel with this number
+-- whether the acting pin of wheel `wheel` is effective, `count` letters after the wheels show `letters`
 abbrev pub is_acting_after : List (List Bool) → List ℕ → ℕ → ℕ → Bool
 is_acting_after pins letters count wheel =
     (nat_le 1 wheel && nat_le wheel 6) && is_effective (pins_on pins wheel)
-    ((shown_place letters wheel + count + acting_offset wheel) % pin_wheel_size wheel)
+    ((shown_place letters wheel + count + acting_offset wheel) % length (ring_of wheel))
 
 -- how many bars are met after `count` letters; a bar is met if it has a lug at a wheel with an effective acting pin
 abbrev pub bars_met : PinKey → ℕ → ℕ
 bars_met key count =
     let acts = is_acting_after key.pins key.letters count in count_by (λ row. acts row.0 || acts row.1) key.rows
 
--- The ciphertext of `text`. Each letter is reversed (A becomes Z, B becomes Y), and then moved on by the number of bars
--- met, with A after Z.
+-- The ciphertext of `text`: each letter is reversed (A becomes Z), and then moved on by the number of bars met.
 abbrev pub converter_cipher : PinKey → List ℕ → List ℕ
 converter_cipher key text = map (λ numbered. (25 + bars_met key numbered.0 - numbered.1) % 26) (enumerate_from 0 text)
 
 -- the letter that a wheel shows after `count` letters; the wheel turns by one place for each letter
 abbrev pub letter_after : PinKey → ℕ → ℕ → ℕ
 letter_after key count wheel = slice_index (ring_of wheel)
-    ((shown_place key.letters wheel + count) % pin_wheel_size wheel)
+    ((shown_place key.letters wheel + count) % length (ring_of wheel))
 
 -- the key after `count` letters are enciphered; each letter turns all wheels by one place
 abbrev pub pin_key_after : PinKey → ℕ → PinKey

@@ -10,8 +10,7 @@ use Rattle.kd_tables.specs.declared.reflector.Reflector.{Reflector}
 use Rattle.kd_step.specs.Stepper.{window_after}
 use Rattle.kd_enigma.specs.Rotor.{rotor}
 
--- The key of a rotor machine: its wheels, ring letters and window letters from the left, its reflector, and the
--- permutation of its plugboard.
+-- A rotor machine's key: wheels, ring and window letters from the left, reflector, and the plugboard's permutation.
 pub record RotorKey : Type 0 where
   pub wheels : List Wheel
   pub rings : List ℕ
@@ -47,8 +46,7 @@ unfoldable pub product : List (List ℕ) → List ℕ
 product [] = alphabet
 product (p ∷ ps) = followed_by p (product ps)
 
--- The path of the current while the window shows these letters: plugboard, wheels from right to left,
--- reflector, wheels from left to right, plugboard.
+-- the current's path: plugboard, wheels from right to left, reflector, wheels from left to right, plugboard
 unfoldable pub path : RotorKey → List ℕ → List ℕ
 path key window =
     let wheels = rotors key.wheels key.rings window in

@@ -1,9 +1,8 @@
 -- The six pin wheels of the Converter M-209, numbered from 1 to 6.
 -- Source: War Department TM 11-380
 -- Test: bars_are_met
-use Rattle.std.specs.Prelude.{ℕ, ◌-◌, Bool, List, [], ◌∷◌, length, slice_index, slice_index_or}
+use Rattle.std.specs.Prelude.{ℕ, ◌-◌, Bool, List, [], ◌∷◌, slice_index, slice_index_or}
 use Rattle.std.specs.List.{range_with_len}
-use Rattle.kd_tables.specs.Rings.{ring_of}
 use Rattle.kd_pins.specs.declared.pin_set.PinSet.{PinSet}
 
 -- the numbers of the pin wheels, from 1 to 6
@@ -13,10 +12,6 @@ pin_wheels = range_with_len 1 6
 -- how many places a wheel's acting pin is past the shown letter
 abbrev pub acting_offset : ℕ → ℕ
 acting_offset wheel = slice_index (15 ∷ 14 ∷ 13 ∷ 12 ∷ 11 ∷ 10 ∷ []) (wheel - 1)
-
--- the number of letters on a wheel, which is also its number of pins
-abbrev pub pin_wheel_size : ℕ → ℕ
-pin_wheel_size wheel = length (ring_of wheel)
 
 -- which pins are effective, wheel by wheel
 abbrev pub pins_of : PinSet → List (List Bool)

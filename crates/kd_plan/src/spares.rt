@@ -2,7 +2,7 @@
 ghost use Rattle.std.specs.Prelude.{◌≡◌, ℕ, ◌<◌, ◌≤◌, length, slice_index, IsTrue, MatchOption};
 ghost use Rattle.kd_assign.specs.Assignment.{IsOneToOne, assignment_cost};
 ghost use Rattle.kd_plan.specs.Spares.{is_spare, comes_before, SparesComeLast};
-ghost use Rattle.kd_state.specs.Costs.{cable_costs};
+ghost use Rattle.kd_state.specs.Costs.{cable_cost, columns_of, costs_by};
 
 use kd_state::Cable;
 use kd_tables::Letter;
@@ -14,7 +14,7 @@ use kd_tables::Letter;
 pub(crate) fn keep_spares_free(cables: &[Cable; 13], pairs: &[(Letter, Letter)], to: &mut [u8; 13])
     requires { IsOneToOne to.old }
     ensures one_to_one { IsOneToOne to.new }
-    ensures cost { let costs = cable_costs cables.now pairs.now in
+    ensures cost { let costs = costs_by cable_cost cables.now (columns_of pairs.now) in
         assignment_cost costs to.new ≤ assignment_cost costs to.old }
     ensures spares { SparesComeLast cables.now (length pairs.now) to.new }
 {

@@ -64,18 +64,18 @@ unfolding seat_for
 seat_named key model slots wheel = grind arith
 
 seat_again : (key : Key) (model : Model) (slots : List (Option Wheel)) (seat : Option Wheel) → MayBeSeated key seat
-    → AreWheelsAllowed model slots → AreSeatedOnce slots → (k : ℕ) → slice_get slots k ≡ Some seat
+    → AreLegalSeats model slots → (k : ℕ) → slice_get slots k ≡ Some seat
     → seat_for key model (take k slots) (string (seat_text seat)) ≡ Ok seat
 unfolding seat_for wheel_for
-seat_again key model slots None may allowed apart k at = rw may refl
-seat_again key model slots (Some wheel) may allowed apart k at =
+seat_again key model slots None may seated k at = rw may refl
+seat_again key model slots (Some wheel) may seated k at =
     let within = slice_get_within slots k (Some wheel) at in
     let before : length (take k slots) ≡ k = length-take-le k slots (omega arith) in
     let among_them = (has_wheel-Decides (wheels_for model (length (take k slots) + 1)) wheel).1 (rw before
-    (allowed k wheel at)) in
+    (seated.allowed k wheel at)) in
     let free = not_seated (take k slots) wheel (λ among.
     let stands : slice_get slots among.0 ≡ Some (Some wheel) = grind (arith, common_steps, gets) in
-    omega (arith, apart among.0 k wheel stands at, among.1)) in
+    omega (arith, seated.apart among.0 k wheel stands at, among.1)) in
     rw (seat_named key model (take k slots) wheel, wheel_found wheel, among_them, free) refl
 
 pub seats_in_again : (key : Key) (model : Model) (table : Members) (slots : List (Option Wheel))
@@ -85,8 +85,7 @@ pub seats_in_again : (key : Key) (model : Model) (table : Members) (slots : List
 unfolding seats_in
 seats_in_again key model table slots there may seated =
     rw there (array_again key (nat_eq (slots_of model)) seat_text slots (seat_for key model) (λ k seat at.
-    seat_again key model slots seat (All-slice_get (MayBeSeated key) slots k seat may at) seated.allowed seated.apart
-    k at)
+    seat_again key model slots seat (All-slice_get (MayBeSeated key) slots k seat may at) seated k at)
     (eq-eqb _ _ (sym seated.count)))
 
 -- ---- cables and pairs
@@ -458,7 +457,7 @@ unfolding rotor_parts_in reflector_in letters_at cables_in
 rotor_parts_again m legal =
     let has = (has_reflector-Decides (reflectors_of m.model) m.reflector).1 legal.reflector in
     let seated = seats_in_again keys.Slots m.model (rotor_table m) m.slots refl (λ k d within.
-    grind arith) (record { count = legal.slots; allowed = legal.allowed; apart = legal.apart }) in
+    grind arith) legal.seats in
     grind (arith, common_steps, then_read, reflector_again, capitals_again, cables_again, append-nil)
 
 by_model : (model : Model) (reflector : Reflector) (table : Members) (m : RotorParts)

@@ -1,8 +1,8 @@
 -- Lemmas on the letters in cables, and on cables that join exactly a day's pairs.
 use Rattle.kd_state.proofs.Prelude.{option_zip}
 use Rattle.kd_state.proofs.Prelude.{common_steps, NoLetterTwice, letters_in_pairs, AreCables, cable_letters}
-use Rattle.kd_state.proofs.Prelude.{cable_in_order, letters_in_cables, AreLettersOfPair, AreThePairs, IsPairJoined}
-use Rattle.kd_state.proofs.Prelude.{IsCablePaired, HasPairLetters, HaveSameLetters, are_new_letters, cable_with}
+use Rattle.kd_state.proofs.Prelude.{cable_in_order, letters_in_cables, AreLettersOfPair, AreThePairs}
+use Rattle.kd_state.proofs.Prelude.{HasPairLetters, HaveSameLetters, are_new_letters, cable_with}
 use Rattle.kd_state.proofs.Prelude.{cable_without, has_letter, is_some, and_from, and_parts, cond_both, eq-eqb}
 use Rattle.kd_state.proofs.Prelude.{eqb-false, le-leb, leb-false, not-true, or_from, or_parts, true≢false, nat_tests}
 use Rattle.kd_state.proofs.Prelude.{append_assoc, drop_more, All-contains, All-from_recursion, Contains-append_right}
@@ -176,12 +176,13 @@ HasPairLetters-one_letter pairs cable letter apart only there =
     let unequal = apart_at pairs there.0 pair apart there.2 in
     grind (arith, only pair.0, only pair.1, there.4.letters pair.0, there.4.letters pair.1, unequal)
 
-whole_cable : (pairs : List (ℕ × ℕ)) (cable : Option ℕ × Option ℕ) → NoLetterTwice pairs → IsCablePaired pairs cable
+whole_cable : (pairs : List (ℕ × ℕ)) (cable : Option ℕ × Option ℕ) → NoLetterTwice pairs
+    → (cable_letters cable ≢ [] → Any (HasPairLetters cable) pairs)
     → length (cable_letters cable) ≢ 1
 whole_cable pairs (Some a, None) apart paired one =
-    HasPairLetters-one_letter pairs (Some a, None) a apart (of_one a) (paired.joins (λ none. cc))
+    HasPairLetters-one_letter pairs (Some a, None) a apart (of_one a) (paired (λ none. cc))
 whole_cable pairs (None, Some a) apart paired one =
-    HasPairLetters-one_letter pairs (None, Some a) a apart (of_one a) (paired.joins (λ none. cc))
+    HasPairLetters-one_letter pairs (None, Some a) a apart (of_one a) (paired (λ none. cc))
 whole_cable pairs cable apart paired one = omega (arith, one)
 
 pub whole_cables : (cables : List (Option ℕ × Option ℕ)) (pairs : List (ℕ × ℕ)) → NoLetterTwice pairs
@@ -204,7 +205,8 @@ both_plugged (None, None) letter whole there = absurd (omega (arith, there.1))
 both_plugged (Some one, Some other) letter whole there = ((one, other), refl)
 both_plugged cable letter whole there = absurd (whole refl)
 
-cable_pairs : (pairs : List (ℕ × ℕ)) (cables : List (Option ℕ × Option ℕ)) → AllByRecursion (IsCablePaired pairs) cables
+cable_pairs : (pairs : List (ℕ × ℕ)) (cables : List (Option ℕ × Option ℕ))
+    → AllByRecursion (λ cable. cable_letters cable ≢ [] → Any (HasPairLetters cable) pairs) cables
     → AllByRecursion (λ pair. plugs.HavePairOf pairs pair.0 pair.1) (pairs_of cables)
 cable_pairs pairs [] h = tt
 cable_pairs pairs ((Some a, Some b) ∷ cables) h = search (rules, pairs, same_two, cable_pairs pairs cables h.1)
@@ -216,11 +218,14 @@ module _ (cables : List (Option ℕ × Option ℕ)) (pairs : List (ℕ × ℕ))
   cable_pair x y there =
       All-contains (λ (pair : ℕ × ℕ). plugs.HavePairOf pairs pair.0 pair.1) (pairs_of cables) (x, y)
       (All-from_recursion (λ (pair : ℕ × ℕ). plugs.HavePairOf pairs pair.0 pair.1) (pairs_of cables)
-      (cable_pairs pairs cables (recursion_from_All (IsCablePaired pairs) cables h.pair))) there
+      (cable_pairs pairs cables
+      (recursion_from_All (λ (cable : Option ℕ × Option ℕ). cable_letters cable ≢ [] → Any (HasPairLetters cable) pairs)
+      cables h.pair))) there
 
   day_pair : (x y : ℕ) → Contains pairs (x, y) → plugs.HavePairOf (pairs_of cables) x y
   day_pair x y there =
-      let joined = (All-contains (IsPairJoined cables) pairs (x, y) h.cable there).joins in
+      let joined =
+      All-contains (λ (pair : ℕ × ℕ). Any (λ cable. HasPairLetters cable pair) cables) pairs (x, y) h.cable there in
       let cable = joined.1 in
       let at : slice_get cables joined.0 ≡ Some cable =
       slice_get-get_or cables joined.0 cable joined.2 ∙ ap Some joined.3 in

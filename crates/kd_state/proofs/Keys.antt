@@ -2,15 +2,15 @@
 use Rattle.kd_state.proofs.Prelude.{AreCables, Bool, CipherInTurn, Day, EngineIsTheMachine, EngineKey}
 use Rattle.kd_state.proofs.Prelude.{EquallySetDecipher, IsLegalDay, IsLegalRotorDay, IsMachine, IsPermutation}
 use Rattle.kd_state.proofs.Prelude.{IsRotorOnKey, KeyInTurn, List, OfDrum, OfPins, OfRotors, OfWheels, OnKey}
-use Rattle.kd_state.proofs.Prelude.{OnKeyIsItsCipher, OnKeyIsReady, Parts, Pin, PinKey, PinParts}
+use Rattle.kd_state.proofs.Prelude.{OnKeyIsItsCipher, OnKeyIsReady, Parts, Pin, Place}
 use Rattle.kd_state.proofs.Prelude.{ReadingIsItsCipher, ReadingIsReady, Rotor, RotorDay, RotorParts, SheetWheel, Some}
 use Rattle.kd_state.proofs.Prelude.{TheDayDeciphersItself, TurnedEngineIsTheTurnedMachine, TurnedHasItsKey}
-use Rattle.kd_state.proofs.Prelude.{TurnedHasTheDaysCipher, TurnedIsOnKey, [], is_acting_after, ap, arith, bars_met}
+use Rattle.kd_state.proofs.Prelude.{TurnedHasTheDaysCipher, TurnedIsOnKey, [], is_acting_after, ap, arith}
 use Rattle.kd_state.proofs.Prelude.{cipher, common_steps, converter_cipher, count_by, enumerate_from, filter_map}
 use Rattle.kd_state.proofs.Prelude.{key_with_window, letter_at, map, physical_cipher, physical_key, pins_of}
 use Rattle.kd_state.proofs.Prelude.{place_number, reading_of, recursion_from_All, refl, ring_at, sheet_key}
 use Rattle.kd_enigma.proofs.Cables.{pairs_make_a_plugboard, same_pairs_exchange_alike}
-use Rattle.kd_state.{proofs.Cables.{no_letter_twice, pairs_of, pairs_joined, whole_cables}, specs.Lugs.{bars_moved}}
+use Rattle.kd_state.proofs.Cables.{no_letter_twice, pairs_of, pairs_joined, whole_cables}
 use Rattle.kd_state.proofs.Prelude.{sum_by-IsPermutation, sum_by-cons, sym, window_of, ℕ, ◌+◌, ◌-◌, ◌||◌, ◌∙◌, ◌∷◌, ◌≡◌}
 use Rattle.{kd_state.proofs.Seating.{all_seated, read_all, wheels_of_slots}, std.proofs.Common.{max, min, ◌%◌}}
 use Rattle.std.proofs.Math.{Bool.or_comm, Nat.{max-eq_left, max-eq_right, min-eq_left, min-eq_right}}
@@ -18,31 +18,24 @@ use Rattle.kd_enigma.proofs.Ciphers as enigma
 use Rattle.kd_drum.proofs.Ciphers as drum
 use Rattle.kd_drum.proofs.Starts as starts
 
--- ---- the bars that move are counted alike by lugs and by readings
+-- ---- the bars that are met are counted alike by lugs and by readings
 
--- whether one of two wheels moves a bar doesn't depend on their order
+-- whether one of two wheels meets a bar doesn't depend on their order
 or-min_max : (met : ℕ → Bool) (a b : ℕ) → (met a || met b) ≡ (met (min a b) || met (max a b))
 or-min_max met a b = grind (arith, min-eq_left, max-eq_right, or_comm, min-eq_right, max-eq_left)
 
--- counting the elements whose images by `f` pass a test is counting the images that pass it
-count_by-map : {X Y : Type 0} (p : Y → Bool) (f : X → Y) (xs : List X)
-    → count_by (λ x. p (f x)) xs ≡ count_by p (map f xs)
-count_by-map p f [] = refl
-count_by-map p f (x ∷ xs) = grind (arith, common_steps, sum_by-cons, count_by-map p f xs)
-
-abbrev pin_key : PinParts → PinKey
-pin_key m = record { pins = pins_of m.pins; letters = m.letters; rows = map reading_of m.bars }
-
-moved_as_met : (m : PinParts) (count : ℕ) → bars_met (pin_key m) count ≡ bars_moved m count
-moved_as_met m count =
-    let acts : ℕ → Bool = is_acting_after (pins_of m.pins) m.letters count in
-    sym (count_by-map (λ (row : ℕ × ℕ). acts row.0 || acts row.1) reading_of m.bars)
-    ∙ (λ i. count_by (λ bar. sym (or-min_max acts (place_number bar.0) (place_number bar.1)) i) m.bars)
+met_by_lugs : (acts : ℕ → Bool) (bars : List (Place × Place))
+    → let meets = λ (row : ℕ × ℕ). acts row.0 || acts row.1 in
+    count_by meets (map reading_of bars)
+    ≡ count_by meets (map (λ (bar : Place × Place). (place_number bar.0, place_number bar.1)) bars)
+met_by_lugs acts [] = refl
+met_by_lugs acts (bar ∷ bars) = grind (arith, common_steps, sum_by-cons, or-min_max, met_by_lugs acts bars)
 
 pub engine_cipher : EngineIsTheMachine
 engine_cipher (Rotor m) text = refl
 engine_cipher (Pin m) text =
-    λ i. map (λ (numbered : ℕ × ℕ). (25 + moved_as_met m numbered.0 i - numbered.1) % 26) (enumerate_from 0 text)
+    let met = λ (count : ℕ). met_by_lugs (is_acting_after (pins_of m.pins) m.letters count) m.bars in
+    λ i. map (λ (numbered : ℕ × ℕ). (25 + met numbered.0 i - numbered.1) % 26) (enumerate_from 0 text)
 
 -- machines on the day's key are ready
 pub on_key_ready : OnKeyIsReady

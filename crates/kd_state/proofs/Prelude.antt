@@ -6,7 +6,7 @@ pub use Rattle.kd_state.specs.SameParts.{same_wheel}
 pub use Rattle.kd_state.specs.Changes.{IsKept, IsSeatOf, ChangesTo, MovesLug, SeatsWheel, SetsOnly, TheBar, TheCable}
 pub use Rattle.kd_state.specs.Changes.{TheLetter, ThePin, TheReflector, TheRing, TheShown, TheSlot, Thing, TurnsWheel}
 pub use Rattle.kd_state.specs.Changes.{letters_at_cable, lug_place, other_lug, HasLugsInOrder}
-pub use Rattle.kd_state.specs.Costs.{bar_cost, cable_cost, column_letters, columns_of, exactly_one}
+pub use Rattle.kd_state.specs.Costs.{bar_cost, cable_cost, column_letters, columns_of, costs_by, exactly_one}
 pub use Rattle.kd_state.specs.Laws.{AllowedWheelsLieInTheBox, CipherInTurn, ColumnsAreThePairs, CostTablesAreSquare}
 pub use Rattle.kd_state.specs.Laws.{DaysWheelsHaveTheirPlaces, EngineIsTheMachine, EquallySetDecipher, KeyInTurn}
 pub use Rattle.kd_state.specs.Laws.{ListsHaveNoFault, MachinesCanBeTurned, OnKeyIsItsCipher, OnKeyIsReady, OneListFault}
@@ -18,11 +18,11 @@ pub use Rattle.kd_state.specs.Laws.{TurnedIsOnKey}
 pub use Rattle.kd_state.specs.Line.{BeginsWithSettingLines, BeginsWithSettingLine, BeginsWithNoSetting}
 pub use Rattle.kd_state.specs.Line.{IsSettingInRange, IsListText, IsSettingOfWords, list_text, on_off_text}
 pub use Rattle.kd_state.specs.Line.{setting_line, setting_words}
-pub use Rattle.kd_state.specs.Machine.{AreWheelsAllowed, AreSeatedOnce, AreCables, AreLetters, AreOnWheels, HasAllPins}
+pub use Rattle.kd_state.specs.Machine.{AreLegalSeats, AreCables, AreLetters, AreOnWheels, HasAllPins}
 pub use Rattle.kd_state.specs.Machine.{IsLegalPin, IsLegalRotor, IsMachine, IsSeatedAt, machine_cable, cable_letters}
 pub use Rattle.kd_state.specs.Machine.{with_cables_in_order, letter_at, machine_letter, model_of, cable_in_order}
 pub use Rattle.kd_state.specs.Machine.{letters_in_cables, ring_at, machine_ring, machine_slot, machine_standing}
-pub use Rattle.kd_state.specs.OnKey.{AreLettersOfPair, AreThePairs, IsPairJoined, IsCablePaired}
+pub use Rattle.kd_state.specs.OnKey.{AreLettersOfPair, AreThePairs}
 pub use Rattle.kd_state.specs.OnKey.{IsRotorOnKey, HasPairLetters, OnKey, HaveSameLetters, ShowsWindow}
 pub use Rattle.kd_state.specs.Pins.{pin_at, pin_set, wheel_pins, with_pin}
 pub use Rattle.kd_state.specs.Setting.{Carries, Leads, are_new_letters, cable_at, cable_with}
@@ -45,7 +45,7 @@ pub use Rattle.kd_state.specs.declared.setting.why.Why.TheVariants.{SocketTaken,
 pub use Rattle.kd_state.specs.declared.sheet_day.rotor_entry.SheetWheel.{SheetWheel}
 pub use Rattle.kd_tables.specs.{Permutation.alphabet, Permutation.exchange, Rings.place_on}
 pub use Rattle.kd_tables.specs.Places.{IsBefore, IsReading, lug_text, place_number, place_text, places, reading_of}
-pub use Rattle.kd_tables.specs.Tables.{IsAllowed, box_of, reflector_text, reflectors_of, slots_of}
+pub use Rattle.kd_tables.specs.Tables.{box_of, reflector_text, reflectors_of, slots_of}
 pub use Rattle.kd_tables.specs.Tables.{wheel_text, wheels_for}
 pub use Rattle.kd_tables.specs.declared.{lug.Lug.Lug, lug.Lug.TheVariants.Left, model.Model.Model, place.Place.Place}
 pub use Rattle.kd_tables.specs.declared.{model.Model.TheVariants.M209, place.Place.TheVariants.One}

@@ -1,5 +1,5 @@
 -- Lemmas on the wheels in the slots: their rings and letters, and turning them to any window.
-use Rattle.kd_state.proofs.Prelude.{place_in_box, MachinesCanBeTurned, AreSeatedOnce, AreLetters, IsLegalRotor}
+use Rattle.kd_state.proofs.Prelude.{place_in_box, MachinesCanBeTurned, AreLetters, IsLegalRotor}
 use Rattle.kd_state.proofs.Prelude.{IsSeatedAt, letter_at, ring_at, seats_of_wheels, IsReady, OfWheels}
 use Rattle.kd_state.proofs.Prelude.{physical_key, seated_wheels, Pin, Rotor, RotorParts, SheetWheel}
 use Rattle.kd_state.proofs.Prelude.{exchange, box_of, Model, Wheel, false≢true, get_or-map, length-map, All-map}
@@ -9,7 +9,7 @@ use Rattle.kd_state.proofs.Prelude.{length, map, refl, set, slice_get, subst, su
 use Rattle.kd_state.proofs.Prelude.{◌≡◌, ◌≢◌}
 use Rattle.kd_state.proofs.{Telling.Refusing.Changing.{letters_set, with_letters}, Slots.set_here, Slots.set_other}
 use Rattle.kd_state.proofs.Cables.{pairs_of}
-use Rattle.kd_state.proofs.Wheels.{place_within, IsAllowed-IsPlaced, places_tell_wheels}
+use Rattle.kd_state.proofs.Wheels.{place_within, IsPlaced-from_wheels_for, places_tell_wheels}
 use Rattle.kd_state.specs.Seated.{key_of_wheels, wheel_in_seat, wheel_with_letters}
 
 -- `wheels` are in the slots, with the machine's rings and letters
@@ -82,7 +82,7 @@ filled_seat m legal place None at there none = false≢true there
 filled_seat m legal place (Some wheel) at there none =
     let box = place_in_box m.model wheel in
     let within = place_within m.model wheel
-    (IsAllowed-IsPlaced m.model (place + 1) wheel (legal.allowed place wheel at)).in_box in
+    (IsPlaced-from_wheels_for m.model (place + 1) wheel (legal.seats.allowed place wheel at)).in_box in
     let ring : ring_at m wheel ≡ Some (get_or m.rings box 0) =
     slice_get-get_or m.rings box 0 (omega (arith, within, legal.rings.count)) in
     let letter : letter_at m wheel ≡ Some (get_or m.letters box 0) =
@@ -145,7 +145,8 @@ each_standing : (Q : Wheel → Type 0) (slots : List (Option Wheel))
 each_standing Q [] h = tt
 each_standing Q (seat ∷ slots) h = grind (arith, filter_map, each_standing Q slots (λ k. h (suc k)), h zero)
 
-places_apart : (model : Model) (slots : List (Option Wheel)) → AreSeatedOnce slots
+places_apart : (model : Model) (slots : List (Option Wheel))
+    → ((p q : ℕ) (wheel : Wheel) → IsSeatedAt slots p wheel → IsSeatedAt slots q wheel → p ≡ q)
     → ((k : ℕ) (wheel : Wheel) → IsSeatedAt slots k wheel → Contains (box_of model) wheel)
     → HavePlaces (place_in_box model) (filter_map (λ seated. seated) slots)
 places_apart model [] apart boxed = tt
@@ -169,7 +170,7 @@ can_be_turned (Rotor m) window machine ready are =
     let wheels = seated_wheels m in
     let letters = put place wheels window m.letters in
     let boxed : (k : ℕ) (wheel : Wheel) → IsSeatedAt m.slots k wheel → Contains (box_of m.model) wheel =
-    λ k wheel at. (IsAllowed-IsPlaced m.model (k + 1) wheel (legal.allowed k wheel at)).in_box in
+    λ k wheel at. (IsPlaced-from_wheels_for m.model (k + 1) wheel (legal.seats.allowed k wheel at)).in_box in
     let below =
     each_standing (λ wheel. place wheel < length (box_of m.model)) m.slots
     (λ k wheel at. place_within m.model wheel (boxed k wheel at)) in
@@ -178,7 +179,7 @@ can_be_turned (Rotor m) window machine ready are =
       (
         refl,
         read_put place _ m.letters legal.letters wheels window are.count within below
-            (places_apart m.model m.slots legal.apart boxed),
+            (places_apart m.model m.slots legal.seats.apart boxed),
       ),
       with_letters m m.rings letters machine legal.rings
           (put_letters place _ m.letters legal.letters wheels window within),

@@ -1,11 +1,11 @@
 -- Lemmas on elements counted from 1: slots, and the letters and pins of the pin wheels.
-use Rattle.kd_state.proofs.Prelude.{IsEachOnItsWheel, numbered_item, AreWheelsAllowed, AreOnWheels, HasAllPins}
+use Rattle.kd_state.proofs.Prelude.{IsEachOnItsWheel, numbered_item, IsSeatedAt, wheels_for, AreOnWheels, HasAllPins}
 use Rattle.kd_state.proofs.Prelude.{has_letter, place_on, box_of, Model, Wheel, cases_Bool, eqb-true, le-ltb, lt-ltb}
 use Rattle.kd_state.proofs.Prelude.{Decides-eqb, Decides-like, position-Some, is_member-Decides, get_or_from_slice_get}
 use Rattle.kd_state.proofs.Prelude.{gets, slice_get-get_or, slice_get_within, Decides, is_none, is_some, unwrap_or}
 use Rattle.kd_state.proofs.Prelude.{PinSet, ring_of, Contains, List, Option, Some, arith, false, length, nat_eq, refl}
 use Rattle.kd_state.proofs.Prelude.{set, slice_get, sym, ℕ, ◌+◌, ◌-◌, ◌<◌, ◌∙◌, ◌≡◌, ◌≢◌, ◌≤◌, common_steps}
-use Rattle.{std.proofs.Common.add-one, kd_state.proofs.Wheels.{IsAllowed-IsPlaced, first_within, first_nowhere}}
+use Rattle.{std.proofs.Common.add-one, kd_state.proofs.Wheels.{IsPlaced-from_wheels_for, first_within, first_nowhere}}
 
 -- `x` is element `number`, counted from 1: it is at place `number - 1`
 pub record IsNumbered {X : Type 0} (xs : List X) (number : ℕ) (x : X) : Type 0 where
@@ -45,11 +45,11 @@ numbered_other xs number other x e d = grind (arith, set_other)
 
 -- a wheel in a slot is one of the wheels of the model's box
 pub seated_in_box : (model : Model) (slots : List (Option Wheel)) (slot : ℕ) (wheel : Wheel)
-    → AreWheelsAllowed model slots
+    → ((place : ℕ) (w : Wheel) → IsSeatedAt slots place w → Contains (wheels_for model (place + 1)) w)
     → numbered_item slots slot ≡ Some (Some wheel) → Contains (box_of model) wheel
 seated_in_box model slots slot wheel allowed e =
     let at = is_numbered slots slot (Some wheel) e in
-    (IsAllowed-IsPlaced model (slot - 1 + 1) wheel (allowed (slot - 1) wheel at.here)).in_box
+    (IsPlaced-from_wheels_for model (slot - 1 + 1) wheel (allowed (slot - 1) wheel at.here)).in_box
 
 -- `has_letter` is true exactly if the list contains the letter
 pub has_letter-Decides : (letters : List ℕ) (letter : ℕ) → Decides (has_letter letters letter) (Contains letters letter)

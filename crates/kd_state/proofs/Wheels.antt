@@ -2,7 +2,7 @@
 use Rattle.kd_state.proofs.Prelude.{place_in_box, same_reflector, same_wheel}
 use Rattle.kd_state.proofs.Prelude.{AllowedWheelsLieInTheBox, DaysWheelsHaveTheirPlaces, PlacesTellWheels, IsSeatedAt}
 use Rattle.kd_state.proofs.Prelude.{ShowsWindow, Day, OfPins, PinDay, AllByRecursion, All-from_recursion}
-use Rattle.kd_state.proofs.Prelude.{recursion_from_All, seats_of_wheels, Parts, Pin, PinParts, SheetWheel, IsAllowed}
+use Rattle.kd_state.proofs.Prelude.{recursion_from_All, seats_of_wheels, Parts, Pin, PinParts, SheetWheel}
 use Rattle.kd_state.proofs.Prelude.{box_of, reflector_text, slots_of, wheel_text, wheels_for, Model}
 use Rattle.kd_state.proofs.Prelude.{Reflector, Wheel, I, cases_Bool, eqb-true, false_from_ne_true, leb-true}
 use Rattle.kd_state.proofs.Prelude.{Decides-like, Contains-append_left, Contains-append_right, Contains-get_or}
@@ -10,7 +10,8 @@ use Rattle.kd_state.proofs.Prelude.{passes_at_first, position_or_len_is, is_memb
 use Rattle.kd_state.proofs.Prelude.{slice_get-map, Decides, pointwise_decides, All, list_any, position_or_len}
 use Rattle.kd_state.proofs.Prelude.{option_eq, unwrap_or, Bool, Contains, List, Option, [], ap, arith, false, find}
 use Rattle.kd_state.proofs.Prelude.{get_or, length, refl, rules, sym, true, ℕ, ◌<◌, ◌↔◌, ◌∙◌, ◌∷◌, ◌≡◌, ◌≢◌, ◌≤◌}
-use Rattle.kd_state.proofs.Prelude.{pointwise, ◌&&◌}
+use Rattle.kd_state.proofs.Prelude.{pointwise, ◌&&◌, drop, subst, take, ◌-◌}
+use Rattle.std.proofs.lemmas.List.{take_all}
 use Rattle.std.specs.Prelude.{nat_le}
 use Rattle.{kd_tables.specs.contracts.wheel.Wheel.the_type, kd_tables.specs.declared.model.Model.TheVariants.M4}
 use Rattle.{std.proofs.Common.{cond, ◌==◌}, std.proofs.lemmas.Slice.Eq.bytes_eq-Decides, std.specs.Str.bytes_eq}
@@ -95,10 +96,10 @@ placed_in_m4 true slot wheel e h = search (rules, eqb-true, Contains-append_righ
 placed_in_m4 false slot wheel e h = grind (arith, in_some, lies_in_both, Contains-append_left)
 
 -- if a wheel is allowed in a slot, the slot is one of the model's, and the wheel is in the model's box
-pub IsAllowed-IsPlaced : (model : Model) (slot : ℕ) (wheel : Wheel) → IsAllowed model slot wheel
+pub IsPlaced-from_wheels_for : (model : Model) (slot : ℕ) (wheel : Wheel) → Contains (wheels_for model slot) wheel
     → IsPlaced model slot wheel
-IsAllowed-IsPlaced M4 slot wheel h = placed_in_m4 (slot == 1) slot wheel refl h
-IsAllowed-IsPlaced model slot wheel h = grind (arith, in_some, lies_in_both)
+IsPlaced-from_wheels_for M4 slot wheel h = placed_in_m4 (slot == 1) slot wheel refl h
+IsPlaced-from_wheels_for model slot wheel h = grind (arith, in_some, lies_in_both)
 
 pub lacks_wheel : (wheels : List Wheel) (wheel : Wheel) → ¬ (Contains wheels wheel)
     → list_any (same_wheel wheel) wheels ≡ false
@@ -119,7 +120,7 @@ found_in_box model wheel place within before here =
 -- ---- each wheel of the box, and so of a day, has its own place
 
 pub allowed_in_box : AllowedWheelsLieInTheBox
-allowed_in_box model slot wheel h = (IsAllowed-IsPlaced model slot wheel h).in_box
+allowed_in_box model slot wheel h = (IsPlaced-from_wheels_for model slot wheel h).in_box
 
 -- at the place that `place_in_box` gives for a wheel of the box, the box has this wheel
 at_its_place : (model : Model) (wheel : Wheel) → Contains (box_of model) wheel
@@ -144,6 +145,15 @@ seat_Decides one other = grind (arith, same_true, same_false, same_Some)
 pub seats_Decides : (slots others : List (Option Wheel))
     → Decides (pointwise (option_eq (sameb the_type)) slots others) (slots ≡ others)
 seats_Decides = grind (arith, pointwise_decides, seat_Decides)
+
+-- if the first item has the property `P`, a test of the other items is a test of all items
+pub all_from_first : {X : Type 0} (P : X → Type 0) (xs : List X) (x : X) (b : Bool) → 1 ≤ length xs
+    → x ≡ get_or xs 0 x → P x → Decides b (AllByRecursion P (take (length xs - 1) (drop 1 xs)))
+    → Decides b (AllByRecursion P xs)
+all_from_first P [] x b some e here others = absurd (omega arith)
+all_from_first P (first ∷ xs) x b some e here others =
+    let all : take (length xs) xs ≡ xs = take_all (length xs) xs (omega arith) in
+    grind (arith, all, subst P e here)
 
 -- if `b` decides whether all elements of `xs` satisfy `P`, it also decides this for an equal list `ys`
 pub all_tested : {X : Type 0} (P : X → Type 0) (xs ys : List X) (b : Bool) → Decides b (AllByRecursion P xs) → xs ≡ ys

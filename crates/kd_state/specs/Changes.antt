@@ -7,7 +7,7 @@ use Rattle.kd_tables.specs.declared.lug.Lug.{Lug}
 use Rattle.kd_tables.specs.declared.lug.Lug.TheVariants.{Left, Right}
 use Rattle.kd_tables.specs.Places.{IsBefore}
 use Rattle.kd_tables.specs.Rings.{ring_of}
-use Rattle.kd_tables.specs.Tables.{box_of, reflectors_of, IsAllowed}
+use Rattle.kd_tables.specs.Tables.{box_of, reflectors_of, wheels_for}
 use Rattle.kd_state.specs.declared.machine.parts.Parts.{Parts}
 use Rattle.kd_state.specs.declared.machine.parts.Parts.TheVariants.{Rotor, Pin}
 use Rattle.kd_state.specs.declared.setting.Setting.{Setting}
@@ -147,7 +147,7 @@ abbrev pub AllowsSetting : Parts → Setting → Type 0
 AllowsSetting m (Pull cable letter) = Contains (letters_at_cable m cable) letter
 AllowsSetting m (Put cable letter) = HasLooseEnd m cable
     × ((other : ℕ) → ¬ (Contains (letters_at_cable m other) letter))
-AllowsSetting m (Seat slot wheel) = IsAllowed (model_of m) slot wheel
+AllowsSetting m (Seat slot wheel) = Contains (wheels_for (model_of m) slot) wheel
 AllowsSetting m (SeatReflector reflector) = Contains (reflectors_of (model_of m)) reflector
 AllowsSetting m (RingTo wheel letter) = Contains (box_of (model_of m)) wheel
 AllowsSetting m (Turn slot letter) = CanShow m slot letter

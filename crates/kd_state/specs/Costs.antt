@@ -17,18 +17,15 @@ use Rattle.kd_state.specs.Machine.{cable_letters, ring_at, letter_at}
 use Rattle.kd_state.specs.Setting.{has_letter, is_same_place}
 use Rattle.kd_state.specs.SheetDay.{Day, OfRotors, OfPins}
 
--- whether exactly one of the two values is true
 abbrev pub exactly_one : Bool → Bool → Bool
 exactly_one a b = if a then not b else b
 
--- 0 if `same` is true, else 1
 abbrev pub one_unless : Bool → ℕ
 one_unless same = if same then 0 else 1
 
 -- the letters of a column's pair; none if the column has no pair
 abbrev pub column_letters : Option (ℕ × ℕ) → List ℕ
-column_letters None = []
-column_letters (Some pair) = pair.0 ∷ pair.1 ∷ []
+column_letters column = option_map_or (λ pair. pair.0 ∷ pair.1 ∷ []) column []
 
 -- the cost of a cable and a column: how many letters are in the cable or in the column's pair, but not in both
 abbrev pub cable_cost : Option ℕ × Option ℕ → Option (ℕ × ℕ) → ℕ
@@ -67,25 +64,20 @@ nearest_standing bar row = find (λ other. nat_eq (lugs_moved bar other) (bar_co
 abbrev pub columns_of : List (ℕ × ℕ) → List (Option (ℕ × ℕ))
 columns_of pairs = map Some pairs ++ replicate (13 - length pairs) None
 
--- the cost table of cables: for each cable, a list of its costs with the columns of the day
-abbrev pub cable_costs : List (Option ℕ × Option ℕ) → List (ℕ × ℕ) → List (List ℕ)
-cable_costs cables pairs = map (λ cable. map (cable_cost cable) (columns_of pairs)) cables
-
--- the cost table of bars: for each bar, a list of its costs with the rows of the day
-abbrev pub bar_costs : List (Place × Place) → List (ℕ × ℕ) → List (List ℕ)
-bar_costs bars rows = map (λ bar. map (bar_cost bar) rows) bars
+-- a cost table: for each of `rows`, a list of its costs with `columns`
+abbrev pub costs_by : {X Y : Type 0} → (X → Y → ℕ) → List X → List Y → List (List ℕ)
+costs_by cost rows columns = map (λ row. map (cost row) columns) rows
 
 -- the cost table of a machine and a day of the same model: a cost for each cable and column, or for each bar and row
 abbrev pub cost_table : Parts → Day → List (List ℕ)
-cost_table (Rotor m) (OfRotors s) = cable_costs m.cables s.pairs
-cost_table (Pin m) (OfPins s) = bar_costs m.bars s.rows
+cost_table (Rotor m) (OfRotors s) = costs_by cable_cost m.cables (columns_of s.pairs)
+cost_table (Pin m) (OfPins s) = costs_by bar_cost m.bars s.rows
 cost_table _ _ = []
 
 -- ---- Loose things: those other than cables and bars that differ from the day.
 
--- How many things, cables and bars aside, differ from the day. On a rotor machine: slots, the reflector, and the rings
--- and window letters of the day's wheels, even of wheels still in the box. On a Converter: pins, and the letters that
--- the pin wheels show.
+-- How many things, cables and bars aside, differ from the day: slots, the reflector, and the rings and window letters
+-- of the day's wheels, even of wheels still in the box; or pins, and the letters that the pin wheels show.
 abbrev pub loose_count : Parts → Day → ℕ
 loose_count (Rotor m) (OfRotors s) =
     count_by (λ slot. not (option_map_or (same_wheel slot.1.wheel) slot.0 false)) (zip m.slots s.wheels)

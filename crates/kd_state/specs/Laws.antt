@@ -5,7 +5,7 @@ use Rattle.std.specs.Bool.{Decides}
 use Rattle.kd_tables.specs.declared.model.Model.{Model}
 use Rattle.kd_tables.specs.declared.wheel.Wheel.{Wheel}
 use Rattle.kd_tables.specs.declared.reflector.Reflector.{Reflector}
-use Rattle.kd_tables.specs.Tables.{box_of, reflectors_of, IsAllowed}
+use Rattle.kd_tables.specs.Tables.{box_of, reflectors_of, wheels_for}
 use Rattle.kd_state.specs.declared.machine.rotor_parts.RotorParts.{RotorParts}
 use Rattle.kd_state.specs.declared.machine.parts.Parts.{Parts}
 use Rattle.kd_state.specs.declared.machine.parts.Parts.TheVariants.{Rotor}
@@ -14,12 +14,12 @@ use Rattle.kd_state.specs.declared.setting.Setting.TheVariants.{Seat, SeatReflec
 use Rattle.kd_state.specs.declared.setting.list.ListFault.{ListFault}
 use Rattle.kd_state.specs.declared.sheet_day.rotor_entry.SheetWheel.{SheetWheel}
 use Rattle.kd_state.specs.SameParts.{same_wheel, same_reflector, place_in_box}
-use Rattle.kd_state.specs.Machine.{IsMachine}
+use Rattle.kd_state.specs.Machine.{AreLegalSeats, IsMachine}
 use Rattle.kd_state.specs.Setting.{has_letter, why_refused, Carries, Leads}
 use Rattle.kd_state.specs.Changes.{ChangesTo, AllowsSetting}
 use Rattle.kd_state.specs.Words.{IsWord}
 use Rattle.kd_state.specs.Line.{setting_words, setting_line, IsSettingInRange, IsListText, IsListFault}
-use Rattle.kd_state.specs.SheetDay.{seats_of_wheels, AreLegalSeats, Day, IsLegalDay}
+use Rattle.kd_state.specs.SheetDay.{seats_of_wheels, Day, IsLegalDay}
 use Rattle.kd_state.specs.OnKey.{HaveSameLetters, OnKey, ReadsAs}
 use Rattle.kd_state.specs.Costs.{columns_of, cable_cost, cost_table}
 use Rattle.kd_state.specs.TwoCiphers.{EngineKey, cipher, engine_key_after, key_with_window, IsWindow, IsReady}
@@ -36,7 +36,7 @@ NamesTellReflectors = (reflector other : Reflector) → Decides (same_reflector 
 -- A wheel that is allowed in a slot of a model is in the model's box.
 abbrev pub AllowedWheelsLieInTheBox : Type 0
 AllowedWheelsLieInTheBox =
-    (model : Model) (slot : ℕ) (wheel : Wheel) → IsAllowed model slot wheel → Contains (box_of model) wheel
+    (model : Model) (slot : ℕ) (wheel : Wheel) → Contains (wheels_for model slot) wheel → Contains (box_of model) wheel
 
 -- Each wheel of a box has a place below the box's length.
 abbrev pub WheelsHavePlaces : Type 0
@@ -97,7 +97,7 @@ RefusalsAreTold = (m : Parts) (x : Setting) → IsMachine m → (why_refused m x
 abbrev pub SeatsAreByTheTables : Type 0
 SeatsAreByTheTables =
     (m : RotorParts) (slot : ℕ) (wheel : Wheel)
-    → (why_refused (Rotor m) (Seat slot wheel) ≡ None) ↔ IsAllowed m.model slot wheel
+    → (why_refused (Rotor m) (Seat slot wheel) ≡ None) ↔ Contains (wheels_for m.model slot) wheel
 
 -- A rotor machine lets a reflector be seated exactly if the reflector is one of the model's.
 abbrev pub ReflectorsAreByTheTables : Type 0

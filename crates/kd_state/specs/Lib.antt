@@ -13,7 +13,6 @@ pub mod SheetDay
 pub mod Entry
 pub mod OneModel
 pub mod OnKey
-pub mod Lugs
 pub mod TwoCiphers
 pub mod Seated
 pub mod Engine

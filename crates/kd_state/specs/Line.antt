@@ -5,7 +5,8 @@ use Rattle.std.specs.Prelude.{length, All, Option, MatchOption}
 use Rattle.std.specs.List.{flat_map}
 use Rattle.kd_tables.specs.Tables.{wheel_text, reflector_text}
 use Rattle.kd_tables.specs.Places.{place_text, lug_text}
-use Rattle.kd_state.specs.Words.{letter_text, line_of}
+use Rattle.kd_tables.specs.Text.{letters_text}
+use Rattle.kd_state.specs.Words.{line_of}
 use Rattle.kd_state.specs.declared.setting.Setting.{Setting}
 use Rattle.kd_state.specs.declared.setting.Setting.TheVariants.{Pull, Put, Seat, SeatReflector, RingTo, Turn, PinTo}
 use Rattle.kd_state.specs.declared.setting.Setting.TheVariants.{LugTo}
@@ -16,16 +17,15 @@ use Rattle.kd_state.specs.declared.setting.list.ListFault.TheVariants.{BadLine, 
 abbrev pub on_off_text : Bool → List ℕ
 on_off_text effective = if effective then codes "ON" else codes "OFF"
 
--- the words of a setting's line
 abbrev pub setting_words : Setting → List (List ℕ)
-setting_words (Pull cable letter) = codes "PULL" ∷ decimal cable ∷ letter_text letter ∷ []
-setting_words (Put cable letter) = codes "PUT" ∷ decimal cable ∷ letter_text letter ∷ []
+setting_words (Pull cable letter) = codes "PULL" ∷ decimal cable ∷ letters_text (letter ∷ []) ∷ []
+setting_words (Put cable letter) = codes "PUT" ∷ decimal cable ∷ letters_text (letter ∷ []) ∷ []
 setting_words (Seat slot wheel) = codes "SEAT" ∷ decimal slot ∷ wheel_text wheel ∷ []
 setting_words (SeatReflector reflector) = codes "REFLECTOR" ∷ reflector_text reflector ∷ []
-setting_words (RingTo wheel letter) = codes "RING" ∷ wheel_text wheel ∷ letter_text letter ∷ []
-setting_words (Turn slot letter) = codes "TURN" ∷ decimal slot ∷ letter_text letter ∷ []
+setting_words (RingTo wheel letter) = codes "RING" ∷ wheel_text wheel ∷ letters_text (letter ∷ []) ∷ []
+setting_words (Turn slot letter) = codes "TURN" ∷ decimal slot ∷ letters_text (letter ∷ []) ∷ []
 setting_words (PinTo wheel letter effective) =
-    codes "PIN" ∷ decimal wheel ∷ letter_text letter ∷ on_off_text effective ∷ []
+    codes "PIN" ∷ decimal wheel ∷ letters_text (letter ∷ []) ∷ on_off_text effective ∷ []
 setting_words (LugTo bar lug place) = codes "LUG" ∷ decimal bar ∷ lug_text lug ∷ place_text place ∷ []
 
 -- the line of a setting without LF: its words, with single spaces between them

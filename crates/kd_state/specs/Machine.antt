@@ -7,7 +7,7 @@ use Rattle.std.specs.Option.{option_or, option_to_list}
 use Rattle.kd_tables.specs.declared.model.Model.{Model}
 use Rattle.kd_tables.specs.declared.model.Model.TheVariants.{M209}
 use Rattle.kd_tables.specs.declared.wheel.Wheel.{Wheel}
-use Rattle.kd_tables.specs.Tables.{box_of, slots_of, reflectors_of, IsAllowed}
+use Rattle.kd_tables.specs.Tables.{box_of, slots_of, reflectors_of, wheels_for}
 use Rattle.kd_tables.specs.Rings.{ring_of}
 use Rattle.kd_tables.specs.Places.{IsBefore}
 use Rattle.kd_pins.specs.declared.pin_set.PinSet.{PinSet}
@@ -20,11 +20,9 @@ use Rattle.kd_state.specs.declared.machine.parts.Parts.{Parts}
 use Rattle.kd_state.specs.declared.machine.parts.Parts.TheVariants.{Rotor, Pin}
 use Rattle.kd_state.specs.SameParts.{place_in_box, numbered_item}
 
--- the letters in a cable
 abbrev pub cable_letters : Option ℕ × Option ℕ → List ℕ
 cable_letters cable = option_to_list cable.0 ++ option_to_list cable.1
 
--- the letters in all cables
 abbrev pub letters_in_cables : List (Option ℕ × Option ℕ) → List ℕ
 letters_in_cables cables = flat_map cable_letters cables
 
@@ -32,15 +30,12 @@ letters_in_cables cables = flat_map cable_letters cables
 abbrev pub IsSeatedAt : List (Option Wheel) → ℕ → Wheel → Type 0
 IsSeatedAt slots place wheel = slice_get slots place ≡ Some (Some wheel)
 
--- Each wheel is allowed in its slot.
-abbrev pub AreWheelsAllowed : Model → List (Option Wheel) → Type 0
-AreWheelsAllowed model slots = (place : ℕ) (w : Wheel) → IsSeatedAt slots place w → IsAllowed model (place + 1) w
+-- There is one item for each slot of the model. Each wheel is allowed in its slot, and no wheel is in two slots.
+pub record AreLegalSeats (model : Model) (slots : List (Option Wheel)) : Type 0 where
+  pub count : length slots ≡ slots_of model
+  pub allowed : (place : ℕ) (w : Wheel) → IsSeatedAt slots place w → Contains (wheels_for model (place + 1)) w
+  pub apart : (p q : ℕ) (wheel : Wheel) → IsSeatedAt slots p wheel → IsSeatedAt slots q wheel → p ≡ q
 
--- No wheel is in two slots.
-abbrev pub AreSeatedOnce : List (Option Wheel) → Type 0
-AreSeatedOnce slots = (p q : ℕ) (wheel : Wheel) → IsSeatedAt slots p wheel → IsSeatedAt slots q wheel → p ≡ q
-
--- There are `number` letters, each below 26.
 pub record AreLetters (number : ℕ) (letters : List ℕ) : Type 0 where
   pub count : length letters ≡ number
   pub within : All (λ letter. letter < 26) letters
@@ -65,24 +60,19 @@ HasAllPins pins = (wheel : ℕ) → length (wheel_pins pins wheel) ≡ length (r
 -- own rule
 -- Code: `Machine` has these rules as its invariant.
 
--- The parts of a rotor machine are legal.
 pub record IsLegalRotor (m : RotorParts) : Type 0 where
-  pub slots : length m.slots ≡ slots_of m.model
-  pub allowed : AreWheelsAllowed m.model m.slots
-  pub apart : AreSeatedOnce m.slots
+  pub seats : AreLegalSeats m.model m.slots
   pub reflector : Contains (reflectors_of m.model) m.reflector
   pub rings : AreLetters (length (box_of m.model)) m.rings
   pub letters : AreLetters (length (box_of m.model)) m.letters
   pub cables : AreCables m.cables
 
--- The parts of a Converter M-209 are legal.
 pub record IsLegalPin (m : PinParts) : Type 0 where
   pub pins : HasAllPins m.pins
   pub letters : AreOnWheels m.letters
   pub bars : length m.bars ≡ 27
   pub apart : All (λ bar. IsBefore bar.0 bar.1) m.bars
 
--- The parts of a machine of any model are legal.
 abbrev pub IsLegal : Parts → Type 0
 IsLegal (Rotor m) = IsLegalRotor m
 IsLegal (Pin m) = IsLegalPin m
@@ -106,7 +96,6 @@ pub record IsMachine (m : Parts) : Type 0 where
 -- ---- What the readers of a machine show; `None` for a thing that the machine lacks.
 -- Test: kd_trials/src/state/reading.rt
 
--- the model of a machine
 abbrev pub model_of : Parts → Model
 model_of (Rotor m) = m.model
 model_of (Pin m) = M209

@@ -23,18 +23,10 @@ AreLettersOfPair one other pair = ((one ≡ pair.0) × (other ≡ pair.1)) ⊎ (
 pub record HasPairLetters (cable : Option ℕ × Option ℕ) (pair : ℕ × ℕ) : Type 0 where
   pub letters : HaveSameLetters (cable_letters cable) (pair.0 ∷ pair.1 ∷ [])
 
--- The cable is empty, or has the letters of one of the pairs.
-pub record IsCablePaired (pairs : List (ℕ × ℕ)) (cable : Option ℕ × Option ℕ) : Type 0 where
-  pub joins : cable_letters cable ≢ [] → Any (HasPairLetters cable) pairs
-
--- One of the cables has the letters of the pair.
-pub record IsPairJoined (cables : List (Option ℕ × Option ℕ)) (pair : ℕ × ℕ) : Type 0 where
-  pub joins : Any (λ cable. HasPairLetters cable pair) cables
-
 -- Each cable is empty or has the letters of a pair, and each pair's letters are in a cable. No order matters.
 pub record AreThePairs (cables : List (Option ℕ × Option ℕ)) (pairs : List (ℕ × ℕ)) : Type 0 where
-  pub pair : All (IsCablePaired pairs) cables
-  pub cable : All (IsPairJoined cables) pairs
+  pub pair : All (λ cable. cable_letters cable ≢ [] → Any (HasPairLetters cable) pairs) cables
+  pub cable : All (λ pair. Any (λ cable. HasPairLetters cable pair) cables) pairs
 
 -- Each slot has the day's wheel with the day's ring. The model, the reflector and the cables are the day's.
 pub record IsRotorOnKey (m : RotorParts) (s : RotorDay) : Type 0 where
@@ -44,14 +36,12 @@ pub record IsRotorOnKey (m : RotorParts) (s : RotorDay) : Type 0 where
   pub reflector : m.reflector ≡ s.reflector
   pub cables : AreThePairs m.cables s.pairs
 
--- The machine is set as the day says, whatever letters it shows; a Converter's bars read as the day's rows,
--- in any order.
+-- The machine is set as the day says, whatever letters it shows. A Converter's bars read as the rows in any order.
 abbrev pub OnKey : Parts → Day → Type 0
 OnKey (Rotor m) (OfRotors s) = IsRotorOnKey m s
 OnKey (Pin m) (OfPins s) = (m.pins ≡ s.pins) × IsPermutation (map reading_of m.bars) s.rows
 OnKey _ _ = ⊥
 
--- The machine shows the day's letters.
 abbrev pub ShowsWindow : Parts → Day → Type 0
 ShowsWindow (Rotor m) (OfRotors s) = All (λ w. letter_at m w.wheel ≡ Some w.letter) s.wheels
 ShowsWindow (Pin m) (OfPins s) = m.letters ≡ s.window

@@ -8,11 +8,9 @@ use Rattle.kd_tables.specs.declared.wheel.Wheel.{Wheel}
 use Rattle.kd_tables.specs.declared.reflector.Reflector.{Reflector}
 use Rattle.kd_tables.specs.Tables.{box_of, wheel_text, reflector_text}
 
--- whether two wheels have the same name
 abbrev pub same_wheel : Wheel → Wheel → Bool
 same_wheel wheel other = bytes_eq (wheel_text wheel) (wheel_text other)
 
--- whether two reflectors have the same name
 abbrev pub same_reflector : Reflector → Reflector → Bool
 same_reflector reflector other = bytes_eq (reflector_text reflector) (reflector_text other)
 

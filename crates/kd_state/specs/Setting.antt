@@ -26,7 +26,6 @@ use Rattle.kd_state.specs.declared.setting.why.Why.TheVariants.{NoSuchBar, Place
 use Rattle.kd_state.specs.SameParts.{same_wheel, same_reflector, place_in_box, numbered_item}
 use Rattle.kd_state.specs.Machine.{cable_letters, letters_in_cables, cable_in_order}
 
--- whether the letter is in the list
 abbrev pub has_letter : List ℕ → ℕ → Bool
 has_letter letters letter = list_any (λ other. nat_eq other letter) letters
 
@@ -43,7 +42,6 @@ cable_at m cable = unwrap_or (numbered_item m.cables cable) (None, None)
 abbrev pub wheel_in_slot : RotorParts → ℕ → Option Wheel
 wheel_in_slot m slot = unwrap_or (numbered_item m.slots slot) None
 
--- whether the two places are equal
 abbrev pub is_same_place : Place → Place → Bool
 is_same_place place other = nat_eq (place_rank place) (place_rank other)
 

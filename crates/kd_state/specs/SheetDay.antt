@@ -7,12 +7,12 @@ use Rattle.kd_tables.specs.declared.model.Model.TheVariants.{M209}
 use Rattle.kd_tables.specs.declared.wheel.Wheel.{Wheel}
 use Rattle.kd_tables.specs.declared.reflector.Reflector.{Reflector}
 use Rattle.kd_tables.specs.Places.{IsReading}
-use Rattle.kd_tables.specs.Tables.{slots_of, reflectors_of}
+use Rattle.kd_tables.specs.Tables.{reflectors_of}
 use Rattle.kd_pins.specs.declared.pin_set.PinSet.{PinSet}
 use Rattle.kd_enigma.specs.Plugs.{letters_in_pairs, NoLetterTwice}
 use Rattle.kd_state.specs.declared.sheet_day.rotor_entry.SheetWheel.{SheetWheel}
 use Rattle.kd_state.specs.SameParts.{numbered_item}
-use Rattle.kd_state.specs.Machine.{AreWheelsAllowed, AreSeatedOnce, AreLetters, AreOnWheels, HasAllPins}
+use Rattle.kd_state.specs.Machine.{AreLegalSeats, AreLetters, AreOnWheels, HasAllPins}
 
 -- The values of a day of a rotor machine. `wheels` has the wheel for each slot, from the left, with its ring and its
 -- window letter. `pairs` are the plugged pairs. `groups` are groups of three letters that mark the day's messages.
@@ -24,8 +24,7 @@ pub record RotorDay : Type 0 where
   pub pairs : List (ℕ × ℕ)
   pub groups : List (List ℕ)
 
--- The values of a day of the Converter M-209: the readings for the bars, the effective pins, the letters that
--- the wheels show, and the two letters of the key list.
+-- A Converter's day: the bars' readings, the effective pins, the wheels' letters, and the two letters of the key list.
 pub record PinDay : Type 0 where
   pub day : ℕ
   pub rows : List (ℕ × ℕ)
@@ -47,7 +46,6 @@ rotor_day_of day model reflector wheels pairs groups = record {
 abbrev pub pin_day_of : ℕ → List (ℕ × ℕ) → PinSet → List ℕ → List ℕ → PinDay
 pin_day_of day rows pins window list = record { day = day; rows = rows; pins = pins; window = window; list = list }
 
--- The values of a day of a rotor machine, or of a Converter M-209.
 pub data Day : Type 0 where
   OfRotors : RotorDay → Day
   OfPins : PinDay → Day
@@ -76,12 +74,6 @@ pub record HasWheelLetters (wheel : SheetWheel) : Type 0 where
 abbrev pub seats_of_wheels : List SheetWheel → List (Option Wheel)
 seats_of_wheels wheels = map (λ w. Some w.wheel) wheels
 
--- There is one item for each slot of the model. Each wheel is allowed in its slot, and no wheel is in two slots.
-pub record AreLegalSeats (model : Model) (slots : List (Option Wheel)) : Type 0 where
-  pub count : length slots ≡ slots_of model
-  pub allowed : AreWheelsAllowed model slots
-  pub apart : AreSeatedOnce slots
-
 -- The values of a rotor machine's day are legal: a key sheet can have them.
 pub record IsLegalRotorDay (s : RotorDay) : Type 0 where
   pub day : IsDayNumber s.day
@@ -109,12 +101,10 @@ IsLegalDay (OfPins s) = IsLegalPinDay s
 -- ---- What the readers of a day show.
 -- Test: kd_trials/src/state/days.rt
 
--- the number of a day in its month
 abbrev pub day_number : Day → ℕ
 day_number (OfRotors s) = s.day
 day_number (OfPins s) = s.day
 
--- the model of a day
 abbrev pub day_model : Day → Model
 day_model (OfRotors s) = s.model
 day_model (OfPins s) = M209

@@ -6,7 +6,7 @@ use Rattle.std.specs.List.{filter_map}
 use Rattle.std.specs.Option.{option_zip}
 use Rattle.kd_tables.specs.declared.wheel.Wheel.{Wheel}
 use Rattle.kd_tables.specs.Permutation.{exchange}
-use Rattle.kd_tables.specs.Places.{reading_of}
+use Rattle.kd_tables.specs.Places.{place_number, reading_of}
 use Rattle.kd_pins.specs.PinWheels.{pins_of}
 use Rattle.kd_enigma.specs.Cipher.{RotorKey, enigma_cipher, key_after, key_turned}
 use Rattle.kd_drum.specs.Converter.{PinKey, converter_cipher, pin_key_after, pin_key_turned}
@@ -15,14 +15,11 @@ use Rattle.kd_state.specs.declared.machine.parts.Parts.{Parts}
 use Rattle.kd_state.specs.declared.machine.parts.Parts.TheVariants.{Rotor, Pin}
 use Rattle.kd_state.specs.Machine.{cable_letters, ring_at, letter_at, AreLetters, AreOnWheels}
 use Rattle.kd_state.specs.SheetDay.{Day, OfRotors, OfPins}
-use Rattle.kd_state.specs.Lugs.{lugs_cipher}
 
--- The key of an engine: a rotor machine's, or a Converter's.
 pub data EngineKey : Type 0 where
   OfWheels : RotorKey → EngineKey
   OfDrum : PinKey → EngineKey
 
--- the ciphertext that an engine with this key makes of a text
 abbrev pub cipher : EngineKey → List ℕ → List ℕ
 cipher (OfWheels key) text = enigma_cipher key text
 cipher (OfDrum key) text = converter_cipher key text
@@ -61,10 +58,9 @@ window_of (Pin m) = m.letters
 
 -- ---- The cipher of a machine, by its slots, cables and lugs, and of a day, by its wheels, pairs and rows.
 -- Source: the published accounts of the current's path; War Department TM 11-380
+-- Code: bars are counted by their readings, not by their lugs.
 
--- The key to which a machine is set. A rotor machine's key has the wheels in the slots with their rings and window
--- letters, the reflector, and the cables with two letters. A Converter's key has the pins, the shown letters and the
--- bars' readings.
+-- the key to which a machine is set; of the cables, only those with two letters count
 abbrev pub physical_key : Parts → EngineKey
 physical_key (Rotor m) = OfWheels (record {
   wheels = seated_wheels m;
@@ -89,7 +85,9 @@ sheet_key (OfPins s) = OfDrum (record { pins = pins_of s.pins; letters = s.windo
 -- the ciphertext that a ready machine makes: a rotor machine by its key, a Converter by its pins, letters and lugs
 abbrev pub physical_cipher : Parts → List ℕ → List ℕ
 physical_cipher (Rotor m) text = cipher (physical_key (Rotor m)) text
-physical_cipher (Pin m) text = lugs_cipher m text
+physical_cipher (Pin m) text =
+    let rows = map (λ bar. (place_number bar.0, place_number bar.1)) m.bars in
+    converter_cipher (record { pins = pins_of m.pins; letters = m.letters; rows = rows }) text
 
 -- the ciphertext that an engine makes of a text with the key that the day asks for
 abbrev pub sheet_cipher : Day → List ℕ → List ℕ

@@ -1,7 +1,8 @@
 -- Lines of words with single spaces between them, and texts split at a byte.
 -- Test: kd_trials/src/state/line.rt
-use Rattle.std.specs.Prelude.{decimal, ◌≡◌, ◌≢◌, ◌==◌, ℕ, ◌+◌, ◌^◌, ◌<◌, List, [], ◌∷◌, ◌++◌, All}
+use Rattle.std.specs.Prelude.{decimal, ◌≡◌, ◌≢◌, ◌==◌, ℕ, ◌^◌, ◌<◌, List, [], ◌∷◌, ◌++◌, All}
 use Rattle.std.specs.List.{slice_split, join_with_byte}
+use Rattle.kd_tables.specs.Text.{letters_text}
 
 -- the parts of a line between its spaces
 abbrev pub words_of : List ℕ → List (List ℕ)
@@ -20,10 +21,6 @@ pub record IsWord (word : List ℕ) : Type 0 where
   pub filled : word ≢ []
   pub spaceless : IsWithout 32 word
   pub unbroken : IsWithout 10 word
-
--- the text of a letter: a capital letter
-abbrev pub letter_text : ℕ → List ℕ
-letter_text letter = (letter + 65) ∷ []
 
 -- `part` is the text before its first `byte`, and `rest` is the text after this byte.
 pub record IsFirstPart (byte : ℕ) (text part rest : List ℕ) : Type 0 where
@@ -62,4 +59,4 @@ NumbersAreWords = (number : ℕ) → number < 2 ^ 64 → IsWord (decimal number)
 
 -- A single letter is a word.
 abbrev pub LettersAreWords : Type 0
-LettersAreWords = (letter : ℕ) → IsWord (letter_text letter)
+LettersAreWords = (letter : ℕ) → IsWord (letters_text (letter ∷ []))

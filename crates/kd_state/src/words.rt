@@ -1,9 +1,10 @@
 //! Splits lines into words, and reads and writes numbers and letters.
-ghost use Rattle.std.specs.Prelude.{◌≡◌, ◌≢◌, ◌↔◌, ℕ, ◌+◌, ◌^◌, ◌<◌, ◌≤◌, ◌++◌, length, map, decimal, IsTrue};
+ghost use Rattle.std.specs.Prelude.{◌≡◌, ◌≢◌, ◌↔◌, ℕ, ◌+◌, ◌^◌, ◌<◌, ◌≤◌, [], ◌∷◌, ◌++◌, length, map, decimal, IsTrue};
 ghost use Rattle.std.specs.Prelude.{MatchOption};
 ghost use Rattle.arrayvec.specs.ArrayString.{array_string_len};
+ghost use Rattle.kd_tables.specs.Text.{letters_text};
 ghost use Rattle.kd_state.specs.SheetDay.{IsDayNumber};
-ghost use Rattle.kd_state.specs.Words.{words_of, letter_text, IsWithout, IsFirstPart};
+ghost use Rattle.kd_state.specs.Words.{words_of, IsWithout, IsFirstPart};
 
 use crate::sheet_day::entry::is_day_number;
 use arrayvec::{ArrayString, ArrayVec};
@@ -90,8 +91,8 @@ pub fn day_of_text(text: &[u8]) -> Option<u8>
 /// Reads a text of one capital letter. `None` for other texts.
 pub fn letter_of_text(text: &[u8]) -> Option<Letter>
     ensures { MatchOption result
-        ((letter : ℕ) → letter < 26 → letter_text letter ≢ text.now)
-        (λ letter. letter_text letter ≡ text.now) }
+        ((letter : ℕ) → letter < 26 → letters_text (letter ∷ []) ≢ text.now)
+        (λ letter. letters_text (letter ∷ []) ≡ text.now) }
 {
     match text {
         [byte] => Letter::from_byte(*byte),
@@ -112,7 +113,7 @@ pub fn push_number<const N: usize>(text: &mut ArrayString<N>, number: u8)
 /// Appends `letter` to `text`, as a capital letter.
 pub fn push_letter<const N: usize>(text: &mut ArrayString<N>, letter: Letter)
     requires { array_string_len text.old < N }
-    ensures bytes { text.new.bytes ≡ text.old.bytes ++ letter_text letter }
+    ensures bytes { text.new.bytes ≡ text.old.bytes ++ letters_text (letter ∷ []) }
     ensures len { array_string_len text.new ≡ array_string_len text.old + 1 }
 {
     text.push(char::from(letter.byte()));

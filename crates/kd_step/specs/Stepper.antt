@@ -15,7 +15,6 @@ pub record Stepping : Type 0 where
   pub wheels : List Wheel
   pub window : List ℕ
 
--- the letter after `letter`, with A after Z
 abbrev pub next_letter : ℕ → ℕ
 next_letter letter = (letter + 1) % 26
 

@@ -18,9 +18,11 @@ place_table Five = (codes "5", 5)
 place_table ZeroRight = (codes "0R", 6)
 place_table Six = (codes "6", 7)
 
--- the name of a lug's place on a bar
 abbrev pub place_text : Place → List ℕ
 place_text place = (place_table place).0
+
+abbrev pub place_rank : Place → ℕ
+place_rank place = (place_table place).1
 
 -- the digit in the name of a place: the number of the pin wheel that acts there, or 0 if no wheel does
 abbrev pub place_number : Place → ℕ
@@ -30,15 +32,10 @@ place_number place = slice_index (place_text place) 0 - 48
 abbrev pub places : List Place
 places = One ∷ ZeroLeft ∷ Two ∷ Three ∷ Four ∷ Five ∷ ZeroRight ∷ Six ∷ []
 
--- how many places of the bar are to the left of this place
-abbrev pub place_rank : Place → ℕ
-place_rank place = (place_table place).1
-
 -- The place `first` is to the left of the place `second`.
 abbrev pub IsBefore : Place → Place → Type 0
 IsBefore first second = place_rank first < place_rank second
 
--- the name of a lug
 abbrev pub lug_text : Lug → List ℕ
 lug_text lugs.Left = codes "L"
 lug_text lugs.Right = codes "R"
@@ -60,7 +57,6 @@ ArePlaceNames standing left right = (place_text standing.0 ≡ left) × (place_t
 
 -- ---- How a bar reads: the numbers of the wheels at its lugs' places, the smaller one first.
 
--- `a` and `b`, the smaller number first
 abbrev pub smaller_first : ℕ → ℕ → ℕ × ℕ
 smaller_first a b = (min a b, max a b)
 

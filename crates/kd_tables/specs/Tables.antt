@@ -3,7 +3,6 @@
 -- Code: each call of `wiring` makes the table from the published text; `notched` searches a short text.
 -- Test: wheels_are_as_published
 use Rattle.std.specs.Prelude.{codes, ℕ, ◌-◌, ◌==◌, nat_le, Bool, ◌&&◌, if◌then◌else◌, List, [], ◌∷◌, ◌++◌, map}
-use Rattle.std.specs.Prelude.{Contains}
 use Rattle.std.specs.List.{list_any}
 use Rattle.kd_tables.specs.declared.wheel.Wheel.{Wheel}
 use Rattle.kd_tables.specs.declared.wheel.Wheel.TheVariants.{I, II, III, IV, V, VI, VII, VIII, Beta, Gamma}
@@ -30,11 +29,9 @@ wheel_table VIII = (codes "VIII", codes "FKQHTLXOCBJSPDZRAMEWNIUYGV", codes "MZ"
 wheel_table Beta = (codes "Beta", codes "LEYJVCNIXWPBQMDRTAKZGFUHOS", codes "")
 wheel_table Gamma = (codes "Gamma", codes "FSOKANUERHMBTIYCWLQPZXVGJD", codes "")
 
--- the name of a wheel
 abbrev pub wheel_text : Wheel → List ℕ
 wheel_text wheel = (wheel_table wheel).0
 
--- the wiring of a wheel
 unfoldable pub wiring_of : Wheel → List ℕ
 wiring_of wheel = letters_of (wheel_table wheel).1
 
@@ -46,40 +43,40 @@ is_notch wheel letter = list_any (λ notch. notch == letter) (letters_of (wheel_
 -- Source: the published wirings
 -- Test: reflectors_are_as_published
 
--- the name of a reflector
-abbrev pub reflector_text : Reflector → List ℕ
-reflector_text reflectors.A = codes "A"
-reflector_text reflectors.B = codes "B"
-reflector_text reflectors.C = codes "C"
-reflector_text reflectors.ThinB = codes "b"
-reflector_text reflectors.ThinC = codes "c"
+-- The name and the wiring of each reflector. The wiring: the letters into which the reflector turns A to Z.
+abbrev pub reflector_table : Reflector → List ℕ × List ℕ
+reflector_table reflectors.A = (codes "A", codes "EJMZALYXVBWFCRQUONTSPIKHGD")
+reflector_table reflectors.B = (codes "B", codes "YRUHQSLDPXNGOKMIEBFZCWVJAT")
+reflector_table reflectors.C = (codes "C", codes "FVPJIAOYEDRZXWGCTKUQSBNMHL")
+reflector_table reflectors.ThinB = (codes "b", codes "ENKQAUYWJICOPBLMDXZVFTHRGS")
+reflector_table reflectors.ThinC = (codes "c", codes "RDOBJNTKVEHMLFCWZAXGYIPSUQ")
 
--- the wiring of a reflector: the letters into which the reflector turns A to Z
+abbrev pub reflector_text : Reflector → List ℕ
+reflector_text reflector = (reflector_table reflector).0
+
 unfoldable pub reflector_of : Reflector → List ℕ
-reflector_of reflectors.A = letters_of (codes "EJMZALYXVBWFCRQUONTSPIKHGD")
-reflector_of reflectors.B = letters_of (codes "YRUHQSLDPXNGOKMIEBFZCWVJAT")
-reflector_of reflectors.C = letters_of (codes "FVPJIAOYEDRZXWGCTKUQSBNMHL")
-reflector_of reflectors.ThinB = letters_of (codes "ENKQAUYWJICOPBLMDXZVFTHRGS")
-reflector_of reflectors.ThinC = letters_of (codes "RDOBJNTKVEHMLFCWZAXGYIPSUQ")
+reflector_of reflector = letters_of (reflector_table reflector).1
 
 -- ---- Models: their names, their slots, and the wheels and reflectors of their boxes.
 -- Source: the published accounts of the models
 -- Code: the box of each model is a prefix of one array.
 -- Test: models_have_names_and_parts
 
--- the name of a model
-abbrev pub model_text : Model → List ℕ
-model_text EnigmaI = codes "Enigma I"
-model_text M3 = codes "M3"
-model_text M4 = codes "M4"
-model_text M209 = codes "M-209"
+-- The name, the number of slots, and the reflectors of each model. A Converter M-209's pin wheels have no slots.
+abbrev pub model_table : Model → List ℕ × ℕ × List Reflector
+model_table EnigmaI = (codes "Enigma I", 3, reflectors.A ∷ reflectors.B ∷ reflectors.C ∷ [])
+model_table M3 = (codes "M3", 3, reflectors.B ∷ reflectors.C ∷ [])
+model_table M4 = (codes "M4", 4, reflectors.ThinB ∷ reflectors.ThinC ∷ [])
+model_table M209 = (codes "M-209", 0, [])
 
--- the number of slots for wheels; a Converter M-209 has none, since its six pin wheels stay in place
+abbrev pub model_text : Model → List ℕ
+model_text model = (model_table model).0
+
 abbrev pub slots_of : Model → ℕ
-slots_of EnigmaI = 3
-slots_of M3 = 3
-slots_of M4 = 4
-slots_of M209 = 0
+slots_of model = (model_table model).1
+
+abbrev pub reflectors_of : Model → List Reflector
+reflectors_of model = (model_table model).2
 
 -- the wheels that a slot of a model may hold, by the slot's number (1 is the left slot); none if there is no such slot
 abbrev pub wheels_for : Model → ℕ → List Wheel
@@ -94,14 +91,3 @@ wheels_for M209 slot = []
 abbrev pub box_of : Model → List Wheel
 box_of M4 = wheels_for M4 2 ++ wheels_for M4 1
 box_of model = wheels_for model 1
-
--- The wheel may be in this slot of the model.
-abbrev pub IsAllowed : Model → ℕ → Wheel → Type 0
-IsAllowed model slot wheel = Contains (wheels_for model slot) wheel
-
--- the reflectors of a model
-abbrev pub reflectors_of : Model → List Reflector
-reflectors_of EnigmaI = reflectors.A ∷ reflectors.B ∷ reflectors.C ∷ []
-reflectors_of M3 = reflectors.B ∷ reflectors.C ∷ []
-reflectors_of M4 = reflectors.ThinB ∷ reflectors.ThinC ∷ []
-reflectors_of M209 = []

@@ -1,6 +1,6 @@
 //! The models of cipher machines, and the wheels and reflectors that each model takes.
 ghost use Rattle.std.specs.Prelude.{◌≡◌, ◌↔◌, ◌≢◌, IsTrue, MatchOption, Contains};
-ghost use Rattle.kd_tables.specs.Tables.{model_text, box_of, slots_of, wheels_for, reflectors_of, IsAllowed};
+ghost use Rattle.kd_tables.specs.Tables.{model_text, box_of, slots_of, wheels_for, reflectors_of};
 
 use super::names::{name_of, named};
 use super::reflector::Reflector;
@@ -125,7 +125,7 @@ pub fn in_box(model: Model, wheel: Wheel) -> bool
 ///
 /// On the M4, only Beta and Gamma may be in slot 1, and only the other wheels in slots 2 to 4.
 pub fn allowed(model: Model, slot: u8, wheel: Wheel) -> bool
-    ensures { IsTrue result ↔ IsAllowed model slot wheel }
+    ensures { IsTrue result ↔ Contains (wheels_for model slot) wheel }
 {
     model.wheels_for(slot).contains(&wheel)
 }

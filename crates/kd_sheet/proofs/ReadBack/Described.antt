@@ -78,9 +78,7 @@ rotor_parts_legal model table =
     SucceedsWith-bind _ _ _ _ (letters_at_are keys.Rings (length (box_of model)) table) (λ rings are_rings.
     SucceedsWith-bind _ _ _ _ (letters_at_are keys.Letters (length (box_of model)) table) (λ letters are_letters.
     SucceedsWith-bind _ _ _ _ (are_cables table) (λ cables are. SucceedsWith-Ok IsLegalRotor _ (record {
-      slots = fill.0;
-      allowed = fill.1.allowed;
-      apart = fill.1.apart;
+      seats = record { count = fill.0; allowed = fill.1.allowed; apart = fill.1.apart };
       reflector = there;
       rings = are_rings;
       letters = are_letters;

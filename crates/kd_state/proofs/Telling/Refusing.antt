@@ -3,7 +3,7 @@ pub mod Changing
 unfoldable pub use Changing.*
 pub use Rattle.kd_state.proofs.Prelude.{RefusalsAreTold, HasAllPins, Carries, Leads, HasLugsInOrder, has_letter}
 pub use Rattle.kd_state.proofs.Prelude.{NoLooseEnd, NoSuchBar, NoSuchCable, NotOnWheel, NotThere}
-pub use Rattle.kd_state.proofs.Prelude.{OtherModel, PlaceTaken, SlotEmpty, SocketTaken, WheelNotAllowed, IsAllowed}
+pub use Rattle.kd_state.proofs.Prelude.{OtherModel, PlaceTaken, SlotEmpty, SocketTaken, WheelNotAllowed, wheels_for}
 pub use Rattle.kd_state.proofs.Prelude.{Reflector, false_from_ne_true, false≢true, All-head, slice_get-get_or, take}
 pub use Rattle.kd_state.proofs.Prelude.{get_or, ◌++◌, Decides, IsSome, ◌&&◌}
 pub use Rattle.std.proofs.{Math.Seq.drop-cons, lemmas.List.{length-take-le, take-append-drop, take_more}}
@@ -63,7 +63,7 @@ pub by_one_test : {P : Type 0} (may : Bool) (why : Why) → Decides may P
 by_one_test may why tells = grind (arith, not-false, no_reason, tells.1)
 
 pub seats_by_the_tables : (m : RotorParts) (slot : ℕ) (wheel : Wheel)
-    → (why_refused (Rotor m) (Seat slot wheel) ≡ None) ↔ IsAllowed m.model slot wheel
+    → (why_refused (Rotor m) (Seat slot wheel) ≡ None) ↔ Contains (wheels_for m.model slot) wheel
 seats_by_the_tables m slot wheel = by_one_test _ WheelNotAllowed (has_wheel-Decides (wheels_for m.model slot) wheel)
 
 pub reflectors_by_the_tables : (m : RotorParts) (reflector : Reflector)

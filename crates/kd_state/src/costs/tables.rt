@@ -21,7 +21,7 @@ pub fn column_at(pairs: &[(Letter, Letter)], place: usize) -> Option<(Letter, Le
 /// other columns have no pair.
 pub fn cable_costs(cables: &[Cable; 13], pairs: &[(Letter, Letter)]) -> [[u8; 13]; 13]
     requires { length pairs.now ≤ 13 }
-    ensures { result ≡ costs.cable_costs cables.now pairs.now }
+    ensures { result ≡ costs.costs_by costs.cable_cost cables.now (columns_of pairs.now) }
 {
     let mut costs = [[0; 13]; 13];
     for row in 0..13 {
@@ -46,7 +46,7 @@ fn costs_of_cable(cable: &Cable, pairs: &[(Letter, Letter)]) -> [u8; 13]
 ///
 /// Entry `[i][j]` is for bar `i` and row `j`, both counted from 0.
 pub fn bar_costs(bars: &[Standing; 27], rows: &[Reading; 27]) -> [[u8; 27]; 27]
-    ensures { result ≡ costs.bar_costs bars.now rows.now }
+    ensures { result ≡ costs.costs_by costs.bar_cost bars.now rows.now }
 {
     let mut costs = [[0; 27]; 27];
     for bar in 0..27 {

@@ -1,11 +1,11 @@
 //! Compares a machine with a day: is the machine set as the day says, and does it show the day's letters?
-ghost use Rattle.std.specs.Prelude.{◌≡◌, ◌↔◌, IsTrue, IsPermutation, Some, true, [], ◌∷◌, length, slice_get};
+ghost use Rattle.std.specs.Prelude.{◌≡◌, ◌≢◌, ◌↔◌, Any, IsTrue, IsPermutation, Some, true, [], ◌∷◌, length, slice_get};
 ghost use Rattle.std.specs.List.{AllByRecursion};
 ghost use Rattle.std.specs.Option.{option_map_or};
 ghost use Rattle.kd_state.specs.Entry.{rotor_values};
 ghost use Rattle.kd_tables.specs.Tables.{box_of};
-ghost use Rattle.kd_state.specs.Machine.{IsLegalRotor};
-ghost use Rattle.kd_state.specs.OnKey.{IsRotorOnKey, AreThePairs, IsCablePaired, IsPairJoined, HasPairLetters};
+ghost use Rattle.kd_state.specs.Machine.{IsLegalRotor, cable_letters};
+ghost use Rattle.kd_state.specs.OnKey.{IsRotorOnKey, AreThePairs, HasPairLetters};
 ghost use Rattle.kd_state.specs.Setting.{has_letter};
 ghost use Rattle.kd_state.specs.SameParts.{place_in_box};
 
@@ -126,7 +126,8 @@ fn are_the_pairs(cables: &[Cable], pairs: &[(Letter, Letter)]) -> bool
 
 /// Whether each cable is empty or has the letters of one of `pairs`.
 fn are_paired(cables: &[Cable], pairs: &[(Letter, Letter)]) -> bool
-    ensures { IsTrue result ↔ AllByRecursion (IsCablePaired pairs.now) cables.now }
+    ensures { IsTrue result
+        ↔ AllByRecursion (λ cable. cable_letters cable ≢ [] → Any (HasPairLetters cable) pairs.now) cables.now }
 {
     match cables {
         [] => true,
@@ -136,7 +137,7 @@ fn are_paired(cables: &[Cable], pairs: &[(Letter, Letter)]) -> bool
 
 /// Whether the letters of each of `pairs` are in one of `cables`.
 fn are_joined(pairs: &[(Letter, Letter)], cables: &[Cable]) -> bool
-    ensures { IsTrue result ↔ AllByRecursion (IsPairJoined cables.now) pairs.now }
+    ensures { IsTrue result ↔ AllByRecursion (λ pair. Any (λ cable. HasPairLetters cable pair) cables.now) pairs.now }
 {
     match pairs {
         [] => true,
@@ -146,14 +147,14 @@ fn are_joined(pairs: &[(Letter, Letter)], cables: &[Cable]) -> bool
 
 /// Whether `cable` is empty or has the letters of one of `pairs`.
 fn is_cable_paired(cable: Cable, pairs: &[(Letter, Letter)]) -> bool
-    ensures { IsTrue result ↔ IsCablePaired pairs.now cable }
+    ensures { IsTrue result ↔ (cable_letters cable ≢ [] → Any (HasPairLetters cable) pairs.now) }
 {
     cable == (None, None) || pairs.iter().any(|pair| has_letters_of_pair(cable, *pair))
 }
 
 /// Whether one of `cables` has the letters of `pair`.
 fn is_pair_joined(cables: &[Cable], pair: (Letter, Letter)) -> bool
-    ensures { IsTrue result ↔ IsPairJoined cables.now pair }
+    ensures { IsTrue result ↔ Any (λ cable. HasPairLetters cable pair) cables.now }
 {
     cables.iter().any(|cable| has_letters_of_pair(*cable, pair))
 }

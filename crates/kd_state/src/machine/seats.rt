@@ -1,9 +1,9 @@
 //! Which wheels may be in which slots.
-ghost use Rattle.std.specs.Prelude.{◌≡◌, ◌↔◌, ℕ, ◌≤◌, IsTrue, IfSome, Some, Contains, length};
+ghost use Rattle.std.specs.Prelude.{◌≡◌, ◌↔◌, ℕ, ◌+◌, ◌≤◌, IsTrue, IfSome, Some, Contains, length};
 ghost use Rattle.std.specs.Option.{SomeIff};
-ghost use Rattle.kd_tables.specs.Tables.{box_of, slots_of, IsAllowed};
+ghost use Rattle.kd_tables.specs.Tables.{box_of, wheels_for};
 ghost use Rattle.kd_state.specs.SameParts.{place_in_box};
-ghost use Rattle.kd_state.specs.Machine.{AreWheelsAllowed, AreSeatedOnce, IsSeatedAt};
+ghost use Rattle.kd_state.specs.Machine.{AreLegalSeats, IsSeatedAt};
 
 use crate::machine::per_slot::PerSlot;
 use kd_tables::{Model, Wheel, allowed};
@@ -22,8 +22,7 @@ pub(crate) fn place_in_box(model: Model, wheel: Wheel) -> Option<usize>
 
 /// Whether each slot of the model has one item, each wheel is allowed in its slot, and no wheel is in two slots.
 pub(crate) fn are_legal_seats(model: Model, slots: &PerSlot<Option<Wheel>>) -> bool
-    ensures { IsTrue result ↔ (length slots.now ≡ slots_of model) × AreWheelsAllowed model slots.now
-        × AreSeatedOnce slots.now }
+    ensures { IsTrue result ↔ AreLegalSeats model slots.now }
 {
     let slots = slots.as_slice();
     slots.len() == usize::from(model.slots()) && are_allowed(model, slots) && are_seated_once(slots)
@@ -33,7 +32,8 @@ pub(crate) fn are_legal_seats(model: Model, slots: &PerSlot<Option<Wheel>>) -> b
 #[tactic(auto, using(crate::proofs::Prelude::gets, crate::proofs::Prelude::slice_get_within))]
 fn are_allowed(model: Model, slots: &[Option<Wheel>]) -> bool
     requires { length slots.now ≤ 4 }
-    ensures { IsTrue result ↔ AreWheelsAllowed model slots.now }
+    ensures { IsTrue result
+        ↔ ((place : ℕ) (wheel : _) → IsSeatedAt slots.now place wheel → Contains (wheels_for model (place + 1)) wheel) }
 {
     for (place, seated) in slots.iter().enumerate() {
         if !may_stand(model, place as u8 + 1, *seated) {
@@ -45,7 +45,7 @@ fn are_allowed(model: Model, slots: &[Option<Wheel>]) -> bool
 
 /// Whether slot `slot` (1 is the left slot) may hold `seated`. A slot may always be empty.
 fn may_stand(model: Model, slot: u8, seated: Option<Wheel>) -> bool
-    ensures { IsTrue result ↔ IfSome seated (IsAllowed model slot) }
+    ensures { IsTrue result ↔ IfSome seated (Contains (wheels_for model slot)) }
 {
     match seated {
         None => true,
@@ -55,7 +55,8 @@ fn may_stand(model: Model, slot: u8, seated: Option<Wheel>) -> bool
 
 /// Whether no wheel is in two slots.
 fn are_seated_once(slots: &[Option<Wheel>]) -> bool
-    ensures { IsTrue result ↔ AreSeatedOnce slots.now }
+    ensures { IsTrue result
+        ↔ ((p q : ℕ) (wheel : _) → IsSeatedAt slots.now p wheel → IsSeatedAt slots.now q wheel → p ≡ q) }
 {
     for (place, seated) in slots.iter().enumerate() {
         if !is_alone(slots, place, *seated) {

@@ -2,7 +2,7 @@
 ghost use Rattle.std.specs.Prelude.{◌≡◌, ◌≢◌, ◌<◌, ◌≤◌, [], ◌∷◌, ◌++◌, length, map, decimal, IfSome, MatchOption};
 ghost use Rattle.arrayvec.specs.ArrayString.{array_string_len};
 ghost use Rattle.kd_state.specs.declared.setting.Setting.TheVariants.{SeatReflector, RingTo, LugTo};
-ghost use Rattle.kd_state.specs.Words.{letter_text};
+ghost use Rattle.kd_tables.specs.Text.{letters_text};
 ghost use Rattle.kd_state.specs.Line.{setting_line, on_off_text, IsSettingInRange, IsSettingOfWords};
 
 use crate::facts::learn_setting_range;
@@ -86,7 +86,7 @@ fn line_prefix(word: &str, number: u8) -> ArrayString<24>
 /// A line of three words: `word`, `number` and `letter`.
 fn letter_line(word: &str, number: u8, letter: Letter) -> ArrayString<24>
     requires { length word.now ≤ 4 }
-    ensures bytes { result.bytes ≡ word.now ++ 32 ∷ decimal number ++ 32 ∷ letter_text letter }
+    ensures bytes { result.bytes ≡ word.now ++ 32 ∷ decimal number ++ 32 ∷ letters_text (letter ∷ []) }
     ensures short { array_string_len result ≤ 10 }
 {
     let mut line = line_prefix(word, number);

@@ -4,7 +4,7 @@ unfoldable pub use Moving.*
 pub use Rattle.kd_plan.specs.Spares.{SparesComeLast, SparesStayFree, comes_before, is_spare, is_spare_at}
 pub use Rattle.kd_plan.specs.FewCables.{FewCablesServe, HasPairsUpTo, NamesNoneAbove, UsesNoneAbove}
 pub use Rattle.kd_state.specs.{Setting.{Leads, cable_at, machine_after}, declared.setting.Setting.TheVariants.Pull}
-pub use Rattle.kd_state.specs.{Costs.cable_costs, SameParts.numbered_item, SheetDay.{Day, IsLegalDay, day_model}}
+pub use Rattle.kd_state.specs.{Costs.costs_by, SameParts.numbered_item, SheetDay.{Day, IsLegalDay, day_model}}
 pub use Rattle.kd_state.specs.Machine.{model_of}
 pub use Rattle.kd_state.proofs.Slots.{IsNumbered-not_none, numbered_other}
 pub use Rattle.std.proofs.lemmas.List.{Elements.{All-append, All-cons, All-nil, filter_passes}, Folds.Any-from_list_any}
@@ -64,15 +64,15 @@ abbrev cable_of : List Cable → ℕ → Cable
 cable_of cables place = get_or cables place (None, None)
 
 cost_is : (cables : List Cable) (pairs : List (ℕ × ℕ)) (i j : ℕ) → i < length cables → j < 13
-    → cost_at (cable_costs cables pairs) i j ≡ cable_cost (cable_of cables i) (column_at pairs j)
+    → cost_at (costs_by cable_cost cables (columns_of pairs)) i j ≡ cable_cost (cable_of cables i) (column_at pairs j)
 cost_is cables pairs i j lt within = grind (arith, common_steps, length-append, length-replicate, get_or-map)
 
 pub costs_no_more : (cables : List Cable) (pairs : List (ℕ × ℕ)) (xs ys : List ℕ) (spare place : ℕ)
     → length cables ≡ 13 → length xs ≡ 13 → IsOneToOne xs → SwappedAt xs ys spare place → spare < 13 → place < 13
     → is_spare_at cables spare ≡ true → get_or xs spare 0 < length pairs → length pairs ≤ get_or xs place 0
-    → assignment_cost (cable_costs cables pairs) ys ≤ assignment_cost (cable_costs cables pairs) xs
+    → assignment_cost (costs_by cable_cost cables (columns_of pairs)) ys ≤ assignment_cost (costs_by cable_cost cables (columns_of pairs)) xs
 costs_no_more cables pairs xs ys spare place many size once swapped a b empty taken none =
-    let costs = cable_costs cables pairs in
+    let costs = costs_by cable_cost cables (columns_of pairs) in
     let u = get_or xs spare 0 in
     let v = get_or xs place 0 in
     let rows : length costs ≡ 13 = length-map cables (λ cable. map (cable_cost cable) (columns_of pairs)) ∙ many in

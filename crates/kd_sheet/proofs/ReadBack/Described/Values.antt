@@ -132,7 +132,7 @@ not_seated slots wheel free = grind (arith, is_seated-Decides slots wheel)
 pub ruleset seating = (not_seated, has_wheel-Decides)
 
 record CanBeSeated (model : Model) (slots : List (Option Wheel)) (wheel : Wheel) : Type 0 where
-  allowed : IsAllowed model (length slots + 1) wheel
+  allowed : Contains (wheels_for model (length slots + 1)) wheel
   free : ¬ Contains slots (Some wheel)
 
 wheel_read : (key : Key) (model : Model) (slots : List (Option Wheel)) (item : Data)
@@ -174,8 +174,8 @@ not_free model slots place other wheel stands free within = grind (arith, common
 
 -- each wheel is allowed in its slot, none is in two slots, and slots are empty only in a machine file
 pub record FillsSlots (key : Key) (model : Model) (slots : List (Option Wheel)) : Type 0 where
-  pub allowed : AreWheelsAllowed model slots
-  pub apart : AreSeatedOnce slots
+  pub allowed : (place : ℕ) (w : Wheel) → IsSeatedAt slots place w → Contains (wheels_for model (place + 1)) w
+  pub apart : (p q : ℕ) (wheel : Wheel) → IsSeatedAt slots p wheel → IsSeatedAt slots q wheel → p ≡ q
   pub filled : key ≡ keys.Wheels → All IsSome slots
 
 fill_slots : (key : Key) (model : Model) (items : List Data)

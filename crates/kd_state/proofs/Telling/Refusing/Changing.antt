@@ -2,8 +2,8 @@
 -- and no other.
 pub use Rattle.kd_state.proofs.Prelude.{numbered_item, place_in_box, IsKept, IsSeatOf, ChangesTo, MovesLug, SetsOnly}
 pub use Rattle.kd_state.proofs.Prelude.{TheBar, TheCable, TheLetter, ThePin, TheReflector, TheSlot, Thing}
-pub use Rattle.kd_state.proofs.Prelude.{SettingsAreTold, SettingsKeepMachines, IsSettingInRange, AreWheelsAllowed}
-pub use Rattle.kd_state.proofs.Prelude.{AreSeatedOnce, AreCables, AreLetters, AreOnWheels, IsLegalPin, IsLegalRotor}
+pub use Rattle.kd_state.proofs.Prelude.{SettingsAreTold, SettingsKeepMachines, IsSettingInRange, AreLegalSeats}
+pub use Rattle.kd_state.proofs.Prelude.{AreCables, AreLetters, AreOnWheels, IsLegalPin, IsLegalRotor}
 pub use Rattle.kd_state.proofs.Prelude.{IsMachine, IsSeatedAt, cable_letters, with_cables_in_order, letter_at}
 pub use Rattle.kd_state.proofs.Prelude.{cable_in_order, letters_in_cables, pin_at, pin_set, wheel_pins, with_pin}
 pub use Rattle.kd_state.proofs.Prelude.{cable_at, cable_with, cable_without, machine_after, is_same_place}
@@ -30,7 +30,7 @@ pub use Rattle.kd_state.proofs.Cables.{all_ordered, all_ordered_move, all_ordere
 pub use Rattle.kd_state.proofs.Cables.{without_moves, with_moves, set_moves, eqb_flips, has_letter-AllByRecursion}
 pub use Rattle.kd_state.proofs.Cables.{of_one}
 pub use Rattle.kd_state.proofs.Wheels.{places_tell_wheels, has_wheel-Decides, has_reflector-Decides, same_wheel-Decides}
-pub use Rattle.kd_state.proofs.Wheels.{same_wheel_self, same_wheel_differs, IsAllowed-IsPlaced, place_within}
+pub use Rattle.kd_state.proofs.Wheels.{same_wheel_self, same_wheel_differs, IsPlaced-from_wheels_for, place_within}
 pub use Rattle.kd_state.proofs.Wheels.{place_nowhere}
 unfoldable pub use Rattle.kd_state.proofs.Prelude.{ring_of}
 
@@ -285,10 +285,10 @@ Carries-sound (Rotor m) (Put cable letter) h allowed =
 Carries-sound (Rotor m) (Seat slot wheel) h allowed =
     let l = h.legal in
     let may = (has_wheel-Decides (wheels_for m.model slot) wheel).0 (not-false _ allowed.0) in
-    let at = IsAllowed-IsPlaced m.model slot wheel may in
+    let at = IsPlaced-from_wheels_for m.model slot wheel may in
     let left = map (seat_without wheel) m.slots in
     let new = set left (slot - 1) (Some wheel) in
-    let within : slot ≤ length left = omega (arith, length-map m.slots (seat_without wheel), l.slots, at.last) in
+    let within : slot ≤ length left = omega (arith, length-map m.slots (seat_without wheel), l.seats.count, at.last) in
     let gone : seat_without wheel (Some wheel) ≡ None = rw (same_wheel_self wheel) refl in
     let other_is : (other : ℕ) → other ≢ slot
     → numbered_item new other ≡ option_map (seat_without wheel) (numbered_item m.slots other) =
@@ -315,13 +315,15 @@ Carries-sound (Rotor m) (Seat slot wheel) h allowed =
         };
       };
       kept = λ _.
-          let alone : AreSeatedOnce new = λ place other which here there. grind (arith, cases, l.apart) in
-          let may_stand : AreWheelsAllowed m.model new = λ place other e. elim (cases place other e) [
-            | inl here ↦ let one : slot ≡ place + 1 = omega (arith, here.0, at.first) in rw (← one, here.1) may
-            | inr there ↦ l.allowed place other there.0
-          ]
-          in
-          grind (arith, rotor_machine, all_ordered-same, length-set, length-map, may_stand, alone);
+          let seats : AreLegalSeats m.model new = record {
+            count = length-set left (slot - 1) (Some wheel) ∙ length-map m.slots (seat_without wheel) ∙ l.seats.count;
+            allowed = λ place other e. elim (cases place other e) [
+              | inl here ↦ let one : slot ≡ place + 1 = omega (arith, here.0, at.first) in rw (← one, here.1) may
+              | inr there ↦ l.seats.allowed place other there.0
+            ];
+            apart = λ place other which here there. grind (arith, cases, l.seats.apart);
+          } in
+          grind (arith, rotor_machine, all_ordered-same, seats);
     }
 Carries-sound (Rotor m) (SeatReflector reflector) h allowed =
     let may = (has_reflector-Decides (reflectors_of m.model) reflector).0 (not-false _ allowed.0) in
@@ -343,7 +345,7 @@ Carries-sound (Rotor m) (Turn slot letter) h allowed =
     let place = place_in_box m.model wheel in
     let reads =
     for_wheel m.model m.letters wheel letter
-    (seated_in_box m.model m.slots slot wheel l.allowed found.1) l.letters in
+    (seated_in_box m.model m.slots slot wheel l.seats.allowed found.1) l.letters in
     let turned = ap (λ held. letters_with m (unwrap_or held None) letter) found.1 in
     record {
       told = rw turned (wheel, found.1, reads.0, keeps_letters m wheel (set m.letters place letter) reads.1);

@@ -1,8 +1,8 @@
-use Rattle.std.proofs.Common.{◌≡◌, ◌+◌, ◌%◌, ℕ, subst, sym, ◌∙◌, refl}
+use Rattle.std.proofs.Common.{◌≡◌, ◌+◌, ◌%◌, ℕ, length, subst, sym, ◌∙◌, refl}
 use Rattle.kd_drum.proofs.{Sets.{in_set_of, set_of}, Starts.{acts_now, key_stands}}
 use Rattle.kd_drum.specs.{Converter.{PinKey, is_acting_after, pin_key_after, shown_place}, Counts.is_in_set}
-use Rattle.kd_drum.specs.{SixWheels.converter_key}
-use Rattle.kd_pins.specs.{PinWheel.is_effective, PinWheels.acting_offset, PinWheels.pins_on, PinWheels.pin_wheel_size}
+use Rattle.{kd_drum.specs.SixWheels.converter_key, kd_tables.specs.Rings.ring_of}
+use Rattle.kd_pins.specs.{PinWheel.is_effective, PinWheels.acting_offset, PinWheels.pins_on}
 use Rattle.kd_drum.proofs.converter.Converter.acting_wheels.Goals as goal
 
 pub returns-clause-each : goal.returns-clause-each
@@ -15,7 +15,7 @@ returns-clause-each c =
     → is_in_set (set_of c.acting.result c.acting-2.result c.acting-3.result c.acting-4.result c.acting-5.result
     c.acting-6.result) wheel ≡ is_acting_after k.pins k.letters 0 wheel) c.self.view_is
     (in_set_of _ _ _ _ _ _ (λ wheel. is_effective (pins_on key.pins wheel)
-    ((shown_place key.letters wheel + 0 + acting_offset wheel) % pin_wheel_size wheel))
+    ((shown_place key.letters wheel + 0 + acting_offset wheel) % length (ring_of wheel)))
     (c.acting.ensures ∙ acts_now key 1 26 inside.w1 stands.first refl refl)
     (c.acting-2.ensures ∙ acts_now key 2 25 inside.w2 stands.second refl refl)
     (c.acting-3.ensures ∙ acts_now key 3 23 inside.w3 stands.third refl refl)

@@ -5,11 +5,11 @@ pub use Rattle.kd_sheet.specs.Document.{result_map}
 pub use Rattle.kd_sheet.specs.MachineText.{cable_text, key_line, array_text, pin_texts, pins_text, quoted_text}
 pub use Rattle.kd_sheet.specs.MachineText.{seat_text}
 pub use Rattle.kd_state.proofs.Slots.{all_pins, are_on_wheels as on_all_wheels, has_letter-Decides, numbered_here}
-pub use Rattle.kd_state.specs.Machine.{AreWheelsAllowed, AreSeatedOnce, AreCables, AreLetters, AreOnWheels, HasAllPins}
+pub use Rattle.kd_state.specs.Machine.{AreLegalSeats, AreCables, AreLetters, AreOnWheels, HasAllPins}
 pub use Rattle.kd_state.specs.Machine.{IsLegalPin}
-pub use Rattle.kd_state.specs.SheetDay.{ArePairs, AreLegalSeats, Day, HasWheelLetters, IsDayNumber, IsLegalDay}
+pub use Rattle.kd_state.specs.SheetDay.{ArePairs, Day, HasWheelLetters, IsDayNumber, IsLegalDay}
 pub use Rattle.kd_state.specs.SheetDay.{IsLegalPinDay}
-pub use Rattle.kd_tables.specs.Tables.{IsAllowed, box_of, letters_of, model_text, reflector_text, reflectors_of}
+pub use Rattle.kd_tables.specs.Tables.{box_of, letters_of, model_text, reflector_text, reflectors_of}
 pub use Rattle.std.proofs.Common.{All, Bool, Bor, Contains, Decides, Err, Global, IfSome, IsSome, IsUtf8, List}
 pub use Rattle.std.proofs.Common.{MatchOption, None, Ok, Option, Result, Some, Vec, [], ap, append_assoc, arith}
 pub use Rattle.std.proofs.Common.{bytes_eq, codes, cond, drop, false, filter_map, find, get_or, inl, inr, is_some}
