@@ -100,11 +100,11 @@ module _ (m : RotorParts) (s : RotorDay) where
   abbrev wrong : SheetWheel → Bool
   wrong w = not (option_map_or (nat_eq w.ring) (ring_at m w.wheel) false)
 
-  counted_rings : AreCounted (flat_map (wheel_ring_line m s.wheels) (box_of m.model))
+  counted_rings : AreCounted (flat_map (wheel_ring_line (Rotor m) s.wheels) (box_of m.model))
       (count_by (finds_wheel wrong s.wheels) (box_of m.model)) 0
   counted_rings =
-      rw (lines_of_each (wheel_ring_line m s.wheels) (box_of m.model) 1) (rw sum_none at
-      (counted_each (λ n wheel. wheel_ring_line m s.wheels wheel)
+      rw (lines_of_each (wheel_ring_line (Rotor m) s.wheels) (box_of m.model) 1) (rw sum_none at
+      (counted_each (λ n wheel. wheel_ring_line (Rotor m) s.wheels wheel)
       (λ wheel. cond (finds_wheel wrong s.wheels wheel) 1 0) (λ z. 0)
       (λ n wheel. grind (arith, counted_loose)) (box_of m.model) 1))
 
@@ -117,7 +117,7 @@ module _ (m : RotorParts) (s : RotorDay) where
       (days_wheels_have_their_places m.model s.wheels seated) in
       let seats = counted_each slot_seat_line _ (λ z. 0) (λ n z. counted_loose _ _ refl) (zip m.slots s.wheels) 1 in
       let reflector = counted_loose (same_reflector m.reflector s.reflector) (SeatReflector s.reflector) refl in
-      let turns = counted_each (slot_turn_line m) _ (λ z. 0) (λ n w. counted_loose _ _ refl) s.wheels 1 in
+      let turns = counted_each (slot_turn_line (Rotor m)) _ (λ z. 0) (λ n w. counted_loose _ _ refl) s.wheels 1 in
       let all = simp sum_none at (counted-append _ _ (counted-append _ _ (counted-append _ _ seats reflector)
       counted_rings) turns) in
       record { count = grind (arith, all.count, found); priced = all.priced }

@@ -123,13 +123,14 @@ module _ {K X : Type 0} {format : KindFormat K X} where
 
   -- If there are bytes, but no whole line begins them, the group doesn't end before them, and no kind follows.
   pub unended : {bytes : List ℕ} (last : Option K) → bytes ≢ []
-      → ((found : List (List ℕ) × List ℕ) → ¬ (HasLineWords bytes found.0 found.1)) → IsBadKindAt format last bytes
+      → ((found : List ℕ × List (List ℕ) × List ℕ) → ¬ (HasLineWords bytes (found.0 ∷ found.1) found.2))
+      → IsBadKindAt format last bytes
   unended last some none = record {
     goes_on = λ ends. elim ends [
       | AtNothing empty ↦ some empty
-      | AtOther word begins differs ↦ none (word ∷ begins.behind, begins.rest) begins.has
+      | AtOther word begins differs ↦ none (word, begins.behind, begins.rest) begins.has
     ];
-    none_more = λ kind rest next. none (kind_words format kind, rest) next.line;
+    none_more = λ kind rest next. none (format.word, drop 1 (kind_words format kind), rest) next.line;
   }
 
   -- If a line begins with the format's word but isn't the line of a kind after `last`, the group doesn't end before it,

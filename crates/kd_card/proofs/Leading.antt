@@ -248,7 +248,7 @@ module _ (m : RotorParts) (s : RotorDay) (machine : IsMachine (Rotor m)) (legal 
 
   ring_led : (front back : List ℕ) (wheel : Wheel) (one : Option SheetWheel) → the_one wheel ≡ one
       → slice_get (box_of m.model) (length front) ≡ Some wheel
-      → Led (with_rings (front ++ ring_now wheel ∷ back)) (wheel_ring_line m s.wheels wheel)
+      → Led (with_rings (front ++ ring_now wheel ∷ back)) (wheel_ring_line (Rotor m) s.wheels wheel)
       (with_rings (front ++ ring_then wheel ∷ back))
   ring_led front back wheel None e here = rw e (led_none refl)
   ring_led front back wheel (Some w) e here =
@@ -261,11 +261,11 @@ module _ (m : RotorParts) (s : RotorDay) (machine : IsMachine (Rotor m)) (legal 
       (has_wheel-Decides (box_of m.model) w.wheel).1 (rw (← same) (length front, lt, is)) in
       rw (e, same, placed, at) (grind (arith, led_unless, set_at, eqb-true, has, placed))
 
-  rings_lead : Led (with_rings m.rings) (flat_map (wheel_ring_line m s.wheels) (box_of m.model))
+  rings_lead : Led (with_rings m.rings) (flat_map (wheel_ring_line (Rotor m) s.wheels) (box_of m.model))
       (with_rings (map ring_then (box_of m.model)))
   rings_lead =
-      rw (lines_of_each (wheel_ring_line m s.wheels) (box_of m.model) 1)
-      (cells_led with_rings ring_now ring_then (λ n wheel. wheel_ring_line m s.wheels wheel)
+      rw (lines_of_each (wheel_ring_line (Rotor m) s.wheels) (box_of m.model) 1)
+      (cells_led with_rings ring_now ring_then (λ n wheel. wheel_ring_line (Rotor m) s.wheels wheel)
       (box_of m.model) rings_now refl
       (λ fs bs wheel e. ring_led _ _ wheel (the_one wheel) refl (rw (length-map, e) (seam_get fs wheel bs))))
 
@@ -302,9 +302,9 @@ module _ (m : RotorParts) (s : RotorDay) (machine : IsMachine (Rotor m)) (legal 
   abbrev pub turned_all : RotorParts
   turned_all = turned (fold turn m.letters s.wheels)
 
-  turns_lead : Led (Rotor (turned m.letters)) (lines_from (slot_turn_line m) 1 s.wheels) (Rotor turned_all)
+  turns_lead : Led (Rotor (turned m.letters)) (lines_from (slot_turn_line (Rotor m)) 1 s.wheels) (Rotor turned_all)
   turns_lead =
-      things_led (λ front back. Rotor (turned (fold turn m.letters front))) (slot_turn_line m) s.wheels
+      things_led (λ front back. Rotor (turned (fold turn m.letters front))) (slot_turn_line (Rotor m)) s.wheels
       (λ front back w e.
       let here = seam_map (λ (v : SheetWheel). Some v.wheel) s.wheels front back w e in
       let apart = subst (AllPairs (λ w v. place w ≢ place v)) e places_differ in

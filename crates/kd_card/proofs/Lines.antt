@@ -15,14 +15,14 @@ use Rattle.kd_card.proofs.Prelude.{recursion_from_All, All-map, IsPriceText, IsP
 use Rattle.kd_card.proofs.Prelude.{HasFault, GoesOn, parse-signed_decimal, IsAscii-signed, ArePricesInRange, codes}
 use Rattle.kd_card.proofs.Prelude.{zero, ◌+◌, ◌*◌, inl, inr, fold, decimal, not, pointwise, not-false, Decides-eqb}
 use Rattle.kd_card.proofs.Prelude.{slice_eq-Decides, err_from_is_err_and, ◌+ℤ◌, digits_value, decimal_nonempty}
-use Rattle.kd_card.proofs.Prelude.{digits_decimal, decimal_digit, first_decimal, All-cons, All-append, All-from_get_or}
+use Rattle.kd_card.proofs.Prelude.{digits_decimal, decimal_digit, decimal_injective, first_decimal, All-cons, All-append, All-from_get_or}
 use Rattle.kd_card.proofs.Prelude.{table_rows, ArePrices, CostTable, KindFormat, CountWrong, BeginsWithHead, kinds_text}
 use Rattle.kd_card.proofs.Prelude.{first_text, column_word, IsGroup, ByNumber, IsDigit, IsNumberText, IsNumeral}
-use Rattle.kd_card.proofs.Prelude.{IsValueAnswer, IsLineAnswer, IsFirstWordAnswer, IsPriceLineAnswer, IsGroupAnswer}
-use Rattle.kd_card.proofs.Prelude.{nil_from_length, numbers_are_words, word_by_bytes, word_by_test, ThenNext-Ok}
+use Rattle.kd_card.proofs.Prelude.{IsValueAnswer, IsLineAnswer, IsPriceLineAnswer, IsGroupAnswer}
+use Rattle.kd_card.proofs.Prelude.{nil_from_length, numbers_are_words, word_by_bytes, word_by_test, ThenNext, ThenNext-Ok, Yields-Ok}
 use Rattle.kd_card.proofs.Prelude.{CardFault}
 use Rattle.std.proofs.lemmas.List.Splits.{slice_split_none, slice_split_at, join_with_byte-slice_split}
-use Rattle.std.{proofs.lemmas.Str.IsUtf8-from_ascii, specs.{Result.{result_ok, IsErrAnd}, Int.Signed.mag}}
+use Rattle.std.{specs.{Result.{IsErrAnd}, Int.Signed.mag}}
 use Rattle.kd_card.specs.Reading.{head_prefix}
 use Rattle.kd_state.specs.SheetDay.{IsDayNumber}
 
@@ -40,13 +40,13 @@ sum_words sum = codes "SUM" ∷ signed_decimal sum ∷ []
 abbrev pub behind_spaces : List ℤ → List ℕ
 behind_spaces prices = flat_map (λ price. 32 ∷ signed_decimal price) prices
 
-line_of_prices : (word : List ℕ) (prices : List ℤ) → line_of (price_words word prices) ≡ word ++ behind_spaces prices
-line_of_prices word [] = sym (append-nil word)
-line_of_prices word (price ∷ prices) = ap (λ text. word ++ 32 ∷ text) (line_of_prices (signed_decimal price) prices)
+line_of-prices : (word : List ℕ) (prices : List ℤ) → line_of (price_words word prices) ≡ word ++ behind_spaces prices
+line_of-prices word [] = sym (append-nil word)
+line_of-prices word (price ∷ prices) = ap (λ text. word ++ 32 ∷ text) (line_of-prices (signed_decimal price) prices)
 
 pub all_prices : (front word : List ℕ) (prices : List ℤ)
     → (front ++ (word ++ behind_spaces prices)) ++ 10 ∷ [] ≡ front ++ line_then (price_words word prices) []
-all_prices front word prices = simp (append_assoc, line_of_prices word prices)
+all_prices front word prices = simp (append_assoc, line_of-prices word prices)
 
 pub ruleset prices_written = (all_prices, take_all)
 
@@ -66,6 +66,11 @@ pub card_and_more : (day : ℕ) (xs : List Setting) (prices : PriceParts) (rest 
     (lines_text (price_lines prices) ++ line_then (sum_words (price_sum prices)) rest))
 card_and_more day xs prices rest = grind (arith, common_steps, all_lines, flat_map-map)
 
+-- A card's head is the text before the day, the day, and an LF.
+pub head_text : {front : List ℕ} (version : Version) (day : ℕ) (rest : List ℕ) → front ≡ head_prefix version
+    → front ++ decimal day ++ 10 ∷ rest ≡ line_then (head_words version day) rest
+head_text version day rest e = rw e (grind arith)
+
 lines_text-card : (head count sum : List (List ℕ)) (settings lines : List (List (List ℕ)))
     → (((([] ++ line_then head []) ++ lines_text settings) ++ line_then count []) ++ lines_text lines)
     ++ line_then sum []
@@ -73,14 +78,14 @@ lines_text-card : (head count sum : List (List ℕ)) (settings lines : List (Lis
 lines_text-card head count sum settings lines = simp (flat_map-append, append_assoc)
 
 pub card_text-joined : (version : Version) (day count : ℕ) (xs ys : List Setting) (prices : PriceParts) (sum : ℤ)
-    (empty head list number lines whole : List ℕ)
-    → empty ≡ [] → head ≡ empty ++ line_then (head_words version day) [] → list ≡ head ++ list_text ys
-    → number ≡ list ++ line_then (settings_words count) [] → lines ≡ number ++ lines_text (price_lines prices)
-    → whole ≡ lines ++ line_then (sum_words sum) [] → version ≡ version_of prices → ys ≡ xs → count ≡ length xs
-    → sum ≡ price_sum prices
+    (empty top head list below counted lines end whole : List ℕ)
+    → empty ≡ [] → top ≡ line_then (head_words version day) [] → below ≡ line_then (settings_words count) []
+    → end ≡ line_then (sum_words sum) [] → head ≡ empty ++ top → list ≡ head ++ list_text ys
+    → counted ≡ list ++ below → lines ≡ counted ++ lines_text (price_lines prices) → whole ≡ lines ++ end
+    → version ≡ version_of prices → ys ≡ xs → count ≡ length xs → sum ≡ price_sum prices
     → whole ≡ card_text day xs prices
-card_text-joined version day count xs ys prices sum empty head list number lines whole a b c d e f by same counted
-    summed =
+card_text-joined version day count xs ys prices sum empty top head list below counted lines end whole
+    a t n s h l c p w by same many summed =
     let lines_of = map setting_words xs in
     let card = lines_text-card (head_words version day) (settings_words count) (sum_words sum) lines_of
     (price_lines prices) in
@@ -164,30 +169,20 @@ written_price text p e within = e ∙ ap signed_decimal (to_z-of_z w16 p (FitsSi
 pub mag-small : (p : ℤ) → unsigned_abs p ≤ 9999 → mag p < 2 ^ 63
 mag-small p e = grind arith
 
-pub signed_decimal-not_text : {S E : Type 0} (bs : List ℕ) (r : Result S E) (P : S → Type 0) (Q : E → Type 0)
-    → MatchResult r P (λ e. ¬ (IsUtf8 bs) × Q e) → result_ok r ≡ None → (price : ℤ) → unsigned_abs price ≤ 9999
-    → signed_decimal price ≢ bs
-signed_decimal-not_text bs (Ok s) P Q h none price within e = cc
-signed_decimal-not_text bs (Err f) P Q h none price within e =
-    h.0 (subst IsUtf8 e (IsUtf8-from_ascii (signed_decimal price) (IsAscii-signed price (mag-small price within))))
+no_minus : (amount : ℕ) (digits : List ℕ) → amount ≤ 9999 → decimal amount ≢ 45 ∷ digits
+no_minus zero digits small e = omega (arith, ap (λ t. get_or t 0 0) (sym (decimal_digit 0 (omega arith)) ∙ e))
+no_minus (suc n) digits small e =
+    omega (arith, first_decimal (suc n) (omega arith) (omega arith), ap (λ t. get_or t 0 0) e)
 
-pub read_price : {E : Type 0} (bs : List ℕ) (r : Result ℤ E) → ParsesSigned w16 10 bs r → (price : ℤ)
-    → unsigned_abs price ≤ 9999 → signed_decimal price ≡ bs
-    → result_ok r ≡ Some price
-read_price bs r h price within e =
-    ap result_ok (parse-signed_decimal w16 price bs r (FitsSigned-price price within) (mag-small price within)
-    (sym e) h)
+-- If no positive amount is written as `digits`, no price is written as `-` and `digits`.
+pub no_negative : (digits : List ℕ) → ((n : ℕ) → suc n ≤ 9999 → decimal (suc n) ≢ digits) → (price : ℤ)
+    → unsigned_abs price ≤ 9999 → signed_decimal price ≢ 45 ∷ digits
+no_negative digits none (pos n) near e = no_minus n digits near e
+no_negative digits none (negsuc n) near e = none n near (cc)
 
-pub only_price : {E : Type 0} (bs : List ℕ) (r : Result ℤ E) (q : ℤ) (test : Bool) → ParsesSigned w16 10 bs r
-    → result_ok r ≡ Some q
-    → unsigned_abs q ≤ 9999 → Decides test (bs ≡ signed_decimal q)
-    → MatchOption (then_some test q)
-    ((price : ℤ) → unsigned_abs price ≤ 9999 → signed_decimal price ≢ bs)
-    (λ price. (signed_decimal price ≡ bs) × (unsigned_abs price ≤ 9999))
-only_price bs r q true h some near d = (sym (d.0 refl), near)
-only_price bs r q false h some near d = λ price within e.
-    let same : q ≡ price = let read = read_price bs r h price within e in cc in
-    false≢true (d.1 (sym e ∙ ap signed_decimal (sym same)))
+pub not_minus_zero : (digits : List ℕ) → decimal 0 ≡ digits → (price : ℤ) → unsigned_abs price ≤ 9999
+    → signed_decimal price ≢ 45 ∷ digits
+not_minus_zero digits is = no_negative digits (λ n small e. grind (arith, decimal_injective))
 
 -- ---- words that are prices
 
@@ -245,6 +240,14 @@ pub MatchResult-err : {F Y : Type 0} (answer : Result Y F) (fault : F) (Good : Y
     → IsErrAnd answer (λ made. made ≡ fault) → Bad fault → MatchResult answer Good Bad
 MatchResult-err answer fault Good Bad made bad = let is = err_from_is_err_and answer made in rw (is.1, is.2) bad
 
+-- If the first step finds `x`, and the result is right by the rule of the next step, it is right by the rule of both.
+pub goes_on : {F X Y Z : Type 0} (First : Result X F → Type 0) (Next : X → Result Z F → Type 0) (x : X)
+    → First (Ok x) → (answer : Result Y F) (f : Y → Z)
+    → MatchResult answer (λ y. Next x (Ok (f y))) (λ fault. Next x (Err fault))
+    → MatchResult answer (λ y. ThenNext First Next (Ok (f y))) (λ fault. ThenNext First Next (Err fault))
+goes_on First Next x is (Ok y) f next = GoesOn x is next
+goes_on First Next x is (Err fault) f next = GoesOn x is next
+
 -- A test that is false refutes what it decides.
 pub not_from_false : {P : Type 0} {test : Bool} → Decides test P → test ≡ false → ¬ P
 not_from_false decides e is = false≢true (sym e ∙ decides.1 is)
@@ -255,7 +258,8 @@ nonempty-by_length is e none = false≢true (sym e ∙ is ∙ ap (λ t. eqb (len
 -- If reading a line fails although there are bytes, no whole line begins them, and the fault is that line `line`
 -- is bad.
 pub no_line : {line : ℕ} {bytes : List ℕ} {fault : CardFault} → bytes ≢ [] → IsLineAnswer line bytes (Err fault)
-    → ((found : List (List ℕ) × List ℕ) → ¬ (HasLineWords bytes found.0 found.1)) × (fault ≡ BadLine line)
+    → ((found : List ℕ × List (List ℕ) × List ℕ) → ¬ (HasLineWords bytes (found.0 ∷ found.1) found.2))
+    × (fault ≡ BadLine line)
 no_line some (HasFault f none e) = absurd (none.0 tt some)
 no_line some (GoesOn x is next) = next
 
@@ -275,11 +279,6 @@ numeral_word signed text e = grind (arith, number_word, below_zero)
 
 pub signed_word : (z : ℤ) → unsigned_abs z < 2 ^ 64 → IsWord (signed_decimal z)
 signed_word z small = grind (arith, numbers_are_words, below_zero)
-
--- A card's head is the text before the day, the day, and an LF.
-pub head_text : {front : List ℕ} (version : Version) (day : ℕ) (rest : List ℕ) → front ≡ head_prefix version
-    → front ++ decimal day ++ 10 ∷ rest ≡ line_then (head_words version day) rest
-head_text version day rest e = rw e (grind arith)
 
 pub day_unbroken : (day : ℕ) → IsDayNumber day → IsWithout 10 (decimal day)
 day_unbroken day month = let last = month.last in (numbers_are_words day (omega arith)).unbroken
@@ -353,23 +352,9 @@ same_values front {value} {other} {rest} {more} free clear e d =
 
 -- ---- a first word, and prices
 
-module _ {K : Type 0} (word : K → List ℕ) {line : ℕ} {bytes : List ℕ} where
-  pub first_found : {first : List ℕ} {words : List (List ℕ)} {rest : List ℕ} (key : K)
-      → IsLineAnswer line bytes (Ok (first ∷ words, rest)) → first ≡ word key
-      → IsFirstWordAnswer word line bytes (Ok (key, words, rest))
-  first_found {first} {words} {rest} key says is =
-      GoesOn (first ∷ words, rest) says (GoesOn (key, words) (ap (λ w. w ∷ words) is) refl)
-
-  pub other_first : {first : List ℕ} {words : List (List ℕ)} {rest : List ℕ}
-      → IsLineAnswer line bytes (Ok (first ∷ words, rest))
-      → ((key : K) → first ≢ word key) → IsFirstWordAnswer word line bytes (Err PriceMissing)
-  other_first {first} {words} {rest} says none =
-      GoesOn (first ∷ words, rest) says
-      (HasFault PriceMissing ((λ key is. none key.0 (ap (λ ws. get_or ws 0 []) is)), refl) refl)
-
-  pub first_says : (key : K) (words : List (List ℕ)) (rest : List ℕ) → HasLineWords bytes (word key ∷ words) rest
-      → IsFirstWordAnswer word line bytes (Ok (key, words, rest))
-  first_says key words rest has = first_found key (GoesOn tt (some_bytes has) has) refl
+pub first_says : {line : ℕ} {bytes word : List ℕ} {words : List (List ℕ)} {rest : List ℕ}
+    → HasLineWords bytes (word ∷ words) rest → IsLineAnswer line bytes (Ok (word, words, rest))
+first_says has = GoesOn tt (some_bytes has) has
 
 -- A line has a first word and `number` prices after it.
 pub record HasPrices (bytes word : List ℕ) (number : ℕ) (prices : List ℤ) (rest : List ℕ) : Type 0 where
@@ -382,22 +367,19 @@ pub prices_said : {number line : ℕ} {words : List (List ℕ)} {prices : List �
     → (words ≡ map signed_decimal prices) × ArePricesInRange prices × (length prices ≡ number)
 prices_said {number} {words} {prices} says = grind (arith, ThenNext-Ok)
 
-pub line_said : {K : Type 0} (word : K → List ℕ) (number : K → ℕ) {line : ℕ} {bytes : List ℕ} (x : K × List ℤ × List ℕ)
-    → IsPriceLineAnswer word number line bytes (Ok x) → HasPrices bytes (word x.0) (number x.0) x.1 x.2
-line_said {K} word number {bytes} x says =
-    let first = ThenNext-Ok says in
-    let found = ThenNext-Ok first.says in
-    let split = ThenNext-Ok found.says in
-    let key = ThenNext-Ok found.next in
+pub line_said : {word : List ℕ} {number line : ℕ} {bytes : List ℕ} (x : List ℤ × List ℕ)
+    → IsPriceLineAnswer word number line bytes (Ok x) → HasPrices bytes word number x.0 x.1
+line_said {word} {number} {bytes} x says =
+    let line = ThenNext-Ok says in
+    let split = ThenNext-Ok line.says in
+    let first = ThenNext-Ok line.next in
     let prices = ThenNext-Ok first.next in
     let are = prices_said prices.says in
-    let is : x ≡ (key.found.0, prices.found, found.found.1) = cc in
-    let words : found.found.0 ≡ price_words (word key.found.0) prices.found =
-    key.says ∙ ap (λ w. word key.found.0 ∷ w) (cc) in
-    subst (λ (y : K × List ℤ × List ℕ). HasPrices bytes (word y.0) (number y.0) y.1 y.2) (sym is) (record {
-      text = is_line split.next ∙ ap (λ w. line_then w found.found.1) words;
+    let words : line.found.0 ∷ line.found.1 ≡ price_words word prices.found = cc in
+    subst (λ (y : List ℤ × List ℕ). HasPrices bytes word number y.0 y.1) (sym (Yields-Ok prices.next)) (record {
+      text = is_line split.next ∙ ap (λ ws. line_then ws line.found.2) words;
       reach = are.1;
-      count = are.2 ∙ ap number (cc);
+      count = are.2;
     })
 
 -- ---- groups of kinds

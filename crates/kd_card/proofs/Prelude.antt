@@ -36,9 +36,9 @@ pub use Rattle.std.specs.List.{All, AllByRecursion, AllZip, IsDistinct, flat_map
 pub use Rattle.arrayvec.specs.ArrayString.{array_string_len}
 pub use Rattle.kd_card.specs.CardFault.{AtNothing, AtOther, BeginsWithHead, BeginsWithKinds, BeginsWithWord, EndsGroup}
 pub use Rattle.kd_card.specs.CardFault.{HasNoNext, HasLineWords, IsDigit, IsNextKind, IsNumberText, IsNumeral}
-pub use Rattle.kd_card.specs.CardFault.{IsAllPricesAnswer, IsRestAnswer, IsCardAnswer, IsFirstWordAnswer, IsGroupAnswer}
-pub use Rattle.kd_card.specs.CardFault.{IsGroupsAnswer, IsByKindPricesAnswer, IsKindsOfAnswer, IsLineAnswer, last_of}
-pub use Rattle.kd_card.specs.CardFault.{IsByNumberPricesAnswer, IsPriceLineAnswer, IsPricesAnswer, IsSettingsAnswer}
+pub use Rattle.kd_card.specs.CardFault.{IsAllPricesAnswer, IsRestAnswer, IsCardAnswer, IsGroupAnswer}
+pub use Rattle.kd_card.specs.CardFault.{IsGroupsAnswer, IsTablePricesAnswer, IsLineAnswer, last_of}
+pub use Rattle.kd_card.specs.CardFault.{IsPriceLineAnswer, IsPricesAnswer, IsSettingsAnswer}
 pub use Rattle.kd_card.specs.CardFault.{IsValueAnswer, first_text, line_then}
 pub use Rattle.kd_card.specs.CardText.{IsCard, IsGroup, card_text, column_word, head_words, lines_text, price_count}
 pub use Rattle.kd_card.specs.CardText.{price_lines}

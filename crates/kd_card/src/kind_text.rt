@@ -17,7 +17,7 @@ use kd_state::{is_word, number_of_text, push_number, split_words};
 /// Parses a kind from `behind`: its line without the first word, or `None` if the line has only one word.
 ///
 /// For the line `CABLE AB 1 0`, `behind` is `AB 1 0`. The result is `None` if the words don't make a valid kind.
-#[tactic(auto, using(crate::proofs::Lines::words_in_place))]
+#[tactic(auto, using(crate::proofs::Lines::words_in_place, crate::proofs::KindWords::no_count))]
 fn kind_behind<K: Kind>(behind: Option<&[u8]>) -> Option<K>
     ensures { let words = K.format.word ∷ words_after_first (option_copied behind.entry) in
         MatchOption result
@@ -25,27 +25,13 @@ fn kind_behind<K: Kind>(behind: Option<&[u8]>) -> Option<K>
         (IsKindOfWords K.format words) }
 {
     let words = split_words::<3>(behind?)?;
-    match words.as_slice() {
-        [key, count, price] => kind_of_words(key, count, price),
-        _ => None,
-    }
-}
-
-/// Parses a kind from the last three words of its line. `None` if one of them isn't valid.
-#[tactic(auto, using(crate::proofs::KindWords::no_count))]
-fn kind_of_words<K: Kind>(key: &[u8], count: &[u8], price: &[u8]) -> Option<K>
-    ensures { let words = K.format.word ∷ key.now ∷ count.now ∷ price.now ∷ [] in
-        MatchOption result
-        ((kind : K) → ¬ (HasKindWords K.format words kind))
-        (IsKindOfWords K.format words) }
-{
+    let [key, count, price] = words.as_slice() else {
+        return None;
+    };
     let key = K::key_of_text(key)?;
     let count = number_of_text(count)?;
     let price = price_of_text(price)?;
-    if count == 0 {
-        return None;
-    }
-    Some(K::of(KindOf { key, count, price }))
+    (count > 0).then_some(K::of(KindOf { key, count, price }))
 }
 
 /// Reads the next kind of a group from the first line of `text`. Returns this kind, and the text after the line.
