@@ -1,30 +1,6 @@
 -- Bytes are the text of at most one card, and have at most one first fault; never both.
-use Rattle.kd_card.proofs.Prelude.{not_longer, same_end, Bool, true, false, codes, ◌≡◌, ◌≢◌, ℕ, ◌+◌, ◌*◌, ◌^◌, ◌<◌, ◌≤◌}
-use Rattle.kd_card.proofs.Prelude.{List, [], ◌∷◌, ◌++◌, length, map, get_or, Result, Ok, Err, refl, sym, ap, subst, ◌∙◌}
-use Rattle.kd_card.proofs.Prelude.{arith, ℤ, unsigned_abs, append_assoc, AllByRecursion, signed_decimal}
-use Rattle.kd_card.proofs.Prelude.{decimal_injective, signed_decimal_injective, append-nil, recursion_from_All, Setting}
-use Rattle.kd_card.proofs.Prelude.{IsWord, setting_line, list_text, BeginsWithSettingLines, BeginsWithNoSetting}
-use Rattle.kd_card.proofs.Prelude.{PriceParts, Cables, Bars, CableKinds, BarKinds, Version, ByNumber, ByKind, CostTable}
-use Rattle.kd_card.proofs.Prelude.{OfCables, OfBars, KindFormat, Trailing, ThenNext, HasFault, GoesOn, Yields, Demands}
-use Rattle.kd_card.proofs.Prelude.{Option, Some, None, kinds_text, AreKinds, version_of, price_sum, cable_format}
-use Rattle.kd_card.proofs.Prelude.{pair_format, bar_format, row_format, ArePricesInRange, ArePrices, first_text}
-use Rattle.kd_card.proofs.Prelude.{column_word, price_count, lines_text, price_lines, card_text, IsGroup, IsCard, line_then}
-use Rattle.kd_card.proofs.Prelude.{IsValueAnswer, IsLineAnswer, HasLineWords, BeginsWithHead, BeginsWithAllSettings}
-use Rattle.kd_card.proofs.Prelude.{IsSettingsAnswer, IsPriceLineAnswer, BeginsWithWord}
-use Rattle.kd_card.proofs.Prelude.{EndsGroup, AtOther, IsNextKind, last_of, IsGroupAnswer, IsGroupsAnswer}
-use Rattle.kd_card.proofs.Prelude.{IsTablePricesAnswer, IsAllPricesAnswer, IsRestAnswer, IsCardAnswer, TextsTellCards}
-use Rattle.kd_card.proofs.Prelude.{NoCardBeginsAnother, CardsHaveNoFault, OneCardFault, common_steps, word_by_test}
-use Rattle.kd_card.proofs.Prelude.{BeginsWithKinds, CardsAreSaid, HasOneAnswer, HasOneAnswer-Demands}
-use Rattle.kd_card.proofs.Prelude.{HasOneAnswer-Finds, HasOneAnswer-Yields, HasOneAnswer-FindsAlways}
-use Rattle.kd_card.proofs.Prelude.{HasOneAnswer-ThenNext, ThenNext-Ok, Yields-Ok, CardFault, head_words, kind_words}
-use Rattle.kd_card.specs.{CardFault.parts_by_number, Reading.head_prefix}
-use Rattle.kd_card.proofs.Lines.{line_has_words, value_line, same_words, two_lines, card_and_more, mag-small}
-use Rattle.kd_card.proofs.Lines.{numeral_word, signed_word, head_text, day_unbroken, first_is_word, prices_are_words}
-use Rattle.kd_card.proofs.Lines.{number_text, signed_text, price_sum_is_small, value_says, value_said, same_values}
-use Rattle.kd_card.proofs.Lines.{first_says, HasPrices, line_said, group_said, settings_words, price_words, sum_words}
-use Rattle.kd_card.proofs.KindWords.{IsFormat, cables_are, pairs_are, bars_are, rows_are, kind_is_words, kind_begins}
-use Rattle.kd_card.proofs.KindWords.{end_has_no_next, same_kind}
-use Rattle.kd_card.proofs.KindPrices.{text_of_more_kinds, text_of_two, cables_are_prices, bars_are_prices}
+pub mod KindPrices
+unfoldable pub use KindPrices.*
 
 -- ---- texts that determine what they describe
 

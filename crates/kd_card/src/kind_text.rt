@@ -17,7 +17,7 @@ use kd_state::{is_word, number_of_text, push_number, split_words};
 /// Parses a kind from `behind`: its line without the first word, or `None` if the line has only one word.
 ///
 /// For the line `CABLE AB 1 0`, `behind` is `AB 1 0`. The result is `None` if the words don't make a valid kind.
-#[tactic(auto, using(crate::proofs::Lines::words_in_place, crate::proofs::KindWords::no_count))]
+#[tactic(auto, using(crate::proofs::OneCard::words_in_place, crate::proofs::OneCard::no_count))]
 fn kind_behind<K: Kind>(behind: Option<&[u8]>) -> Option<K>
     ensures { let words = K.format.word ∷ words_after_first (option_copied behind.entry) in
         MatchOption result
@@ -65,7 +65,7 @@ fn next_kind<K: Kind>(
 /// Reads all kinds of a group. Their counts have to add up to `N`. Returns the kinds, and the text after them.
 ///
 /// The group begins on line `line` of the card, counted from 1.
-#[tactic(auto, using(crate::proofs::KindPrices::reads_none))]
+#[tactic(auto, using(crate::proofs::OneCard::reads_none))]
 pub(crate) fn read_kinds<'a, K: Kind, const N: usize>(
     text: &'a [u8],
     line: usize,

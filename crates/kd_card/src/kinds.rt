@@ -148,7 +148,7 @@ impl Kind for CableKind {
         text_of_letters(self.ends.0, self.ends.1)
     }
 
-    #[tactic(auto, using(crate::proofs::KindWords::one_cable))]
+    #[tactic(auto, using(crate::proofs::OneCard::one_cable))]
     fn key_of_text(text: &[u8]) -> Option<Ends> {
         match text {
             [b'-'] => Some(Ends::new((None, None))),
@@ -211,7 +211,7 @@ impl Kind for PairKind {
         }
     }
 
-    #[tactic(auto, using(crate::proofs::KindWords::one_pair))]
+    #[tactic(auto, using(crate::proofs::OneCard::one_pair))]
     fn key_of_text(text: &[u8]) -> Option<Column> {
         match text {
             [b'-'] => Some(Column::new(None)),
@@ -262,7 +262,7 @@ impl Kind for BarKind {
         self.standing.text()
     }
 
-    #[tactic(auto, using(crate::proofs::KindWords::one_standing))]
+    #[tactic(auto, using(crate::proofs::OneCard::one_standing))]
     fn key_of_text(text: &[u8]) -> Option<Standing> {
         Standing::from_text(text)
     }
@@ -308,7 +308,7 @@ impl Kind for RowKind {
         self.reading.text()
     }
 
-    #[tactic(auto, using(crate::proofs::KindWords::one_reading))]
+    #[tactic(auto, using(crate::proofs::OneCard::one_reading))]
     fn key_of_text(text: &[u8]) -> Option<Reading> {
         Reading::from_text(text)
     }

@@ -49,7 +49,7 @@ pub(crate) fn price_of_text(text: &[u8]) -> Option<i16>
 }
 
 /// Parses the digits of a negative price, which follow its `-`.
-#[tactic(auto, using(crate::proofs::Lines::no_negative, crate::proofs::Lines::not_minus_zero))]
+#[tactic(auto, using(crate::proofs::OneCard::no_negative, crate::proofs::OneCard::not_minus_zero))]
 fn negative_price(digits: &[u8]) -> Option<i16>
     ensures { MatchOption result
         ((price : ℤ) → unsigned_abs price ≤ 9999 → signed_decimal price ≢ 45 ∷ digits.now)

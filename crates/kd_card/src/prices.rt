@@ -103,7 +103,7 @@ impl Prices {
     ///
     /// `None` if `cables` or `pairs` aren't strictly ascending, or the counts of either don't add up to 13. Also `None`
     /// if a kind has letters out of order, the count 0, or a price below -9999 or above 9999.
-    #[tactic(auto, using(crate::proofs::KindPrices::cables_are_prices))]
+    #[tactic(auto, using(crate::proofs::OneCard::cables_are_prices))]
     pub fn cable_kinds(cables: &[CableKind], pairs: &[PairKind]) -> Option<Self>
         ensures { let parts =
             PriceParts.CableKinds (record { items = cables.now }) (record { items = pairs.now }) in
@@ -117,7 +117,7 @@ impl Prices {
     ///
     /// `None` if `bars` or `rows` aren't strictly ascending, or the counts of either don't add up to 27. Also `None` if
     /// a kind has the count 0, or a price below -9999 or above 9999.
-    #[tactic(auto, using(crate::proofs::KindPrices::bars_are_prices))]
+    #[tactic(auto, using(crate::proofs::OneCard::bars_are_prices))]
     pub fn bar_kinds(bars: &[BarKind], rows: &[RowKind]) -> Option<Self>
         ensures { let parts =
             PriceParts.BarKinds (record { items = bars.now }) (record { items = rows.now }) in
@@ -196,7 +196,7 @@ impl Prices {
     }
 
     /// The sum of the prices of all rows and columns of the table of costs.
-    #[tactic(auto, using(crate::proofs::Lines::few_prices))]
+    #[tactic(auto, using(crate::proofs::OneCard::few_prices))]
     pub fn sum(&self) -> i32
         ensures { result ≡ price_sum self.now }
     {

@@ -15,7 +15,7 @@ use kd_tables::Wheel;
 /// Lists the settings for the slots, reflector, rings and letters of a rotor machine that aren't as the day says.
 ///
 /// Slots come first, then the reflector, rings and letters. `parts` are the parts of `machine`.
-#[tactic(auto, using(crate::proofs::Counting::few_in_box))]
+#[tactic(auto, using(crate::proofs::Leading::few_in_box))]
 pub fn rotor_settings(machine: &Machine, parts: &RotorParts, entry: &RotorEntry) -> Settings
     requires { machine.now ≡ Rotor parts.now }
     ensures lines { result.items

@@ -111,7 +111,7 @@ fn push_prices<const N: usize>(text: &mut ArrayString<N>, prices: &Prices)
 }
 
 /// Appends a line for each of the kinds `rows`, and then for each of the kinds `columns`.
-#[tactic(auto, using(crate::proofs::KindPrices::groups_joined))]
+#[tactic(auto, using(crate::proofs::OneCard::groups_joined))]
 fn push_groups<R: Kind, C: Kind, const N: usize>(
     text: &mut ArrayString<N>,
     rows: &[R],

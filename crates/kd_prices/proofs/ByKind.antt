@@ -1,5 +1,5 @@
 -- When prices by number, one for each key, can become prices by kind, one for equal keys; and which these are.
-use Rattle.kd_card.proofs.KindPrices.{bars_are_prices, cables_are_prices}
+use Rattle.kd_card.proofs.OneCard.{bars_are_prices, cables_are_prices}
 use Rattle.kd_prices.proofs.AlikeKeys.{AreTold, cables_told, columns_told, each_told, one_price_is}
 use Rattle.kd_prices.proofs.InForm.{cables_are_in_form, columns_are_in_form}
 use Rattle.kd_prices.proofs.Runs.{one_price}

@@ -1,5 +1,5 @@
 -- Lists of settings that lead from one machine to another, split and joined.
-use Rattle.kd_card.{proofs.Falling.model_of-changed, specs.Proving.is_priced_setting}
+use Rattle.kd_card.{proofs.Months.model_of-changed, specs.Proving.is_priced_setting}
 use Rattle.kd_state.specs.{Costs.loose_count, Setting.Carries}
 use Rattle.std.proofs.{Math.Seq.drop-cons, lemmas.List.length-take-le}
 use Rattle.std.specs.{Prelude.IsFalse, Result.{MatchResult, result_and}}

@@ -1,5 +1,5 @@
 -- The definitions and lemmas that most proofs of this crate use.
-pub use Rattle.kd_card.proofs.Shortest.{no_rotors, proving_cards_are_shortest, proving_prices_are_tight}
+pub use Rattle.kd_card.proofs.Months.{no_rotors, proving_cards_are_shortest, proving_prices_are_tight}
 pub use Rattle.kd_card.specs.CardText.{IsGroup}
 pub use Rattle.kd_card.specs.Kinds.{AreEnds, AreKinds, AreKindsOf, IsKind, IsPairInOrder, KindFormat, bar_format, cable_format}
 pub use Rattle.kd_card.specs.Kinds.{expansion, pair_format, row_format}

@@ -1,4 +1,4 @@
-use Rattle.kd_card.proofs.{Prelude.arith, KindWords.line_in_pieces, Lines.written_price}
+use Rattle.kd_card.proofs.OneCard.{arith, line_in_pieces, written_price}
 use Rattle.kd_card.proofs.kind_text.push_kind.Goals as goal
 
 pub returns-clause-bytes : goal.returns-clause-bytes

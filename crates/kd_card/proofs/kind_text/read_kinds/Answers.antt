@@ -1,6 +1,5 @@
-use Rattle.kd_card.proofs.Prelude.{KindOf, arith, ◌∙◌, refl, ap, BadLine, PriceMissing, HasFault, GoesOn, Ok, counted}
-use Rattle.kd_card.proofs.Prelude.{◌≡◌}
-use Rattle.kd_card.proofs.KindPrices.{all_read, reads_on}
+use Rattle.kd_card.proofs.OneCard.{KindOf, arith, ◌∙◌, refl, ap, BadLine, PriceMissing, HasFault, GoesOn, Ok, counted}
+use Rattle.kd_card.proofs.OneCard.{◌≡◌, all_read, reads_on}
 use Rattle.kd_card.proofs.kind_text.read_kinds.Goals as goal
 
 pub returns-in-Err : goal.returns-in-Err

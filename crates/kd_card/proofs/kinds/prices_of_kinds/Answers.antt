@@ -1,5 +1,4 @@
-use Rattle.kd_card.proofs.Prelude.{KindOf, arith, ap, take, length}
-use Rattle.kd_card.proofs.KindPrices.{counted_within, length_of_kinds}
+use Rattle.kd_card.proofs.OneCard.{KindOf, arith, ap, take, length, counted_within, length_of_kinds}
 use Rattle.kd_card.proofs.kinds.prices_of_kinds.Goals as goal
 
 pub push_prices-requires : goal.push_prices-requires

@@ -1,4 +1,5 @@
-use Rattle.kd_card.proofs.Prelude.{arith, common_steps}
+use Rattle.std.proofs.Common.{arith}
+use Rattle.std.proofs.lemmas.Grind.{common_steps}
 use Rattle.kd_card.proofs.pin_lines.push_pins.Goals as goal
 
 pub returns-clause-items : goal.returns-clause-items

@@ -1,5 +1,5 @@
-use Rattle.kd_card.proofs.Prelude.{◌∙◌, sym, refl, err_from_is_err_and, HasFault, GoesOn, OfCables, OfBars}
-use Rattle.kd_card.proofs.Lines.{not_from_false}
+use Rattle.kd_card.proofs.OneCard.{◌∙◌, sym, refl, err_from_is_err_and, HasFault, GoesOn, OfCables, OfBars}
+use Rattle.kd_card.proofs.OneCard.{not_from_false}
 use Rattle.kd_card.proofs.price_text.table_of_line.Goals as goal
 
 pub returns-in_err-first : goal.returns-in_err-first

@@ -1,4 +1,5 @@
-use Rattle.kd_card.proofs.Prelude.{arith, common_steps, rules}
+use Rattle.std.proofs.Common.{arith, rules}
+use Rattle.std.proofs.lemmas.Grind.{common_steps}
 use Rattle.kd_card.proofs.prices.sum_onto.Goals as goal
 
 pub loop-price-preserved : goal.loop-price-preserved

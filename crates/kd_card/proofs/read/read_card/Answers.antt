@@ -1,6 +1,8 @@
-use Rattle.kd_card.proofs.Prelude.{rules, ◌∙◌, sym, refl, w32, eqb-true, to_z-of_z, nil_from_length, BadHead, TooMany}
-use Rattle.kd_card.proofs.Prelude.{Trailing, HasFault, GoesOn}
-use Rattle.kd_card.proofs.{Lines.{nonempty-by_length, MatchResult-err}, OneCard.{up_to_settings, card_said}}
+use Rattle.kd_card.proofs.OneCard.{rules, ◌∙◌, sym, refl, to_z-of_z, nil_from_length, Trailing, HasFault, GoesOn}
+use Rattle.kd_card.proofs.OneCard.{nonempty-by_length, MatchResult-err, up_to_settings, card_said}
+use Rattle.kd_card.specs.declared.fault.CardFault.TheVariants.{BadHead, TooMany}
+use Rattle.std.proofs.Common.{w32}
+use Rattle.std.proofs.lemmas.Bool.{eqb-true}
 use Rattle.kd_card.proofs.read.read_card.Goals as goal
 
 pub returns-in_default : goal.returns-in_default

@@ -1,5 +1,5 @@
-use Rattle.kd_card.proofs.Prelude.{[], refl, arith, unsigned_abs, ◌≤◌, All-nil, PriceMissing, HasFault, GoesOn}
-use Rattle.kd_card.proofs.Lines.{MatchResult-err, not_from_false, other_count}
+use Rattle.kd_card.proofs.OneCard.{[], refl, arith, unsigned_abs, ◌≤◌, All-nil, PriceMissing, HasFault, GoesOn}
+use Rattle.kd_card.proofs.OneCard.{MatchResult-err, not_from_false, other_count}
 use Rattle.kd_card.proofs.read.read_price_line.Goals as goal
 
 pub returns-in_err-first : goal.returns-in_err-first

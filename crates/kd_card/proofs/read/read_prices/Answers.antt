@@ -1,6 +1,5 @@
-use Rattle.kd_card.proofs.Prelude.{refl, HasFault, GoesOn}
-use Rattle.kd_card.proofs.{Lines.{MatchResult-err, goes_on}, OneCard.groups_said}
-use Rattle.kd_card.proofs.KindPrices.{cables_are_prices, bars_are_prices}
+use Rattle.kd_card.proofs.OneCard.{refl, HasFault, GoesOn, MatchResult-err, goes_on, groups_said, cables_are_prices}
+use Rattle.kd_card.proofs.OneCard.{bars_are_prices}
 use Rattle.kd_card.proofs.read.read_prices.Goals as goal
 
 pub returns-in_err-table : goal.returns-in_err-table

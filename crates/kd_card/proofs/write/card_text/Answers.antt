@@ -1,5 +1,6 @@
-use Rattle.kd_card.proofs.Prelude.{rules, ◌++◌, [], ◌∷◌, ◌∙◌, ap, codes, signed_decimal, to_z-of_z, w32}
-use Rattle.kd_card.proofs.Lines.{card_text-joined, head_text}
+use Rattle.kd_card.proofs.OneCard.{rules, ◌++◌, [], ◌∷◌, ◌∙◌, ap, codes, signed_decimal, to_z-of_z, card_text-joined}
+use Rattle.kd_card.proofs.OneCard.{head_text}
+use Rattle.std.proofs.Common.{w32}
 use Rattle.kd_card.proofs.write.card_text.Goals as goal
 
 pub returns-clause-bytes : goal.returns-clause-bytes

@@ -1,4 +1,4 @@
-use Rattle.kd_card.proofs.{Prelude.{arith, common_steps, take_all}, Lines.all_prices}
+use Rattle.kd_card.proofs.OneCard.{arith, common_steps, take_all, all_prices}
 use Rattle.kd_card.proofs.write.push_price_line.Goals as goal
 
 pub loop-price-preserved : goal.loop-price-preserved

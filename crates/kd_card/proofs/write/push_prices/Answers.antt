@@ -1,4 +1,4 @@
-use Rattle.kd_card.proofs.{Prelude.{arith, rules}, KindPrices.{few_cables, few_bars}}
+use Rattle.kd_card.proofs.OneCard.{arith, rules, few_cables, few_bars}
 use Rattle.kd_card.proofs.write.push_prices.Goals as goal
 
 pub push_groups-requires : goal.push_groups-requires

@@ -1,7 +1,7 @@
 -- A spare cable exchanges its pair for another cable's column, which has no pair.
 pub use Rattle.kd_assign.specs.Assignment.{IsOneToOne, assignment_cost}
 pub use Rattle.kd_assign.specs.Prices.{cost_at}
-pub use Rattle.kd_card.proofs.Counting.{all_counted}
+pub use Rattle.kd_card.proofs.Leading.{all_counted}
 pub use Rattle.kd_card.specs.Loose.{loose_lines}
 pub use Rattle.kd_card.specs.Proving.{priced_count}
 pub use Rattle.kd_plan.proofs.Planning.Moving.Cables.{All, Cable, Column, In, IsMachine, List, None, OfPins, OfRotors}

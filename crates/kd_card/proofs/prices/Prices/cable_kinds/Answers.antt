@@ -1,4 +1,4 @@
-use Rattle.kd_card.proofs.{Prelude.rules, KindPrices.cables_are_prices}
+use Rattle.kd_card.proofs.OneCard.{rules, cables_are_prices}
 use Rattle.kd_card.proofs.prices.Prices.cable_kinds.Goals as goal
 
 pub of_parts-requires : goal.of_parts-requires

@@ -1,30 +1,57 @@
 -- Lines of words as they are written and split, texts of prices, and what the lines of a card have.
-use Rattle.kd_card.proofs.Prelude.{rules, IsNumeralModel-digits, ◌≡◌, ◌≢◌, ℕ, ◌<◌, true, false, eqb, ltb, List, [], ◌∷◌}
-use Rattle.kd_card.proofs.Prelude.{◌++◌, length, refl, sym, ap, ◌∙◌, append_assoc, length-append, append_cancel_left}
-use Rattle.kd_card.proofs.Prelude.{arith, ℤ, All, list_all, flat_map, signed_decimal, ne_eqb, ltb-true, append-nil}
-use Rattle.kd_card.proofs.Prelude.{get_or_at, take_all, flat_map-append, AllPass-from_list_all, All-weaker}
-use Rattle.kd_card.proofs.Prelude.{All-from_recursion, flat_map-map, Setting, words_of, line_of, IsWord, IsWithout}
-use Rattle.kd_card.proofs.Prelude.{IsFirstPart, setting_line, list_text, PriceParts, Version, version_of, price_sum}
-use Rattle.kd_card.proofs.Prelude.{head_words, lines_text, price_lines, card_text, line_then, HasLineWords}
-use Rattle.kd_card.proofs.Prelude.{common_steps, lines_split_into_words, texts_tell_first_parts, words_make_one_line}
-use Rattle.kd_card.proofs.Prelude.{map, setting_words, suc, ◌^◌, ◌≤◌, Bool, get_or, Option, Some, None, MatchOption}
-use Rattle.kd_card.proofs.Prelude.{Result, Ok, Err, MatchResult, Decides, Bor, ◌↔◌, IsTrue, is_some, subst, pos, negsuc}
-use Rattle.kd_card.proofs.Prelude.{unsigned_abs, FitsSigned, w16, to_z, of_z, then_some, IsUtf8, ParsesSigned}
-use Rattle.kd_card.proofs.Prelude.{AllByRecursion, false≢true, fits_signed_from_abs, to_z-of_z, get_or-map, length-map}
-use Rattle.kd_card.proofs.Prelude.{recursion_from_All, All-map, IsPriceText, IsPricesAnswer, BadLine, PriceMissing}
-use Rattle.kd_card.proofs.Prelude.{HasFault, GoesOn, parse-signed_decimal, IsAscii-signed, ArePricesInRange, codes}
-use Rattle.kd_card.proofs.Prelude.{zero, ◌+◌, ◌*◌, inl, inr, fold, decimal, not, pointwise, not-false, Decides-eqb}
-use Rattle.kd_card.proofs.Prelude.{slice_eq-Decides, err_from_is_err_and, ◌+ℤ◌, digits_value, decimal_nonempty}
-use Rattle.kd_card.proofs.Prelude.{digits_decimal, decimal_digit, decimal_injective, first_decimal, All-cons, All-append, All-from_get_or}
-use Rattle.kd_card.proofs.Prelude.{table_rows, ArePrices, CostTable, KindFormat, CountWrong, BeginsWithHead, kinds_text}
-use Rattle.kd_card.proofs.Prelude.{first_text, column_word, IsGroup, ByNumber, IsDigit, IsNumberText, IsNumeral}
-use Rattle.kd_card.proofs.Prelude.{IsValueAnswer, IsLineAnswer, IsPriceLineAnswer, IsGroupAnswer}
-use Rattle.kd_card.proofs.Prelude.{nil_from_length, numbers_are_words, word_by_bytes, word_by_test, ThenNext, ThenNext-Ok, Yields-Ok}
-use Rattle.kd_card.proofs.Prelude.{CardFault}
-use Rattle.std.proofs.lemmas.List.Splits.{slice_split_none, slice_split_at, join_with_byte-slice_split}
-use Rattle.std.{specs.{Result.{IsErrAnd}, Int.Signed.mag}}
-use Rattle.kd_card.specs.Reading.{head_prefix}
-use Rattle.kd_state.specs.SheetDay.{IsDayNumber}
+pub use Rattle.kd_card.specs.CardFault.{line_then, HasLineWords, IsPricesAnswer, BeginsWithHead, first_text, IsDigit}
+pub use Rattle.kd_card.specs.CardFault.{IsNumberText, IsNumeral, IsValueAnswer, IsLineAnswer, IsPriceLineAnswer}
+pub use Rattle.kd_card.specs.CardFault.{IsGroupAnswer, BeginsWithWord, EndsGroup, AtNothing, AtOther, IsNextKind}
+pub use Rattle.kd_card.specs.CardFault.{HasNoNext, BeginsWithKinds, IsSettingsAnswer, last_of, IsGroupsAnswer}
+pub use Rattle.kd_card.specs.CardFault.{IsTablePricesAnswer, IsAllPricesAnswer, IsRestAnswer, IsCardAnswer}
+pub use Rattle.kd_card.specs.CardFault.{parts_by_number}
+pub use Rattle.kd_card.specs.CardText.{head_words, lines_text, price_lines, card_text, column_word, IsGroup}
+pub use Rattle.kd_card.specs.CardText.{price_count, IsCard}
+pub use Rattle.kd_card.specs.Kinds.{KindFormat, kinds_text, cable_format, pair_format, bar_format, row_format}
+pub use Rattle.kd_card.specs.Kinds.{kind_words, AreEnds, IsKind, ComesAfter, KeyComesBefore, HasKindWords, HasText}
+pub use Rattle.kd_card.specs.Kinds.{IsOnlyKey, letters_text, counted, prices_of_kinds, AreKinds}
+pub use Rattle.kd_card.specs.Laws.{TextsTellCards, NoCardBeginsAnother, CardsHaveNoFault, OneCardFault, CardsAreSaid}
+pub use Rattle.kd_card.specs.Prices.{version_of, price_sum, ArePricesInRange, table_rows, ArePrices, row_prices}
+pub use Rattle.kd_card.specs.Prices.{column_prices, HaveKindsInOrder}
+pub use Rattle.kd_card.specs.Reading.{IsPriceText, head_prefix, EndsKindsAt, IsBadKindAt, IsKindOfWords, AreFewKinds}
+pub use Rattle.kd_card.specs.declared.fault.CardFault.TheVariants.{BadLine, PriceMissing, CountWrong, Trailing}
+pub use Rattle.kd_card.specs.declared.prices.PriceParts.TheVariants.{CableKinds, BarKinds, Cables, Bars}
+pub use Rattle.kd_card.specs.declared.cost_table.CostTable.TheVariants.{OfCables, OfBars}
+pub use Rattle.kd_card.specs.{declared.prices.Version.TheVariants.{ByNumber, ByKind}, declared.kinds.PairKind.PairKind}
+pub use Rattle.kd_card.specs.{declared.cost_table.CostTable.CostTable, declared.prices.PriceParts.PriceParts}
+pub use Rattle.kd_card.specs.{declared.fault.CardFault.CardFault, declared.kinds.CableKind.CableKind}
+pub use Rattle.kd_card.specs.{declared.prices.Version.Version, declared.kinds.BarKind.BarKind}
+pub use Rattle.kd_card.specs.{declared.kinds.RowKind.RowKind, declared.kinds.KindOf.KindOf}
+pub use Rattle.kd_state.proofs.Lines.{IsNumeralModel-digits, lines_split_into_words, texts_tell_first_parts}
+pub use Rattle.kd_state.proofs.Lines.{words_make_one_line, numbers_are_words, word_by_bytes, word_by_test, not_longer}
+pub use Rattle.kd_state.proofs.Lines.{same_end}
+pub use Rattle.kd_state.specs.FirstFaults.{HasFault, GoesOn, ThenNext, ThenNext-Ok, Yields-Ok, Yields, Demands}
+pub use Rattle.kd_state.specs.FirstFaults.{HasOneAnswer, HasOneAnswer-Demands, HasOneAnswer-Finds, HasOneAnswer-Yields}
+pub use Rattle.kd_state.specs.FirstFaults.{HasOneAnswer-FindsAlways, HasOneAnswer-ThenNext}
+pub use Rattle.kd_state.specs.Line.{setting_line, list_text, setting_words, BeginsWithSettingLines, BeginsWithNoSetting}
+pub use Rattle.kd_state.specs.Line.{BeginsWithAllSettings}
+pub use Rattle.kd_state.specs.{Words.{words_of, line_of, IsWord, IsWithout, IsFirstPart}, Machine.cable_letters}
+pub use Rattle.kd_state.specs.{declared.setting.Setting.Setting, Costs.column_letters, SheetDay.IsDayNumber}
+pub use Rattle.kd_tables.specs.{Places.{place_text, standing_text, reading_text}, declared.place.Place.Place}
+pub use Rattle.std.proofs.Common.{rules, ◌≡◌, ◌≢◌, ℕ, ◌<◌, true, false, eqb, ltb, List, [], ◌∷◌, ◌++◌, length, refl}
+pub use Rattle.std.proofs.Common.{sym, ap, ◌∙◌, append_assoc, length-append, arith, ℤ, map, suc, ◌^◌, ◌≤◌, Bool, get_or}
+pub use Rattle.std.proofs.Common.{Option, Some, None, MatchOption, Result, Ok, Err, MatchResult, Decides, Bor, ◌↔◌}
+pub use Rattle.std.proofs.Common.{IsTrue, is_some, subst, pos, negsuc, unsigned_abs, FitsSigned, w16, to_z, of_z, codes}
+pub use Rattle.std.proofs.Common.{zero, ◌+◌, ◌*◌, inl, inr, fold, decimal, not, ◌+ℤ◌, drop, min, take}
+pub use Rattle.std.proofs.lemmas.Fmt.{parse-signed_decimal, IsAscii-signed, decimal_nonempty, digits_decimal}
+pub use Rattle.std.proofs.lemmas.Fmt.{decimal_digit, decimal_injective, first_decimal, signed_decimal_injective}
+pub use Rattle.std.proofs.lemmas.List.{append_cancel_left, append-nil, get_or_at, take_all, get_or-map, length-map}
+pub use Rattle.std.proofs.lemmas.List.{nil_from_length, length-replicate}
+pub use Rattle.std.proofs.lemmas.{Bool.{ne_eqb, ltb-true, false≢true, not-false}, Int.{fits_signed_from_abs, to_z-of_z}}
+pub use Rattle.std.proofs.lemmas.{Result.err_from_is_err_and, Slice.Eq.slice_eq-Decides, Bool.Decides.Decides-eqb}
+pub use Rattle.std.proofs.lemmas.Grind.{common_steps}
+pub use Rattle.std.proofs.lemmas.List.Elements.{All-weaker, All-from_recursion, recursion_from_All, All-map, All-cons}
+pub use Rattle.std.proofs.lemmas.List.Elements.{All-append, All-from_get_or, All-nil, All-replicate}
+pub use Rattle.std.proofs.lemmas.List.Splits.{slice_split_none, slice_split_at, join_with_byte-slice_split}
+pub use Rattle.std.proofs.lemmas.List.{Sums.AllPass-from_list_all, Concat.flat_map-append, Folds.flat_map-map}
+pub use Rattle.std.specs.{List.{All, list_all, flat_map, AllByRecursion}, Str.Parse.{ParsesSigned, digits_value}}
+pub use Rattle.std.specs.{Fmt.signed_decimal, Result.IsErrAnd, Bool.then_some, Int.Signed.mag, Str.IsUtf8}
+pub use lib.Pointwise.{pointwise}
 
 abbrev pub settings_words : ℕ → List (List ℕ)
 settings_words number = codes "SETTINGS" ∷ decimal number ∷ []

@@ -1,16 +1,6 @@
 -- The prices of kinds: one for each key, and kinds that are read one after another.
-use Rattle.kd_card.proofs.Prelude.{rules, ◌≡◌, ◌↔◌, ℕ, ◌+◌, ◌≤◌, ◌<◌, List, [], ◌∷◌, ◌++◌, length, map, refl, sym, ap}
-use Rattle.kd_card.proofs.Prelude.{◌∙◌, length-append, arith, unsigned_abs, Option, Some, None, min, zero, suc}
-use Rattle.kd_card.proofs.Prelude.{length-replicate, All-append, All-nil, All-replicate, CableKinds, ℤ, BarKinds}
-use Rattle.kd_card.proofs.Prelude.{KindFormat, cable_format, pair_format, bar_format, row_format, counted}
-use Rattle.kd_card.proofs.Prelude.{prices_of_kinds, AreKinds}
-use Rattle.kd_card.proofs.Prelude.{IsKind, kind_words, kinds_text, ArePricesInRange, ArePrices, flat_map-append}
-use Rattle.kd_card.proofs.Prelude.{flat_map-map, line_of, CostTable, price_count, lines_text, IsGroup, line_then}
-use Rattle.kd_card.proofs.Prelude.{common_steps, take, get_or, subst, append_assoc, All, All-cons, IsNextKind}
-use Rattle.kd_card.proofs.Prelude.{BeginsWithKinds, append-nil, HasNoNext, BarKind, CableKind, PairKind, RowKind}
-use Rattle.kd_card.proofs.Prelude.{PriceParts, row_prices, column_prices, table_rows}
-use Rattle.kd_card.specs.{Prices.HaveKindsInOrder, Reading.AreFewKinds}
-use Rattle.kd_card.proofs.Lines.{line_and_more, is_line}
+pub mod KindWords
+unfoldable pub use KindWords.*
 
 module _ {K X : Type 0} (format : KindFormat K X) where
   pub length_of_kinds : (kinds : List K) → length (prices_of_kinds format kinds) ≡ counted format kinds

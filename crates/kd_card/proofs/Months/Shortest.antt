@@ -1,33 +1,8 @@
 -- On a machine that reads as the day, cables or bars have an assignment that costs nothing. So each list that
 -- reaches the day has at least as many settings as loose things plus the sum of prices that fit, and a card that
 -- proves itself has exactly as many.
-use Rattle.kd_card.proofs.Prelude.{count_by-cons, ◌≡◌, ◌≢◌, ℕ, zero, suc, ◌+◌, ◌-◌, ◌≤◌, nat_eq, cond, List, [], ◌∷◌}
-use Rattle.kd_card.proofs.Prelude.{◌++◌, length, get_or, map, zip, replicate, Contains, IsPermutation, count_by, remove}
-use Rattle.kd_card.proofs.Prelude.{Option, Some, None, ℤ, refl, sym, ap, ◌∙◌, subst, arith, AllByRecursion, AllZip}
-use Rattle.kd_card.proofs.Prelude.{flat_map, eq-eqb, All-contains, recursion_from_All, sum_by-cons, get_or-le-sum_by}
-use Rattle.kd_card.proofs.Prelude.{sum_by-IsPermutation, Contains-permutation, IsPermutation-refl, IsPermutation-sym}
-use Rattle.kd_card.proofs.Prelude.{IsPermutation-cons, IsPermutation-trans, IsPermutation-remove, Place, One, alphabet}
-use Rattle.kd_card.proofs.Prelude.{reading_of, IsBefore, letters_in_pairs, cable_letters, letters_in_cables, has_letter}
-use Rattle.kd_card.proofs.Prelude.{HaveSameLetters, IsCablePaired, IsPairJoined, AreThePairs, exactly_one, cable_cost}
-use Rattle.kd_card.proofs.Prelude.{bar_cost, columns_of, tests_tell_letters, thirteen_columns, rules}
-use Rattle.kd_card.proofs.Prelude.{Contains-append_right, sum_by, HasLugsInOrder, Contains-tail, ◌<◌, Bool, pos, ◌+ℤ◌}
-use Rattle.kd_card.proofs.Prelude.{◌≤ℤ◌, ints, length_permutation, All-permutation, Model, reflectors_of, Parts, Rotor}
-use Rattle.kd_card.proofs.Prelude.{Pin, Setting, model_of, IsMachine, Leads, machine_after, Day, OfRotors, OfPins}
-use Rattle.kd_card.proofs.Prelude.{day_model, IsLegalDay, ReadsAs, cost_table, loose_count, PriceParts, Cables, Bars}
-use Rattle.kd_card.proofs.Prelude.{ArePrices, PricesFit, ArePricesTight, price_sum, is_priced_setting, priced_count}
-use Rattle.kd_card.proofs.Prelude.{AreModelPrices, IsSettingNeeded, AreSettingsNeeded, Same, Expanded}
-use Rattle.kd_card.proofs.Prelude.{FittingPricesBoundLists, ProvingCardsAreAsLong, ProvingCardsAreShortest}
-use Rattle.kd_card.proofs.Prelude.{ProvingPricesAreTight, get_or_default, get_or-map, length-zip, get_or-zip}
-use Rattle.kd_card.proofs.Prelude.{AsFewAreNeeded, why_refused, IsPriceTightAt, column_prices, cost_at, table_rows}
-use Rattle.kd_card.proofs.Prelude.{common_steps, price_at, row_prices, All-from_get_or, Contains-get_or, AllZip-long}
-use Rattle.kd_card.proofs.Prelude.{length-map}
-use Rattle.{kd_state.specs.Costs.standings_as, std.proofs.lemmas.List.Edits.length-remove}
-use Rattle.kd_card.proofs.Duality.{pairing_cost, reordered, fold_of_both, prices_moved, fitting_prices, tight_at}
-use Rattle.kd_card.proofs.Duality.{sum_of, prices_with, FitTogether, FitAll}
-use Rattle.kd_card.proofs.Counts.{times, times-append, AreOnce, once_of_distinct}
-use Rattle.kd_card.proofs.Falling.{HasCables, HasBars, not_differing, machines_have_all, list_keeps, left_to_do}
-use Rattle.kd_card.proofs.Falling.{left_to_do-lowered, loose_count-priced, model_of-changed, nothing_loose}
-use Rattle.kd_tables.specs.declared.{model.Model.TheVariants.M209, reflector.Reflector.Reflector}
+pub mod Falling
+unfoldable pub use Falling.*
 
 -- A cable with the letters of its column costs nothing.
 none_differ : (xs ys : List ℕ) → ((letter : ℕ) → has_letter xs letter ≡ has_letter ys letter) → (letters : List ℕ)
