@@ -1,25 +1,20 @@
 -- The result of reading bytes as a card: the card, or the first fault. Lines are counted from 1.
+use Rattle.kd_card.specs.Kinds.{KindFormat, cable_format, pair_format, bar_format, row_format, kind_words, kinds_text}
+use Rattle.kd_card.specs.Kinds.{counted, IsKind, AreKinds, ComesAfter}
+use Rattle.kd_card.specs.declared.fault.CardFault.TheVariants.{BadHead, BadLine, TooMany, PriceMissing, CountWrong}
+use Rattle.kd_card.specs.declared.fault.CardFault.TheVariants.{Trailing}
+use Rattle.kd_card.specs.declared.prices.PriceParts.TheVariants.{Cables, Bars, CableKinds, BarKinds}
+use Rattle.kd_card.specs.{CardText.{column_word, price_count, head_words, price_lines}, declared.prices.Version.Version}
+use Rattle.kd_card.specs.declared.cost_table.CostTable.TheVariants.{OfCables, OfBars}
+use Rattle.kd_card.specs.{declared.prices.Version.TheVariants.{ByNumber, ByKind}, declared.prices.PriceParts.PriceParts}
+use Rattle.kd_card.specs.{declared.cost_table.CostTable.CostTable, Prices.{price_sum, ArePricesInRange}}
+use Rattle.kd_card.specs.declared.fault.CardFault.{CardFault}
+use Rattle.kd_state.specs.{FirstFaults.{AnswerRule, ◌>>=◌, Yields, Finds, Demands, FindsAlways}, SheetDay.IsDayNumber}
+use Rattle.kd_state.specs.{Line.{BeginsWithSettingLines, BeginsWithAllSettings}, Words.{words_of, line_of, IsFirstPart}}
+use Rattle.kd_state.specs.declared.setting.Setting.{Setting}
 use Rattle.std.specs.Prelude.{codes, decimal, ◌≡◌, ◌≢◌, ℕ, ◌+◌, ◌≤◌, ◌⊎◌, List, [], ◌∷◌, ◌++◌, length, map, All, ℤ}
 use Rattle.std.specs.Prelude.{Bool, true, false, Ok, Err, Option, Some, None}
 use Rattle.std.specs.Fmt.{signed_decimal}
-use Rattle.kd_state.specs.declared.setting.Setting.{Setting}
-use Rattle.kd_state.specs.Words.{words_of, line_of, IsFirstPart}
-use Rattle.kd_state.specs.Line.{BeginsWithSettingLines, BeginsWithAllSettings}
-use Rattle.kd_state.specs.SheetDay.{IsDayNumber}
-use Rattle.kd_card.specs.declared.prices.PriceParts.{PriceParts}
-use Rattle.kd_card.specs.declared.prices.PriceParts.TheVariants.{Cables, Bars, CableKinds, BarKinds}
-use Rattle.kd_card.specs.declared.prices.Version.{Version}
-use Rattle.kd_card.specs.declared.prices.Version.TheVariants.{ByNumber, ByKind}
-use Rattle.kd_card.specs.declared.cost_table.CostTable.{CostTable}
-use Rattle.kd_card.specs.declared.cost_table.CostTable.TheVariants.{OfCables, OfBars}
-use Rattle.kd_card.specs.declared.fault.CardFault.{CardFault}
-use Rattle.kd_card.specs.declared.fault.CardFault.TheVariants.{BadHead, BadLine, TooMany, PriceMissing, CountWrong}
-use Rattle.kd_card.specs.declared.fault.CardFault.TheVariants.{Trailing}
-use Rattle.kd_state.specs.FirstFaults.{AnswerRule, ◌>>=◌, Yields, Finds, Demands, FindsAlways}
-use Rattle.kd_card.specs.Kinds.{KindFormat, cable_format, pair_format, bar_format, row_format, kind_words, kinds_text}
-use Rattle.kd_card.specs.Kinds.{counted, IsKind, AreKinds, ComesAfter}
-use Rattle.kd_card.specs.Prices.{price_sum, ArePricesInRange}
-use Rattle.kd_card.specs.CardText.{column_word, price_count, head_words, price_lines}
 
 -- ---- numbers and prices as they are written
 

@@ -1,18 +1,13 @@
 -- Kinds: a kind is one entry for equal cables, columns, bars or rows, with their count and the price of each.
+use Rattle.kd_card.specs.{declared.kinds.CableKind.CableKind, declared.kinds.PairKind.PairKind}
+use Rattle.kd_card.specs.{declared.kinds.BarKind.BarKind, declared.kinds.RowKind.RowKind, declared.kinds.KindOf.KindOf}
+use Rattle.kd_state.specs.{Costs.{column_letters, one_unless}, Words.{letter_text, line_of}, Machine.cable_letters}
+use Rattle.kd_tables.specs.Places.{standing_text, reading_text, place_rank, IsBefore, IsReading}
+use Rattle.kd_tables.specs.declared.place.Place.{Place}
 use Rattle.std.specs.Prelude.{codes, decimal, ◌≡◌, ℕ, ◌+◌, ◌<◌, ◌≤◌, List, [], ◌∷◌, ◌++◌, length, map, replicate}
 use Rattle.std.specs.Prelude.{flat_map, ℤ, unsigned_abs, Option, Some, None, is_some, IsPermutation, zip}
-use Rattle.std.specs.{Cmp.Lexicographic.slice_cmp, Ordering.nat_cmp, declared.cmp.Ordering.TheVariants.Less}
-use Rattle.std.specs.Fmt.{signed_decimal}
-use Rattle.kd_tables.specs.declared.place.Place.{Place}
-use Rattle.kd_tables.specs.Places.{standing_text, reading_text, place_rank, IsBefore, IsReading}
-use Rattle.kd_state.specs.Words.{letter_text, line_of}
-use Rattle.kd_state.specs.Machine.{cable_letters}
-use Rattle.kd_state.specs.Costs.{column_letters, one_unless}
-use Rattle.kd_card.specs.declared.kinds.KindOf.{KindOf}
-use Rattle.kd_card.specs.declared.kinds.CableKind.{CableKind}
-use Rattle.kd_card.specs.declared.kinds.PairKind.{PairKind}
-use Rattle.kd_card.specs.declared.kinds.BarKind.{BarKind}
-use Rattle.kd_card.specs.declared.kinds.RowKind.{RowKind}
+use Rattle.std.specs.{declared.cmp.Ordering.TheVariants.Less, Cmp.Lexicographic.slice_cmp, Fmt.signed_decimal}
+use Rattle.std.specs.Ordering.{nat_cmp}
 
 -- ---- keys: a cable's letters, a column's pair, a bar's standing, a row's reading
 

@@ -1,21 +1,15 @@
 -- The settings for loose things, in a fixed order. A loose thing, such as a ring or a pin, isn't as the day says;
 -- cables and bars are never loose.
+use Rattle.kd_pins.specs.PinWheels.{pins_of}
+use Rattle.kd_state.specs.declared.setting.Setting.TheVariants.{Seat, SeatReflector, RingTo, Turn, PinTo}
+use Rattle.kd_state.specs.{declared.machine.parts.Parts.TheVariants.{Rotor, Pin}, declared.machine.parts.Parts.Parts}
+use Rattle.kd_state.specs.{declared.sheet_day.rotor_entry.SheetWheel.SheetWheel, Machine.{machine_ring, machine_letter}}
+use Rattle.kd_state.specs.{SameParts.{same_wheel, same_reflector}, SheetDay.{Day, OfRotors, OfPins}, Costs.exactly_one}
+use Rattle.kd_state.specs.declared.setting.Setting.{Setting}
+use Rattle.kd_tables.specs.{declared.wheel.Wheel.Wheel, Rings.ring_of, Tables.box_of}
 use Rattle.std.specs.Prelude.{ℕ, nat_eq, Bool, false, not, List, [], ◌∷◌, ◌++◌, ◌+◌, flat_map, find, zip, Option}
 use Rattle.std.specs.Prelude.{if◌then◌else◌}
 use Rattle.std.specs.Option.{option_map_or}
-use Rattle.kd_tables.specs.declared.wheel.Wheel.{Wheel}
-use Rattle.kd_tables.specs.Tables.{box_of}
-use Rattle.kd_tables.specs.Rings.{ring_of}
-use Rattle.kd_pins.specs.PinWheels.{pins_of}
-use Rattle.kd_state.specs.declared.machine.parts.Parts.{Parts}
-use Rattle.kd_state.specs.declared.machine.parts.Parts.TheVariants.{Rotor, Pin}
-use Rattle.kd_state.specs.declared.sheet_day.rotor_entry.SheetWheel.{SheetWheel}
-use Rattle.kd_state.specs.declared.setting.Setting.{Setting}
-use Rattle.kd_state.specs.declared.setting.Setting.TheVariants.{Seat, SeatReflector, RingTo, Turn, PinTo}
-use Rattle.kd_state.specs.SameParts.{same_wheel, same_reflector}
-use Rattle.kd_state.specs.Machine.{machine_ring, machine_letter}
-use Rattle.kd_state.specs.SheetDay.{Day, OfRotors, OfPins}
-use Rattle.kd_state.specs.Costs.{exactly_one}
 
 -- the setting `x`, or no setting if `already` is true, that is, if the machine already is as `x` would set it
 abbrev pub setting_unless : Bool → Setting → List Setting

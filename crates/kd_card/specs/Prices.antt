@@ -1,13 +1,12 @@
 -- The prices of a card, and what it means that they fit a table of costs. If prices are by number, each cable, pair,
 -- nothing, bar or row of the sheet has its own price. If they are by kind, equal cables (or pairs, nothings, bars,
 -- rows) share one price. Rows and columns of the table are counted from 0.
-use Rattle.std.specs.Prelude.{◌≡◌, ℕ, ◌<◌, ◌≤◌, List, [], ◌++◌, length, All, fold, slice_index, slice_index_or, ℤ}
-use Rattle.std.specs.Prelude.{None, pos, unsigned_abs, ◌+ℤ◌, ◌≤ℤ◌}
-use Rattle.kd_card.specs.declared.prices.PriceParts.{PriceParts}
-use Rattle.kd_card.specs.declared.prices.PriceParts.TheVariants.{Cables, Bars, CableKinds, BarKinds}
-use Rattle.kd_card.specs.declared.prices.Version.{Version}
-use Rattle.kd_card.specs.declared.prices.Version.TheVariants.{ByNumber, ByKind}
 use Rattle.kd_card.specs.Kinds.{cable_format, pair_format, bar_format, row_format, prices_of_kinds, AreKinds}
+use Rattle.kd_card.specs.declared.prices.PriceParts.TheVariants.{Cables, Bars, CableKinds, BarKinds}
+use Rattle.kd_card.specs.{declared.prices.Version.TheVariants.{ByNumber, ByKind}, declared.prices.PriceParts.PriceParts}
+use Rattle.kd_card.specs.declared.prices.Version.{Version}
+use Rattle.std.specs.Prelude.{◌≡◌, ℕ, ◌<◌, ◌≤◌, List, [], ◌++◌, length, All, fold, slice_index, slice_index_or, ℤ, None}
+use Rattle.std.specs.Prelude.{pos, unsigned_abs, ◌+ℤ◌, ◌≤ℤ◌}
 
 -- whether prices are by number (one for each cable, pair, nothing, bar or row) or by kind (one for each kind)
 abbrev pub version_of : PriceParts → Version

@@ -1,11 +1,10 @@
 //! Reads and writes the lines of kinds: one line for each kind of cables, columns, bars or rows.
-ghost use Rattle.std.specs.Prelude.{◌≡◌, ◌+◌, ◌*◌, ◌<◌, ◌≤◌, [], ◌∷◌, ◌++◌, length, All};
-ghost use Rattle.std.specs.Prelude.{MatchOption, MatchResult, Ok, Err};
 ghost use Rattle.arrayvec.specs.ArrayString.{array_string_len};
-ghost use Rattle.std.specs.Option.{option_copied};
-ghost use Rattle.kd_card.specs.Kinds.{kinds_text, HasKindWords, IsKind};
-ghost use Rattle.kd_card.specs.CardFault.{IsNextKind, IsGroupAnswer};
 ghost use Rattle.kd_card.specs.Reading.{words_after_first, EndsKindsAt, IsBadKindAt, IsKindOfWords};
+ghost use Rattle.kd_card.specs.{Kinds.{kinds_text, HasKindWords, IsKind}, CardFault.{IsNextKind, IsGroupAnswer}};
+ghost use Rattle.std.specs.Prelude.{◌≡◌, ◌+◌, ◌*◌, ◌<◌, ◌≤◌, [], ◌∷◌, ◌++◌, length, All, MatchOption, MatchResult, Ok};
+ghost use Rattle.std.specs.Prelude.{Err};
+ghost use Rattle.std.specs.Option.{option_copied};
 
 use super::fault::CardFault;
 use super::kinds::{Kind, KindOf, comes_after};

@@ -1,9 +1,8 @@
 //! Laws on cards: on their texts, on how short a list can be, and on cards that prove themselves.
-ghost use Rattle.kd_card.specs.Laws.{TextsTellCards, NoCardBeginsAnother, CardsAreSaid};
-ghost use Rattle.kd_card.specs.Laws.{CardsHaveNoFault, OneCardFault, LooseThingsAreCounted, AsFewAreNeeded};
-ghost use Rattle.kd_card.specs.Laws.{FittingPricesBoundLists};
-ghost use Rattle.kd_card.specs.Months.{CardsAreFewestInAll};
+ghost use Rattle.kd_card.specs.Laws.{TextsTellCards, NoCardBeginsAnother, CardsAreSaid, CardsHaveNoFault, OneCardFault};
+ghost use Rattle.kd_card.specs.Laws.{LooseThingsAreCounted, AsFewAreNeeded, FittingPricesBoundLists};
 ghost use Rattle.kd_card.specs.Laws.{ProvingCardsAreAsLong, ProvingCardsAreShortest, ProvingPricesAreTight};
+ghost use Rattle.kd_card.specs.Months.{CardsAreFewestInAll};
 
 /// Different cards have different texts, and no card's text is a proper prefix of another's.
 ///

@@ -1,10 +1,9 @@
 //! Reads the text of a card.
-ghost use Rattle.std.specs.Prelude.{◌≡◌, ◌≢◌, ℕ, ◌<◌, ◌≤◌, ◌∷◌, ◌++◌, List, MatchOption, MatchResult, Ok, Err};
-ghost use Rattle.kd_state.specs.Words.{IsWithout};
-ghost use Rattle.kd_card.specs.declared.prices.Version.TheVariants.{ByNumber};
-ghost use Rattle.kd_card.specs.CardText.{IsCard};
 ghost use Rattle.kd_card.specs.CardFault.{BeginsWithHead, IsValueAnswer, IsPriceLineAnswer, IsGroupsAnswer};
 ghost use Rattle.kd_card.specs.CardFault.{IsTablePricesAnswer, IsAllPricesAnswer, IsCardFault};
+ghost use Rattle.kd_card.specs.{declared.prices.Version.TheVariants.ByNumber, CardText.IsCard};
+ghost use Rattle.kd_state.specs.Words.{IsWithout};
+ghost use Rattle.std.specs.Prelude.{◌≡◌, ◌≢◌, ℕ, ◌<◌, ◌≤◌, ◌∷◌, ◌++◌, List, MatchOption, MatchResult, Ok, Err};
 
 use super::card::Card;
 use super::cost_table::CostTable;

@@ -1,11 +1,9 @@
 //! The settings that a rotor machine needs for wheels, reflector, rings and window letters.
-ghost use Rattle.std.specs.Prelude.{◌≡◌, ◌+◌, ◌<◌, ◌≤◌, ◌++◌, length, find, flat_map, zip};
 ghost use Rattle.arrayvec.specs.ArrayVec.{array_vec_len};
-ghost use Rattle.kd_state.specs.declared.machine.parts.Parts.TheVariants.{Rotor};
-ghost use Rattle.kd_state.specs.SameParts.{same_wheel};
-ghost use Rattle.kd_state.specs.SheetDay.{OfRotors};
-ghost use Rattle.kd_state.specs.Entry.{rotor_values};
 ghost use Rattle.kd_card.specs.Loose.{lines_from, slot_seat_line, wheel_ring_line, slot_turn_line, loose_lines};
+ghost use Rattle.kd_state.specs.{declared.machine.parts.Parts.TheVariants.Rotor, SameParts.same_wheel};
+ghost use Rattle.kd_state.specs.{Entry.rotor_values, SheetDay.OfRotors};
+ghost use Rattle.std.specs.Prelude.{◌≡◌, ◌+◌, ◌<◌, ◌≤◌, ◌++◌, length, find, flat_map, zip};
 
 use super::line::push_unless;
 use arrayvec::ArrayVec;

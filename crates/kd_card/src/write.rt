@@ -1,15 +1,11 @@
 //! Writes the text of a card to a sink.
+ghost use Rattle.arrayvec.specs.ArrayString.{array_string_len};
+ghost use Rattle.kd_card.specs.{CardText.{card_text, lines_text, price_lines, IsCard}, CardFault.line_then};
+ghost use Rattle.kd_card.specs.{Prices.{ArePricesInRange, ArePrices}, Reading.AreFewKinds, Kinds.kind_words};
+ghost use Rattle.kd_state.specs.{Line.{list_text, IsSettingInRange}, SheetDay.IsDayNumber};
+ghost use Rattle.kd_tables.specs.Writing.{Writes};
 ghost use Rattle.std.specs.Prelude.{◌≡◌, ◌+◌, ◌*◌, ◌≤◌, ◌||◌, [], ◌∷◌, ◌++◌, length, map, is_err, All};
 ghost use Rattle.std.specs.Fmt.{signed_decimal};
-ghost use Rattle.arrayvec.specs.ArrayString.{array_string_len};
-ghost use Rattle.kd_tables.specs.Writing.{Writes};
-ghost use Rattle.kd_state.specs.Line.{list_text, IsSettingInRange};
-ghost use Rattle.kd_state.specs.SheetDay.{IsDayNumber};
-ghost use Rattle.kd_card.specs.Prices.{ArePricesInRange, ArePrices};
-ghost use Rattle.kd_card.specs.CardText.{card_text, lines_text, price_lines, IsCard};
-ghost use Rattle.kd_card.specs.CardFault.{line_then};
-ghost use Rattle.kd_card.specs.Kinds.{kind_words};
-ghost use Rattle.kd_card.specs.Reading.{AreFewKinds};
 
 use super::card::Card;
 use super::kind_text::push_kinds;
