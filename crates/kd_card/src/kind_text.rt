@@ -86,7 +86,7 @@ pub(crate) fn read_kinds<'a, K: Kind, const N: usize>(
                 // A sum of counts above `N` is refused, so adding ends at `N + 1`. Each count is at least 1, so more
                 // than `N` kinds are refused, too, and `kinds` needn't have room for them.
                 number = (number + usize::from(kind.parts().count)).min(N + 1);
-                push_if_room(&mut kinds, &kind);
+                let _is_kept = kinds.try_push(kind).is_ok();
                 last = Some(kind);
                 rest = after;
                 at += 1;
@@ -99,15 +99,6 @@ pub(crate) fn read_kinds<'a, K: Kind, const N: usize>(
         Ok((kinds, rest))
     } else {
         Err(CardFault::PriceMissing)
-    }
-}
-
-/// Appends `kind` to `kinds`, unless `kinds` is full.
-fn push_if_room<K: Kind, const N: usize>(kinds: &mut ArrayVec<K, N>, kind: &K)
-    ensures { length kinds.old.items < N → kinds.new.items ≡ kinds.old.items ++ kind.now ∷ [] }
-{
-    if !kinds.is_full() {
-        kinds.push(*kind);
     }
 }
 
