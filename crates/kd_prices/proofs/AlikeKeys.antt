@@ -105,17 +105,10 @@ module _ {X : Type 0} (keys : List X) (d : X) (Alike : ℕ → ℕ → Type 0) (
         one (get_or keys i d) (price_at prices i) (price_at prices k) (has i low)
         (subst (λ x. Contains (zip keys prices) (x, price_at prices k)) (sym same) (has k under)),
     λ equal key price other one two.
-        let inside = one.1 in
-        let within = two.1 in
-        let low : one.0 < n = omega (arith, length-zip keys prices, many, size, inside) in
-        let under : two.0 < n = omega (arith, length-zip keys prices, many, size, within) in
+        let low : one.0 < n = omega (arith, one.1, length-zip keys prices, many, size) in
+        let under : two.0 < n = omega (arith, two.1, length-zip keys prices, many, size) in
         let here = sym (at one.0 low) ∙ pair_at (zip keys prices) one.0 (d, pos 0) (key, price) one.1 one.2 in
         let there = sym (at two.0 under) ∙ pair_at (zip keys prices) two.0 (d, pos 0) (key, other) two.1 two.2 in
-        let first = ap (λ (z : X × ℤ). z.1) here in
-        let second = ap (λ (z : X × ℤ). z.1) there in
-        let same = ap (λ (z : X × ℤ). z.0) here ∙ sym (ap (λ (z : X × ℤ). z.0) there) in
-        elim ((told one.0 two.0 (omega (arith, many, low)) (omega (arith, many, under))).0 same) [
-          | inl alike ↦ sym first ∙ equal one.0 two.0 low under alike ∙ second
-          | inr place ↦ sym first ∙ ap (price_at prices) place ∙ second
-        ],
+        let same = told one.0 two.0 (omega (arith, many, low)) (omega (arith, many, under)) in
+        grind (arith, equal one.0 two.0 low under),
   )

@@ -26,33 +26,15 @@ module _ {A B : Type 0} (cost : A → B → ℕ) (rows : List A) (columns : List
     rows = λ i k lt lt' alike.
         let same = λ (j : ℕ) (within : j < table_rows prices). at i j lt within ∙ stand i k alike (get_or columns j b)
         ∙ sym (at k j lt' within) in
-        let here = tight.column_of i lt in
-        let there = tight.column_of k lt' in
-        omega (
-          arith,
-          ints,
-          here.2,
-          there.2,
-          fits k here.0 lt' here.1,
-          fits i there.0 lt there.1,
-          same here.0 here.1,
-          same there.0 there.1,
-        );
+        let one = tight.column_of i lt in
+        let two = tight.column_of k lt' in
+        omega (arith, ints, fits k one.0 lt' one.1, fits i two.0 lt two.1, same one.0 one.1, same two.0 two.1);
     columns = λ j k lt lt' alike.
         let same = λ (i : ℕ) (within : i < table_rows prices). at i j within lt
         ∙ ap (cost (get_or rows i a)) (read j k alike) ∙ sym (at i k within lt') in
-        let here = tight.row_of j lt in
-        let there = tight.row_of k lt' in
-        omega (
-          arith,
-          ints,
-          here.2,
-          there.2,
-          fits here.0 k here.1 lt',
-          fits there.0 j there.1 lt,
-          same here.0 here.1,
-          same there.0 there.1,
-        );
+        let one = tight.row_of j lt in
+        let two = tight.row_of k lt' in
+        omega (arith, ints, fits one.0 k one.1 lt', fits two.0 j two.1 lt, same one.0 one.1, same two.0 two.1);
   }
 
 -- If `slice_get` finds the same at two places of a list, so does `get_or`.

@@ -4,7 +4,7 @@ use Rattle.kd_prices.proofs.{AlikeKeys.{AreTold, cables_told, columns_told, each
 use Rattle.kd_prices.proofs.{InForm.{cables_are_in_form, columns_are_in_form}, Taking.size}
 use Rattle.kd_prices.proofs.Prelude.{All, Day, List, None, One, Parts, Pin, Rotor, Some, arith, length, refl, subst}
 use Rattle.kd_prices.proofs.Prelude.{columns_of, get_or-zip, length-map, length-zip, row_format, version_of}
-use Rattle.kd_prices.proofs.Prelude.{AreEqualWhereAlike, ArePricesInRange, Contains-permutation, length_permutation, ℕ}
+use Rattle.kd_prices.proofs.Prelude.{ArePricesInRange, Contains-permutation, length_permutation, ℕ}
 use Rattle.kd_prices.proofs.Prelude.{AreKinds, ArePrices, ByKind, CableKind, IsMachine, ReadAlike, day_model, expansion}
 use Rattle.kd_prices.proofs.Prelude.{AreKindsOf, Bars, CanBeByKind, MatchOption, cable_format, pair_format}
 use Rattle.kd_prices.proofs.Prelude.{BarKind, Cables, Expands, IfSome, IsFine, IsGroup, OfPins, Option, PinDay, RowKind}

@@ -2,13 +2,13 @@
 use Rattle.kd_prices.proofs.Meaning.{are_numbered}
 use Rattle.kd_prices.proofs.Prelude.{AreKindsOf, MatchOption, PriceMissing, cable_format, column_prices, pair_format, ℤ}
 use Rattle.kd_prices.proofs.Prelude.{AreModelPrices, ArePricesInRange, IsCheckedAnswer, columns_in_order}
-use Rattle.kd_prices.proofs.Prelude.{ArePrices, BarKinds, BelongTo, CableKind, Expanded, HasFault, OfRotors, day_model}
+use Rattle.kd_prices.proofs.Prelude.{ArePrices, BarKinds, BelongTo, CableKind, HasFault, OfRotors, day_model}
 use Rattle.kd_prices.proofs.Prelude.{BarKind, Cables, Expands, PairKind, PinParts, RotorDay, RowKind, Setting, model_of}
-use Rattle.kd_prices.proofs.Prelude.{Bars, Day, Err, List, None, Ok, Pin, Same, Some, ap, refl, sym, ◌∙◌, ◌≡◌}
-use Rattle.kd_prices.proofs.Prelude.{CableKinds, OtherModel, PriceParts, RotorParts, bar_format, row_format, row_prices}
+use Rattle.kd_prices.proofs.Prelude.{Bars, Day, Err, List, None, Ok, Pin, Some, ap, refl, sym, ◌≡◌}
+use Rattle.kd_prices.proofs.Prelude.{CableKinds, PriceParts, RotorParts, bar_format, row_format, row_prices}
 use Rattle.kd_prices.proofs.Prelude.{Doubt, GoesOn, OfPins, Option, Parts, PinDay, Result, Rotor, arith, length, subst}
 use Rattle.kd_prices.specs.Doubt.{ArePricesFound, IsByNumberAnswer}
-use Rattle.{kd_state.specs.FirstFaults.Finds, std.specs.Option.{ok_or, option_zip}}
+use Rattle.{std.specs.Option.{ok_or, option_zip}}
 use Rattle.kd_prices.proofs.Prelude.{KindFormat}
 
 same_fault : {F X : Type 0} {f g : F} → ◌≡◌ {A = Result X F} (Err f) (Err g) → f ≡ g

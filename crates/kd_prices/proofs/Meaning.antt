@@ -1,12 +1,10 @@
 -- A card's prices expand to at most one list of prices by number, which is for the same format of machine.
 use Rattle.kd_prices.proofs.Runs.{prices_alike}
-use Rattle.kd_state.specs.declared.machine.one_model.OneModel.{OneModel}
-use Rattle.kd_prices.proofs.Prelude.{AreExpanded, AreModelPrices, ArePrices, AreTakenApart}
+use Rattle.kd_prices.proofs.Prelude.{AreExpanded, AreModelPrices, ArePrices}
 use Rattle.kd_prices.proofs.Prelude.{BarKinds, Bars, BelongTo, ByNumber, CableKinds, Cables, Day, Expanded, Expands}
-use Rattle.kd_prices.proofs.Prelude.{List, OfPins, OfRotors, Parts, Pin, PriceParts, Proves, Rotor, Same, Setting, ap}
-use Rattle.kd_prices.proofs.Prelude.{arith, bar_format, cable_format, day_model, model_of, pair_format, row_format, sym}
+use Rattle.kd_prices.proofs.Prelude.{OfPins, OfRotors, Parts, Pin, PriceParts, Rotor, Same}
+use Rattle.kd_prices.proofs.Prelude.{arith, bar_format, cable_format, pair_format, row_format, sym}
 use Rattle.kd_prices.proofs.Prelude.{version_of, ◌∙◌, ◌≡◌}
-use Rattle.kd_state.specs.declared.machine.one_model.OneModel.TheVariants as both
 
 -- ---- prices by kind
 
@@ -44,8 +42,3 @@ belong m s prices numbered expands are = grind arith
 pub are_numbered : (m : Parts) (s : Day) (prices numbered : PriceParts) → Expands m s prices numbered
     → BelongTo m prices → AreModelPrices m numbered
 are_numbered m s prices numbered expands belong = grind arith
-
--- A machine and a day that are taken apart together are of one model.
-pub one_model : (m : Parts) (s : Day) (both : OneModel) → AreTakenApart m s both → model_of m ≡ day_model s
-one_model m s (both.Rotor parts entry) h = ap model_of h.0 ∙ h.2 ∙ sym (ap day_model h.1)
-one_model m s (both.Pin parts entry) h = ap model_of h.0 ∙ sym (ap day_model h.1)
