@@ -1,12 +1,11 @@
 -- In a card by number that proves itself, equal keys have equal prices. For equal rows have equal costs in each
 -- column, and each row has a column where the two prices add up to the cost; likewise for equal columns.
-use Rattle.kd_prices.proofs.Prelude.{AlikePricesAreEqual, AreEqualWhereAlike, ArePricesTight, Bars, Cables, Day, List}
-use Rattle.kd_prices.proofs.Prelude.{None, OfPins, OfRotors, One, Parts, Pin, PriceParts, PricesFit, ReadAlike, Rotor}
-use Rattle.kd_prices.proofs.Prelude.{StandAlike, ap, arith, bar_cost, cable_cost, cable_letters, columns_are_the_pairs}
-use Rattle.kd_prices.proofs.Prelude.{columns_of, cost_at, get_or, get_or-map, ints, length, map, no_rotors}
-use Rattle.kd_prices.proofs.Prelude.{proving_prices_are_tight, slice_get, slice_get_past, sym, table_rows}
-use Rattle.kd_prices.proofs.Prelude.{tests_tell_letters, thirteen_columns, unwrap_or, unwrap_or-slice_get, ℕ, ◌<◌, ◌∙◌}
-use Rattle.kd_prices.proofs.Prelude.{◌≡◌, ◌≤◌}
+use Rattle.kd_prices.proofs.Prelude.{AlikePricesAreEqual, PriceParts, columns_are_the_pairs, proving_prices_are_tight}
+use Rattle.kd_prices.proofs.Prelude.{AreEqualWhereAlike, Day, tests_tell_letters, thirteen_columns, unwrap_or-slice_get}
+use Rattle.kd_prices.proofs.Prelude.{ArePricesTight, StandAlike, cable_cost, cable_letters, columns_of, slice_get_past}
+use Rattle.kd_prices.proofs.Prelude.{Bars, List, None, Pin, ap, ints, map, sym, ℕ, ◌<◌, ◌∙◌, ◌≡◌, ◌≤◌}
+use Rattle.kd_prices.proofs.Prelude.{Cables, OfPins, OfRotors, Parts, Rotor, arith, bar_cost, cost_at, get_or, length}
+use Rattle.kd_prices.proofs.Prelude.{One, PricesFit, ReadAlike, get_or-map, no_rotors, slice_get, table_rows, unwrap_or}
 
 -- Prices that fit a table of costs. Each row has a column, and each column has a row, where the two prices add up
 -- to the cost.

@@ -1,18 +1,17 @@
 -- When prices by number, one for each key, can become prices by kind, one for equal keys; and which these are.
 use Rattle.kd_card.proofs.KindPrices.{bars_are_prices, cables_are_prices}
 use Rattle.kd_prices.proofs.{AlikeKeys.{AreTold, cables_told, columns_told, each_told, one_price_is}, Runs.one_price}
-use Rattle.kd_prices.proofs.{InForm.{cables_are_in_form, columns_are_in_form}, Taking.size}
-use Rattle.kd_prices.proofs.Prelude.{All, Day, List, None, One, Parts, Pin, Rotor, Some, arith, length, refl, subst}
-use Rattle.kd_prices.proofs.Prelude.{columns_of, get_or-zip, length-map, length-zip, row_format, version_of}
-use Rattle.kd_prices.proofs.Prelude.{ArePricesInRange, Contains-permutation, length_permutation, ℕ}
-use Rattle.kd_prices.proofs.Prelude.{AreKinds, ArePrices, ByKind, CableKind, IsMachine, ReadAlike, day_model, expansion}
-use Rattle.kd_prices.proofs.Prelude.{AreKindsOf, Bars, CanBeByKind, MatchOption, cable_format, pair_format}
-use Rattle.kd_prices.proofs.Prelude.{BarKind, Cables, Expands, IfSome, IsFine, IsGroup, OfPins, Option, PinDay, RowKind}
-use Rattle.kd_prices.proofs.Prelude.{BarKinds, Expanded, OfRotors, PairKind, PinParts, RotorDay, model_of, price_at, ℤ}
+use Rattle.kd_prices.proofs.InForm.{cables_are_in_form, columns_are_in_form}
+use Rattle.kd_prices.proofs.{Prelude.{All, Day, One, Pin, map, sym, zip, ◌<◌, ◌↔◌, ◌∙◌, ◌≡◌}, Taking.size}
+use Rattle.kd_prices.proofs.Prelude.{AreKinds, BarKinds, Expanded, OfRotors, PairKind, PinParts, RotorDay, model_of, ℤ}
+use Rattle.kd_prices.proofs.Prelude.{AreKindsOf, CanBeByKind, MatchOption, cable_format, pair_format, pair_in_order, ℕ}
+use Rattle.kd_prices.proofs.Prelude.{AreModelPrices, IsPermutation, column_prices, columns_in_order, thirteen_columns}
+use Rattle.kd_prices.proofs.Prelude.{ArePrices, CableKind, IsMachine, List, ReadAlike, day_model, expansion, version_of}
+use Rattle.kd_prices.proofs.Prelude.{ArePricesInRange, Bars, Contains-permutation, HaveOnePriceEach, length_permutation}
+use Rattle.kd_prices.proofs.Prelude.{BarKind, ByKind, Cables, Expands, IfSome, IsFine, IsGroup, None, RowKind, price_at}
 use Rattle.kd_prices.proofs.Prelude.{CableKinds, IsLegalDay, KindFormat, PriceParts, RotorParts, StandAlike, bar_format}
-use Rattle.kd_prices.proofs.Prelude.{HaveOnePriceEach, IsPermutation, columns_in_order, pair_in_order, thirteen_columns}
-use Rattle.kd_prices.proofs.Prelude.{map, sym, zip, ◌<◌, ◌∙◌, ◌≡◌}
-use Rattle.kd_prices.proofs.Prelude.{AreModelPrices, IsSome, column_prices, row_prices, table_rows, ◌↔◌}
+use Rattle.kd_prices.proofs.Prelude.{IsSome, OfPins, Option, Parts, PinDay, Rotor, Some, arith, length, refl, subst}
+use Rattle.kd_prices.proofs.Prelude.{columns_of, get_or-zip, length-map, length-zip, row_format, row_prices, table_rows}
 
 -- what `kinds_of` ensures of the kinds of `keys` with `prices`
 pub record AreGrouped {K X : Type 0} (format : KindFormat K X) (keys : List X) (prices : List ℤ) (kinds : List K)

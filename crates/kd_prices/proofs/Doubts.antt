@@ -1,14 +1,11 @@
 -- A card that proves itself has no doubt, and a card has at most one.
-use Rattle.kd_prices.proofs.Leading.{Leads-not_refused, needed_at}
-use Rattle.kd_prices.proofs.Meaning.{are_numbered, belong, one_expansion}
-use Rattle.kd_prices.specs.Doubt.{IsCarriedAnswer, IsDoubt, IsFitsAnswer}
-use Rattle.kd_state.specs.Setting.{IsFirstIllegal}
-use Rattle.kd_prices.proofs.Prelude.{AreSettingsNeeded, Day, Doubt, Err, GoesOn, HasOneAnswer, HasOneAnswer-Demands}
-use Rattle.kd_prices.proofs.Prelude.{HasOneAnswer-Finds, HasOneAnswer-ThenNext, IfErr, IllegalAt, IsCheckedAnswer}
-use Rattle.kd_prices.proofs.Prelude.{IsFirstNeedless, IsFirstWithout, IsNeededAnswer, IsOk, Leads, List, NeedlessLine}
-use Rattle.kd_prices.proofs.Prelude.{Ok, Parts, PriceParts, Proves, Result, Setting, ThenNext-Ok, Why, [], ap, arith}
-use Rattle.kd_prices.proofs.Prelude.{cases_order, cost_table, false≢true, leads_to_one, refl, subst, sym}
-use Rattle.kd_prices.proofs.Prelude.{ℕ, ◌++◌, ◌↔◌, ◌∙◌, ◌∷◌, ◌≡◌}
+use Rattle.kd_prices.proofs.{Leading.{Leads-not_refused, needed_at}, Meaning.{are_numbered, belong, one_expansion}}
+use Rattle.kd_prices.proofs.Prelude.{AreSettingsNeeded, HasOneAnswer-Demands, HasOneAnswer-Finds, HasOneAnswer-ThenNext}
+use Rattle.kd_prices.proofs.Prelude.{Day, Err, List, Why, [], ap, arith, refl, subst, sym, ℕ, ◌++◌, ◌↔◌, ◌∙◌, ◌∷◌, ◌≡◌}
+use Rattle.kd_prices.proofs.Prelude.{Doubt, GoesOn, IfErr, IllegalAt, Leads, Parts, Proves, Result, Setting, false≢true}
+use Rattle.kd_prices.proofs.Prelude.{HasOneAnswer, IsCheckedAnswer, IsFirstNeedless, IsFirstWithout, IsNeededAnswer, Ok}
+use Rattle.kd_prices.proofs.Prelude.{IsOk, NeedlessLine, PriceParts, ThenNext-Ok, cases_order, cost_table, leads_to_one}
+use Rattle.{kd_prices.specs.Doubt.{IsCarriedAnswer, IsDoubt, IsFitsAnswer}, kd_state.specs.Setting.IsFirstIllegal}
 
 -- A list has only one good prefix that, with the item after it, begins no good list.
 one_front : {X : Type 0} (Good : List X → Type 0) (front other after behind : List X) (x y : X)

@@ -1,10 +1,8 @@
 -- A card's prices expand to at most one list of prices by number, which is for the same format of machine.
-use Rattle.kd_prices.proofs.Runs.{prices_alike}
-use Rattle.kd_prices.proofs.Prelude.{AreExpanded, AreModelPrices, ArePrices}
-use Rattle.kd_prices.proofs.Prelude.{BarKinds, Bars, BelongTo, ByNumber, CableKinds, Cables, Day, Expanded, Expands}
-use Rattle.kd_prices.proofs.Prelude.{OfPins, OfRotors, Parts, Pin, PriceParts, Rotor, Same}
-use Rattle.kd_prices.proofs.Prelude.{arith, bar_format, cable_format, pair_format, row_format, sym}
-use Rattle.kd_prices.proofs.Prelude.{version_of, ◌∙◌, ◌≡◌}
+use Rattle.kd_prices.proofs.Prelude.{AreExpanded, AreModelPrices, CableKinds, PriceParts, cable_format, pair_format}
+use Rattle.kd_prices.proofs.Prelude.{ArePrices, BarKinds, BelongTo, ByNumber, Parts, bar_format, row_format, version_of}
+use Rattle.kd_prices.proofs.Prelude.{Bars, Cables, Day, Expanded, Expands, OfPins, OfRotors, Pin, Rotor, Same, arith}
+use Rattle.kd_prices.proofs.{Prelude.{sym, ◌∙◌, ◌≡◌}, Runs.prices_alike}
 
 -- ---- prices by kind
 

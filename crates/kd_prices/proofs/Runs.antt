@@ -1,16 +1,14 @@
 -- Sorted keys with their prices are grouped into kinds. Valid kinds determine the price of each key.
-use Rattle.kd_card.specs.Kinds.{KeyComesBefore}
-use Rattle.std.proofs.lemmas.Cmp.{nat_list_cmp_total}
-use Rattle.std.proofs.{Common.add-one, lemmas.List.{get_or-replicate, replicate_more, Elements.Contains-append_cases}}
+use Rattle.{kd_card.specs.Kinds.KeyComesBefore, std.proofs.{Common.add-one, lemmas.Cmp.nat_list_cmp_total}}
+use Rattle.kd_prices.proofs.Prelude.{All, All-contains, All-permutation, All-replicate, IsPermutation, length-replicate}
+use Rattle.kd_prices.proofs.Prelude.{All-append, All-weaker, AreKindsOf, CanBeKinds, KindFormat, expansion, true≢false}
+use Rattle.kd_prices.proofs.Prelude.{All-contains_itself, Contains-permutation, HaveOnePriceEach, IsPermutation-sym, []}
+use Rattle.kd_prices.proofs.Prelude.{All-head, All-nil, All-tail, AreKinds, Contains, Greater, Ordering, map, replicate}
+use Rattle.kd_prices.proofs.Prelude.{AppendsKinds, IsTotalOrder, append_assoc, common_steps, kind_of_one, tied_itself}
+use Rattle.kd_prices.proofs.Prelude.{Equal, IsFine, IsKind, KindOf, Less, List, None, Option, arith, false, length, suc}
+use Rattle.kd_prices.proofs.Prelude.{Some, ap, refl, zip, ℤ, ◌++◌, ◌+◌, ◌↔◌, ◌∙◌, ◌∷◌, ◌≡◌, ◌≢◌, ◌≤◌, ◌⊎◌}
+use Rattle.std.proofs.lemmas.List.{get_or-replicate, replicate_more, Elements.Contains-append_cases}
 use Rattle.std.specs.{List.{refill, Sorted.IsSorted}, Ordering.{int_cmp, is_lt, ordering_reverse, ordering_then}}
-use Rattle.kd_prices.proofs.Prelude.{All, All-append, All-contains, All-contains_itself, All-head, All-nil}
-use Rattle.kd_prices.proofs.Prelude.{All-permutation, All-replicate, All-tail, All-weaker, AppendsKinds, AreKinds}
-use Rattle.kd_prices.proofs.Prelude.{AreKindsOf, CanBeKinds, Contains, Contains-permutation, Equal, Greater}
-use Rattle.kd_prices.proofs.Prelude.{HaveOnePriceEach, IsFine, IsKind, IsPermutation, IsPermutation-sym, IsTotalOrder}
-use Rattle.kd_prices.proofs.Prelude.{KindOf, Less, List, None, Option, Ordering, Some, KindFormat, [], ap, append_assoc}
-use Rattle.kd_prices.proofs.Prelude.{arith, common_steps, expansion, false, kind_of_one, length}
-use Rattle.kd_prices.proofs.Prelude.{length-replicate, map, refl, replicate, suc, tied_itself, true≢false, zip, ℤ}
-use Rattle.kd_prices.proofs.Prelude.{◌++◌, ◌+◌, ◌↔◌, ◌∙◌, ◌∷◌, ◌≡◌, ◌≢◌, ◌≤◌, ◌⊎◌}
 
 -- ---- grouping
 

@@ -1,21 +1,17 @@
 -- Keys are taken out of kinds, one by one. If all can be taken, the kinds' prices are the prices of the keys.
-use Rattle.kd_card.specs.Kinds.{counted}
-use Rattle.kd_prices.specs.Grouping.{HasNoneLeft, HaveKeys, TakesAll, TakesOne}
-use Rattle.std.proofs.lemmas.List.Folds.{fold-map, sum_by-replicate}
-use Rattle.std.specs.Cmp.{Equal-is}
+use Rattle.{kd_card.specs.Kinds.counted, kd_prices.specs.Grouping.{HasNoneLeft, HaveKeys, TakesAll, TakesOne}}
+use Rattle.kd_prices.proofs.Prelude.{All, [], ap, map, set, suc, sym, zip, ℕ, ℤ, ◌-◌, ◌<◌, ◌↔◌, ◌∙◌, ◌∷◌, ◌≡◌, ◌≤◌}
+use Rattle.kd_prices.proofs.Prelude.{All-append, AreKindsOf, Bool, MatchOption, common_steps, tied_itself, unsigned_abs}
+use Rattle.kd_prices.proofs.Prelude.{All-nil, ArePricesInRange, IsPermutation-sym, length-replicate, length_permutation}
+use Rattle.kd_prices.proofs.Prelude.{All-permutation, All-replicate, IsPermutation, IsTotalOrder, KindOf, length-append}
+use Rattle.kd_prices.proofs.Prelude.{AreKinds, KindFormat, List, Ordering, append-nil, expansion, length-zip, replicate}
+use Rattle.kd_prices.proofs.Prelude.{Equal, IsGroup, None, Option, Some, arith, false, length, refl, subst, true, ◌++◌}
+use Rattle.std.proofs.lemmas.List.{Folds.{fold-map, sum_by-replicate}, Sums.{sum_by-append, sum_by-cons}}
+use Rattle.std.proofs.lemmas.List.Sorted.{IsPermutation-append_right, IsPermutation-middle, sum_by-IsPermutation}
+use Rattle.std.proofs.lemmas.List.Sorted.{IsPermutation-cons, IsPermutation-refl, IsPermutation-trans}
 use Rattle.std.proofs.lemmas.{List.{nil_from_length, Elements.All-map}, Slice.Zip.{firsts-zip, seconds-zip}}
-use Rattle.std.proofs.lemmas.List.Sorted.{IsPermutation-append_right, IsPermutation-cons, IsPermutation-middle}
-use Rattle.std.proofs.lemmas.List.Sorted.{IsPermutation-refl, IsPermutation-trans, sum_by-IsPermutation}
-use Rattle.std.proofs.lemmas.List.Sums.{sum_by-append, sum_by-cons}
-use Rattle.std.specs.{Bool.then_some, List.sum_by, Ordering.is_eq, Prelude.{if◌then◌else◌}}
+use Rattle.std.specs.{Bool.then_some, Cmp.Equal-is, List.sum_by, Ordering.is_eq, Prelude.if◌then◌else◌}
 use borrow.Rule.Slice.PartMut.{put_mid}
-use Rattle.kd_prices.proofs.Prelude.{All, All-append, All-nil, All-permutation, All-replicate}
-use Rattle.kd_prices.proofs.Prelude.{AreKinds, AreKindsOf, ArePricesInRange, Bool, Equal, IsGroup}
-use Rattle.kd_prices.proofs.Prelude.{IsPermutation, IsPermutation-sym, IsTotalOrder, KindOf, List, MatchOption}
-use Rattle.kd_prices.proofs.Prelude.{None, Option, Ordering, Some, KindFormat, [], ap, append-nil, arith, common_steps}
-use Rattle.kd_prices.proofs.Prelude.{expansion, false, length, length-append, length-replicate, length-zip}
-use Rattle.kd_prices.proofs.Prelude.{length_permutation, map, refl, replicate, set, subst, suc, sym, tied_itself, true}
-use Rattle.kd_prices.proofs.Prelude.{unsigned_abs, zip, ℕ, ℤ, ◌++◌, ◌-◌, ◌<◌, ◌↔◌, ◌∙◌, ◌∷◌, ◌≡◌, ◌≤◌}
 
 -- ---- equal keys
 

@@ -1,23 +1,20 @@
 -- The settings of an assignment in which spare cables come last leave spare cables free.
 pub mod Moving
 unfoldable pub use Moving.*
-pub use Rattle.kd_plan.specs.Spares.{SparesComeLast, SparesStayFree, comes_before, is_spare, is_spare_at}
-pub use Rattle.kd_plan.specs.FewCables.{FewCablesServe, HasPairsUpTo, NamesNoneAbove, UsesNoneAbove}
-pub use Rattle.kd_state.specs.{Setting.{Leads, cable_at, machine_after}, declared.setting.Setting.TheVariants.Pull}
-pub use Rattle.kd_state.specs.{Costs.cable_costs, SameParts.numbered_item, SheetDay.{Day, IsLegalDay, day_model}}
-pub use Rattle.kd_state.specs.Machine.{model_of}
-pub use Rattle.kd_state.proofs.Slots.{IsNumbered-not_none, numbered_other}
-pub use Rattle.std.proofs.lemmas.List.{Elements.{All-append, All-cons, All-nil, filter_passes}, Folds.Any-from_list_any}
-pub use Rattle.std.proofs.lemmas.List.{get_or-set_other, length-replicate, Kept.AllPairs-filter, Sorted.All-permutation}
-pub use Rattle.std.proofs.lemmas.List.{get_or_default, length-append, length-set}
-pub use Rattle.std.proofs.lemmas.Map.Made.{AllPairs-from_IsDistinct, IsDistinct-from_AllPairs}
-pub use Rattle.std.proofs.lemmas.Map.{Keys.IsDistinct-IsPermutation, Steps.length-le_from_distinct_below}
-pub use Rattle.std.proofs.lemmas.Bool.{cases_eq, cases_lt, Decides.Decides-eqb}
-pub use Rattle.std.proofs.lemmas.Option.{slice_get_past, unwrap_or-slice_get}
-pub use Rattle.std.proofs.Common.{inl, inr}
-pub use Rattle.std.specs.{List.SwappedAt, Prelude.{IsTrue, is_none, take}}
 pub use Rattle.kd_assign.specs.{Assignment.{IsOneToOne, assignment_cost}, Prices.cost_at}
 pub use Rattle.kd_card.specs.{Loose.loose_lines, Proving.priced_count}
+pub use Rattle.kd_plan.specs.FewCables.{FewCablesServe, HasPairsUpTo, NamesNoneAbove, UsesNoneAbove}
+pub use Rattle.kd_plan.specs.Spares.{SparesComeLast, SparesStayFree, comes_before, is_spare, is_spare_at}
+pub use Rattle.kd_state.{proofs.Slots.{IsNumbered-not_none, numbered_other}, specs.Machine.model_of}
+pub use Rattle.kd_state.specs.{Costs.cable_costs, SameParts.numbered_item, SheetDay.{Day, IsLegalDay, day_model}}
+pub use Rattle.kd_state.specs.{Setting.{Leads, cable_at, machine_after}, declared.setting.Setting.TheVariants.Pull}
+pub use Rattle.std.proofs.{Common.{inl, inr}, lemmas.Option.{slice_get_past, unwrap_or-slice_get}}
+pub use Rattle.std.proofs.lemmas.{Bool.{cases_eq, cases_lt, Decides.Decides-eqb}, List.{length-append, length-set}}
+pub use Rattle.std.proofs.lemmas.List.{Elements.{All-append, All-cons, All-nil, filter_passes}, Folds.Any-from_list_any}
+pub use Rattle.std.proofs.lemmas.List.{get_or-set_other, length-replicate, Kept.AllPairs-filter, Sorted.All-permutation}
+pub use Rattle.std.proofs.lemmas.Map.{Keys.IsDistinct-IsPermutation, Steps.length-le_from_distinct_below}
+pub use Rattle.std.proofs.lemmas.Map.Made.{AllPairs-from_IsDistinct, IsDistinct-from_AllPairs}
+pub use Rattle.std.specs.{List.SwappedAt, Prelude.{IsTrue, is_none, take}}
 
 -- ---- a spare cable exchanges its pair for another cable's column, which has no pair
 

@@ -1,8 +1,7 @@
-use Rattle.kd_prices.proofs.Prelude.{GoesOn, HasFault, IsFirstWithout, List, ListsFitAt, NotTheSheet}
-use Rattle.kd_prices.proofs.Prelude.{PriceParts, PriceTooHigh, PricesFitAt, SFits, SumDiffers, ap, arith, column_prices}
-use Rattle.kd_prices.proofs.Prelude.{err_from_is_err_and, false≢true, of_z, pos, price_sum, priced_count, refl}
-use Rattle.kd_prices.proofs.Prelude.{row_prices, rules, sym, table_rows, to_z, to_z-of_z, to_z_pos, w32, ℕ, ℤ}
-use Rattle.kd_prices.proofs.Prelude.{◌+◌, ◌<◌, ◌^◌, ◌∙◌, ◌≡◌, ◌≢◌}
+use Rattle.kd_prices.proofs.Prelude.{GoesOn, List, SFits, arith, price_sum, row_prices, table_rows, to_z-of_z, to_z_pos}
+use Rattle.kd_prices.proofs.Prelude.{HasFault, ListsFitAt, NotTheSheet, PriceParts, PricesFitAt, SumDiffers, false≢true}
+use Rattle.kd_prices.proofs.Prelude.{IsFirstWithout, PriceTooHigh, ap, column_prices, err_from_is_err_and, priced_count}
+use Rattle.kd_prices.proofs.Prelude.{of_z, pos, refl, rules, sym, to_z, w32, ℕ, ℤ, ◌+◌, ◌<◌, ◌^◌, ◌∙◌, ◌≡◌, ◌≢◌}
 use Rattle.kd_prices.proofs.checking.doubt_by_prices.Goals as goal
 
 pub returns-in_err-carried : goal.returns-in_err-carried

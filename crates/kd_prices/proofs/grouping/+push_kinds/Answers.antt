@@ -1,7 +1,6 @@
-use Rattle.std.proofs.lemmas.List.{nil_from_length}
-use Rattle.kd_prices.proofs.{Runs.{appends_one, begins_another, both_same, counts_more}, Taking.eq_decides}
 use Rattle.kd_prices.proofs.Prelude.{SFits, arith, common_steps, drop, length, rules, take, to_z-of_z, w16, ◌-◌, ◌∷◌}
-use Rattle.kd_prices.proofs.Prelude.{◌≡◌}
+use Rattle.kd_prices.proofs.{Prelude.◌≡◌, Runs.{appends_one, begins_another, both_same, counts_more}, Taking.eq_decides}
+use Rattle.std.proofs.lemmas.List.{nil_from_length}
 use Rattle.kd_prices.proofs.grouping.+push_kinds.Goals as goal
 
 pub returns-in-empty : goal.returns-in-empty

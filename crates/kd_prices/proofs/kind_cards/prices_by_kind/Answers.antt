@@ -1,5 +1,5 @@
-use Rattle.kd_prices.proofs.ByKind.{bars_by_kind, cables_by_kind}
-use Rattle.kd_prices.proofs.Prelude.{ArePrices, AreTakenApart, IfSome, IsLegalDay, IsMachine, refl, rules, subst, sym, ◌∙◌}
+use Rattle.kd_prices.proofs.{ByKind.{bars_by_kind, cables_by_kind}, Prelude.◌∙◌}
+use Rattle.kd_prices.proofs.Prelude.{ArePrices, AreTakenApart, IfSome, IsLegalDay, IsMachine, refl, rules, subst, sym}
 use Rattle.kd_prices.proofs.kind_cards.prices_by_kind.Goals as goal
 
 pub returns-in-Rotor-Cables : goal.returns-in-Rotor-Cables
