@@ -1,6 +1,6 @@
 -- Spare cables, and settings that leave them free.
-use Rattle.std.specs.Prelude.{ℕ, ◌-◌, ◌≤◌, not, ◌&&◌, Bool, IsTrue, List, length, count_by, take, Contains, Option}
-use Rattle.std.specs.Prelude.{is_none}
+use Rattle.std.specs.Prelude.{ℕ, ◌-◌, ◌<◌, ◌≤◌, nat_lt, not, ◌&&◌, ◌||◌, Bool, IsTrue, List, length, count_by, take}
+use Rattle.std.specs.Prelude.{Contains, Option, None, is_none, slice_index, slice_index_or}
 use Rattle.kd_state.specs.declared.machine.parts.Parts.{Parts}
 use Rattle.kd_state.specs.declared.machine.parts.Parts.TheVariants.{Rotor, Pin}
 use Rattle.kd_state.specs.declared.setting.Setting.{Setting}
@@ -12,14 +12,27 @@ use Rattle.kd_state.specs.SheetDay.{Day, OfRotors, OfPins}
 abbrev pub is_spare : Option ℕ × Option ℕ → Bool
 is_spare cable = is_none cable.0 && is_none cable.1
 
--- the number of spare cables that the pairs need: the number of pairs minus the number of cables in use, but at least 0
-abbrev pub spares_needed : List (Option ℕ × Option ℕ) → List (ℕ × ℕ) → ℕ
-spares_needed cables pairs = length pairs - count_by (λ cable. not (is_spare cable)) cables
-
--- The settings put letters only into cables in use and into the first `spares_needed` spare cables, counted from 1.
+-- The settings put letters only into cables in use and into the first spare cables: at most as many of these as there
+-- are more pairs than cables in use.
 abbrev pub SparesStayFree : Parts → Day → List Setting → Type 0
 SparesStayFree (Rotor m) (OfRotors s) settings =
     (cable letter : ℕ) → Contains settings (Put cable letter) → IsTrue (is_spare (cable_at m cable))
-    → count_by is_spare (take cable m.cables) ≤ spares_needed m.cables s.pairs
+    → count_by is_spare (take cable m.cables) ≤ length s.pairs - count_by (λ cable. not (is_spare cable)) m.cables
 SparesStayFree (Pin m) (OfPins s) settings = Unit {0}
 SparesStayFree _ _ settings = ⊥
+
+-- ---- Assignments that give pairs to cables in use first. No contract of a public function cites these definitions.
+
+-- whether the cable at `place`, counted from 0, is spare
+abbrev pub is_spare_at : List (Option ℕ × Option ℕ) → ℕ → Bool
+is_spare_at cables place = is_spare (slice_index_or cables place (None, None))
+
+-- whether the cable at `place` gets a pair before the spare cable at `spare`: it is in use, or `place` is lower
+abbrev pub comes_before : List (Option ℕ × Option ℕ) → ℕ → ℕ → Bool
+comes_before cables place spare = nat_lt place spare || not (is_spare_at cables place)
+
+-- If a spare cable is assigned a pair, all cables in use and all cables at lower places are assigned pairs, too.
+abbrev pub SparesComeLast : List (Option ℕ × Option ℕ) → ℕ → List ℕ → Type 0
+SparesComeLast cables pairs to =
+    (spare place : ℕ) → spare < 13 → IsTrue (is_spare_at cables spare) → slice_index to spare < pairs
+    → place < 13 → IsTrue (comes_before cables place spare) → slice_index to place < pairs

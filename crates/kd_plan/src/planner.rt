@@ -1,11 +1,11 @@
 //! Plans a card: settings for loose things, and a minimum-cost assignment for cables or bars.
-ghost use Rattle.std.specs.Prelude.{◌≡◌, ◌≢◌, ◌<◌, IfOk, IsErr, IfSome, MatchOption, ◌↔◌};
+ghost use Rattle.std.specs.Prelude.{◌≡◌, ◌≢◌, ◌≤◌, ◌*◌, ◌==◌, if◌then◌else◌, IfOk, IsErr, IfSome, MatchOption, ◌↔◌, All};
+ghost use Rattle.std.specs.Prelude.{length, pos, replicate, unsigned_abs};
 ghost use Rattle.kd_plan.specs.Planned.{IsPlannedCard, IsProvedPlannedCard};
 ghost use Rattle.kd_plan.specs.Spares.{SparesStayFree};
 ghost use Rattle.kd_state.specs.SheetDay.{OfRotors, OfPins, IsLegalDay, day_model};
 ghost use Rattle.kd_state.specs.{Entry.{rotor_values, pin_values}, Machine.{IsMachine, model_of}};
 
-use super::card_prices::prices_or_zeros;
 use super::other_model::OtherModel;
 use super::planned_lines::{planned_pin_lines, planned_rotor_lines};
 use super::spares::keep_spares_free;
@@ -90,4 +90,13 @@ fn pin_card(parts: &PinParts, entry: &PinEntry) -> Card
     let prices = Prices::bars(prices_or_zeros(total, row), prices_or_zeros(total, col)).unwrap();
     let settings = planned_pin_lines(parts, entry, &to);
     Card { settings, prices }
+}
+
+/// `prices`, or only zeros if `total`, the cost of the assignment, is 0.
+fn prices_or_zeros<const N: usize>(total: u16, prices: [i16; N]) -> [i16; N]
+    requires { All (λ price. unsigned_abs price ≤ 4 * N) prices }
+    ensures due { result ≡ (if total == 0 then replicate (length prices.entry) (pos 0) else prices.entry) }
+    ensures bound { All (λ price. unsigned_abs price ≤ 4 * N) result }
+{
+    if total == 0 { [0; N] } else { prices }
 }

@@ -1,7 +1,7 @@
 //! Assigns pairs to cables in use first. Only the remaining pairs go to spare cables, which have no letter.
 ghost use Rattle.std.specs.Prelude.{◌≡◌, ℕ, ◌<◌, ◌≤◌, length, slice_index, IsTrue, MatchOption};
 ghost use Rattle.kd_assign.specs.Assignment.{IsOneToOne, assignment_cost};
-ghost use Rattle.kd_plan.specs.{Spares.{is_spare}, SparesLast.{comes_before, SparesComeLast}};
+ghost use Rattle.kd_plan.specs.Spares.{is_spare, comes_before, SparesComeLast};
 ghost use Rattle.kd_state.specs.Costs.{cable_costs};
 
 use kd_state::Cable;

@@ -1,26 +1,23 @@
 -- When prices by number, one for each key, can become prices by kind, one for equal keys; and which these are.
-use Rattle.kd_card.proofs.OneCard.{bars_are_prices, cables_are_prices}
-use Rattle.kd_prices.proofs.AlikeKeys.{AreTold, cables_told, columns_told, each_told, one_price_is}
+use Rattle.kd_card.proofs.OneCard.KindPrices.{bars_are_prices, cables_are_prices}
+use Rattle.kd_prices.proofs.{AlikeKeys.{AreTold, cables_told, columns_told, each_told, one_price_is}, Runs.one_price}
 use Rattle.kd_prices.proofs.InForm.{cables_are_in_form, columns_are_in_form}
-use Rattle.kd_prices.proofs.Runs.{one_price}
-use Rattle.kd_prices.proofs.Taking.{size}
-use Rattle.kd_prices.proofs.Prelude.{All, AreByKind, AreEqualWhereAlike, AreKinds, AreKindsOf, AreNumbered, ArePrices}
-use Rattle.kd_prices.proofs.Prelude.{ArePricesInRange, BarKind, BarKinds, Bars, ByKind, CableKind, CableKinds, Cables}
-use Rattle.kd_prices.proofs.Prelude.{CanBeByKind, Contains-permutation, Day, Expanded, Expands, HaveOnePriceEach}
-use Rattle.kd_prices.proofs.Prelude.{IfSome, IsFine, IsGroup, IsLegalDay, IsMachine, IsPermutation, List, MatchOption}
-use Rattle.kd_prices.proofs.Prelude.{None, OfPins, OfRotors, One, Option, PairKind, Parts, Pin, PinDay, PinParts}
-use Rattle.kd_prices.proofs.Prelude.{PriceParts, ReadAlike, Rotor, RotorDay, RotorParts, RowKind, Some, KindFormat}
-use Rattle.kd_prices.proofs.Prelude.{StandAlike, arith, bar_format, cable_format, columns_in_order, columns_of, day_model}
-use Rattle.kd_prices.proofs.Prelude.{expansion, get_or-zip, length, length-map, length-zip, length_permutation, map}
-use Rattle.kd_prices.proofs.Prelude.{model_of, pair_in_order, pair_format, price_at, refl, row_format, subst, sym}
-use Rattle.kd_prices.proofs.Prelude.{thirteen_columns, version_of, zip, ℕ, ℤ, ◌<◌, ◌∙◌, ◌≡◌}
+use Rattle.kd_prices.proofs.{Prelude.{All, Day, One, Pin, map, sym, zip, ◌<◌, ◌↔◌, ◌∙◌, ◌≡◌}, Taking.size}
+use Rattle.kd_prices.proofs.Prelude.{AreKinds, BarKinds, Expanded, OfRotors, PairKind, PinParts, RotorDay, model_of, ℤ}
+use Rattle.kd_prices.proofs.Prelude.{AreKindsOf, CanBeByKind, MatchOption, cable_format, pair_format, pair_in_order, ℕ}
+use Rattle.kd_prices.proofs.Prelude.{AreModelPrices, IsPermutation, column_prices, columns_in_order, thirteen_columns}
+use Rattle.kd_prices.proofs.Prelude.{ArePrices, CableKind, IsMachine, List, ReadAlike, day_model, expansion, version_of}
+use Rattle.kd_prices.proofs.Prelude.{ArePricesInRange, Bars, Contains-permutation, HaveOnePriceEach, length_permutation}
+use Rattle.kd_prices.proofs.Prelude.{BarKind, ByKind, Cables, Expands, IfSome, IsFine, IsGroup, None, RowKind, price_at}
+use Rattle.kd_prices.proofs.Prelude.{CableKinds, IsLegalDay, KindFormat, PriceParts, RotorParts, StandAlike, bar_format}
+use Rattle.kd_prices.proofs.Prelude.{IsSome, OfPins, Option, Parts, PinDay, Rotor, Some, arith, length, refl, subst}
+use Rattle.kd_prices.proofs.Prelude.{columns_of, get_or-zip, length-map, length-zip, row_format, row_prices, table_rows}
 
 -- what `kinds_of` ensures of the kinds of `keys` with `prices`
-pub record AreGrouped {K X : Type 0} (format : KindFormat K X) (keys : List X) (prices : List ℤ) (kinds : List K) : Type 0
-  where
-    pub expand : IsPermutation (zip keys prices) (expansion (map format.kind kinds))
-    pub in_order : HaveOnePriceEach (zip keys prices) → All (IsFine format) (zip keys prices)
-        → AreKinds format None kinds
+pub record AreGrouped {K X : Type 0} (format : KindFormat K X) (keys : List X) (prices : List ℤ) (kinds : List K)
+    : Type 0 where
+  pub expand : IsPermutation (zip keys prices) (expansion (map format.kind kinds))
+  pub in_order : HaveOnePriceEach (zip keys prices) → All (IsFine format) (zip keys prices) → AreKinds format None kinds
 
 -- The kinds are those of the keys with these prices, and they are valid exactly if equal keys have equal prices.
 record AreKindsFor {K X : Type 0} (format : KindFormat K X) (keys : List X) (n : ℕ) (Alike : ℕ → ℕ → Type 0)
@@ -56,65 +53,74 @@ are_kinds_for format keys d Alike told forms n many prices number reach kinds gr
           (Contains-permutation pairs all (key, other) grouped.expand b));
     }
 
-made_by_kind : (m : Parts) (s : Day) (prices made : PriceParts) → AreNumbered m s prices → version_of made ≡ ByKind
-    → (AreEqualWhereAlike m s prices → ArePrices made) → (ArePrices made → AreEqualWhereAlike m s prices)
-    → (ArePrices made → Expands m s made prices) → (r : Option PriceParts)
-    → MatchOption r (¬ (ArePrices made)) (λ made_prices. made_prices ≡ made) → IfSome r ArePrices
-    → MatchOption r (¬ (CanBeByKind m s prices)) (AreByKind m s prices)
-made_by_kind m s prices made numbered version valid equal expands None none are = λ can. none (valid can.equal)
-made_by_kind m s prices made numbered version valid equal expands (Some other) is are =
-    let good = subst ArePrices is are in
-    subst (AreByKind m s prices) (sym is) (record {
-      can = record { numbered = numbered; equal = equal good };
-      version = version;
-      expands = expands good;
-    })
+-- What `prices_by_kind` ensures of its result: prices by kind, unless equal cables, columns, bars or rows have different
+-- prices in `prices`.
+abbrev pub ArePricesByKind : Parts → Day → PriceParts → Option PriceParts → Type 0
+ArePricesByKind m s prices result = record {
+  some : IsSome result ↔ CanBeByKind m s prices;
+  kinds : IfSome result (λ kinds. (version_of kinds ≡ ByKind) × Expands m s kinds prices);
+}
+
+module _ {R X C Y : Type 0} (rows : KindFormat R X) (columns : KindFormat C Y) (m : Parts) (s : Day)
+    (prices made : PriceParts) (xs : List X) (ys : List Y) (row : List R) (col : List C) where
+  made_by_kind : model_of m ≡ day_model s → AreModelPrices m prices → version_of made ≡ ByKind
+      → AreKindsFor rows xs (table_rows prices) (StandAlike m) (row_prices prices) row
+      → AreKindsFor columns ys (table_rows prices) (ReadAlike s) (column_prices prices) col
+      → ArePrices made ↔ (IsGroup rows (table_rows prices) row × IsGroup columns (table_rows prices) col)
+      → (ArePrices made → AreKindsOf rows xs (row_prices prices) row
+      → AreKindsOf columns ys (column_prices prices) col → Expands m s made prices) → (result : Option PriceParts)
+      → MatchOption result (¬ (ArePrices made)) (λ prices. prices ≡ made) → IfSome result ArePrices
+      → ArePricesByKind m s prices result
+  made_by_kind model kind version a b groups expands None none are = record {
+    some = (
+      λ some. absurd (cc),
+      λ can. absurd (none (groups.1 (a.valid can.equal.rows, b.valid can.equal.columns))),
+    );
+    kinds = tt;
+  }
+  made_by_kind model kind version a b groups expands (Some other) is are =
+      let both = groups.0 (subst ArePrices is are) in
+      record {
+        some = (
+          λ some. record {
+            model = model;
+            kind = kind;
+            equal = record { rows = a.equal both.0; columns = b.equal both.1 };
+          },
+          λ can. refl,
+        );
+        kinds = rw is (version, expands (subst ArePrices is are) a.of b.of);
+      }
 
 pub cables_by_kind : (m : RotorParts) (s : RotorDay) (rows columns : List ℤ) (row : List CableKind)
     (col : List PairKind) → IsMachine (Rotor m) → IsLegalDay (OfRotors s) → ArePrices (Cables rows columns)
     → model_of (Rotor m) ≡ day_model (OfRotors s) → AreGrouped cable_format m.cables rows row
-    → AreGrouped pair_format (columns_in_order s.pairs) columns col → (r : Option PriceParts)
-    → MatchOption r (¬ (ArePrices (CableKinds (record { items = row }) (record { items = col }))))
-    (λ made. made ≡ CableKinds (record { items = row }) (record { items = col })) → IfSome r ArePrices
-    → MatchOption r (¬ (CanBeByKind (Rotor m) (OfRotors s) (Cables rows columns)))
-    (AreByKind (Rotor m) (OfRotors s) (Cables rows columns))
+    → AreGrouped pair_format (columns_in_order s.pairs) columns col → (result : Option PriceParts)
+    → MatchOption result (¬ (ArePrices (CableKinds (record { items = row }) (record { items = col }))))
+    (λ made. made ≡ CableKinds (record { items = row }) (record { items = col })) → IfSome result ArePrices
+    → ArePricesByKind (Rotor m) (OfRotors s) (Cables rows columns) result
 cables_by_kind m s rows columns row col machine legal are same first second =
     let thirteen : length (columns_in_order s.pairs) ≡ 13 = length-map (columns_of s.pairs) pair_in_order
     ∙ thirteen_columns s.pairs legal.pairs.few in
-    let a =
-    are_kinds_for cable_format m.cables (None, None)
-    (StandAlike (Rotor m)) (cables_told m machine) (cables_are_in_form m machine) 13 machine.legal.cables.count rows
-    are.rows are.row_reach row first in
-    let b =
-    are_kinds_for pair_format (columns_in_order s.pairs) None (ReadAlike (OfRotors s)) (columns_told s legal) (columns_are_in_form s legal) 13
-    thirteen columns are.columns are.column_reach col second in
-    let groups = cables_are_prices row col in
-    made_by_kind (Rotor m) (OfRotors s) (Cables rows columns)
-    (CableKinds (record { items = row }) (record { items = col })) (record { model = same; kind = tt }) refl
-    (λ equal. groups.1 (a.valid equal.rows, b.valid equal.columns))
-    (λ good. record { rows = a.equal (groups.0 good).0; columns = b.equal (groups.0 good).1 })
-    (λ good. Expanded good are (a.of, b.of))
+    made_by_kind cable_format pair_format (Rotor m) (OfRotors s) (Cables rows columns) _ m.cables
+    (columns_in_order s.pairs) row col same tt refl
+    (are_kinds_for cable_format m.cables (None, None) (StandAlike (Rotor m)) (cables_told m machine)
+    (cables_are_in_form m machine) 13 machine.legal.cables.count rows are.rows are.row_reach row first)
+    (are_kinds_for pair_format (columns_in_order s.pairs) None (ReadAlike (OfRotors s)) (columns_told s legal)
+    (columns_are_in_form s legal) 13 thirteen columns are.columns are.column_reach col second)
+    (cables_are_prices row col) (λ good of also. Expanded good are (of, also))
 
 pub bars_by_kind : (m : PinParts) (s : PinDay) (rows columns : List ℤ) (row : List BarKind) (col : List RowKind)
     → IsMachine (Pin m) → IsLegalDay (OfPins s) → ArePrices (Bars rows columns)
     → model_of (Pin m) ≡ day_model (OfPins s) → AreGrouped bar_format m.bars rows row
-    → AreGrouped row_format s.rows columns col → (r : Option PriceParts)
-    → MatchOption r (¬ (ArePrices (BarKinds (record { items = row }) (record { items = col }))))
-    (λ made. made ≡ BarKinds (record { items = row }) (record { items = col })) → IfSome r ArePrices
-    → MatchOption r (¬ (CanBeByKind (Pin m) (OfPins s) (Bars rows columns)))
-    (AreByKind (Pin m) (OfPins s) (Bars rows columns))
+    → AreGrouped row_format s.rows columns col → (result : Option PriceParts)
+    → MatchOption result (¬ (ArePrices (BarKinds (record { items = row }) (record { items = col }))))
+    (λ made. made ≡ BarKinds (record { items = row }) (record { items = col })) → IfSome result ArePrices
+    → ArePricesByKind (Pin m) (OfPins s) (Bars rows columns) result
 bars_by_kind m s rows columns row col machine legal are same first second =
-    let a =
-    are_kinds_for bar_format m.bars (One, One)
-    (StandAlike (Pin m)) (each_told m.bars (One, One)) machine.legal.apart 27 machine.legal.bars rows are.rows
-    are.row_reach row first in
-    let b =
-    are_kinds_for row_format s.rows (0, 0)
-    (ReadAlike (OfPins s)) (each_told s.rows (0, 0)) legal.rows 27 legal.count columns are.columns are.column_reach
-    col second in
-    let groups = bars_are_prices row col in
-    made_by_kind (Pin m) (OfPins s) (Bars rows columns)
-    (BarKinds (record { items = row }) (record { items = col })) (record { model = same; kind = tt }) refl
-    (λ equal. groups.1 (a.valid equal.rows, b.valid equal.columns))
-    (λ good. record { rows = a.equal (groups.0 good).0; columns = b.equal (groups.0 good).1 })
-    (λ good. Expanded good are (a.of, b.of))
+    made_by_kind bar_format row_format (Pin m) (OfPins s) (Bars rows columns) _ m.bars s.rows row col same tt refl
+    (are_kinds_for bar_format m.bars (One, One) (StandAlike (Pin m)) (each_told m.bars (One, One)) machine.legal.apart
+    27 machine.legal.bars rows are.rows are.row_reach row first)
+    (are_kinds_for row_format s.rows (0, 0) (ReadAlike (OfPins s)) (each_told s.rows (0, 0)) legal.rows 27 legal.count
+    columns are.columns are.column_reach col second)
+    (bars_are_prices row col) (λ good of also. Expanded good are (of, also))

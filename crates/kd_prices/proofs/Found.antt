@@ -1,15 +1,12 @@
 -- If a result is right for the prices that were found for rows and columns, it is right for the check of the card.
-use Rattle.kd_prices.{proofs.Meaning.are_numbered, specs.Doubt.{ArePricesFound, IsByNumberAnswer}}
-use Rattle.kd_state.specs.FirstFaults.{Finds}
-use Rattle.std.specs.Option.{ok_or, option_zip}
-use Rattle.kd_prices.proofs.Prelude.{AreKindsOf, AreModelPrices, AreOfOneModel, ArePrices, ArePricesInRange, BarKind}
-use Rattle.kd_prices.proofs.Prelude.{BarKinds, Bars, BelongTo, CableKind, CableKinds, Cables, Day, Doubt, Err, Expanded}
-use Rattle.kd_prices.proofs.Prelude.{Expands, GoesOn, HasFault, IsCheckedAnswer, List, MatchOption, None, OfPins}
-use Rattle.kd_prices.proofs.Prelude.{OfRotors, Ok, Option, OtherModel, PairKind, Parts, Pin, PinDay, PinParts}
-use Rattle.kd_prices.proofs.Prelude.{PriceMissing, PriceParts, Result, Rotor, RotorDay, RotorParts, RowKind, Same}
-use Rattle.kd_prices.proofs.Prelude.{Setting, Some, ap, arith, bar_format, cable_format, column_prices, columns_in_order}
-use Rattle.kd_prices.proofs.Prelude.{day_model, length, model_of, pair_format, refl, row_prices, row_format, subst, sym, ℤ}
-use Rattle.kd_prices.proofs.Prelude.{◌∙◌, ◌≡◌}
+use Rattle.kd_prices.proofs.{Meaning.are_numbered, Prelude.{Err, Pin, Some, ap, refl, sym, ℤ, ◌≡◌}}
+use Rattle.kd_prices.proofs.Prelude.{AreKindsOf, Bars, CableKinds, MatchOption, PriceMissing, cable_format, pair_format}
+use Rattle.kd_prices.proofs.Prelude.{AreModelPrices, ArePricesInRange, IsCheckedAnswer, column_prices, columns_in_order}
+use Rattle.kd_prices.proofs.Prelude.{ArePrices, KindFormat, PriceParts, RotorParts, bar_format, row_format, row_prices}
+use Rattle.kd_prices.proofs.Prelude.{BarKind, Cables, Expands, GoesOn, OfPins, Ok, RotorDay, RowKind, Setting, model_of}
+use Rattle.kd_prices.proofs.Prelude.{BarKinds, BelongTo, CableKind, HasFault, OfRotors, PairKind, PinParts, day_model}
+use Rattle.kd_prices.proofs.Prelude.{Day, Doubt, List, None, Option, Parts, PinDay, Result, Rotor, arith, length, subst}
+use Rattle.{kd_prices.specs.Doubt.{ArePricesFound, IsByNumberAnswer}, std.specs.Option.{ok_or, option_zip}}
 
 same_fault : {F X : Type 0} {f g : F} → ◌≡◌ {A = Result X F} (Err f) (Err g) → f ≡ g
 same_fault e = cc
@@ -23,83 +20,59 @@ module _ (m : Parts) (s : Day) (settings : List Setting) (prices : PriceParts) (
       → IsCheckedAnswer m s settings prices answer
   by_found found answer (HasFault fault none e) says = absurd (cc)
   by_found found answer (GoesOn x belong expands) says =
-      GoesOn tt (record { model = model; belong = belong }) (GoesOn (make found.0 found.1) expands says)
+      GoesOn tt model (GoesOn x belong (GoesOn (make found.0 found.1) expands says))
 
   pub by_fault : ((numbered : PriceParts) → AreModelPrices m numbered
       → make (row_prices numbered) (column_prices numbered) ≡ numbered) → (doubt : Doubt)
       → ArePricesFound m s prices make (Err doubt) → IsCheckedAnswer m s settings prices (Err doubt)
-  by_fault made doubt (HasFault fault none e) =
-      HasFault OtherModel ((λ same one. none.0 tt one.belong), refl) (ap Err (same_fault e ∙ none.1))
+  by_fault made doubt (HasFault fault none e) = GoesOn tt model (HasFault fault none (ap Err (same_fault e)))
   by_fault made doubt (GoesOn x belong none) =
-      let one : AreOfOneModel m s prices = record { model = model; belong = belong } in
-      GoesOn tt one (HasFault PriceMissing (
+      GoesOn tt model (GoesOn x belong (HasFault PriceMissing (
         (λ numbered expands.
             none.0 (row_prices numbered, column_prices numbered)
-            (subst (Expands m s prices) (sym (made numbered (are_numbered m s prices numbered one expands).kind))
-            expands)),
+            (subst (Expands m s prices) (sym (made numbered (are_numbered m s prices numbered expands belong))) expands)),
         refl,
-      ) (ap Err none.1))
+      ) (ap Err none.1)))
 
 -- ---- prices of kinds
 
-pub both_found : (P Q R S : List ℤ → Type 0) (a b : Option (List ℤ))
-    → MatchOption a ((x : List ℤ) → ¬ (P x)) (λ x. P x × R x) → MatchOption b ((x : List ℤ) → ¬ (Q x)) (λ x. Q x × S x)
-    → Finds (λ (found : List ℤ × List ℤ). (P found.0 × R found.0) × (Q found.1 × S found.1)) PriceMissing
-    (ok_or (option_zip a b) PriceMissing)
-both_found P Q R S None b none also = ((λ found both. none found.0 both.0.0), refl)
-both_found P Q R S (Some x) None is none = ((λ found both. none found.1 both.1.0), refl)
-both_found P Q R S (Some x) (Some y) is also = (is, also)
+-- `found` are the prices of the keys by their kinds, or `None` if the kinds don't count exactly these keys.
+abbrev pub AreFound : {K X : Type 0} → KindFormat K X → List X → List K → Option (List ℤ) → Type 0
+AreFound format keys kinds found =
+    MatchOption found ((prices : List ℤ) → ¬ (AreKindsOf format keys prices kinds))
+    (λ prices. AreKindsOf format keys prices kinds × ArePricesInRange prices)
+
+module _ {R X C Y : Type 0} (rows : KindFormat R X) (columns : KindFormat C Y) (xs : List X) (ys : List Y) (row : List R)
+    (col : List C) (m : Parts) (s : Day) (prices : PriceParts) (make : List ℤ → List ℤ → PriceParts)
+    (belong : BelongTo m prices)
+    (to : (found : List ℤ × List ℤ) → AreFound rows xs row (Some found.0) → AreFound columns ys col (Some found.1)
+    → Expands m s prices (make found.0 found.1))
+    (from : (found : List ℤ × List ℤ) → Expands m s prices (make found.0 found.1)
+    → AreKindsOf rows xs found.0 row × AreKindsOf columns ys found.1 col) where
+  kinds_found : (a b : Option (List ℤ)) → AreFound rows xs row a → AreFound columns ys col b
+      → ArePricesFound m s prices make (ok_or (option_zip a b) PriceMissing)
+  kinds_found None b none also = GoesOn tt belong ((λ found expands. none found.0 (from found expands).0), refl)
+  kinds_found (Some x) None is none = GoesOn tt belong ((λ found expands. none found.1 (from found expands).1), refl)
+  kinds_found (Some x) (Some y) is also = GoesOn tt belong (to (x, y) is also)
 
 pub cable_kinds_found : (m : RotorParts) (s : RotorDay) (row : List CableKind) (col : List PairKind)
     → ArePrices (CableKinds (record { items = row }) (record { items = col })) → length m.cables ≡ 13
-    → length (columns_in_order s.pairs) ≡ 13 → (answer : Result (List ℤ × List ℤ) Doubt)
-    → Finds (λ found. (AreKindsOf cable_format m.cables found.0 row × ArePricesInRange found.0)
-    × (AreKindsOf pair_format (columns_in_order s.pairs) found.1 col × ArePricesInRange found.1)) PriceMissing answer
-    → ArePricesFound (Rotor m) (OfRotors s) (CableKinds (record { items = row }) (record { items = col })) Cables answer
-cable_kinds_found m s row col are many also (Ok found) both =
-    GoesOn tt tt (Expanded are (record {
-      rows = both.0.0.number ∙ many;
-      columns = both.1.0.number ∙ also;
-      row_reach = both.0.1;
-      column_reach = both.1.1;
-      kinds = tt;
-    }) (both.0.0, both.1.0))
-cable_kinds_found m s row col are many also (Err doubt) none =
-    GoesOn tt tt (
-      (λ found expands. elim expands [
-        | Same by same ↦ absurd (cc)
-        | Expanded good fine is ↦ none.0 found ((is.0, fine.row_reach), (is.1, fine.column_reach))
-      ]),
-      none.1,
-    )
+    → length (columns_in_order s.pairs) ≡ 13 → (a b : Option (List ℤ)) → AreFound cable_format m.cables row a
+    → AreFound pair_format (columns_in_order s.pairs) col b
+    → ArePricesFound (Rotor m) (OfRotors s) (CableKinds (record { items = row }) (record { items = col })) Cables
+    (ok_or (option_zip a b) PriceMissing)
+cable_kinds_found m s row col are many also =
+    kinds_found cable_format pair_format m.cables (columns_in_order s.pairs) row col (Rotor m) (OfRotors s) _ Cables tt
+    (λ found one two. grind arith) (λ found expands. grind arith)
 
 pub bar_kinds_found : (m : PinParts) (s : PinDay) (row : List BarKind) (col : List RowKind)
     → ArePrices (BarKinds (record { items = row }) (record { items = col })) → length m.bars ≡ 27 → length s.rows ≡ 27
-    → (answer : Result (List ℤ × List ℤ) Doubt)
-    → Finds (λ found. (AreKindsOf bar_format m.bars found.0 row × ArePricesInRange found.0)
-    × (AreKindsOf row_format s.rows found.1 col × ArePricesInRange found.1)) PriceMissing answer
-    → ArePricesFound (Pin m) (OfPins s) (BarKinds (record { items = row }) (record { items = col })) Bars answer
-bar_kinds_found m s row col are many also (Ok found) both =
-    GoesOn tt tt (Expanded are (record {
-      rows = both.0.0.number ∙ many;
-      columns = both.1.0.number ∙ also;
-      row_reach = both.0.1;
-      column_reach = both.1.1;
-      kinds = tt;
-    }) (both.0.0, both.1.0))
-bar_kinds_found m s row col are many also (Err doubt) none =
-    GoesOn tt tt (
-      (λ found expands. elim expands [
-        | Same by same ↦ absurd (cc)
-        | Expanded good fine is ↦ none.0 found ((is.0, fine.row_reach), (is.1, fine.column_reach))
-      ]),
-      none.1,
-    )
-
--- prices that are for the other format of machine
-pub other_format : (m : Parts) (s : Day) (prices : PriceParts) (make : List ℤ → List ℤ → PriceParts)
-    → ¬ (BelongTo m prices) → ArePricesFound m s prices make (Err OtherModel)
-other_format m s prices make other = HasFault OtherModel ((λ same. other), refl) refl
+    → (a b : Option (List ℤ)) → AreFound bar_format m.bars row a → AreFound row_format s.rows col b
+    → ArePricesFound (Pin m) (OfPins s) (BarKinds (record { items = row }) (record { items = col })) Bars
+    (ok_or (option_zip a b) PriceMissing)
+bar_kinds_found m s row col are many also =
+    kinds_found bar_format row_format m.bars s.rows row col (Pin m) (OfPins s) _ Bars tt
+    (λ found one two. grind arith) (λ found expands. grind arith)
 
 pub cables_made : (m : RotorParts) (numbered : PriceParts) → AreModelPrices (Rotor m) numbered
     → Cables (row_prices numbered) (column_prices numbered) ≡ numbered

@@ -1,12 +1,8 @@
 -- A card's prices expand to at most one list of prices by number, which is for the same format of machine.
-use Rattle.kd_prices.proofs.Runs.{prices_alike}
-use Rattle.kd_state.specs.declared.machine.one_model.OneModel.{OneModel}
-use Rattle.kd_prices.proofs.Prelude.{AreExpanded, AreModelPrices, AreNumbered, AreOfOneModel, ArePrices, AreTakenApart}
-use Rattle.kd_prices.proofs.Prelude.{BarKinds, Bars, BelongTo, ByNumber, CableKinds, Cables, Day, Expanded, Expands}
-use Rattle.kd_prices.proofs.Prelude.{List, OfPins, OfRotors, Parts, Pin, PriceParts, Proves, Rotor, Same, Setting, ap}
-use Rattle.kd_prices.proofs.Prelude.{arith, bar_format, cable_format, day_model, model_of, pair_format, row_format, sym}
-use Rattle.kd_prices.proofs.Prelude.{version_of, ◌∙◌, ◌≡◌}
-use Rattle.kd_state.specs.declared.machine.one_model.OneModel.TheVariants as both
+use Rattle.kd_prices.proofs.Prelude.{AreExpanded, AreModelPrices, CableKinds, PriceParts, cable_format, pair_format}
+use Rattle.kd_prices.proofs.Prelude.{ArePrices, BarKinds, BelongTo, ByNumber, Parts, bar_format, row_format, version_of}
+use Rattle.kd_prices.proofs.Prelude.{Bars, Cables, Day, Expanded, Expands, OfPins, OfRotors, Pin, Rotor, Same, arith}
+use Rattle.kd_prices.proofs.{Prelude.{sym, ◌∙◌, ◌≡◌}, Runs.prices_alike}
 
 -- ---- prices by kind
 
@@ -36,39 +32,11 @@ one_expansion m s prices numbered other (Expanded are good is) (Expanded also fi
 
 -- ---- models
 
-belongs : (m : Parts) (prices : PriceParts) → AreModelPrices m prices → BelongTo m prices
-belongs m prices e = grind arith
+-- Prices, and the prices by number that they expand to, are for the same format of machine.
+pub belong : (m : Parts) (s : Day) (prices numbered : PriceParts) → Expands m s prices numbered
+    → AreModelPrices m numbered → BelongTo m prices
+belong m s prices numbered expands are = grind arith
 
-of_kind : (m : Parts) (prices : PriceParts) → version_of prices ≡ ByNumber → BelongTo m prices → AreModelPrices m prices
-of_kind m prices e d = grind arith
-
-expanded_belong : (m : Parts) (s : Day) (prices numbered : PriceParts) → AreExpanded m s prices numbered
-    → BelongTo m prices × AreModelPrices m numbered
-expanded_belong m s prices numbered e = grind arith
-
-pub of_one_model : (m : Parts) (s : Day) (settings : List Setting) (prices : PriceParts) → Proves m s settings prices
-    → AreOfOneModel m s prices
-of_one_model m s settings prices h = record {
-  model = h.proves.model;
-  belong =
-      elim h.expands [
-        | Same by same ↦ belongs m prices (rw same h.proves.kind)
-        | Expanded are also is ↦ (expanded_belong m s prices h.numbered is).0
-      ];
-}
-
-pub are_numbered : (m : Parts) (s : Day) (prices numbered : PriceParts) → AreOfOneModel m s prices
-    → Expands m s prices numbered → AreNumbered m s numbered
-are_numbered m s prices numbered model (Same by same) = record {
-  model = model.model;
-  kind = rw (← same) (of_kind m prices by model.belong);
-}
-are_numbered m s prices numbered model (Expanded are also is) = record {
-  model = model.model;
-  kind = (expanded_belong m s prices numbered is).1;
-}
-
--- A machine and a day that are taken apart together are of one model.
-pub one_model : (m : Parts) (s : Day) (both : OneModel) → AreTakenApart m s both → model_of m ≡ day_model s
-one_model m s (both.Rotor parts entry) h = ap model_of h.0 ∙ h.2 ∙ sym (ap day_model h.1)
-one_model m s (both.Pin parts entry) h = ap model_of h.0 ∙ sym (ap day_model h.1)
+pub are_numbered : (m : Parts) (s : Day) (prices numbered : PriceParts) → Expands m s prices numbered
+    → BelongTo m prices → AreModelPrices m numbered
+are_numbered m s prices numbered expands belong = grind arith

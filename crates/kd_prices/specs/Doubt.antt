@@ -13,7 +13,7 @@ use Rattle.kd_card.specs.declared.prices.PriceParts.{PriceParts}
 use Rattle.kd_card.specs.declared.prices.PriceParts.TheVariants.{Cables, Bars, CableKinds, BarKinds}
 use Rattle.kd_state.specs.FirstFaults.{AnswerRule, ◌>>=◌, Finds, Demands}
 use Rattle.kd_card.specs.Prices.{PricesFit, PricesFitAt, table_rows, price_sum, row_prices, column_prices}
-use Rattle.kd_card.specs.Proving.{AreModelPrices, Expands, IsSettingNeeded, AreSettingsNeeded, priced_count}
+use Rattle.kd_card.specs.Proving.{Expands, IsSettingNeeded, AreSettingsNeeded, priced_count}
 use Rattle.kd_prices.specs.declared.doubt.Doubt.{Doubt}
 use Rattle.kd_prices.specs.declared.doubt.Doubt.TheVariants.{OtherModel, PriceMissing, IllegalAt, NotTheSheet}
 use Rattle.kd_prices.specs.declared.doubt.Doubt.TheVariants.{PriceTooHigh, SumDiffers, NeedlessLine}
@@ -27,17 +27,6 @@ BelongTo (Pin m) (Bars row col) = Unit {0}
 BelongTo (Pin m) (BarKinds row col) = Unit {0}
 BelongTo _ _ = ⊥
 
--- Machine and day are of one model, and the prices are for machines of this model.
-pub record AreOfOneModel (m : Parts) (s : Day) (prices : PriceParts) : Type 0 where
-  pub model : model_of m ≡ day_model s
-  pub belong : BelongTo m prices
-
--- Machine and day are of one model. Each cable and column of the rotor machine, or each bar and row of the
--- Converter M-209, has its own price.
-pub record AreNumbered (m : Parts) (s : Day) (prices : PriceParts) : Type 0 where
-  pub model : model_of m ≡ day_model s
-  pub kind : AreModelPrices m prices
-
 -- Row by row, the cell in row `i` and column `j` comes before the cell in row `row` and column `column`.
 abbrev pub ComesBefore : ℕ → ℕ → ℕ → ℕ → Type 0
 ComesBefore i j row column = (i < row) ⊎ ((i ≡ row) × (j < column))
@@ -49,11 +38,6 @@ pub record IsFirstWithout (Holds : ℕ → ℕ → Type 0) (number row column : 
   pub column_within : column < number
   pub here : ¬ (Holds row column)
   pub before : (i j : ℕ) → j < number → ComesBefore i j row column → Holds i j
-
--- Row by row, the first cell whose prices add up to more than its cost is in row `row` and column `column`, counted
--- from 0.
-abbrev pub IsFirstTooHigh : List (List ℕ) → PriceParts → ℕ → ℕ → Type 0
-IsFirstTooHigh costs prices row column = IsFirstWithout (PricesFitAt costs prices) (table_rows prices) row column
 
 -- The setting on line `line`, counted from 1, is the first of `settings` that isn't needed.
 pub record IsFirstNeedless (m : Parts) (s : Day) (settings : List Setting) (line : ℕ) : Type 0 where
@@ -77,7 +61,8 @@ IsCarriedAnswer m settings (Err doubt) = ⊥
 abbrev pub IsFitsAnswer : List (List ℕ) → PriceParts → AnswerRule Doubt (Unit {0})
 IsFitsAnswer costs prices (Ok fits) = PricesFit costs prices
 IsFitsAnswer costs prices (Err (PriceTooHigh i j)) =
-    (row : ℕ) × (column : ℕ) × (i ≡ row + 1) × (j ≡ column + 1) × IsFirstTooHigh costs prices row column
+    (row : ℕ) × (column : ℕ) × (i ≡ row + 1) × (j ≡ column + 1)
+    × IsFirstWithout (PricesFitAt costs prices) (table_rows prices) row column
 IsFitsAnswer costs prices (Err doubt) = ⊥
 
 -- The result of testing the settings: success if all of them are needed, or the first that isn't needed.
@@ -101,7 +86,8 @@ IsByNumberAnswer m s settings prices = do
 -- price, the price of each cable, column, bar or row is found first.
 abbrev pub IsCheckedAnswer : Parts → Day → List Setting → PriceParts → AnswerRule Doubt (Unit {0})
 IsCheckedAnswer m s settings prices = do
-  _ ← Demands (AreOfOneModel m s prices) OtherModel
+  _ ← Demands (model_of m ≡ day_model s) OtherModel
+  _ ← Demands (BelongTo m prices) OtherModel
   numbered ← Finds (λ numbered. Expands m s prices numbered) PriceMissing
   IsByNumberAnswer m s settings numbered
 

@@ -1,26 +1,20 @@
 -- When and how a card with a price for each cable, pair, bar or row becomes a card with a price for each kind.
 use Rattle.std.specs.Prelude.{◌≡◌}
 use Rattle.kd_state.specs.declared.machine.parts.Parts.{Parts}
-use Rattle.kd_state.specs.SheetDay.{Day}
+use Rattle.kd_state.specs.{Machine.{model_of}, SheetDay.{Day, day_model}}
 use Rattle.kd_card.specs.declared.card.Card.{Card}
 use Rattle.kd_card.specs.declared.prices.PriceParts.{PriceParts}
 use Rattle.kd_card.specs.declared.prices.Version.TheVariants.{ByKind}
 use Rattle.kd_card.specs.Prices.{version_of}
-use Rattle.kd_card.specs.Proving.{Expands}
-use Rattle.kd_prices.specs.Doubt.{AreNumbered}
+use Rattle.kd_card.specs.Proving.{AreModelPrices, Expands}
 use Rattle.kd_prices.specs.Laws.{AreEqualWhereAlike}
 
 -- Machine and day are of one model. Each cable and column, or each bar and row, has its own price. Equal cables,
 -- columns, bars or rows have equal prices.
 pub record CanBeByKind (m : Parts) (s : Day) (prices : PriceParts) : Type 0 where
-  pub numbered : AreNumbered m s prices
+  pub model : model_of m ≡ day_model s
+  pub kind : AreModelPrices m prices
   pub equal : AreEqualWhereAlike m s prices
-
--- `by_kind` has a price for each kind: the price that each cable, column, bar or row of this kind has in `prices`.
-pub record AreByKind (m : Parts) (s : Day) (prices by_kind : PriceParts) : Type 0 where
-  pub can : CanBeByKind m s prices
-  pub version : version_of by_kind ≡ ByKind
-  pub expands : Expands m s by_kind prices
 
 -- `other` has the settings of `card`, and a price for each kind: the price that each cable, column, bar or row of
 -- this kind has on `card`.

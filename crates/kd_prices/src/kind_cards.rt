@@ -1,6 +1,8 @@
 //! Converts a card with a price for each cable, pair, bar or row to a card with a price for each kind.
-ghost use Rattle.std.specs.Prelude.{◌↔◌, IfSome, IsSome, MatchOption};
-ghost use Rattle.kd_prices.specs.KindCards.{CanBeByKind, IsByKind, AreByKind};
+ghost use Rattle.std.specs.Prelude.{◌≡◌, ◌↔◌, IfSome, IsSome};
+ghost use Rattle.kd_card.specs.{Prices.version_of, Proving.Expands};
+ghost use Rattle.kd_card.specs.declared.prices.Version.TheVariants.{ByKind};
+ghost use Rattle.kd_prices.specs.KindCards.{CanBeByKind, IsByKind};
 
 use super::grouping::kinds_of;
 use super::kind_keys::{beside, columns_of, ends_of};
@@ -24,9 +26,9 @@ pub fn by_kind(machine: &Machine, day: &SheetDay, card: &Card) -> Option<Card>
 
 /// Converts a price for each cable and column, or each bar and row, to a price for each kind, if possible.
 fn prices_by_kind(machine: &Machine, day: &SheetDay, prices: &Prices) -> Option<Prices>
-    ensures { MatchOption result
-        (¬ (CanBeByKind machine.now day.now prices.now))
-        (AreByKind machine.now day.now prices.now) }
+    ensures some { IsSome result ↔ CanBeByKind machine.now day.now prices.now }
+    ensures kinds { IfSome result (λ kinds. (version_of kinds ≡ ByKind)
+        × Expands machine.now day.now kinds prices.now) }
 {
     match (machine.of_one_model(day)?, prices.parts()) {
         (OneModel::Rotor(parts, entry), PriceParts::Cables(rows, columns)) => {

@@ -1,4 +1,4 @@
-use Rattle.kd_plan.proofs.FewCables.Sparing.{SparesStayFree-planned}
+use Rattle.kd_plan.proofs.Planning.{SparesStayFree-planned}
 use Rattle.kd_plan.proofs.planner.rotor_card.Goals as goal
 
 pub returns-clause-spares : goal.returns-clause-spares

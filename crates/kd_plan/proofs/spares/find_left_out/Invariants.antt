@@ -1,5 +1,4 @@
-use Rattle.std.proofs.Common.{◌≡◌, ◌<◌, ℕ, get_or, true}
-use Rattle.kd_plan.specs.SparesLast.{comes_before}
+use Rattle.{kd_plan.specs.Spares.comes_before, std.proofs.Common.{get_or, true, ℕ, ◌<◌, ◌≡◌}}
 use Rattle.kd_plan.proofs.spares.find_left_out.Given as goal
 
 abbrev pub invariant-loop-place : goal.invariant-loop-place

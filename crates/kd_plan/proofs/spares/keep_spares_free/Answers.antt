@@ -1,6 +1,5 @@
-use Rattle.kd_plan.proofs.FewCables.Sparing.Exchanging.{costs_no_more, one_to_one_still, still_free}
-use Rattle.std.proofs.Common.{arith, ◌≡◌, ◌<◌, ◌≤◌, ◌-◌, get_or, length, true, rules}
-use Rattle.kd_plan.specs.SparesLast.{is_spare_at}
+use Rattle.kd_plan.{proofs.Planning.{costs_no_more, one_to_one_still, still_free}, specs.Spares.is_spare_at}
+use Rattle.std.proofs.Common.{arith, get_or, length, rules, true, ◌-◌, ◌<◌, ◌≡◌, ◌≤◌}
 use Rattle.kd_plan.proofs.spares.keep_spares_free.Goals as goal
 
 pub loop-spare-preserved-then-from-pairs : goal.loop-spare-preserved-then-from-pairs

@@ -1,6 +1,5 @@
-use Rattle.kd_prices.proofs.Found.{both_found, cable_kinds_found, other_format}
+use Rattle.kd_prices.proofs.{Found.cable_kinds_found, Prelude.{GoesOn, HasFault, OtherModel, Same, arith, refl}}
 use Rattle.kd_state.specs.Entry.{rotor_values}
-use Rattle.kd_prices.proofs.Prelude.{GoesOn, Same, inl, inr, refl}
 use Rattle.kd_prices.proofs.checking.cable_prices.Goals as goal
 
 pub returns-in-Cables-clause-found : goal.returns-in-Cables-clause-found
@@ -9,23 +8,18 @@ returns-in-Cables-clause-found c = rw c.in-Cables.is (GoesOn tt tt (Same refl re
 pub returns-in-CableKinds-clause-found : goal.returns-in-CableKinds-clause-found
 returns-in-CableKinds-clause-found c =
     let day = rotor_values c.args.entry.now in
-    rw c.in-CableKinds.is
+    rw (c.in-CableKinds.is, c.ok_or.ensures.value, c.zip.ensures)
     (cable_kinds_found c.args.parts.now day c.in-CableKinds.rows.items c.in-CableKinds.columns.items
     (rw c.in-CableKinds.is at c.requires.prices) (rw c.ends_of.ensures.value at c.ends_of.ensures.number)
     (rw (c.columns_of.ensures.value, c.as_slice-in-CableKinds.ensures.value) at c.columns_of.ensures.number)
-    c.ok_or.result
-    (rw (c.ok_or.ensures.value, c.zip.ensures)
-    (both_found _ _ _ _ c.prices_of-rows.result c.prices_of-columns.result
+    c.prices_of-rows.result c.prices_of-columns.result
     (rw (c.as_slice.ensures.value, c.ends_of.ensures.value) at c.prices_of-rows.ensures)
     (rw (
       c.as_slice-in-CableKinds-2.ensures.value,
       c.columns_of.ensures.value,
       c.as_slice-in-CableKinds.ensures.value,
     )
-    at c.prices_of-columns.ensures))))
+    at c.prices_of-columns.ensures))
 
 pub returns-in-Bars-clause-found : goal.returns-in-Bars-clause-found
-returns-in-Bars-clause-found c = other_format _ _ _ _ (λ belong. elim c.in-Bars.is [
-  | inl is ↦ rw is.2 at belong
-  | inr is ↦ rw is.2 at belong
-])
+returns-in-Bars-clause-found c = HasFault OtherModel ((λ same belong. grind arith), refl) refl

@@ -1,0 +1,113 @@
+-- If the first `number` cables suffice, settings that leave spare cables free name no other cable.
+pub mod Sparing
+unfoldable pub use Sparing.*
+
+-- If all cables in use are among the first `first` cables, then the number of cables in use, plus the number of
+-- spare ones among the first `first`, is `first`.
+all_first : (cables : List Cable) (first : ℕ) → first ≤ length cables
+    → ((k : ℕ) → first ≤ k → is_spare_at cables k ≡ true)
+    → count_by is_spare (take first cables) + count_by (λ cable. not (is_spare cable)) cables ≡ first
+all_first [] zero few free = refl
+all_first [] (suc first) few free = absurd (omega arith)
+all_first (cable ∷ cables) zero few free =
+    let rest = all_first cables zero (omega arith) (λ k low. free (suc k) (omega arith)) in
+    simp sum_by-cons (grind (arith, nat_tests, free zero (omega arith)))
+all_first (cable ∷ cables) (suc first) few free =
+    let rest = all_first cables first (omega arith) (λ k low. free (suc k) (omega arith)) in
+    simp sum_by-cons (grind (arith, nat_tests))
+
+-- No letter is put into a cable above `number`.
+put_within : (number : ℕ) (m : RotorParts) (s : RotorDay) → UsesNoneAbove number (Rotor m) → length s.pairs ≤ number
+    → (cable letter : ℕ) → cable ≤ length m.cables → LeavesSpares m s (Put cable letter) → cable ≤ number
+put_within number m s none few zero letter within h = omega arith
+put_within number m s none few (suc place) letter within h =
+    elim (cases_lt number (suc place)) [
+      | inl above ↦
+          let bound = h (none (suc place) above) in
+          let spare = λ (k : ℕ) (low : place ≤ k). is_spare_at-cable_at m (suc k) k refl ∙ none (suc k) (omega arith) in
+          omega (
+            arith,
+            all_first m.cables place (omega arith) spare,
+            all_first m.cables (suc place) within (λ k low. spare k (omega arith)),
+          )
+      | inr fits ↦ omega arith
+    ]
+
+-- A legal PUT names a cable that exists. A legal PULL names one that is in use.
+put_there : (m : RotorParts) (cable letter : ℕ) → why_refused (Rotor m) (Put cable letter) ≡ None
+    → is_none (numbered_item m.cables cable) ≡ false
+put_there m cable letter h = grind arith
+
+pull_there : (m : RotorParts) (cable letter : ℕ) → why_refused (Rotor m) (Pull cable letter) ≡ None
+    → (is_none (numbered_item m.cables cable) ≡ false) × (has_letter (cable_letters (cable_at m cable)) letter ≡ true)
+pull_there m cable letter h = (grind arith, grind arith)
+
+in_use : (cable : Cable) (letter : ℕ) → has_letter (cable_letters cable) letter ≡ true → is_spare cable ≡ false
+in_use (None, None) letter h = absurd (cc)
+in_use _ letter h = refl
+
+-- A change of a cable whose number is at most `number` leaves the cables above `number` spare.
+set_within : (number : ℕ) (m : RotorParts) (cable : ℕ) (ends : Cable) → UsesNoneAbove number (Rotor m) → cable ≤ number
+    → is_none (numbered_item m.cables cable) ≡ false
+    → UsesNoneAbove number (Rotor (record m { cables = set m.cables (cable - 1) ends }))
+set_within number m cable ends none within there other above =
+    grind (arith, common_steps, numbered_other, IsNumbered-not_none)
+
+-- The machine has as many cables as `start`, none of which is in use above `number`; or both are Converters M-209.
+abbrev HasFewInUse : ℕ → Parts → Parts → Type 0
+HasFewInUse number (Rotor start) (Rotor m) = (length m.cables ≡ length start.cables) × UsesNoneAbove number (Rotor m)
+HasFewInUse number (Pin start) (Pin m) = Unit {0}
+HasFewInUse number _ _ = ⊥
+
+HasFewInUse-UsesNoneAbove : (number : ℕ) (start m : Parts) → HasFewInUse number start m → UsesNoneAbove number m
+HasFewInUse-UsesNoneAbove number (Rotor start) (Rotor m) few = few.1
+HasFewInUse-UsesNoneAbove number start (Pin m) few = tt
+HasFewInUse-UsesNoneAbove number (Pin start) (Rotor m) few = absurd few
+
+SparesStayFree-tail : (m : Parts) (s : Day) (x : Setting) (settings : List Setting) → SparesStayFree m s (x ∷ settings)
+    → SparesStayFree m s settings
+SparesStayFree-tail (Rotor m) (OfRotors s) x settings free = λ cable letter there.
+    free cable letter (suc there.0, omega (arith, there.1), there.2)
+SparesStayFree-tail (Pin m) (OfPins s) x settings free = tt
+SparesStayFree-tail m s x settings free = absurd free
+
+one_step : (number : ℕ) (start : Parts) (s : Day) (m : Parts) (x : Setting) (settings : List Setting)
+    → UsesNoneAbove number start → HasPairsUpTo number s → HasFewInUse number start m
+    → SparesStayFree start s (x ∷ settings) → why_refused m x ≡ None
+    → NamesNoneAbove number x × HasFewInUse number start (machine_after m x)
+one_step number (Rotor start) (OfRotors s) (Rotor m) (Put cable letter) settings none few now free allowed =
+    let there = put_there m cable letter allowed in
+    let last = (IsNumbered-not_none m.cables cable (None, None) there).last in
+    let within =
+    put_within number start s none few cable letter (omega (arith, last, now.0)) (free cable letter (0, omega arith, refl)) in
+    (within, (rw length-set now.0, set_within number m cable _ now.1 within there))
+one_step number (Rotor start) s (Rotor m) (Pull cable letter) settings none few now free allowed =
+    let there = pull_there m cable letter allowed in
+    let used = in_use (cable_at m cable) letter there.1 in
+    let within : cable ≤ number = elim (cases_lt number cable) [
+      | inl above ↦ let spare = now.1 cable above in absurd (cc)
+      | inr fits ↦ omega arith
+    ] in
+    (within, (rw length-set now.0, set_within number m cable _ now.1 within there.0))
+one_step number (Rotor start) (OfPins s) (Rotor m) (Put cable letter) settings none few now free allowed = absurd free
+one_step number (Rotor start) s (Rotor m) x settings none few now free allowed = (tt, now)
+one_step number (Pin start) s (Pin m) (Put cable letter) settings none few now free allowed = absurd (cc)
+one_step number (Pin start) s (Pin m) (Pull cable letter) settings none few now free allowed = absurd (cc)
+one_step number (Pin start) s (Pin m) x settings none few now free allowed = (tt, tt)
+one_step number start s m x settings none few now free allowed = absurd now
+
+module _ (number : ℕ) (start : Parts) (s : Day) (none : UsesNoneAbove number start) (few : HasPairsUpTo number s) where
+  serve : (settings : List Setting) (m n : Parts) → HasFewInUse number start m → SparesStayFree start s settings
+      → Leads m settings n → All (NamesNoneAbove number) settings × UsesNoneAbove number n
+  serve [] m n now free leads =
+      (All-nil (NamesNoneAbove number), rw leads (HasFewInUse-UsesNoneAbove number start m now))
+  serve (x ∷ settings) m n now free (between, carries, leads) =
+      let one = one_step number start s m x settings none few now free carries.allowed in
+      let rest = serve settings between n (rw carries.made one.1) (SparesStayFree-tail start s x settings free) leads in
+      (All-cons (NamesNoneAbove number) x settings one.0 rest.0, rest.1)
+
+pub few_cables_serve : FewCablesServe
+few_cables_serve number (Rotor m) n s settings none few spares leads =
+    serve number (Rotor m) s none few settings (Rotor m) n (refl, none) spares leads
+few_cables_serve number (Pin m) n s settings none few spares leads =
+    serve number (Pin m) s none few settings (Pin m) n tt spares leads
