@@ -224,7 +224,7 @@ module _ (g n h o : RotorParts) (s : RotorDay) (card list : List Setting) (legal
       → length card + machine_gap h o ≤ length list + machine_gap g n
   card-at_most (Cables row column) are proves =
       let once = once_of_distinct (letters_in_pairs s.pairs) legal.pairs.apart in
-      let due = cables_paired o.cables s.pairs column last once legal.pairs.few are.columns by_list.reads.key.cables in
+      let due = cables_paired o.cables s.pairs column last once legal.pairs.few are.1.count by_list.reads.key.cables in
       let model = ap (λ z. z.0) (sym near.same) ∙ proves.model in
       let falls = left_for-list s legal o by_list.reads due.beside (Rotor n) (Rotor o) list model by_list.leads in
       let there = near.cables due.beside (omega (arith, due.count, last.count, near.second.count)) in
@@ -236,7 +236,7 @@ module _ (g n h o : RotorParts) (s : RotorDay) (card list : List Setting) (legal
       let letters_meet = gaps-self o.letters in
       let bound = bounded (None, None) None cable_cost g.cables (columns_of s.pairs) (Cables row column)
       (loose_for s legal o by_list.reads (Rotor n)) (length list) near.first.count
-      (thirteen_columns s.pairs legal.pairs.few) are proves.fits there.0 order
+      (thirteen_columns s.pairs legal.pairs.few) are.0.count are.1.count proves.fits there.0 order
       (omega (arith, none, due.free, there.2)) in
       let paid = loose_for-list s legal o by_list.reads (Rotor g) (Rotor h) card proves.model by_card.leads
       proves.needed in

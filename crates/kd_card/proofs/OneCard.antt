@@ -60,7 +60,7 @@ of_table ByKind OfCables line {bytes} x says =
     subst (λ (y : PriceParts × List ℕ). AreAllPriceLines ByKind bytes y.0 y.1) (sym (Yields-Ok groups.next)) (record {
       version = refl;
       text = said.0;
-      are = (cables_are_prices groups.found.0 groups.found.1).1 (said.1, said.2);
+      are = (said.1, said.2);
     })
 of_table ByKind OfBars line {bytes} x says =
     let groups = ThenNext-Ok says in
@@ -68,7 +68,7 @@ of_table ByKind OfBars line {bytes} x says =
     subst (λ (y : PriceParts × List ℕ). AreAllPriceLines ByKind bytes y.0 y.1) (sym (Yields-Ok groups.next)) (record {
       version = refl;
       text = said.0;
-      are = (bars_are_prices groups.found.0 groups.found.1).1 (said.1, said.2);
+      are = (said.1, said.2);
     })
 
 pub up_to_settings : {bytes : List ℕ} {version : Version} {day : ℕ} {body : List ℕ} {xs : List Setting} {rest : List ℕ}
@@ -139,10 +139,11 @@ line_of_prices word prices rest is_word reach e =
     line_has_words (price_words word prices) rest (λ none. cc) (prices_are_words word prices is_word reach) e
 
 price_line_says : {word : List ℕ} {number line : ℕ} {bytes : List ℕ} (prices : List ℤ) {rest : List ℕ}
-    → HasLineWords bytes (price_words word prices) rest → ArePricesInRange prices → length prices ≡ number
+    → HasLineWords bytes (price_words word prices) rest → IsPriceList number prices
     → IsPriceLineAnswer word number line bytes (Ok (prices, rest))
-price_line_says prices has reach count =
-    GoesOn _ (first_says has) (GoesOn tt refl (GoesOn prices (GoesOn prices (refl, reach) (GoesOn tt count refl)) refl))
+price_line_says prices has list =
+    GoesOn _ (first_says has)
+    (GoesOn tt refl (GoesOn prices (GoesOn prices (refl, list.reach) (GoesOn tt list.count refl)) refl))
 
 -- ---- groups of kinds
 
@@ -249,40 +250,36 @@ only_all_prices version line bytes =
     (λ table first. only_of_table version table line bytes)
 
 by_number_says : (table : CostTable) (line : ℕ) {bytes : List ℕ} (rows columns : List ℤ) (rest : List ℕ)
-    → ArePricesInRange rows
-    → ArePricesInRange columns → length rows ≡ price_count table → length columns ≡ price_count table
+    → IsPriceList (price_count table) rows → IsPriceList (price_count table) columns
     → bytes ≡ line_then (price_words (first_text ByNumber table) rows)
     (line_then (price_words (column_word table) columns) rest)
     → IsAllPricesAnswer ByNumber line bytes (Ok (parts_by_number table rows columns, rest))
-by_number_says table line rows columns rest a b many also e =
-    let first = line_of_prices (first_text ByNumber table) rows _ (first_is_word table).0 a e in
-    let second = line_of_prices (column_word table) columns rest (first_is_word table).1 b refl in
+by_number_says table line rows columns rest a b e =
+    let first = line_of_prices (first_text ByNumber table) rows _ (first_is_word table).0 a.reach e in
+    let second = line_of_prices (column_word table) columns rest (first_is_word table).1 b.reach refl in
     GoesOn table (GoesOn _ (first_says first) refl)
-    (GoesOn (rows, _) (price_line_says rows first a many)
-    (GoesOn (columns, rest) (price_line_says columns second b also) refl))
+    (GoesOn (rows, _) (price_line_says rows first a) (GoesOn (columns, rest) (price_line_says columns second b) refl))
 
 all_say : (prices : PriceParts) (line : ℕ) {bytes : List ℕ} (rest : List ℕ) → ArePrices prices
     → ((word : List ℕ) → word ≢ codes "SUM" → EndsGroup word rest) → bytes ≡ lines_text (price_lines prices) ++ rest
     → IsAllPricesAnswer (version_of prices) line bytes (Ok (prices, rest))
 all_say (Cables row col) line rest are ends e =
-    by_number_says OfCables line row col rest are.row_reach are.column_reach are.rows are.columns
+    by_number_says OfCables line row col rest are.0 are.1
     (e ∙ two_lines (price_words (first_text ByNumber OfCables) row) (price_words (column_word OfCables) col) rest)
 all_say (Bars row col) line rest are ends e =
-    by_number_says OfBars line row col rest are.row_reach are.column_reach are.rows are.columns
+    by_number_says OfBars line row col rest are.0 are.1
     (e ∙ two_lines (price_words (first_text ByNumber OfBars) row) (price_words (column_word OfBars) col) rest)
 all_say (CableKinds row col) line rest are ends e =
-    let groups = (cables_are_prices row.items col.items).0 are in
     let say =
     groups_say cables_are pairs_are (λ same. omega (arith, ap (λ t. get_or t 0 0) same)) 13 line row.items col.items
-    rest (omega arith) groups.0 groups.1
+    rest (omega arith) are.0 are.1
     (ends pair_format.word (λ same. omega (arith, ap (λ t. get_or t 0 0) same))) e in
     GoesOn OfCables (GoesOn _ (first_says say.0.has) refl)
     (GoesOn (row.items, col.items, rest) say.1 refl)
 all_say (BarKinds row col) line rest are ends e =
-    let groups = (bars_are_prices row.items col.items).0 are in
     let say =
     groups_say bars_are rows_are (λ same. omega (arith, ap (λ t. get_or t 0 0) same)) 27 line row.items col.items
-    rest (omega arith) groups.0 groups.1
+    rest (omega arith) are.0 are.1
     (ends row_format.word (λ same. omega (arith, ap (λ t. get_or t 0 0) same))) e in
     GoesOn OfBars (GoesOn _ (first_says say.0.has) refl)
     (GoesOn (row.items, col.items, rest) say.1 refl)

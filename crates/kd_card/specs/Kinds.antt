@@ -119,6 +119,11 @@ abbrev pub counted : {K X : Type 0} → KindFormat K X → List K → ℕ
 counted format [] = 0
 counted format (kind ∷ kinds) = (format.kind kind).count + counted format kinds
 
+-- The kinds are valid and strictly ascending, and their counts add up to `number`.
+pub record IsGroup {K X : Type 0} (format : KindFormat K X) (number : ℕ) (kinds : List K) : Type 0 where
+  pub in_order : AreKinds format None kinds
+  pub count : counted format kinds ≡ number
+
 -- each kind's price, repeated as often as the kind's count says
 abbrev pub prices_of_kinds : {K X : Type 0} → KindFormat K X → List K → List ℤ
 prices_of_kinds format kinds = flat_map (λ k. replicate (format.kind k).count (format.kind k).price) kinds

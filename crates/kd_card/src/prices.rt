@@ -1,6 +1,6 @@
 //! The prices of a card: one for each cable, pair, bar or row (by number), or one for each kind of them (by kind).
 ghost use Rattle.kd_card.specs.{Prices.{price_sum, version_of, ArePricesInRange, ArePrices}, CardFault.parts_by_number};
-ghost use Rattle.kd_card.specs.{CardText.{price_count, price_lines, IsGroup}, Reading.head_prefix};
+ghost use Rattle.kd_card.specs.{CardText.{price_count, price_lines}, Kinds.IsGroup, Reading.head_prefix};
 ghost use Rattle.std.specs.Prelude.{◌≡◌, ◌↔◌, ◌+◌, ◌*◌, ◌≤◌, ◌++◌, length, fold, pos, unsigned_abs, ◌+ℤ◌, IsTrue};
 ghost use Rattle.std.specs.Prelude.{MatchOption};
 
@@ -99,7 +99,6 @@ impl Prices {
     ///
     /// `None` if `cables` or `pairs` aren't strictly ascending, or the counts of either don't add up to 13. Also `None`
     /// if a kind has letters out of order, the count 0, or a price below -9999 or above 9999.
-    #[tactic(auto, using(crate::proofs::OneCard::cables_are_prices))]
     pub fn cable_kinds(cables: &[CableKind], pairs: &[PairKind]) -> Option<Self>
         ensures { let parts =
             PriceParts.CableKinds (record { items = cables.now }) (record { items = pairs.now }) in
@@ -113,7 +112,6 @@ impl Prices {
     ///
     /// `None` if `bars` or `rows` aren't strictly ascending, or the counts of either don't add up to 27. Also `None` if
     /// a kind has the count 0, or a price below -9999 or above 9999.
-    #[tactic(auto, using(crate::proofs::OneCard::bars_are_prices))]
     pub fn bar_kinds(bars: &[BarKind], rows: &[RowKind]) -> Option<Self>
         ensures { let parts =
             PriceParts.BarKinds (record { items = bars.now }) (record { items = rows.now }) in
@@ -192,7 +190,6 @@ impl Prices {
     }
 
     /// The sum of the prices of all rows and columns of the table of costs.
-    #[tactic(auto, using(crate::proofs::OneCard::few_prices))]
     pub fn sum(&self) -> i32
         ensures { result ≡ price_sum self.now }
     {

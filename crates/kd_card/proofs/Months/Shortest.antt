@@ -250,7 +250,8 @@ pub record AreBounds (costs : List (List ℕ)) (prices : PriceParts) (loose line
 module _ {A B : Type 0} (a : A) (b : B) (cost : A → B → ℕ) (rows : List A) (columns : List B) (prices : PriceParts)
     (loose lines : ℕ) (rows_count : length rows ≡ table_rows prices)
     (columns_count : length columns ≡ table_rows prices)
-    (are : ArePrices prices) (fits : PricesFit (map (λ row. map (cost row) columns) rows) prices)
+    (row_count : length (row_prices prices) ≡ table_rows prices)
+    (column_count : length (column_prices prices) ≡ table_rows prices) (fits : PricesFit (map (λ row. map (cost row) columns) rows) prices)
     (beside : List (B × ℤ))
     (order : IsPermutation (zip columns (column_prices prices)) beside)
     (enough : loose + pairing_cost cost rows beside ≤ lines) where
@@ -261,14 +262,14 @@ module _ {A B : Type 0} (a : A) (b : B) (cost : A → B → ℕ) (rows : List A)
   priced = zip columns (column_prices prices)
 
   zipped : length priced ≡ table_rows prices
-  zipped = omega (arith, length-zip columns (column_prices prices), are.columns)
+  zipped = omega (arith, length-zip columns (column_prices prices))
 
   size : length beside ≡ table_rows prices
   size = length_permutation priced beside order ∙ zipped
 
   column : (j : ℕ) → j < table_rows prices
       → get_or priced j (b, pos 0) ≡ (get_or columns j b, price_at (column_prices prices) j)
-  column j lt = get_or-zip columns (column_prices prices) j (b, pos 0) (omega arith) (omega (arith, are.columns))
+  column j lt = get_or-zip columns (column_prices prices) j (b, pos 0) (omega arith) (omega arith)
 
   at : (i j : ℕ) → i < table_rows prices → j < table_rows prices
       → cost_at costs i j ≡ cost (get_or rows i a) (get_or columns j b)
@@ -288,7 +289,7 @@ module _ {A B : Type 0} (a : A) (b : B) (cost : A → B → ℕ) (rows : List A)
 
   below : (pos loose +ℤ price_sum prices) ≤ℤ pos lines
   below =
-      let many = rows_count ∙ sym are.rows in
+      let many = rows_count ∙ sym row_count in
       let fitting = fitting_prices cost a rows (row_prices prices) beside (rows_count ∙ sym size) many fit in
       omega (arith, ints, sums)
 
@@ -300,7 +301,7 @@ module _ {A B : Type 0} (a : A) (b : B) (cost : A → B → ℕ) (rows : List A)
         let all = sum_of (row_prices prices) +ℤ prices_with beside in
         let due : pos (pairing_cost cost rows beside) ≤ℤ all = omega (arith, ints, sums) in
         let tight =
-        tight_at cost a rows (row_prices prices) beside i (b, pos 0) (rows_count ∙ sym size) (rows_count ∙ sym are.rows)
+        tight_at cost a rows (row_prices prices) beside i (b, pos 0) (rows_count ∙ sym size) (rows_count ∙ sym row_count)
         fit due (omega arith) in
         rw (at i j lt lt') (rw (e ∙ column j lt') at tight)
 
@@ -333,19 +334,19 @@ AreBounds-prices (Rotor m) (Rotor n) (OfRotors s) (Cables row column) settings m
     let at_first = machines_have_all (Rotor m) machine.legal in
     let at_last = list_keeps (Rotor m) (Rotor n) settings leads at_first in
     let once = once_of_distinct (letters_in_pairs s.pairs) legal.pairs.apart in
-    let pairing = cables_paired n.cables s.pairs column at_last once legal.pairs.few are.columns reads.key.cables in
+    let pairing = cables_paired n.cables s.pairs column at_last once legal.pairs.few are.1.count reads.key.cables in
     let same = sym (model_of-list (Rotor m) (Rotor n) settings leads) ∙ reads.key.model in
     let falling = list_lowers pairing.beside [] (OfRotors s) legal (Rotor m) (Rotor n) settings same leads in
     bounded (None, None) None cable_cost m.cables (columns_of s.pairs) (Cables row column)
-    (loose_count (Rotor m) (OfRotors s)) (length settings) at_first.count (thirteen_columns s.pairs legal.pairs.few) are
-    fits pairing.beside pairing.order (omega (arith, falling, pairing.free, nothing_loose (Rotor n) (OfRotors s) reads))
+    (loose_count (Rotor m) (OfRotors s)) (length settings) at_first.count (thirteen_columns s.pairs legal.pairs.few)
+    are.0.count are.1.count fits pairing.beside pairing.order (omega (arith, falling, pairing.free, nothing_loose (Rotor n) (OfRotors s) reads))
 AreBounds-prices (Pin m) (Pin n) (OfPins s) (Bars row column) settings machine legal are kind fits leads reads =
     let at_first = machines_have_all (Pin m) machine.legal in
     let at_last = list_keeps (Pin m) (Pin n) settings leads at_first in
-    let pairing = bars_paired n.bars s.rows column at_last (legal.count ∙ sym are.columns) reads.key.1 in
+    let pairing = bars_paired n.bars s.rows column at_last (legal.count ∙ sym are.1.count) reads.key.1 in
     let falling = list_lowers [] pairing.beside (OfPins s) legal (Pin m) (Pin n) settings refl leads in
     bounded (One, One) (0, 0) bar_cost m.bars s.rows (Bars row column) (loose_count (Pin m) (OfPins s))
-    (length settings) at_first.count legal.count are fits pairing.beside pairing.order
+    (length settings) at_first.count legal.count are.0.count are.1.count fits pairing.beside pairing.order
     (omega (arith, falling, pairing.free, nothing_loose (Pin n) (OfPins s) reads))
 AreBounds-prices (Rotor m) (Pin n) (OfPins s) prices settings machine legal are kind fits leads reads =
     grind (arith, common_steps, no_rotors, model_of-list)

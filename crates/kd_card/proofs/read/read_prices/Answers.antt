@@ -1,5 +1,4 @@
-use Rattle.kd_card.proofs.OneCard.{refl, HasFault, GoesOn, MatchResult-err, goes_on, groups_said, cables_are_prices}
-use Rattle.kd_card.proofs.OneCard.{bars_are_prices}
+use Rattle.kd_card.proofs.OneCard.{refl, HasFault, GoesOn, MatchResult-err, goes_on, groups_said}
 use Rattle.kd_card.proofs.read.read_prices.Goals as goal
 
 pub returns-in_err-table : goal.returns-in_err-table
@@ -19,7 +18,6 @@ returns-in_err-cables-in-ByKind-OfCables c =
 pub of_parts-requires : goal.of_parts-requires
 of_parts-requires c =
     let said = groups_said _ _ 13 c.args.line _ c.in_ok-cables-in-ByKind-OfCables.ensures in
-    (cables_are_prices c.in_ok-cables-in-ByKind-OfCables.cables.items c.in_ok-cables-in-ByKind-OfCables.pairs.items).1
     (said.1, said.2)
 
 pub returns-in_ok-cables-in-ByKind-OfCables : goal.returns-in_ok-cables-in-ByKind-OfCables
@@ -37,7 +35,6 @@ returns-in_err-bars-in-ByKind-OfBars c =
 pub of_parts-requires-in-ByKind-OfBars : goal.of_parts-requires-in-ByKind-OfBars
 of_parts-requires-in-ByKind-OfBars c =
     let said = groups_said _ _ 27 c.args.line _ c.in_ok-bars-in-ByKind-OfBars.ensures in
-    (bars_are_prices c.in_ok-bars-in-ByKind-OfBars.bars.items c.in_ok-bars-in-ByKind-OfBars.rows.items).1
     (said.1, said.2)
 
 pub returns-in_ok-bars-in-ByKind-OfBars : goal.returns-in_ok-bars-in-ByKind-OfBars

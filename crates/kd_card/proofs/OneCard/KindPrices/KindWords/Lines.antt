@@ -5,14 +5,14 @@ pub use Rattle.kd_card.specs.CardFault.{IsGroupAnswer, BeginsWithWord, EndsGroup
 pub use Rattle.kd_card.specs.CardFault.{HasNoNext, BeginsWithKinds, IsSettingsAnswer, last_of, IsGroupsAnswer}
 pub use Rattle.kd_card.specs.CardFault.{IsTablePricesAnswer, IsAllPricesAnswer, IsRestAnswer, IsCardAnswer}
 pub use Rattle.kd_card.specs.CardFault.{parts_by_number}
-pub use Rattle.kd_card.specs.CardText.{head_words, lines_text, price_lines, card_text, column_word, IsGroup}
+pub use Rattle.kd_card.specs.CardText.{head_words, lines_text, price_lines, card_text, column_word}
 pub use Rattle.kd_card.specs.CardText.{price_count, IsCard}
 pub use Rattle.kd_card.specs.Kinds.{KindFormat, kinds_text, cable_format, pair_format, bar_format, row_format}
 pub use Rattle.kd_card.specs.Kinds.{kind_words, AreEnds, IsKind, ComesAfter, KeyComesBefore, HasKindWords, HasText}
-pub use Rattle.kd_card.specs.Kinds.{IsOnlyKey, letters_text, counted, prices_of_kinds, AreKinds}
+pub use Rattle.kd_card.specs.Kinds.{IsOnlyKey, letters_text, counted, prices_of_kinds, AreKinds, IsGroup}
 pub use Rattle.kd_card.specs.Laws.{TextsTellCards, NoCardBeginsAnother, CardsHaveNoFault, OneCardFault, CardsAreSaid}
 pub use Rattle.kd_card.specs.Prices.{version_of, price_sum, ArePricesInRange, table_rows, ArePrices, row_prices}
-pub use Rattle.kd_card.specs.Prices.{column_prices, HaveKindsInOrder}
+pub use Rattle.kd_card.specs.Prices.{column_prices, IsPriceList}
 pub use Rattle.kd_card.specs.Reading.{IsPriceText, head_prefix, EndsKindsAt, IsBadKindAt, IsKindOfWords, AreFewKinds}
 pub use Rattle.kd_card.specs.declared.fault.CardFault.TheVariants.{BadLine, PriceMissing, CountWrong, Trailing}
 pub use Rattle.kd_card.specs.declared.prices.PriceParts.TheVariants.{CableKinds, BarKinds, Cables, Bars}
@@ -347,17 +347,13 @@ signed_text z small = grind (arith, number_text, not_zero)
 
 -- ---- a bound of the sum of prices
 
-sum_bound : (a : ℤ) (prices : List ℤ) → AllByRecursion (λ price. unsigned_abs price ≤ 9999) prices
+pub sum_bound : (a : ℤ) (prices : List ℤ) → AllByRecursion (λ price. unsigned_abs price ≤ 9999) prices
     → unsigned_abs (fold (λ sum price. sum +ℤ price) a prices) ≤ unsigned_abs a + 9999 * length prices
 sum_bound a [] reach = omega arith
 sum_bound a (price ∷ prices) reach = grind (arith, sum_bound (a +ℤ price) prices reach.1)
 
 pub few_prices : (prices : PriceParts) → table_rows prices ≤ 27
 few_prices prices = grind arith
-
-pub price_sum_is_small : (prices : PriceParts) → ArePrices prices → unsigned_abs (price_sum prices) < 2 ^ 64
-price_sum_is_small prices p =
-    grind (arith, common_steps, All-append, sum_bound, recursion_from_All, length-append, few_prices)
 
 -- ---- a name and a value
 
@@ -386,12 +382,11 @@ first_says has = GoesOn tt (some_bytes has) has
 -- A line has a first word and `number` prices after it.
 pub record HasPrices (bytes word : List ℕ) (number : ℕ) (prices : List ℤ) (rest : List ℕ) : Type 0 where
   pub text : bytes ≡ line_then (price_words word prices) rest
-  pub reach : ArePricesInRange prices
-  pub count : length prices ≡ number
+  pub list : IsPriceList number prices
 
 pub prices_said : {number line : ℕ} {words : List (List ℕ)} {prices : List ℤ}
     → IsPricesAnswer number line words (Ok prices)
-    → (words ≡ map signed_decimal prices) × ArePricesInRange prices × (length prices ≡ number)
+    → (words ≡ map signed_decimal prices) × IsPriceList number prices
 prices_said {number} {words} {prices} says = grind (arith, ThenNext-Ok)
 
 pub line_said : {word : List ℕ} {number line : ℕ} {bytes : List ℕ} (x : List ℤ × List ℕ)
@@ -405,8 +400,7 @@ line_said {word} {number} {bytes} x says =
     let words : line.found.0 ∷ line.found.1 ≡ price_words word prices.found = cc in
     subst (λ (y : List ℤ × List ℕ). HasPrices bytes word number y.0 y.1) (sym (Yields-Ok prices.next)) (record {
       text = is_line split.next ∙ ap (λ ws. line_then ws line.found.2) words;
-      reach = are.1;
-      count = are.2;
+      list = are.1;
     })
 
 -- ---- groups of kinds
