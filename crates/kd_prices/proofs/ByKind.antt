@@ -1,5 +1,4 @@
 -- When prices by number, one for each key, can become prices by kind, one for equal keys; and which these are.
-use Rattle.kd_card.proofs.OneCard.KindPrices.{bars_are_prices, cables_are_prices}
 use Rattle.kd_prices.proofs.{AlikeKeys.{AreTold, cables_told, columns_told, each_told, one_price_is}, Runs.one_price}
 use Rattle.kd_prices.proofs.InForm.{cables_are_in_form, columns_are_in_form}
 use Rattle.kd_prices.proofs.{Prelude.{All, Day, One, Pin, map, sym, zip, ◌<◌, ◌↔◌, ◌∙◌, ◌≡◌}, Taking.size}
@@ -105,10 +104,10 @@ cables_by_kind m s rows columns row col machine legal are same first second =
     made_by_kind cable_format pair_format (Rotor m) (OfRotors s) (Cables rows columns) _ m.cables
     (columns_in_order s.pairs) row col same tt refl
     (are_kinds_for cable_format m.cables (None, None) (StandAlike (Rotor m)) (cables_told m machine)
-    (cables_are_in_form m machine) 13 machine.legal.cables.count rows are.rows are.row_reach row first)
+    (cables_are_in_form m machine) 13 machine.legal.cables.count rows are.0.count are.0.reach row first)
     (are_kinds_for pair_format (columns_in_order s.pairs) None (ReadAlike (OfRotors s)) (columns_told s legal)
-    (columns_are_in_form s legal) 13 thirteen columns are.columns are.column_reach col second)
-    (cables_are_prices row col) (λ good of also. Expanded good are (of, also))
+    (columns_are_in_form s legal) 13 thirteen columns are.1.count are.1.reach col second)
+    (λ good. good, λ good. good) (λ good of also. Expanded good are (of, also))
 
 pub bars_by_kind : (m : PinParts) (s : PinDay) (rows columns : List ℤ) (row : List BarKind) (col : List RowKind)
     → IsMachine (Pin m) → IsLegalDay (OfPins s) → ArePrices (Bars rows columns)
@@ -120,7 +119,7 @@ pub bars_by_kind : (m : PinParts) (s : PinDay) (rows columns : List ℤ) (row : 
 bars_by_kind m s rows columns row col machine legal are same first second =
     made_by_kind bar_format row_format (Pin m) (OfPins s) (Bars rows columns) _ m.bars s.rows row col same tt refl
     (are_kinds_for bar_format m.bars (One, One) (StandAlike (Pin m)) (each_told m.bars (One, One)) machine.legal.apart
-    27 machine.legal.bars rows are.rows are.row_reach row first)
+    27 machine.legal.bars rows are.0.count are.0.reach row first)
     (are_kinds_for row_format s.rows (0, 0) (ReadAlike (OfPins s)) (each_told s.rows (0, 0)) legal.rows 27 legal.count
-    columns are.columns are.column_reach col second)
-    (bars_are_prices row col) (λ good of also. Expanded good are (of, also))
+    columns are.1.count are.1.reach col second)
+    (λ good. good, λ good. good) (λ good of also. Expanded good are (of, also))

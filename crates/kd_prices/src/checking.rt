@@ -53,7 +53,6 @@ fn first_doubt(machine: &Machine, day: &SheetDay, card: &Card) -> Result<(), Dou
 }
 
 /// Finds the price of each cable and each column: its own price, or the price of its kind.
-#[tactic(auto, using(kd_card::proofs::OneCard::KindPrices::cables_are_prices))]
 fn cable_prices(
     parts: &RotorParts,
     entry: &RotorEntry,
@@ -76,7 +75,6 @@ fn cable_prices(
 }
 
 /// Finds the price of each bar and each row of the sheet: its own price, or the price of its kind.
-#[tactic(auto, using(kd_card::proofs::OneCard::KindPrices::bars_are_prices))]
 fn bar_prices(
     parts: &PinParts,
     entry: &PinEntry,
