@@ -101,8 +101,8 @@ pub cables_by_kind : (m : RotorParts) (s : RotorDay) (rows columns : List ℤ) (
 cables_by_kind m s rows columns row col machine legal are same first second =
     let thirteen : length (columns_in_order s.pairs) ≡ 13 = length-map (columns_of s.pairs) pair_in_order
     ∙ thirteen_columns s.pairs legal.pairs.few in
-    made_by_kind cable_format pair_format (Rotor m) (OfRotors s) (Cables rows columns) _ m.cables
-    (columns_in_order s.pairs) row col same tt refl
+    made_by_kind cable_format pair_format (Rotor m) (OfRotors s) (Cables rows columns)
+    (CableKinds (record { items = row }) (record { items = col })) m.cables (columns_in_order s.pairs) row col same tt refl
     (are_kinds_for cable_format m.cables (None, None) (StandAlike (Rotor m)) (cables_told m machine)
     (cables_are_in_form m machine) 13 machine.legal.cables.count rows are.0.count are.0.reach row first)
     (are_kinds_for pair_format (columns_in_order s.pairs) None (ReadAlike (OfRotors s)) (columns_told s legal)
@@ -117,7 +117,8 @@ pub bars_by_kind : (m : PinParts) (s : PinDay) (rows columns : List ℤ) (row : 
     (λ made. made ≡ BarKinds (record { items = row }) (record { items = col })) → IfSome result ArePrices
     → ArePricesByKind (Pin m) (OfPins s) (Bars rows columns) result
 bars_by_kind m s rows columns row col machine legal are same first second =
-    made_by_kind bar_format row_format (Pin m) (OfPins s) (Bars rows columns) _ m.bars s.rows row col same tt refl
+    made_by_kind bar_format row_format (Pin m) (OfPins s) (Bars rows columns)
+    (BarKinds (record { items = row }) (record { items = col })) m.bars s.rows row col same tt refl
     (are_kinds_for bar_format m.bars (One, One) (StandAlike (Pin m)) (each_told m.bars (One, One)) machine.legal.apart
     27 machine.legal.bars rows are.0.count are.0.reach row first)
     (are_kinds_for row_format s.rows (0, 0) (ReadAlike (OfPins s)) (each_told s.rows (0, 0)) legal.rows 27 legal.count

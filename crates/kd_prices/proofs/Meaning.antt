@@ -9,12 +9,12 @@ use Rattle.kd_prices.proofs.{Prelude.{sym, ◌∙◌, ◌≡◌}, Runs.prices_al
 same_lists : (m : Parts) (s : Day) (prices numbered other : PriceParts) → ArePrices prices
     → AreExpanded m s prices numbered → AreExpanded m s prices other → numbered ≡ other
 same_lists (Rotor m) (OfRotors s) (CableKinds row col) (Cables a b) (Cables c d) are one two =
-    let rows = prices_alike cable_format _ row.items a c are.kinds.0 one.0 two.0 in
-    let columns = prices_alike pair_format _ col.items b d are.kinds.1 one.1 two.1 in
+    let rows = prices_alike cable_format _ row.items a c are.0.in_order one.0 two.0 in
+    let columns = prices_alike pair_format _ col.items b d are.1.in_order one.1 two.1 in
     cc
 same_lists (Pin m) (OfPins s) (BarKinds row col) (Bars a b) (Bars c d) are one two =
-    let rows = prices_alike bar_format _ row.items a c are.kinds.0 one.0 two.0 in
-    let columns = prices_alike row_format _ col.items b d are.kinds.1 one.1 two.1 in
+    let rows = prices_alike bar_format _ row.items a c are.0.in_order one.0 two.0 in
+    let columns = prices_alike row_format _ col.items b d are.1.in_order one.1 two.1 in
     cc
 same_lists m s prices numbered other are one two = absurd (assumption)
 
