@@ -45,7 +45,7 @@ pub groups_said : {R X C Y : Type 0} (rows : KindFormat R X) (columns : KindForm
     → (bytes ≡ lines_text (map (kind_words rows) x.0 ++ map (kind_words columns) x.1) ++ x.2)
     × IsGroup rows number x.0 × IsGroup columns number x.1
 groups_said {R} {C} rows columns number line {bytes} x says =
-    grind (arith, common_steps, ThenNext-Ok, group_said, append_assoc, text_of_two, Yields-Ok)
+    grind (arith, common_steps, ThenNext-Ok, append_assoc, text_of_two, Yields-Ok)
 
 of_table : (version : Version) (table : CostTable) (line : ℕ) {bytes : List ℕ} (x : PriceParts × List ℕ)
     → IsTablePricesAnswer version table line bytes (Ok x) → AreAllPriceLines version bytes x.0 x.1
@@ -53,7 +53,8 @@ of_table ByNumber table line {bytes} x says =
     let rows = ThenNext-Ok says in
     let columns = ThenNext-Ok rows.next in
     subst (λ (y : PriceParts × List ℕ). AreAllPriceLines ByNumber bytes y.0 y.1) (sym (Yields-Ok columns.next))
-    (by_number table rows.found.0 columns.found.0 (line_said rows.found rows.says) (line_said columns.found columns.says))
+    (by_number table rows.found.0 columns.found.0 (line_said rows.found rows.says)
+    (line_said columns.found columns.says))
 of_table ByKind OfCables line {bytes} x says =
     let groups = ThenNext-Ok says in
     let said = groups_said cable_format pair_format 13 line groups.found groups.says in
@@ -109,6 +110,9 @@ card_said {bytes} x says =
       are_prices = are.are;
     })
 
+-- Each rule of reading has at most one right answer, because each of its steps has.
+ruleset one_answer = (HasOneAnswer-ThenNext, HasOneAnswer-Demands, HasOneAnswer-Yields)
+
 -- ---- lines of prices
 
 same_line : {bytes : List ℕ} (x y : List ℕ × List (List ℕ) × List ℕ) → HasLineWords bytes (x.0 ∷ x.1) x.2
@@ -116,8 +120,7 @@ same_line : {bytes : List ℕ} (x y : List ℕ × List (List ℕ) × List ℕ) �
 same_line (_, _, _) (_, _, _) a b = let same = same_words a b in cc
 
 only_line : (line : ℕ) (bytes : List ℕ) → HasOneAnswer (IsLineAnswer line bytes)
-only_line line bytes =
-    HasOneAnswer-ThenNext (HasOneAnswer-Demands _ _) (λ some filled. HasOneAnswer-Finds _ same_line)
+only_line line bytes = search (rules, one_answer, HasOneAnswer-Finds, same_line)
 
 only_price_line : (word : List ℕ) (number line : ℕ) (bytes : List ℕ)
     → HasOneAnswer (IsPriceLineAnswer word number line bytes)
@@ -207,8 +210,7 @@ module _ {K X : Type 0} {format : KindFormat K X} (is : IsFormat format) where
 only_groups : {R X C Y : Type 0} {rows : KindFormat R X} {columns : KindFormat C Y} → IsFormat rows → IsFormat columns
     → (number line : ℕ) (bytes : List ℕ) → HasOneAnswer (IsGroupsAnswer rows columns number line bytes)
 only_groups rows columns number line bytes =
-    HasOneAnswer-ThenNext (only_group rows number line bytes)
-    (λ first says. HasOneAnswer-ThenNext (only_group columns number _ _) (λ second say. HasOneAnswer-Yields _))
+    search (rules, one_answer, only_group rows, only_group columns)
 
 groups_say : {R X C Y : Type 0} {rows : KindFormat R X} {columns : KindFormat C Y} → IsFormat rows → IsFormat columns
     → columns.word ≢ rows.word → (number line : ℕ) (xs : List R) (ys : List C) {bytes : List ℕ} (rest : List ℕ)
@@ -230,24 +232,17 @@ groups_say {rows} {columns} row column differ number line xs ys rest some a b en
 
 only_of_table : (version : Version) (table : CostTable) (line : ℕ) (bytes : List ℕ)
     → HasOneAnswer (IsTablePricesAnswer version table line bytes)
-only_of_table ByNumber table line bytes =
-    HasOneAnswer-ThenNext (only_price_line _ _ line bytes)
-    (λ rows says. HasOneAnswer-ThenNext (only_price_line _ _ (line + 1) rows.1) (λ columns say. HasOneAnswer-Yields _))
-only_of_table ByKind OfCables line bytes =
-    HasOneAnswer-ThenNext (only_groups cables_are pairs_are 13 line bytes) (λ groups all. HasOneAnswer-Yields _)
-only_of_table ByKind OfBars line bytes =
-    HasOneAnswer-ThenNext (only_groups bars_are rows_are 27 line bytes) (λ groups all. HasOneAnswer-Yields _)
+only_of_table ByNumber table line bytes = search (rules, one_answer, only_price_line)
+only_of_table ByKind OfCables line bytes = search (rules, one_answer, only_groups cables_are pairs_are)
+only_of_table ByKind OfBars line bytes = search (rules, one_answer, only_groups bars_are rows_are)
 
-one_table : (version : Version) (table other : CostTable) → first_text version table ≡ first_text version other
-    → table ≡ other
-one_table version table other e = grind arith
+one_table : (word : List ℕ) (version : Version) (table other : CostTable) → word ≡ first_text version table
+    → word ≡ first_text version other → table ≡ other
+one_table word version table other e d = grind arith
 
 only_all_prices : (version : Version) (line : ℕ) (bytes : List ℕ) → HasOneAnswer (IsAllPricesAnswer version line bytes)
 only_all_prices version line bytes =
-    HasOneAnswer-ThenNext
-    (HasOneAnswer-ThenNext (only_line line bytes)
-    (λ found says. HasOneAnswer-Finds _ (λ table other a b. one_table version table other (sym a ∙ b))))
-    (λ table first. only_of_table version table line bytes)
+    search (rules, one_answer, only_line, only_of_table, HasOneAnswer-Finds, one_table)
 
 by_number_says : (table : CostTable) (line : ℕ) {bytes : List ℕ} (rows columns : List ℤ) (rest : List ℕ)
     → IsPriceList (price_count table) rows → IsPriceList (price_count table) columns
@@ -374,9 +369,7 @@ only_card bytes =
 
 says_itself : {bytes : List ℕ} {day : ℕ} {xs : List Setting} {prices : PriceParts} → IsCard bytes day xs prices
     → IsCardAnswer bytes (Ok (day, xs, prices))
-says_itself {bytes} {day} {xs} {prices} card =
-    let answer : Result (ℕ × List Setting × PriceParts) CardFault = Ok (day, xs, prices) in
-    subst (λ t. IsCardAnswer t answer) (append-nil bytes) (card_says [] card (GoesOn tt refl refl))
+says_itself {bytes} card = rw (← append-nil bytes) (card_says [] card (GoesOn tt refl refl))
 
 -- ---- laws
 

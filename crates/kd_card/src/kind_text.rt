@@ -115,6 +115,7 @@ pub(crate) fn push_kinds<K: Kind, const N: usize>(text: &mut ArrayString<N>, kin
 }
 
 /// Appends the line of `kind`.
+#[tactic(auto, using(crate::proofs::OneCard::line_in_pieces, crate::proofs::OneCard::written_price))]
 fn push_kind<K: Kind, const N: usize>(text: &mut ArrayString<N>, kind: &K)
     requires room { array_string_len text.old + 26 ≤ N }
     requires kind { IsKind K.format kind.now }

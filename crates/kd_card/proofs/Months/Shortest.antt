@@ -262,7 +262,7 @@ module _ {A B : Type 0} (a : A) (b : B) (cost : A → B → ℕ) (rows : List A)
   priced = zip columns (column_prices prices)
 
   zipped : length priced ≡ table_rows prices
-  zipped = omega (arith, length-zip columns (column_prices prices))
+  zipped = grind (arith, length-zip)
 
   size : length beside ≡ table_rows prices
   size = length_permutation priced beside order ∙ zipped

@@ -14,7 +14,7 @@ pub use Rattle.kd_card.specs.Laws.{TextsTellCards, NoCardBeginsAnother, CardsHav
 pub use Rattle.kd_card.specs.Prices.{version_of, price_sum, ArePricesInRange, table_rows, ArePrices, row_prices}
 pub use Rattle.kd_card.specs.Prices.{column_prices, IsPriceList}
 pub use Rattle.kd_card.specs.Reading.{IsPriceText, head_prefix, EndsKindsAt, IsBadKindAt, IsKindOfWords, AreFewKinds}
-pub use Rattle.kd_card.specs.declared.fault.CardFault.TheVariants.{BadLine, PriceMissing, CountWrong, Trailing}
+pub use Rattle.kd_card.specs.declared.fault.CardFault.TheVariants.{BadHead, BadLine, PriceMissing, CountWrong, Trailing}
 pub use Rattle.kd_card.specs.declared.prices.PriceParts.TheVariants.{CableKinds, BarKinds, Cables, Bars}
 pub use Rattle.kd_card.specs.declared.cost_table.CostTable.TheVariants.{OfCables, OfBars}
 pub use Rattle.kd_card.specs.{declared.prices.Version.TheVariants.{ByNumber, ByKind}, declared.kinds.PairKind.PairKind}
@@ -326,11 +326,9 @@ number_by_parts : (text : List ℕ) → 0 < length text → ((i : ℕ) → i < l
     → (get_or text 0 0 ≡ 48 → length text ≡ 1)
     → IsNumberText text
 number_by_parts [] some digits lead = absurd (omega arith)
-number_by_parts (digit ∷ rest) some digits lead = (
-  digits 0 (omega arith),
-  All-from_get_or IsDigit rest 0 (λ i inside. digits (suc i) (omega arith)),
-  λ e. nil_from_length rest (omega (arith, lead e)),
-)
+number_by_parts (digit ∷ rest) some digits lead =
+    let all = All-from_get_or IsDigit rest 0 (λ i inside. digits (suc i) (omega arith)) in
+    grind (arith, digits 0 (omega arith), nil_from_length)
 
 no_leading_zero : (number : ℕ) → number < 2 ^ 64 → get_or (decimal number) 0 0 ≡ 48 → length (decimal number) ≡ 1
 no_leading_zero number small e = grind (arith, decimal_digit, first_decimal)
@@ -402,14 +400,3 @@ line_said {word} {number} {bytes} x says =
       text = is_line split.next ∙ ap (λ ws. line_then ws line.found.2) words;
       list = are.1;
     })
-
--- ---- groups of kinds
-
-pub record HasGroup {K X : Type 0} (format : KindFormat K X) (number : ℕ) (bytes : List ℕ) (kinds : List K)
-    (rest : List ℕ) : Type 0 where
-  pub lines : bytes ≡ kinds_text format kinds ++ rest
-  pub group : IsGroup format number kinds
-
-pub group_said : {K X : Type 0} {format : KindFormat K X} {number : ℕ} (line : ℕ) {bytes : List ℕ} (x : List K × List ℕ)
-    → IsGroupAnswer format number line bytes (Ok x) → HasGroup format number bytes x.0 x.1
-group_said line x says = grind (arith, ThenNext-Ok)
