@@ -1,32 +1,6 @@
 -- Settings carried out in turn: those for loose things lead to a machine on which these things are as on the day.
-use Rattle.kd_card.proofs.Prelude.{All, AllByRecursion, AllPairs, Bool, Contains, IsMachine, Leads, List, Model, None}
-use Rattle.kd_card.proofs.Prelude.{OfPins, OfRotors, Option, Parts, Pin, PinDay, PinParts, Rotor, RotorDay, RotorParts}
-use Rattle.kd_card.proofs.Prelude.{Setting, Some, [], ap, append-nil, append_assoc, arith, machine_after, common_steps}
-use Rattle.kd_card.proofs.Prelude.{cond, days_wheels_have_their_places, eqb-true, false, fold, get_or, get_or-map}
-use Rattle.kd_card.proofs.Prelude.{get_or_at, get_or_from_slice_get, has_letter, is_some, length, length-append}
-use Rattle.kd_card.proofs.Prelude.{length-map, length-set, length-zip, map, option_map_or, place_in_box}
-use Rattle.kd_card.proofs.Prelude.{recursion_from_All, refl, reflectors_of, ring_at, same_reflector, same_wheel}
-use Rattle.kd_card.proofs.Prelude.{seconds-zip, set, flat_map, SeatReflector, set_other, slice_get, subst, suc, sym}
-use Rattle.kd_card.proofs.Prelude.{true, unwrap_or, why_refused, seat_without, zero, zip, ℕ, ◌++◌, ◌+◌, ◌<◌, ◌∙◌, ◌∷◌}
-use Rattle.kd_card.proofs.Prelude.{◌≡◌, ◌≢◌}
-use Rattle.kd_card.specs.Loose.{lines_from, loose_lines, pin_line, pin_wheel_turn_line, wheel_ring_line, slot_seat_line}
-use Rattle.kd_card.specs.Loose.{slot_turn_line}
-use Rattle.kd_state.proofs.Wheels.{has_reflector-Decides, has_wheel-Decides, place_within, same_reflector-Decides}
-use Rattle.kd_state.proofs.Wheels.{same_wheel-Decides, same_wheel_differs, same_wheel_self}
-use Rattle.kd_card.{proofs.Counting.{in_box, lines_of_each}, specs.Loose.{setting_unless, wheel_pin_lines}}
-use Rattle.kd_pins.specs.{PinWheels.pins_of, declared.pin_set.PinSet.PinSet}
-use Rattle.{kd_state.proofs.Slots.{has_letter-Decides, is_some-place_on, set_here}, kd_tables.specs.Rings.place_on}
-use Rattle.{kd_state.proofs.Telling.{Refusing.leads_join, letters_have_places}, std.specs.List.range_with_len}
-use Rattle.kd_state.specs.Machine.{AreLegalSeats, AreOnWheels, HasAllPins, IsSeatedAt}
-use Rattle.kd_state.specs.{Pins.{pin_set, with_pin}}
-use Rattle.kd_state.specs.SheetDay.{IsLegalPinDay, IsLegalRotorDay, seats_of_wheels}
-use Rattle.kd_state.specs.declared.sheet_day.rotor_entry.SheetWheel.{SheetWheel}
-use Rattle.std.specs.List.{list_any}
-use Rattle.kd_tables.specs.{Tables.{box_of, wheels_for}, declared.{reflector.Reflector.Reflector, wheel.Wheel.Wheel}}
-use Rattle.std.proofs.{Common.{find}, lemmas.{Bool.cond_both, Simd.map-map}}
-use Rattle.std.proofs.lemmas.List.{Quantifiers.all_pairs_remove, Recursion.found_at, map-append, set-get_or, set_at}
-use Rattle.std.proofs.lemmas.List.{FromFn.{fill_by_all, get_or-range_with_len, length-range_with_len}, Sums.fold_push}
-use Rattle.std.proofs.lemmas.{Option.{slice_get-get_or, slice_get-map, slice_get_within}, Slice.Zip.firsts-zip}
+pub mod Counting
+unfoldable pub use Counting.*
 unfoldable use Rattle.kd_tables.specs.Rings.{ring_of}
 
 -- Facts about the item `x` between the parts `front` and `back` of a list.
@@ -213,8 +187,7 @@ module _ (m : RotorParts) (s : RotorDay) (machine : IsMachine (Rotor m)) (legal 
   seats_lead : Led (Rotor m) (lines_from slot_seat_line 1 (zip m.slots s.wheels))
       (with_slots m (seats_of_wheels s.wheels))
   seats_lead =
-      seats_led m [] m.slots s.wheels 1 refl (grind (arith, length-map))
-      (λ k n wheel e at. rw e (are_seated.allowed k wheel at))
+      seats_led m [] m.slots s.wheels 1 refl (grind (arith, length-map)) (λ k n wheel e at. rw e (are_seated.allowed k wheel at))
       (λ k d lt. refl) (λ i j d before lt same. places_differ i j d before lt (ap (place_in_box m.model) same))
 
   -- RING: the day's wheel that is this wheel of the box, if there is one; and the rings, in the order of the box
@@ -248,7 +221,7 @@ module _ (m : RotorParts) (s : RotorDay) (machine : IsMachine (Rotor m)) (legal 
 
   ring_led : (front back : List ℕ) (wheel : Wheel) (one : Option SheetWheel) → the_one wheel ≡ one
       → slice_get (box_of m.model) (length front) ≡ Some wheel
-      → Led (with_rings (front ++ ring_now wheel ∷ back)) (wheel_ring_line m s.wheels wheel)
+      → Led (with_rings (front ++ ring_now wheel ∷ back)) (wheel_ring_line (Rotor m) s.wheels wheel)
       (with_rings (front ++ ring_then wheel ∷ back))
   ring_led front back wheel None e here = rw e (led_none refl)
   ring_led front back wheel (Some w) e here =
@@ -261,11 +234,11 @@ module _ (m : RotorParts) (s : RotorDay) (machine : IsMachine (Rotor m)) (legal 
       (has_wheel-Decides (box_of m.model) w.wheel).1 (rw (← same) (length front, lt, is)) in
       rw (e, same, placed, at) (grind (arith, led_unless, set_at, eqb-true, has, placed))
 
-  rings_lead : Led (with_rings m.rings) (flat_map (wheel_ring_line m s.wheels) (box_of m.model))
+  rings_lead : Led (with_rings m.rings) (flat_map (wheel_ring_line (Rotor m) s.wheels) (box_of m.model))
       (with_rings (map ring_then (box_of m.model)))
   rings_lead =
-      rw (lines_of_each (wheel_ring_line m s.wheels) (box_of m.model) 1)
-      (cells_led with_rings ring_now ring_then (λ n wheel. wheel_ring_line m s.wheels wheel)
+      rw (lines_of_each (wheel_ring_line (Rotor m) s.wheels) (box_of m.model) 1)
+      (cells_led with_rings ring_now ring_then (λ n wheel. wheel_ring_line (Rotor m) s.wheels wheel)
       (box_of m.model) rings_now refl
       (λ fs bs wheel e. ring_led _ _ wheel (the_one wheel) refl (rw (length-map, e) (seam_get fs wheel bs))))
 
@@ -302,9 +275,9 @@ module _ (m : RotorParts) (s : RotorDay) (machine : IsMachine (Rotor m)) (legal 
   abbrev pub turned_all : RotorParts
   turned_all = turned (fold turn m.letters s.wheels)
 
-  turns_lead : Led (Rotor (turned m.letters)) (lines_from (slot_turn_line m) 1 s.wheels) (Rotor turned_all)
+  turns_lead : Led (Rotor (turned m.letters)) (lines_from (slot_turn_line (Rotor m)) 1 s.wheels) (Rotor turned_all)
   turns_lead =
-      things_led (λ front back. Rotor (turned (fold turn m.letters front))) (slot_turn_line m) s.wheels
+      things_led (λ front back. Rotor (turned (fold turn m.letters front))) (slot_turn_line (Rotor m)) s.wheels
       (λ front back w e.
       let here = seam_map (λ (v : SheetWheel). Some v.wheel) s.wheels front back w e in
       let apart = subst (AllPairs (λ w v. place w ≢ place v)) e places_differ in

@@ -1,27 +1,8 @@
 -- On a rotor machine, the cards of several days have the fewest settings in total. A list that leads from one
 -- machine to another has at least one setting for each ring and window letter that differs. A card changes only what
 -- is wrong for the day, so each of these changes brings the machine nearer to every machine that reads as the day.
-use Rattle.kd_card.proofs.Prelude.{◌≡◌, ◌≢◌, ◌∙◌, ℕ, zero, suc, ◌+◌, ◌<◌, ◌≤◌, pos, ints, nat_eq, cond, not, Bool}
-use Rattle.kd_card.proofs.Prelude.{false, List, [], ◌∷◌, length, set, zip, map, replicate, count_by, sum_by, All}
-use Rattle.kd_card.proofs.Prelude.{AllZip, IsPermutation, Option, Some, None, ℤ, refl, sym, ap, subst, arith, slice_get}
-use Rattle.kd_card.proofs.Prelude.{option_map_or, count_by-cons, sum_by-cons, sum-map, length-map, length-set}
-use Rattle.kd_card.proofs.Prelude.{seconds-zip, AllZip-long, All-head, All-tail, IsPermutation-map, IsPermutation-refl}
-use Rattle.kd_card.proofs.Prelude.{alphabet, IsPermutation-sym, IsPermutation-trans, sum_by-IsPermutation}
-use Rattle.kd_card.proofs.Prelude.{thirteen_columns, exactly_one, has_letter, Parts, Rotor, Pin, RotorParts, RotorDay}
-use Rattle.kd_card.proofs.Prelude.{Model, Day, OfRotors, OfPins, IsLegalDay, ReadsAs, Setting, RingTo, Turn, Leads}
-use Rattle.kd_card.proofs.Prelude.{machine_after, why_refused, letters_with, wheel_in_slot, place_in_box, model_of}
-use Rattle.kd_card.proofs.Prelude.{cable_cost, cable_letters, column_letters, columns_of, letters_in_pairs}
-use Rattle.kd_card.proofs.Prelude.{letter_at, one_unless, same_reflector, PriceParts, Cables, ArePrices}
-use Rattle.kd_card.proofs.Prelude.{AreSettingsNeeded, IsSettingNeeded, is_priced_setting, priced_count}
-use Rattle.kd_card.proofs.{Counts.once_of_distinct, Duality.pairing_cost, Duality.reordered}
-use Rattle.kd_card.proofs.Falling.{HasCables, list_keeps, left_to_do-lowered, machines_have_all, model_of-changed}
-use Rattle.kd_card.proofs.Falling.{loose_slots, nothing_loose}
-use Rattle.kd_card.proofs.Shortest.{each_itself, bounded, cables_paired, model_of-list, with_prices}
-use Rattle.kd_card.specs.Months.{CardsAreFewestInAll, DayAfterDay, IsProvedCard, ReachesDay}
-use Rattle.{kd_card.specs.Proving.ProvesByNumber, kd_state.specs.SheetDay.IsLegalRotorDay}
-use Rattle.kd_state.specs.declared.sheet_day.rotor_entry.SheetWheel.{SheetWheel}
-use Rattle.kd_tables.specs.declared.{model.Model.TheVariants.M209, reflector.Reflector.Reflector, wheel.Wheel.Wheel}
-use Rattle.std.proofs.lemmas.Bool.Decides.{nat_tests}
+pub mod Shortest
+unfoldable pub use Shortest.*
 
 -- ---- the number of places where two lists differ
 
@@ -243,7 +224,7 @@ module _ (g n h o : RotorParts) (s : RotorDay) (card list : List Setting) (legal
       → length card + machine_gap h o ≤ length list + machine_gap g n
   card-at_most (Cables row column) are proves =
       let once = once_of_distinct (letters_in_pairs s.pairs) legal.pairs.apart in
-      let due = cables_paired o.cables s.pairs column last once legal.pairs.few are.columns by_list.reads.key.cables in
+      let due = cables_paired o.cables s.pairs column last once legal.pairs.few are.1.count by_list.reads.key.cables in
       let model = ap (λ z. z.0) (sym near.same) ∙ proves.model in
       let falls = left_for-list s legal o by_list.reads due.beside (Rotor n) (Rotor o) list model by_list.leads in
       let there = near.cables due.beside (omega (arith, due.count, last.count, near.second.count)) in
@@ -255,7 +236,7 @@ module _ (g n h o : RotorParts) (s : RotorDay) (card list : List Setting) (legal
       let letters_meet = gaps-self o.letters in
       let bound = bounded (None, None) None cable_cost g.cables (columns_of s.pairs) (Cables row column)
       (loose_for s legal o by_list.reads (Rotor n)) (length list) near.first.count
-      (thirteen_columns s.pairs legal.pairs.few) are proves.fits there.0 order
+      (thirteen_columns s.pairs legal.pairs.few) are.0.count are.1.count proves.fits there.0 order
       (omega (arith, none, due.free, there.2)) in
       let paid = loose_for-list s legal o by_list.reads (Rotor g) (Rotor h) card proves.model by_card.leads
       proves.needed in

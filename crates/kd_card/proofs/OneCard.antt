@@ -1,30 +1,6 @@
 -- Bytes are the text of at most one card, and have at most one first fault; never both.
-use Rattle.kd_card.proofs.Prelude.{not_longer, same_end, Bool, true, false, codes, ◌≡◌, ◌≢◌, ℕ, ◌+◌, ◌*◌, ◌^◌, ◌<◌, ◌≤◌}
-use Rattle.kd_card.proofs.Prelude.{List, [], ◌∷◌, ◌++◌, length, map, get_or, Result, Ok, Err, refl, sym, ap, subst, ◌∙◌}
-use Rattle.kd_card.proofs.Prelude.{arith, ℤ, unsigned_abs, append_assoc, AllByRecursion, signed_decimal}
-use Rattle.kd_card.proofs.Prelude.{decimal_injective, signed_decimal_injective, append-nil, recursion_from_All, Setting}
-use Rattle.kd_card.proofs.Prelude.{IsWord, setting_line, list_text, BeginsWithSettingLines, BeginsWithNoSetting}
-use Rattle.kd_card.proofs.Prelude.{PriceParts, Cables, Bars, CableKinds, BarKinds, Version, ByNumber, ByKind, CostTable}
-use Rattle.kd_card.proofs.Prelude.{OfCables, OfBars, KindFormat, Trailing, ThenNext, HasFault, GoesOn, Yields, Demands}
-use Rattle.kd_card.proofs.Prelude.{Option, Some, None, kinds_text, AreKinds, version_of, price_sum, cable_format}
-use Rattle.kd_card.proofs.Prelude.{pair_format, bar_format, row_format, ArePricesInRange, ArePrices, first_text}
-use Rattle.kd_card.proofs.Prelude.{column_word, price_count, lines_text, price_lines, card_text, IsGroup, IsCard, line_then}
-use Rattle.kd_card.proofs.Prelude.{IsValueAnswer, IsFirstWordAnswer, BeginsWithHead, BeginsWithAllSettings}
-use Rattle.kd_card.proofs.Prelude.{IsSettingsAnswer, IsPriceLineAnswer, IsByNumberPricesAnswer, BeginsWithWord}
-use Rattle.kd_card.proofs.Prelude.{EndsGroup, AtOther, IsNextKind, last_of, IsGroupAnswer, IsGroupsAnswer}
-use Rattle.kd_card.proofs.Prelude.{IsKindsOfAnswer, IsAllPricesAnswer, IsRestAnswer, IsCardAnswer, TextsTellCards}
-use Rattle.kd_card.proofs.Prelude.{NoCardBeginsAnother, CardsHaveNoFault, OneCardFault, common_steps, word_by_test}
-use Rattle.kd_card.proofs.Prelude.{BeginsWithKinds, CardsAreSaid, HasOneAnswer, HasOneAnswer-Demands}
-use Rattle.kd_card.proofs.Prelude.{HasOneAnswer-Finds, HasOneAnswer-Yields, HasOneAnswer-FindsAlways}
-use Rattle.kd_card.proofs.Prelude.{HasOneAnswer-ThenNext, ThenNext-Ok, Yields-Ok, CardFault, head_words, kind_words}
-use Rattle.kd_card.specs.{CardFault.parts_by_number, Reading.head_prefix}
-use Rattle.kd_card.proofs.Lines.{line_has_words, value_line, same_words, two_lines, card_and_more, mag-small}
-use Rattle.kd_card.proofs.Lines.{numeral_word, signed_word, head_text, day_unbroken, first_is_word, prices_are_words}
-use Rattle.kd_card.proofs.Lines.{number_text, signed_text, price_sum_is_small, value_says, value_said, same_values}
-use Rattle.kd_card.proofs.Lines.{first_says, HasPrices, line_said, group_said, settings_words, price_words, sum_words}
-use Rattle.kd_card.proofs.KindWords.{IsFormat, cables_are, pairs_are, bars_are, rows_are, kind_is_words, kind_begins}
-use Rattle.kd_card.proofs.KindWords.{end_has_no_next, same_kind}
-use Rattle.kd_card.proofs.KindPrices.{text_of_more_kinds, text_of_two, cables_are_prices, bars_are_prices}
+pub mod KindPrices
+unfoldable pub use KindPrices.*
 
 -- ---- texts that determine what they describe
 
@@ -69,39 +45,32 @@ pub groups_said : {R X C Y : Type 0} (rows : KindFormat R X) (columns : KindForm
     → (bytes ≡ lines_text (map (kind_words rows) x.0 ++ map (kind_words columns) x.1) ++ x.2)
     × IsGroup rows number x.0 × IsGroup columns number x.1
 groups_said {R} {C} rows columns number line {bytes} x says =
-    grind (arith, common_steps, ThenNext-Ok, group_said, append_assoc, text_of_two, Yields-Ok)
+    grind (arith, common_steps, ThenNext-Ok, append_assoc, text_of_two, Yields-Ok)
 
-of_kinds : (table : CostTable) (line : ℕ) {bytes : List ℕ} (x : PriceParts × List ℕ)
-    → IsKindsOfAnswer table line bytes (Ok x)
-    → AreAllPriceLines ByKind bytes x.0 x.1
-of_kinds OfCables line {bytes} x says =
+of_table : (version : Version) (table : CostTable) (line : ℕ) {bytes : List ℕ} (x : PriceParts × List ℕ)
+    → IsTablePricesAnswer version table line bytes (Ok x) → AreAllPriceLines version bytes x.0 x.1
+of_table ByNumber table line {bytes} x says =
+    let rows = ThenNext-Ok says in
+    let columns = ThenNext-Ok rows.next in
+    subst (λ (y : PriceParts × List ℕ). AreAllPriceLines ByNumber bytes y.0 y.1) (sym (Yields-Ok columns.next))
+    (by_number table rows.found.0 columns.found.0 (line_said rows.found rows.says)
+    (line_said columns.found columns.says))
+of_table ByKind OfCables line {bytes} x says =
     let groups = ThenNext-Ok says in
     let said = groups_said cable_format pair_format 13 line groups.found groups.says in
     subst (λ (y : PriceParts × List ℕ). AreAllPriceLines ByKind bytes y.0 y.1) (sym (Yields-Ok groups.next)) (record {
       version = refl;
       text = said.0;
-      are = (cables_are_prices groups.found.0 groups.found.1).1 (said.1, said.2);
+      are = (said.1, said.2);
     })
-of_kinds OfBars line {bytes} x says =
+of_table ByKind OfBars line {bytes} x says =
     let groups = ThenNext-Ok says in
     let said = groups_said bar_format row_format 27 line groups.found groups.says in
     subst (λ (y : PriceParts × List ℕ). AreAllPriceLines ByKind bytes y.0 y.1) (sym (Yields-Ok groups.next)) (record {
       version = refl;
       text = said.0;
-      are = (bars_are_prices groups.found.0 groups.found.1).1 (said.1, said.2);
+      are = (said.1, said.2);
     })
-
-all_said : (version : Version) (line : ℕ) {bytes : List ℕ} (x : PriceParts × List ℕ)
-    → IsAllPricesAnswer version line bytes (Ok x)
-    → AreAllPriceLines version bytes x.0 x.1
-all_said ByNumber line {bytes} x says =
-    let rows = ThenNext-Ok says in
-    let columns = ThenNext-Ok rows.next in
-    let a = line_said _ _ rows.found rows.says in
-    let b = line_said _ _ columns.found columns.says in
-    subst (λ (y : PriceParts × List ℕ). AreAllPriceLines ByNumber bytes y.0 y.1) (sym (Yields-Ok columns.next))
-    (by_number rows.found.0 rows.found.1 columns.found.1 a b)
-all_said ByKind line {bytes} x says = grind (arith, common_steps, ThenNext-Ok, of_kinds)
 
 pub up_to_settings : {bytes : List ℕ} {version : Version} {day : ℕ} {body : List ℕ} {xs : List Setting} {rest : List ℕ}
     {number : ℕ}
@@ -121,7 +90,8 @@ card_said {bytes} x says =
     let all = ThenNext-Ok number.next in
     let sum = ThenNext-Ok all.next in
     let end = ThenNext-Ok sum.next in
-    let are = all_said head.found.0 _ all.found all.says in
+    let table = ThenNext-Ok all.says in
+    let are = of_table head.found.0 table.found _ all.found table.next in
     let xs = list.found.0 in
     let prices = all.found.0 in
     let last = value_said true (codes "SUM ") _ _ sum.says ∙ ap (line_then (sum_words (price_sum prices))) end.says in
@@ -140,40 +110,43 @@ card_said {bytes} x says =
       are_prices = are.are;
     })
 
+-- Each rule of reading has at most one right answer, because each of its steps has.
+ruleset one_answer = (HasOneAnswer-ThenNext, HasOneAnswer-Demands, HasOneAnswer-Yields)
+
 -- ---- lines of prices
 
-only_first : {K : Type 0} (word : K → List ℕ) → ((key other : K) → word key ≡ word other → key ≡ other)
-    → (line : ℕ) (bytes : List ℕ) → HasOneAnswer (IsFirstWordAnswer word line bytes)
-only_first word one line bytes =
-    HasOneAnswer-ThenNext
-    (HasOneAnswer-ThenNext (HasOneAnswer-Demands _ _)
-    (λ some filled. HasOneAnswer-Finds _ (λ x y a b. let same = same_words a b in same_pair x y same.0 same.1)))
-    (λ found has. HasOneAnswer-ThenNext (HasOneAnswer-Finds _ (λ x y a b. same_pair x y (one x.0 y.0 (cc)) (cc)))
-    (λ first is. HasOneAnswer-Yields _))
+same_line : {bytes : List ℕ} (x y : List ℕ × List (List ℕ) × List ℕ) → HasLineWords bytes (x.0 ∷ x.1) x.2
+    → HasLineWords bytes (y.0 ∷ y.1) y.2 → x ≡ y
+same_line (_, _, _) (_, _, _) a b = let same = same_words a b in cc
 
-only_price_line : {K : Type 0} (word : K → List ℕ) (number : K → ℕ)
-    → ((key other : K) → word key ≡ word other → key ≡ other)
-    → (line : ℕ) (bytes : List ℕ) → HasOneAnswer (IsPriceLineAnswer word number line bytes)
-only_price_line word number one line bytes =
-    HasOneAnswer-ThenNext (only_first word one line bytes)
-    (λ first says. HasOneAnswer-ThenNext
+only_line : (line : ℕ) (bytes : List ℕ) → HasOneAnswer (IsLineAnswer line bytes)
+only_line line bytes = search (rules, one_answer, HasOneAnswer-Finds, same_line)
+
+only_price_line : (word : List ℕ) (number line : ℕ) (bytes : List ℕ)
+    → HasOneAnswer (IsPriceLineAnswer word number line bytes)
+only_price_line word number line bytes =
+    HasOneAnswer-ThenNext (only_line line bytes)
+    (λ found says. HasOneAnswer-ThenNext (HasOneAnswer-Demands _ _)
+    (λ first is. HasOneAnswer-ThenNext
     (HasOneAnswer-ThenNext
     (HasOneAnswer-Finds _ (λ ps qs a b.
     same_prices ps qs (recursion_from_All _ ps a.1) (recursion_from_All _ qs b.1) (sym a.0 ∙ b.0)))
     (λ prices are. HasOneAnswer-ThenNext (HasOneAnswer-Demands _ _) (λ all count. HasOneAnswer-Yields prices)))
-    (λ prices are. HasOneAnswer-Yields _))
+    (λ prices are. HasOneAnswer-Yields _)))
 
-price_line_says : {K : Type 0} (word : K → List ℕ) (number : K → ℕ) {line : ℕ} {bytes : List ℕ} (key : K)
-    (prices : List ℤ)
-    (rest : List ℕ) → IsWord (word key) → ArePricesInRange prices → length prices ≡ number key
-    → bytes ≡ line_then (price_words (word key) prices) rest
-    → IsPriceLineAnswer word number line bytes (Ok (key, prices, rest))
-price_line_says word number key prices rest is_word reach count e =
-    let words = prices_are_words (word key) prices is_word reach in
-    GoesOn (key, map signed_decimal prices, rest)
-    (first_says _ key (map signed_decimal prices) rest
-    (line_has_words (price_words (word key) prices) rest (λ none. cc) words e))
-    (GoesOn prices (GoesOn prices (refl, reach) (GoesOn tt count refl)) refl)
+-- The line of a word and prices, and how it is read.
+line_of_prices : (word : List ℕ) (prices : List ℤ) (rest : List ℕ) {bytes : List ℕ} → IsWord word
+    → ArePricesInRange prices → bytes ≡ line_then (price_words word prices) rest
+    → HasLineWords bytes (price_words word prices) rest
+line_of_prices word prices rest is_word reach e =
+    line_has_words (price_words word prices) rest (λ none. cc) (prices_are_words word prices is_word reach) e
+
+price_line_says : {word : List ℕ} {number line : ℕ} {bytes : List ℕ} (prices : List ℤ) {rest : List ℕ}
+    → HasLineWords bytes (price_words word prices) rest → IsPriceList number prices
+    → IsPriceLineAnswer word number line bytes (Ok (prices, rest))
+price_line_says prices has list =
+    GoesOn _ (first_says has)
+    (GoesOn tt refl (GoesOn prices (GoesOn prices (refl, list.reach) (GoesOn tt list.count refl)) refl))
 
 -- ---- groups of kinds
 
@@ -237,8 +210,7 @@ module _ {K X : Type 0} {format : KindFormat K X} (is : IsFormat format) where
 only_groups : {R X C Y : Type 0} {rows : KindFormat R X} {columns : KindFormat C Y} → IsFormat rows → IsFormat columns
     → (number line : ℕ) (bytes : List ℕ) → HasOneAnswer (IsGroupsAnswer rows columns number line bytes)
 only_groups rows columns number line bytes =
-    HasOneAnswer-ThenNext (only_group rows number line bytes)
-    (λ first says. HasOneAnswer-ThenNext (only_group columns number _ _) (λ second say. HasOneAnswer-Yields _))
+    search (rules, one_answer, only_group rows, only_group columns)
 
 groups_say : {R X C Y : Type 0} {rows : KindFormat R X} {columns : KindFormat C Y} → IsFormat rows → IsFormat columns
     → columns.word ≢ rows.word → (number line : ℕ) (xs : List R) (ys : List C) {bytes : List ℕ} (rest : List ℕ)
@@ -258,56 +230,53 @@ groups_say {rows} {columns} row column differ number line xs ys rest some a b en
 
 -- ---- the prices
 
+only_of_table : (version : Version) (table : CostTable) (line : ℕ) (bytes : List ℕ)
+    → HasOneAnswer (IsTablePricesAnswer version table line bytes)
+only_of_table ByNumber table line bytes = search (rules, one_answer, only_price_line)
+only_of_table ByKind OfCables line bytes = search (rules, one_answer, only_groups cables_are pairs_are)
+only_of_table ByKind OfBars line bytes = search (rules, one_answer, only_groups bars_are rows_are)
+
+one_table : (word : List ℕ) (version : Version) (table other : CostTable) → word ≡ first_text version table
+    → word ≡ first_text version other → table ≡ other
+one_table word version table other e d = grind arith
+
 only_all_prices : (version : Version) (line : ℕ) (bytes : List ℕ) → HasOneAnswer (IsAllPricesAnswer version line bytes)
-only_all_prices ByNumber line bytes =
-    HasOneAnswer-ThenNext (only_price_line _ _ (λ group other e. grind arith) line bytes)
-    (λ rows says. HasOneAnswer-ThenNext (only_price_line _ _ (λ only other e. refl) (line + 1) rows.2)
-    (λ columns say. HasOneAnswer-Yields _))
-only_all_prices ByKind line bytes =
-    HasOneAnswer-ThenNext (only_first _ (λ group other e. grind arith) line bytes)
-    (λ first says. only_kinds_of first.0)
-  where
-    only_kinds_of : (table : CostTable) → HasOneAnswer (IsKindsOfAnswer table line bytes)
-    only_kinds_of OfCables = HasOneAnswer-ThenNext (only_groups cables_are pairs_are 13 line bytes)
-        (λ groups all. HasOneAnswer-Yields _)
-    only_kinds_of OfBars = HasOneAnswer-ThenNext (only_groups bars_are rows_are 27 line bytes)
-        (λ groups all. HasOneAnswer-Yields _)
+only_all_prices version line bytes =
+    search (rules, one_answer, only_line, only_of_table, HasOneAnswer-Finds, one_table)
 
 by_number_says : (table : CostTable) (line : ℕ) {bytes : List ℕ} (rows columns : List ℤ) (rest : List ℕ)
-    → ArePricesInRange rows
-    → ArePricesInRange columns → length rows ≡ price_count table → length columns ≡ price_count table
+    → IsPriceList (price_count table) rows → IsPriceList (price_count table) columns
     → bytes ≡ line_then (price_words (first_text ByNumber table) rows)
     (line_then (price_words (column_word table) columns) rest)
-    → IsByNumberPricesAnswer line bytes (Ok (parts_by_number table rows columns, rest))
-by_number_says table line rows columns rest a b many also e =
-    let second = line_then (price_words (column_word table) columns) rest in
-    GoesOn (table, rows, second) (price_line_says _ _ table rows second (first_is_word table).0 a many e)
-    (GoesOn (tt, columns, rest) (price_line_says _ _ tt columns rest (first_is_word table).1 b also refl) refl)
+    → IsAllPricesAnswer ByNumber line bytes (Ok (parts_by_number table rows columns, rest))
+by_number_says table line rows columns rest a b e =
+    let first = line_of_prices (first_text ByNumber table) rows _ (first_is_word table).0 a.reach e in
+    let second = line_of_prices (column_word table) columns rest (first_is_word table).1 b.reach refl in
+    GoesOn table (GoesOn _ (first_says first) refl)
+    (GoesOn (rows, _) (price_line_says rows first a) (GoesOn (columns, rest) (price_line_says columns second b) refl))
 
 all_say : (prices : PriceParts) (line : ℕ) {bytes : List ℕ} (rest : List ℕ) → ArePrices prices
     → ((word : List ℕ) → word ≢ codes "SUM" → EndsGroup word rest) → bytes ≡ lines_text (price_lines prices) ++ rest
     → IsAllPricesAnswer (version_of prices) line bytes (Ok (prices, rest))
 all_say (Cables row col) line rest are ends e =
-    by_number_says OfCables line row col rest are.row_reach are.column_reach are.rows are.columns
+    by_number_says OfCables line row col rest are.0 are.1
     (e ∙ two_lines (price_words (first_text ByNumber OfCables) row) (price_words (column_word OfCables) col) rest)
 all_say (Bars row col) line rest are ends e =
-    by_number_says OfBars line row col rest are.row_reach are.column_reach are.rows are.columns
+    by_number_says OfBars line row col rest are.0 are.1
     (e ∙ two_lines (price_words (first_text ByNumber OfBars) row) (price_words (column_word OfBars) col) rest)
 all_say (CableKinds row col) line rest are ends e =
-    let groups = (cables_are_prices row.items col.items).0 are in
     let say =
     groups_say cables_are pairs_are (λ same. omega (arith, ap (λ t. get_or t 0 0) same)) 13 line row.items col.items
-    rest (omega arith) groups.0 groups.1
+    rest (omega arith) are.0 are.1
     (ends pair_format.word (λ same. omega (arith, ap (λ t. get_or t 0 0) same))) e in
-    GoesOn (OfCables, say.0.behind, say.0.rest) (first_says _ OfCables say.0.behind say.0.rest say.0.has)
+    GoesOn OfCables (GoesOn _ (first_says say.0.has) refl)
     (GoesOn (row.items, col.items, rest) say.1 refl)
 all_say (BarKinds row col) line rest are ends e =
-    let groups = (bars_are_prices row.items col.items).0 are in
     let say =
     groups_say bars_are rows_are (λ same. omega (arith, ap (λ t. get_or t 0 0) same)) 27 line row.items col.items
-    rest (omega arith) groups.0 groups.1
+    rest (omega arith) are.0 are.1
     (ends row_format.word (λ same. omega (arith, ap (λ t. get_or t 0 0) same))) e in
-    GoesOn (OfBars, say.0.behind, say.0.rest) (first_says _ OfBars say.0.behind say.0.rest say.0.has)
+    GoesOn OfBars (GoesOn _ (first_says say.0.has) refl)
     (GoesOn (row.items, col.items, rest) say.1 refl)
 
 -- ---- the head, and a name and a value
@@ -400,9 +369,7 @@ only_card bytes =
 
 says_itself : {bytes : List ℕ} {day : ℕ} {xs : List Setting} {prices : PriceParts} → IsCard bytes day xs prices
     → IsCardAnswer bytes (Ok (day, xs, prices))
-says_itself {bytes} {day} {xs} {prices} card =
-    let answer : Result (ℕ × List Setting × PriceParts) CardFault = Ok (day, xs, prices) in
-    subst (λ t. IsCardAnswer t answer) (append-nil bytes) (card_says [] card (GoesOn tt refl refl))
+says_itself {bytes} card = rw (← append-nil bytes) (card_says [] card (GoesOn tt refl refl))
 
 -- ---- laws
 

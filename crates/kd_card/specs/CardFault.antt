@@ -1,25 +1,20 @@
 -- The result of reading bytes as a card: the card, or the first fault. Lines are counted from 1.
+use Rattle.kd_card.specs.Kinds.{KindFormat, cable_format, pair_format, bar_format, row_format, kind_words, kinds_text}
+use Rattle.kd_card.specs.Kinds.{counted, IsKind, AreKinds, ComesAfter}
+use Rattle.kd_card.specs.declared.fault.CardFault.TheVariants.{BadHead, BadLine, TooMany, PriceMissing, CountWrong}
+use Rattle.kd_card.specs.declared.fault.CardFault.TheVariants.{Trailing}
+use Rattle.kd_card.specs.declared.prices.PriceParts.TheVariants.{Cables, Bars, CableKinds, BarKinds}
+use Rattle.kd_card.specs.{CardText.{column_word, price_count, head_words, price_lines}, declared.prices.Version.Version}
+use Rattle.kd_card.specs.declared.cost_table.CostTable.TheVariants.{OfCables, OfBars}
+use Rattle.kd_card.specs.{declared.prices.Version.TheVariants.{ByNumber, ByKind}, declared.prices.PriceParts.PriceParts}
+use Rattle.kd_card.specs.{declared.cost_table.CostTable.CostTable, Prices.{price_sum, ArePricesInRange}}
+use Rattle.kd_card.specs.declared.fault.CardFault.{CardFault}
+use Rattle.kd_state.specs.{FirstFaults.{AnswerRule, ◌>>=◌, Yields, Finds, Demands, FindsAlways}, SheetDay.IsDayNumber}
+use Rattle.kd_state.specs.{Line.{BeginsWithSettingLines, BeginsWithAllSettings}, Words.{words_of, line_of, IsFirstPart}}
+use Rattle.kd_state.specs.declared.setting.Setting.{Setting}
 use Rattle.std.specs.Prelude.{codes, decimal, ◌≡◌, ◌≢◌, ℕ, ◌+◌, ◌≤◌, ◌⊎◌, List, [], ◌∷◌, ◌++◌, length, map, All, ℤ}
 use Rattle.std.specs.Prelude.{Bool, true, false, Ok, Err, Option, Some, None}
 use Rattle.std.specs.Fmt.{signed_decimal}
-use Rattle.kd_state.specs.declared.setting.Setting.{Setting}
-use Rattle.kd_state.specs.Words.{words_of, line_of, IsFirstPart}
-use Rattle.kd_state.specs.Line.{BeginsWithSettingLines, BeginsWithAllSettings}
-use Rattle.kd_state.specs.SheetDay.{IsDayNumber}
-use Rattle.kd_card.specs.declared.prices.PriceParts.{PriceParts}
-use Rattle.kd_card.specs.declared.prices.PriceParts.TheVariants.{Cables, Bars, CableKinds, BarKinds}
-use Rattle.kd_card.specs.declared.prices.Version.{Version}
-use Rattle.kd_card.specs.declared.prices.Version.TheVariants.{ByNumber, ByKind}
-use Rattle.kd_card.specs.declared.cost_table.CostTable.{CostTable}
-use Rattle.kd_card.specs.declared.cost_table.CostTable.TheVariants.{OfCables, OfBars}
-use Rattle.kd_card.specs.declared.fault.CardFault.{CardFault}
-use Rattle.kd_card.specs.declared.fault.CardFault.TheVariants.{BadHead, BadLine, TooMany, PriceMissing, CountWrong}
-use Rattle.kd_card.specs.declared.fault.CardFault.TheVariants.{Trailing}
-use Rattle.kd_state.specs.FirstFaults.{AnswerRule, ◌>>=◌, Yields, Finds, Demands, FindsAlways}
-use Rattle.kd_card.specs.Kinds.{KindFormat, cable_format, pair_format, bar_format, row_format, kind_words, kinds_text}
-use Rattle.kd_card.specs.Kinds.{counted, IsKind, AreKinds, ComesAfter}
-use Rattle.kd_card.specs.Prices.{price_sum, ArePricesInRange}
-use Rattle.kd_card.specs.CardText.{column_word, price_count, head_words, price_lines}
 
 -- ---- numbers and prices as they are written
 
@@ -59,21 +54,11 @@ IsValueAnswer signed front due line bytes = do
   _ ← Demands (found.0 ≡ due) CountWrong
   Yields found.1
 
--- The result of reading a price line: the line's words and the bytes after the line, or a fault.
-abbrev pub IsLineAnswer : ℕ → List ℕ → AnswerRule CardFault (List (List ℕ) × List ℕ)
+-- The result of reading a price line: its first word, its other words and the bytes after the line, or a fault.
+abbrev pub IsLineAnswer : ℕ → List ℕ → AnswerRule CardFault (List ℕ × List (List ℕ) × List ℕ)
 IsLineAnswer line bytes = do
   _ ← Demands (bytes ≢ []) PriceMissing
-  Finds (λ (found : List (List ℕ) × List ℕ). HasLineWords bytes found.0 found.1) (BadLine line)
-
--- The result of reading a line whose first word stands for a value, as `CABLES` stands for prices of cables. The
--- function `word` gives the word for each value. The result is the value, the other words of the line, and the bytes
--- after the line; or a fault.
-abbrev pub IsFirstWordAnswer : {K : Type 0} → (K → List ℕ) → ℕ → List ℕ
-    → AnswerRule CardFault (K × List (List ℕ) × List ℕ)
-IsFirstWordAnswer {K} word line bytes = do
-  found ← IsLineAnswer line bytes
-  first ← Finds (λ (first : K × List (List ℕ)). found.0 ≡ word first.0 ∷ first.1) PriceMissing
-  Yields (first.0, first.1, found.1)
+  Finds (λ (found : List ℕ × List (List ℕ) × List ℕ). HasLineWords bytes (found.0 ∷ found.1) found.2) (BadLine line)
 
 -- ---- the head and the settings
 
@@ -93,9 +78,6 @@ IsSettingsAnswer bytes (Err fault) =
     ((settings : List Setting) × (rest : List ℕ) × BeginsWithSettingLines bytes settings rest × (length settings ≡ 193))
     × (fault ≡ TooMany)
 
-abbrev pub IsCountAnswer : ℕ → List ℕ → AnswerRule CardFault (List ℕ)
-IsCountAnswer number bytes = IsValueAnswer false (codes "SETTINGS ") (decimal number) (number + 2) bytes
-
 -- ---- prices by number: two lines
 
 -- the first word of a card's first price line: `CABLES` or `BARS` in version 1, `CABLE` or `BAR` in version 2
@@ -105,6 +87,12 @@ first_text ByNumber OfBars = codes "BARS"
 first_text ByKind OfCables = cable_format.word
 first_text ByKind OfBars = bar_format.word
 
+-- The result of reading the first word of the first price line: what the prices are for, or a fault.
+abbrev pub IsTableAnswer : Version → ℕ → List ℕ → AnswerRule CardFault CostTable
+IsTableAnswer version line bytes = do
+  found ← IsLineAnswer line bytes
+  Finds (λ table. found.0 ≡ first_text version table) PriceMissing
+
 -- The result of reading `words` as `number` prices: the prices, or a fault. If a word isn't a price, the fault is
 -- `BadLine line`. If there are more or fewer prices than `number`, it is `PriceMissing`.
 abbrev pub IsPricesAnswer : ℕ → ℕ → List (List ℕ) → AnswerRule CardFault (List ℤ)
@@ -113,22 +101,17 @@ IsPricesAnswer number line words = do
   _ ← Demands (length prices ≡ number) PriceMissing
   Yields prices
 
-abbrev pub IsPriceLineAnswer : {K : Type 0} → (K → List ℕ) → (K → ℕ) → ℕ → List ℕ
-    → AnswerRule CardFault (K × List ℤ × List ℕ)
+-- The result of reading a line of `word` and `number` prices: the prices and the bytes after the line, or a fault.
+abbrev pub IsPriceLineAnswer : List ℕ → ℕ → ℕ → List ℕ → AnswerRule CardFault (List ℤ × List ℕ)
 IsPriceLineAnswer word number line bytes = do
-  first ← IsFirstWordAnswer word line bytes
-  prices ← IsPricesAnswer (number first.0) line first.1
-  Yields (first.0, prices, first.2)
+  found ← IsLineAnswer line bytes
+  _ ← Demands (found.0 ≡ word) PriceMissing
+  prices ← IsPricesAnswer number line found.1
+  Yields (prices, found.2)
 
 abbrev pub parts_by_number : CostTable → List ℤ → List ℤ → PriceParts
 parts_by_number OfCables rows columns = Cables rows columns
 parts_by_number OfBars rows columns = Bars rows columns
-
-abbrev pub IsByNumberPricesAnswer : ℕ → List ℕ → AnswerRule CardFault (PriceParts × List ℕ)
-IsByNumberPricesAnswer line bytes = do
-  rows ← IsPriceLineAnswer (first_text ByNumber) price_count line bytes
-  columns ← IsPriceLineAnswer (λ (_ : Unit {0}). column_word rows.0) (λ _. price_count rows.0) (line + 1) rows.2
-  Yields (parts_by_number rows.0 rows.1 columns.1, columns.2)
 
 -- ---- prices by kind: two groups of lines
 
@@ -189,35 +172,34 @@ IsGroupsAnswer row_format column_format number line bytes = do
   columns ← IsGroupAnswer column_format number (line + length rows.0) rows.1
   Yields (rows.0, columns.0, columns.1)
 
-abbrev pub IsKindsOfAnswer : CostTable → ℕ → List ℕ → AnswerRule CardFault (PriceParts × List ℕ)
-IsKindsOfAnswer OfCables line bytes = do
+-- ---- the card
+
+-- The result of reading the prices for one table of costs. The first price line is line `line` of the card.
+abbrev pub IsTablePricesAnswer : Version → CostTable → ℕ → List ℕ → AnswerRule CardFault (PriceParts × List ℕ)
+IsTablePricesAnswer ByNumber table line bytes = do
+  rows ← IsPriceLineAnswer (first_text ByNumber table) (price_count table) line bytes
+  columns ← IsPriceLineAnswer (column_word table) (price_count table) (line + 1) rows.1
+  Yields (parts_by_number table rows.0 columns.0, columns.1)
+IsTablePricesAnswer ByKind OfCables line bytes = do
   groups ← IsGroupsAnswer cable_format pair_format 13 line bytes
   Yields (CableKinds (record { items = groups.0 }) (record { items = groups.1 }), groups.2)
-IsKindsOfAnswer OfBars line bytes = do
+IsTablePricesAnswer ByKind OfBars line bytes = do
   groups ← IsGroupsAnswer bar_format row_format 27 line bytes
   Yields (BarKinds (record { items = groups.0 }) (record { items = groups.1 }), groups.2)
 
-abbrev pub IsByKindPricesAnswer : ℕ → List ℕ → AnswerRule CardFault (PriceParts × List ℕ)
-IsByKindPricesAnswer line bytes = do
-  first ← IsFirstWordAnswer (first_text ByKind) line bytes
-  IsKindsOfAnswer first.0 line bytes
-
--- ---- the card
-
 abbrev pub IsAllPricesAnswer : Version → ℕ → List ℕ → AnswerRule CardFault (PriceParts × List ℕ)
-IsAllPricesAnswer ByNumber line bytes = IsByNumberPricesAnswer line bytes
-IsAllPricesAnswer ByKind line bytes = IsByKindPricesAnswer line bytes
-
-abbrev pub IsSumAnswer : ℤ → ℕ → List ℕ → AnswerRule CardFault (List ℕ)
-IsSumAnswer sum line bytes = IsValueAnswer true (codes "SUM ") (signed_decimal sum) line bytes
+IsAllPricesAnswer version line bytes = do
+  table ← IsTableAnswer version line bytes
+  IsTablePricesAnswer version table line bytes
 
 -- The result of reading the lines `SETTINGS`, prices and `SUM` after a card's settings: the whole card (`day`,
 -- `settings` and the prices), or a fault.
 abbrev pub IsRestAnswer : Version → ℕ → List Setting → ℕ → List ℕ → AnswerRule CardFault (ℕ × List Setting × PriceParts)
 IsRestAnswer version day settings number bytes = do
-  rest ← IsCountAnswer number bytes
+  rest ← IsValueAnswer false (codes "SETTINGS ") (decimal number) (number + 2) bytes
   prices ← IsAllPricesAnswer version (number + 3) rest
-  end ← IsSumAnswer (price_sum prices.0) (number + 3 + length (price_lines prices.0)) prices.1
+  end ← IsValueAnswer true (codes "SUM ") (signed_decimal (price_sum prices.0))
+      (number + 3 + length (price_lines prices.0)) prices.1
   _ ← Demands (end ≡ []) Trailing
   Yields (day, settings, prices.0)
 

@@ -1,20 +1,13 @@
 -- The text of a card: lines that end with LF. In each line, one space stands between two words.
-use Rattle.std.specs.Prelude.{codes, decimal, ◌≡◌, ℕ, ◌≤◌, List, [], ◌∷◌, ◌++◌, length, map, None, All}
-use Rattle.std.specs.List.{flat_map}
-use Rattle.std.specs.Fmt.{signed_decimal}
-use Rattle.kd_state.specs.declared.setting.Setting.{Setting}
-use Rattle.kd_state.specs.Words.{line_of}
-use Rattle.kd_state.specs.Line.{setting_words, IsSettingInRange}
-use Rattle.kd_state.specs.SheetDay.{IsDayNumber}
-use Rattle.kd_card.specs.declared.prices.PriceParts.{PriceParts}
+use Rattle.kd_card.specs.Kinds.{kind_words, cable_format, pair_format, bar_format, row_format}
 use Rattle.kd_card.specs.declared.prices.PriceParts.TheVariants.{Cables, Bars, CableKinds, BarKinds}
-use Rattle.kd_card.specs.declared.prices.Version.{Version}
-use Rattle.kd_card.specs.declared.prices.Version.TheVariants.{ByNumber, ByKind}
-use Rattle.kd_card.specs.declared.cost_table.CostTable.{CostTable}
-use Rattle.kd_card.specs.declared.cost_table.CostTable.TheVariants.{OfCables, OfBars}
-use Rattle.kd_card.specs.Kinds.{KindFormat, kind_words, cable_format, pair_format, bar_format, row_format, counted}
-use Rattle.kd_card.specs.Kinds.{AreKinds}
-use Rattle.kd_card.specs.Prices.{version_of, price_sum, ArePrices}
+use Rattle.kd_card.specs.{declared.cost_table.CostTable.TheVariants.{OfCables, OfBars}, declared.prices.Version.Version}
+use Rattle.kd_card.specs.{declared.prices.Version.TheVariants.{ByNumber, ByKind}, declared.prices.PriceParts.PriceParts}
+use Rattle.kd_card.specs.{Prices.{version_of, price_sum, ArePrices}, declared.cost_table.CostTable.CostTable}
+use Rattle.kd_state.specs.{Line.{setting_words, IsSettingInRange}, declared.setting.Setting.Setting, Words.line_of}
+use Rattle.kd_state.specs.SheetDay.{IsDayNumber}
+use Rattle.std.specs.Prelude.{codes, decimal, ◌≡◌, ℕ, ◌≤◌, List, [], ◌∷◌, ◌++◌, length, map, All}
+use Rattle.std.specs.{Fmt.signed_decimal, List.flat_map}
 
 -- the first word of the second price line on a card of version 1, where each pair, nothing or row has its own price
 abbrev pub column_word : CostTable → List ℕ
@@ -25,11 +18,6 @@ column_word OfBars = codes "ROWS"
 abbrev pub price_count : CostTable → ℕ
 price_count OfCables = 13
 price_count OfBars = 27
-
--- The kinds are valid and strictly ascending, and their counts add up to `number`.
-pub record IsGroup {K X : Type 0} (format : KindFormat K X) (number : ℕ) (kinds : List K) : Type 0 where
-  pub in_order : AreKinds format None kinds
-  pub count : counted format kinds ≡ number
 
 -- the words of a card's first line, such as `CARD 2 DAY 31`: version 2 if each kind has one price, otherwise version 1
 abbrev pub head_words : Version → ℕ → List (List ℕ)

@@ -1,19 +1,14 @@
 -- Kinds: a kind is one entry for equal cables, columns, bars or rows, with their count and the price of each.
+use Rattle.kd_card.specs.{declared.kinds.CableKind.CableKind, declared.kinds.PairKind.PairKind}
+use Rattle.kd_card.specs.{declared.kinds.BarKind.BarKind, declared.kinds.RowKind.RowKind, declared.kinds.KindOf.KindOf}
+use Rattle.kd_state.specs.{Costs.{column_letters, one_unless}, Words.line_of, Machine.cable_letters}
+use Rattle.kd_tables.specs.Text as tables
+use Rattle.kd_tables.specs.Places.{standing_text, reading_text, place_rank, IsBefore, IsReading}
+use Rattle.kd_tables.specs.declared.place.Place.{Place}
 use Rattle.std.specs.Prelude.{codes, decimal, ◌≡◌, ℕ, ◌+◌, ◌<◌, ◌≤◌, List, [], ◌∷◌, ◌++◌, length, map, replicate}
 use Rattle.std.specs.Prelude.{flat_map, ℤ, unsigned_abs, Option, Some, None, is_some, IsPermutation, zip}
-use Rattle.std.specs.{Cmp.Lexicographic.slice_cmp, Ordering.nat_cmp, declared.cmp.Ordering.TheVariants.Less}
-use Rattle.std.specs.Fmt.{signed_decimal}
-use Rattle.kd_tables.specs.declared.place.Place.{Place}
-use Rattle.kd_tables.specs.Places.{standing_text, reading_text, place_rank, IsBefore, IsReading}
-use Rattle.kd_tables.specs.Text as tables
-use Rattle.kd_state.specs.Words.{line_of}
-use Rattle.kd_state.specs.Machine.{cable_letters}
-use Rattle.kd_state.specs.Costs.{column_letters, one_unless}
-use Rattle.kd_card.specs.declared.kinds.KindOf.{KindOf}
-use Rattle.kd_card.specs.declared.kinds.CableKind.{CableKind}
-use Rattle.kd_card.specs.declared.kinds.PairKind.{PairKind}
-use Rattle.kd_card.specs.declared.kinds.BarKind.{BarKind}
-use Rattle.kd_card.specs.declared.kinds.RowKind.{RowKind}
+use Rattle.std.specs.{declared.cmp.Ordering.TheVariants.Less, Cmp.Lexicographic.slice_cmp, Fmt.signed_decimal}
+use Rattle.std.specs.Ordering.{nat_cmp}
 
 -- ---- keys: a cable's letters, a column's pair, a bar's standing, a row's reading
 
@@ -124,6 +119,11 @@ AreKinds format last (kind ∷ kinds) =
 abbrev pub counted : {K X : Type 0} → KindFormat K X → List K → ℕ
 counted format [] = 0
 counted format (kind ∷ kinds) = (format.kind kind).count + counted format kinds
+
+-- The kinds are valid and strictly ascending, and their counts add up to `number`.
+pub record IsGroup {K X : Type 0} (format : KindFormat K X) (number : ℕ) (kinds : List K) : Type 0 where
+  pub in_order : AreKinds format None kinds
+  pub count : counted format kinds ≡ number
 
 -- each kind's price, repeated as often as the kind's count says
 abbrev pub prices_of_kinds : {K X : Type 0} → KindFormat K X → List K → List ℤ

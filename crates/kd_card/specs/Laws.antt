@@ -1,18 +1,13 @@
 -- What the laws on cards promise.
-use Rattle.std.specs.Prelude.{◌≡◌, ℕ, ◌+◌, ◌≤◌, List, [], ◌++◌, length, pos, ◌+ℤ◌, ◌≤ℤ◌, ◌↔◌, Ok}
-use Rattle.kd_state.specs.declared.machine.parts.Parts.{Parts}
-use Rattle.kd_state.specs.declared.setting.Setting.{Setting}
-use Rattle.kd_state.specs.Machine.{IsMachine, model_of}
-use Rattle.kd_state.specs.SheetDay.{Day, IsLegalDay, day_model}
-use Rattle.kd_state.specs.Costs.{cost_table, loose_count}
-use Rattle.kd_card.specs.declared.prices.PriceParts.{PriceParts}
-use Rattle.kd_card.specs.declared.fault.CardFault.{CardFault}
-use Rattle.kd_card.specs.Prices.{PricesFit, price_sum, ArePrices, ArePricesTight}
-use Rattle.kd_card.specs.CardText.{IsCard}
-use Rattle.kd_card.specs.Loose.{loose_lines}
-use Rattle.kd_card.specs.CardFault.{IsCardAnswer, IsCardFault}
 use Rattle.kd_card.specs.Proving.{AreSettingsNeeded, AreModelPrices, ProvesByNumber, Proves, IsShortest, LeadsToTheDay}
 use Rattle.kd_card.specs.Proving.{priced_count}
+use Rattle.kd_card.specs.{Prices.{PricesFit, price_sum, ArePrices, ArePricesTight}, declared.fault.CardFault.CardFault}
+use Rattle.kd_card.specs.{CardFault.{IsCardAnswer, IsCardFault}, declared.prices.PriceParts.PriceParts, CardText.IsCard}
+use Rattle.kd_card.specs.Loose.{loose_lines}
+use Rattle.kd_state.specs.{SheetDay.{Day, IsLegalDay, day_model}, declared.machine.parts.Parts.Parts}
+use Rattle.kd_state.specs.{declared.setting.Setting.Setting, Costs.{cost_table, loose_count}}
+use Rattle.kd_state.specs.Machine.{IsMachine, model_of}
+use Rattle.std.specs.Prelude.{◌≡◌, ℕ, ◌+◌, ◌≤◌, List, [], ◌++◌, length, pos, ◌+ℤ◌, ◌≤ℤ◌, ◌↔◌, Ok}
 
 -- The number of settings for loose things is the number of loose things. A loose thing, such as a ring or a pin, isn't
 -- as the day says; cables and bars are never loose.

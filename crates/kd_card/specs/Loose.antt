@@ -1,22 +1,15 @@
 -- The settings for loose things, in a fixed order. A loose thing, such as a ring or a pin, isn't as the day says;
 -- cables and bars are never loose.
+use Rattle.kd_pins.specs.PinWheels.{pins_of}
+use Rattle.kd_state.specs.declared.setting.Setting.TheVariants.{Seat, SeatReflector, RingTo, Turn, PinTo}
+use Rattle.kd_state.specs.{declared.machine.parts.Parts.TheVariants.{Rotor, Pin}, declared.machine.parts.Parts.Parts}
+use Rattle.kd_state.specs.{declared.sheet_day.rotor_entry.SheetWheel.SheetWheel, Machine.{machine_ring, machine_letter}}
+use Rattle.kd_state.specs.{SameParts.{same_wheel, same_reflector}, SheetDay.{Day, OfRotors, OfPins}, Costs.exactly_one}
+use Rattle.kd_state.specs.declared.setting.Setting.{Setting}
+use Rattle.kd_tables.specs.{declared.wheel.Wheel.Wheel, Rings.ring_of, Tables.box_of}
 use Rattle.std.specs.Prelude.{ℕ, nat_eq, Bool, false, not, List, [], ◌∷◌, ◌++◌, ◌+◌, flat_map, find, zip, Option}
 use Rattle.std.specs.Prelude.{if◌then◌else◌}
 use Rattle.std.specs.Option.{option_map_or}
-use Rattle.kd_tables.specs.declared.wheel.Wheel.{Wheel}
-use Rattle.kd_tables.specs.Tables.{box_of}
-use Rattle.kd_tables.specs.Rings.{ring_of}
-use Rattle.kd_pins.specs.PinWheels.{pins_of}
-use Rattle.kd_state.specs.declared.machine.rotor_parts.RotorParts.{RotorParts}
-use Rattle.kd_state.specs.declared.machine.parts.Parts.{Parts}
-use Rattle.kd_state.specs.declared.machine.parts.Parts.TheVariants.{Rotor, Pin}
-use Rattle.kd_state.specs.declared.sheet_day.rotor_entry.SheetWheel.{SheetWheel}
-use Rattle.kd_state.specs.declared.setting.Setting.{Setting}
-use Rattle.kd_state.specs.declared.setting.Setting.TheVariants.{Seat, SeatReflector, RingTo, Turn, PinTo}
-use Rattle.kd_state.specs.SameParts.{same_wheel, same_reflector}
-use Rattle.kd_state.specs.Machine.{ring_at, letter_at}
-use Rattle.kd_state.specs.SheetDay.{Day, OfRotors, OfPins}
-use Rattle.kd_state.specs.Costs.{exactly_one}
 
 -- the setting `x`, or no setting if `already` is true, that is, if the machine already is as `x` would set it
 abbrev pub setting_unless : Bool → Setting → List Setting
@@ -32,15 +25,15 @@ abbrev pub slot_seat_line : ℕ → Option Wheel × SheetWheel → List Setting
 slot_seat_line slot z = setting_unless (option_map_or (same_wheel z.1.wheel) z.0 false) (Seat slot z.1.wheel)
 
 -- the setting RING, if `wheel` is one of the day's wheels and its ring isn't at the day's letter
-abbrev pub wheel_ring_line : RotorParts → List SheetWheel → Wheel → List Setting
+abbrev pub wheel_ring_line : Parts → List SheetWheel → Wheel → List Setting
 wheel_ring_line m wheels wheel = option_map_or
-    (λ w. setting_unless (option_map_or (nat_eq w.ring) (ring_at m w.wheel) false) (RingTo w.wheel w.ring))
+    (λ w. setting_unless (option_map_or (nat_eq w.ring) (machine_ring m w.wheel) false) (RingTo w.wheel w.ring))
     (find (λ w. same_wheel wheel w.wheel) wheels) []
 
 -- the setting TURN, if a wheel of the day isn't turned to the day's letter
-abbrev pub slot_turn_line : RotorParts → ℕ → SheetWheel → List Setting
+abbrev pub slot_turn_line : Parts → ℕ → SheetWheel → List Setting
 slot_turn_line m slot w =
-    setting_unless (option_map_or (nat_eq w.letter) (letter_at m w.wheel) false) (Turn slot w.letter)
+    setting_unless (option_map_or (nat_eq w.letter) (machine_letter m w.wheel) false) (Turn slot w.letter)
 
 -- the setting PIN, if a pin isn't as the day says; `wheel_pin_lines`: these settings for all pins of a wheel
 abbrev pub pin_line : ℕ → ℕ × (Bool × Bool) → List Setting
@@ -58,8 +51,8 @@ abbrev pub loose_lines : Parts → Day → List Setting
 loose_lines (Rotor m) (OfRotors s) =
     lines_from slot_seat_line 1 (zip m.slots s.wheels)
     ++ setting_unless (same_reflector m.reflector s.reflector) (SeatReflector s.reflector)
-    ++ flat_map (wheel_ring_line m s.wheels) (box_of m.model)
-    ++ lines_from (slot_turn_line m) 1 s.wheels
+    ++ flat_map (wheel_ring_line (Rotor m) s.wheels) (box_of m.model)
+    ++ lines_from (slot_turn_line (Rotor m)) 1 s.wheels
 loose_lines (Pin m) (OfPins s) =
     lines_from wheel_pin_lines 1 (zip (pins_of m.pins) (pins_of s.pins))
     ++ lines_from pin_wheel_turn_line 1 (zip m.letters s.window)

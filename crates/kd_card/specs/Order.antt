@@ -1,14 +1,11 @@
 -- `Ord` sorts standings as a card sorts its lines of bars: by the left lug's place, then by the right lug's place.
 -- Standings that compare as equal are the same.
-use Rattle.std.specs.Prelude.{◌≡◌, ◌↔◌}
-use Rattle.std.proofs.Common.{arith}
-use Rattle.std.specs.Ordering.{ordering_then, nat_cmp}
-use Rattle.std.specs.declared.cmp.Ordering.{Ordering}
-use Rattle.std.specs.declared.cmp.Ordering.TheVariants.{Less, Equal}
-use Rattle.kd_tables.specs.declared.place.Place.{Place}
-use Rattle.kd_tables.specs.Places.{place_rank}
-use Rattle.kd_tables.specs.contracts.place.PlaceOrd.TheImpl as places
 use Rattle.kd_card.specs.Kinds.{KeyComesBefore, bar_format}
+use Rattle.kd_tables.specs.{declared.place.Place.Place, Places.place_rank}
+use Rattle.std.proofs.Common.{arith}
+use Rattle.std.specs.{declared.cmp.Ordering.TheVariants.{Less, Equal}, Ordering.{ordering_then, nat_cmp}}
+use Rattle.std.specs.{declared.cmp.Ordering.Ordering, Prelude.{◌≡◌, ◌↔◌}}
+use Rattle.kd_tables.specs.contracts.place.PlaceOrd.TheImpl as places
 
 abbrev place_cmp : Place → Place → Ordering
 place_cmp p q = places.ghosts.cmp p q

@@ -1,13 +1,12 @@
 -- The prices of a card, and what it means that they fit a table of costs. If prices are by number, each cable, pair,
 -- nothing, bar or row of the sheet has its own price. If they are by kind, equal cables (or pairs, nothings, bars,
 -- rows) share one price. Rows and columns of the table are counted from 0.
-use Rattle.std.specs.Prelude.{◌≡◌, ℕ, ◌<◌, ◌≤◌, List, [], ◌++◌, length, All, fold, slice_index, slice_index_or, ℤ}
-use Rattle.std.specs.Prelude.{None, pos, unsigned_abs, ◌+ℤ◌, ◌≤ℤ◌}
-use Rattle.kd_card.specs.declared.prices.PriceParts.{PriceParts}
+use Rattle.kd_card.specs.Kinds.{cable_format, pair_format, bar_format, row_format, prices_of_kinds, IsGroup}
 use Rattle.kd_card.specs.declared.prices.PriceParts.TheVariants.{Cables, Bars, CableKinds, BarKinds}
+use Rattle.kd_card.specs.{declared.prices.Version.TheVariants.{ByNumber, ByKind}, declared.prices.PriceParts.PriceParts}
 use Rattle.kd_card.specs.declared.prices.Version.{Version}
-use Rattle.kd_card.specs.declared.prices.Version.TheVariants.{ByNumber, ByKind}
-use Rattle.kd_card.specs.Kinds.{cable_format, pair_format, bar_format, row_format, prices_of_kinds, AreKinds}
+use Rattle.std.specs.Prelude.{◌≡◌, ℕ, ◌<◌, ◌≤◌, List, [], ◌++◌, length, All, fold, slice_index, slice_index_or, ℤ}
+use Rattle.std.specs.Prelude.{pos, unsigned_abs, ◌+ℤ◌, ◌≤ℤ◌}
 
 -- whether prices are by number (one for each cable, pair, nothing, bar or row) or by kind (one for each kind)
 abbrev pub version_of : PriceParts → Version
@@ -40,20 +39,17 @@ table_rows _ = 27
 abbrev pub ArePricesInRange : List ℤ → Type 0
 ArePricesInRange prices = All (λ price. unsigned_abs price ≤ 9999) prices
 
--- If the prices are by kind, the kinds of the table's rows and of its columns are valid and strictly ascending.
-abbrev pub HaveKindsInOrder : PriceParts → Type 0
-HaveKindsInOrder (CableKinds row col) = AreKinds cable_format None row.items × AreKinds pair_format None col.items
-HaveKindsInOrder (BarKinds row col) = AreKinds bar_format None row.items × AreKinds row_format None col.items
-HaveKindsInOrder _ = Unit {0}
+-- There are `number` prices, each from -9999 to 9999.
+pub record IsPriceList (number : ℕ) (prices : List ℤ) : Type 0 where
+  pub count : length prices ≡ number
+  pub reach : ArePricesInRange prices
 
--- The prices are valid: one for each row and column of the table of costs, from -9999 to 9999. All kinds are valid and
--- strictly ascending.
-pub record ArePrices (prices : PriceParts) : Type 0 where
-  pub rows : length (row_prices prices) ≡ table_rows prices
-  pub columns : length (column_prices prices) ≡ table_rows prices
-  pub row_reach : ArePricesInRange (row_prices prices)
-  pub column_reach : ArePricesInRange (column_prices prices)
-  pub kinds : HaveKindsInOrder prices
+-- The prices are valid: a list of prices, or a group of kinds, for the rows of the table of costs and for its columns.
+abbrev pub ArePrices : PriceParts → Type 0
+ArePrices (Cables row col) = IsPriceList 13 row × IsPriceList 13 col
+ArePrices (Bars row col) = IsPriceList 27 row × IsPriceList 27 col
+ArePrices (CableKinds row col) = IsGroup cable_format 13 row.items × IsGroup pair_format 13 col.items
+ArePrices (BarKinds row col) = IsGroup bar_format 27 row.items × IsGroup row_format 27 col.items
 
 -- the cost in row `i` and column `j` of the table
 abbrev pub cost_at : List (List ℕ) → ℕ → ℕ → ℕ

@@ -1,23 +1,16 @@
 -- A card that proves itself: its settings lead the machine to the day, and its prices show that no shorter list
 -- does.
-use Rattle.std.specs.Prelude.{◌≡◌, ℕ, ◌+◌, ◌≤◌, Bool, true, false, List, [], ◌∷◌, length, map, option_map, pos}
-use Rattle.std.specs.Prelude.{IsFalse, count_by, Option}
-use Rattle.kd_tables.specs.Places.{smaller_first}
-use Rattle.kd_state.specs.declared.machine.parts.Parts.{Parts}
-use Rattle.kd_state.specs.declared.machine.parts.Parts.TheVariants.{Rotor, Pin}
-use Rattle.kd_state.specs.declared.setting.Setting.{Setting}
-use Rattle.kd_state.specs.declared.setting.Setting.TheVariants.{Pull, Put}
-use Rattle.kd_state.specs.declared.setting.Setting.TheVariants.{LugTo}
-use Rattle.kd_state.specs.Machine.{model_of}
-use Rattle.kd_state.specs.Setting.{Leads, machine_after}
-use Rattle.kd_state.specs.SheetDay.{Day, OfRotors, OfPins, day_model}
-use Rattle.kd_state.specs.OnKey.{ReadsAs}
-use Rattle.kd_state.specs.Costs.{columns_of, cost_table, loose_count}
-use Rattle.kd_card.specs.declared.prices.PriceParts.{PriceParts}
 use Rattle.kd_card.specs.declared.prices.PriceParts.TheVariants.{Cables, Bars, CableKinds, BarKinds}
-use Rattle.kd_card.specs.declared.prices.Version.TheVariants.{ByNumber}
 use Rattle.kd_card.specs.Kinds.{cable_format, pair_format, bar_format, row_format, AreKindsOf}
-use Rattle.kd_card.specs.Prices.{version_of, price_sum, PricesFit, ArePrices}
+use Rattle.kd_card.specs.{Prices.{version_of, price_sum, PricesFit, ArePrices}, declared.prices.PriceParts.PriceParts}
+use Rattle.kd_card.specs.declared.prices.Version.TheVariants.{ByNumber}
+use Rattle.kd_state.specs.{declared.setting.Setting.TheVariants.{Pull, Put, LugTo}, declared.machine.parts.Parts.Parts}
+use Rattle.kd_state.specs.{declared.machine.parts.Parts.TheVariants.{Rotor, Pin}, declared.setting.Setting.Setting}
+use Rattle.kd_state.specs.{Costs.{columns_of, cost_table, loose_count}, SheetDay.{Day, OfRotors, OfPins, day_model}}
+use Rattle.kd_state.specs.{Setting.{Leads, machine_after}, Machine.model_of, OnKey.ReadsAs}
+use Rattle.kd_tables.specs.Places.{smaller_first}
+use Rattle.std.specs.Prelude.{◌≡◌, ℕ, ◌+◌, ◌≤◌, Bool, true, false, List, [], ◌∷◌, length, map, option_map, pos, IsFalse}
+use Rattle.std.specs.Prelude.{count_by, Option}
 
 -- The prices are by number: one for each cable and column (rotor machine), or one for each bar and row (Converter).
 abbrev pub AreModelPrices : Parts → PriceParts → Type 0

@@ -1,12 +1,10 @@
 -- What the private functions that read a card find, and the text of a card before the day's number. No contract of a
 -- public function cites these definitions.
+use Rattle.kd_card.specs.{declared.prices.Version.TheVariants.{ByNumber, ByKind}, CardFault.{EndsGroup, HasNoNext}}
+use Rattle.kd_card.specs.{Kinds.{KindFormat, IsKind, HasKindWords}, declared.prices.Version.Version}
+use Rattle.kd_state.specs.Words.{words_of}
 use Rattle.std.specs.Prelude.{codes, ◌≡◌, ◌≤◌, ℕ, ℤ, unsigned_abs, All, List, [], length, Option, Some, None}
 use Rattle.std.specs.Fmt.{signed_decimal}
-use Rattle.kd_state.specs.Words.{words_of}
-use Rattle.kd_card.specs.declared.prices.Version.{Version}
-use Rattle.kd_card.specs.declared.prices.Version.TheVariants.{ByNumber, ByKind}
-use Rattle.kd_card.specs.Kinds.{KindFormat, IsKind, HasKindWords}
-use Rattle.kd_card.specs.CardFault.{EndsGroup, HasNoNext}
 
 -- the words of a line after its first word; the argument is the line's text after its first space, if any
 abbrev pub words_after_first : Option (List ℕ) → List (List ℕ)

@@ -1,7 +1,6 @@
 //! What a card's prices are for: cables and pairs, or bars and rows of the sheet.
+ghost use Rattle.kd_card.specs.{CardText.{column_word, price_count}, CardFault.first_text};
 ghost use Rattle.std.specs.Prelude.{◌≡◌};
-ghost use Rattle.kd_card.specs.CardText.{column_word, price_count};
-ghost use Rattle.kd_card.specs.CardFault.{first_text};
 
 use super::prices::Version;
 

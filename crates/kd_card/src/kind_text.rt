@@ -1,11 +1,10 @@
 //! Reads and writes the lines of kinds: one line for each kind of cables, columns, bars or rows.
-ghost use Rattle.std.specs.Prelude.{◌≡◌, ◌+◌, ◌*◌, ◌<◌, ◌≤◌, [], ◌∷◌, ◌++◌, length, All};
-ghost use Rattle.std.specs.Prelude.{MatchOption, MatchResult, Ok, Err};
 ghost use Rattle.arrayvec.specs.ArrayString.{array_string_len};
-ghost use Rattle.std.specs.Option.{option_copied};
-ghost use Rattle.kd_card.specs.Kinds.{kinds_text, HasKindWords, IsKind};
-ghost use Rattle.kd_card.specs.CardFault.{IsNextKind, IsGroupAnswer};
 ghost use Rattle.kd_card.specs.Reading.{words_after_first, EndsKindsAt, IsBadKindAt, IsKindOfWords};
+ghost use Rattle.kd_card.specs.{Kinds.{kinds_text, HasKindWords, IsKind}, CardFault.{IsNextKind, IsGroupAnswer}};
+ghost use Rattle.std.specs.Prelude.{◌≡◌, ◌+◌, ◌*◌, ◌<◌, ◌≤◌, [], ◌∷◌, ◌++◌, length, All, MatchOption, MatchResult, Ok};
+ghost use Rattle.std.specs.Prelude.{Err};
+ghost use Rattle.std.specs.Option.{option_copied};
 
 use super::fault::CardFault;
 use super::kinds::{Kind, KindOf, comes_after};
@@ -17,7 +16,7 @@ use kd_state::{is_word, number_of_text, push_number, split_words};
 /// Parses a kind from `behind`: its line without the first word, or `None` if the line has only one word.
 ///
 /// For the line `CABLE AB 1 0`, `behind` is `AB 1 0`. The result is `None` if the words don't make a valid kind.
-#[tactic(auto, using(crate::proofs::Lines::words_in_place))]
+#[tactic(auto, using(crate::proofs::OneCard::words_in_place, crate::proofs::OneCard::no_count))]
 fn kind_behind<K: Kind>(behind: Option<&[u8]>) -> Option<K>
     ensures { let words = K.format.word ∷ words_after_first (option_copied behind.entry) in
         MatchOption result
@@ -25,27 +24,13 @@ fn kind_behind<K: Kind>(behind: Option<&[u8]>) -> Option<K>
         (IsKindOfWords K.format words) }
 {
     let words = split_words::<3>(behind?)?;
-    match words.as_slice() {
-        [key, count, price] => kind_of_words(key, count, price),
-        _ => None,
-    }
-}
-
-/// Parses a kind from the last three words of its line. `None` if one of them isn't valid.
-#[tactic(auto, using(crate::proofs::KindWords::no_count))]
-fn kind_of_words<K: Kind>(key: &[u8], count: &[u8], price: &[u8]) -> Option<K>
-    ensures { let words = K.format.word ∷ key.now ∷ count.now ∷ price.now ∷ [] in
-        MatchOption result
-        ((kind : K) → ¬ (HasKindWords K.format words kind))
-        (IsKindOfWords K.format words) }
-{
+    let [key, count, price] = words.as_slice() else {
+        return None;
+    };
     let key = K::key_of_text(key)?;
     let count = number_of_text(count)?;
     let price = price_of_text(price)?;
-    if count == 0 {
-        return None;
-    }
-    Some(K::of(KindOf { key, count, price }))
+    (count > 0).then_some(K::of(KindOf { key, count, price }))
 }
 
 /// Reads the next kind of a group from the first line of `text`. Returns this kind, and the text after the line.
@@ -79,7 +64,7 @@ fn next_kind<K: Kind>(
 /// Reads all kinds of a group. Their counts have to add up to `N`. Returns the kinds, and the text after them.
 ///
 /// The group begins on line `line` of the card, counted from 1.
-#[tactic(auto, using(crate::proofs::KindPrices::reads_none))]
+#[tactic(auto, using(crate::proofs::OneCard::reads_none))]
 pub(crate) fn read_kinds<'a, K: Kind, const N: usize>(
     text: &'a [u8],
     line: usize,
@@ -101,7 +86,7 @@ pub(crate) fn read_kinds<'a, K: Kind, const N: usize>(
                 // A sum of counts above `N` is refused, so adding ends at `N + 1`. Each count is at least 1, so more
                 // than `N` kinds are refused, too, and `kinds` needn't have room for them.
                 number = (number + usize::from(kind.parts().count)).min(N + 1);
-                push_if_room(&mut kinds, &kind);
+                let _is_kept = kinds.try_push(kind).is_ok();
                 last = Some(kind);
                 rest = after;
                 at += 1;
@@ -114,15 +99,6 @@ pub(crate) fn read_kinds<'a, K: Kind, const N: usize>(
         Ok((kinds, rest))
     } else {
         Err(CardFault::PriceMissing)
-    }
-}
-
-/// Appends `kind` to `kinds`, unless `kinds` is full.
-fn push_if_room<K: Kind, const N: usize>(kinds: &mut ArrayVec<K, N>, kind: &K)
-    ensures { length kinds.old.items < N → kinds.new.items ≡ kinds.old.items ++ kind.now ∷ [] }
-{
-    if !kinds.is_full() {
-        kinds.push(*kind);
     }
 }
 
@@ -139,6 +115,7 @@ pub(crate) fn push_kinds<K: Kind, const N: usize>(text: &mut ArrayString<N>, kin
 }
 
 /// Appends the line of `kind`.
+#[tactic(auto, using(crate::proofs::OneCard::line_in_pieces, crate::proofs::OneCard::written_price))]
 fn push_kind<K: Kind, const N: usize>(text: &mut ArrayString<N>, kind: &K)
     requires room { array_string_len text.old + 26 ≤ N }
     requires kind { IsKind K.format kind.now }

@@ -1,10 +1,10 @@
 //! Kinds: a kind is one entry for equal cables, columns, bars or rows, with their count and the price of each.
-ghost use Rattle.std.specs.Prelude.{◌≡◌, ◌≢◌, ◌↔◌, ℕ, ◌+◌, ◌<◌, ◌≤◌, [], ◌∷◌, ◌++◌, length, replicate};
+ghost use Rattle.std.specs.Prelude.{◌≡◌, ◌≢◌, ◌↔◌, ℕ, ◌+◌, ◌<◌, ◌≤◌, [], ◌∷◌, ◌++◌, length, replicate, None};
 ghost use Rattle.std.specs.Prelude.{IsTrue, MatchOption};
 ghost use Rattle.arrayvec.specs.ArrayVec.{array_vec_len};
 ghost use Rattle.kd_state.specs.Machine.{cable_letters};
 ghost use Rattle.kd_card.specs.Kinds.{cable_format, pair_format, bar_format, row_format, letters_text};
-ghost use Rattle.kd_card.specs.Kinds.{ComesAfter, IsKind, AreKinds, counted, prices_of_kinds};
+ghost use Rattle.kd_card.specs.{Kinds.{ComesAfter, IsKind, AreKinds, counted, prices_of_kinds}, Prices.IsPriceList};
 
 use super::kind_key::{Column, Ends, KindKey};
 use arrayvec::{ArrayString, ArrayVec};
@@ -148,7 +148,7 @@ impl Kind for CableKind {
         text_of_letters(self.ends.0, self.ends.1)
     }
 
-    #[tactic(auto, using(crate::proofs::KindWords::one_cable))]
+    #[tactic(auto, using(crate::proofs::OneCard::one_cable))]
     fn key_of_text(text: &[u8]) -> Option<Ends> {
         match text {
             [b'-'] => Some(Ends::new((None, None))),
@@ -211,7 +211,7 @@ impl Kind for PairKind {
         }
     }
 
-    #[tactic(auto, using(crate::proofs::KindWords::one_pair))]
+    #[tactic(auto, using(crate::proofs::OneCard::one_pair))]
     fn key_of_text(text: &[u8]) -> Option<Column> {
         match text {
             [b'-'] => Some(Column::new(None)),
@@ -262,7 +262,7 @@ impl Kind for BarKind {
         self.standing.text()
     }
 
-    #[tactic(auto, using(crate::proofs::KindWords::one_standing))]
+    #[tactic(auto, using(crate::proofs::OneCard::one_standing))]
     fn key_of_text(text: &[u8]) -> Option<Standing> {
         Standing::from_text(text)
     }
@@ -308,7 +308,7 @@ impl Kind for RowKind {
         self.reading.text()
     }
 
-    #[tactic(auto, using(crate::proofs::KindWords::one_reading))]
+    #[tactic(auto, using(crate::proofs::OneCard::one_reading))]
     fn key_of_text(text: &[u8]) -> Option<Reading> {
         Reading::from_text(text)
     }
@@ -395,8 +395,10 @@ pub(crate) fn are_kinds<K: Kind>(kinds: &[K], last: Option<K>, number: usize) ->
 
 /// Lists the price of each kind as many times as the kind's count says, kind after kind.
 pub(crate) fn prices_of_kinds<K: Kind>(kinds: &[K]) -> ArrayVec<i16, 27>
-    requires { length (prices_of_kinds K.format kinds.now) ≤ 27 }
-    ensures { result.items ≡ prices_of_kinds K.format kinds.now }
+    requires kinds { AreKinds K.format None kinds.now }
+    requires few { counted K.format kinds.now ≤ 27 }
+    ensures items { result.items ≡ prices_of_kinds K.format kinds.now }
+    ensures list { IsPriceList (counted K.format kinds.now) (prices_of_kinds K.format kinds.now) }
 {
     let mut prices = ArrayVec::new();
     for kind in kinds {

@@ -1,9 +1,8 @@
 //! Laws on cards: on their texts, on how short a list can be, and on cards that prove themselves.
-ghost use Rattle.kd_card.specs.Laws.{TextsTellCards, NoCardBeginsAnother, CardsAreSaid};
-ghost use Rattle.kd_card.specs.Laws.{CardsHaveNoFault, OneCardFault, LooseThingsAreCounted, AsFewAreNeeded};
-ghost use Rattle.kd_card.specs.Laws.{FittingPricesBoundLists};
-ghost use Rattle.kd_card.specs.Months.{CardsAreFewestInAll};
+ghost use Rattle.kd_card.specs.Laws.{TextsTellCards, NoCardBeginsAnother, CardsAreSaid, CardsHaveNoFault, OneCardFault};
+ghost use Rattle.kd_card.specs.Laws.{LooseThingsAreCounted, AsFewAreNeeded, FittingPricesBoundLists};
 ghost use Rattle.kd_card.specs.Laws.{ProvingCardsAreAsLong, ProvingCardsAreShortest, ProvingPricesAreTight};
+ghost use Rattle.kd_card.specs.Months.{CardsAreFewestInAll};
 
 /// Different cards have different texts, and no card's text is a proper prefix of another's.
 ///
@@ -19,7 +18,7 @@ pub fn no_two_cards_have_one_text()
 /// The number of settings for loose things is the number of loose things.
 ///
 /// A loose thing, such as a ring or a pin, isn't as the day says; cables and bars are never loose.
-#[tactic(auto, using(crate::proofs::Counting::loose_things_are_counted))]
+#[tactic(auto, using(crate::proofs::Leading::loose_things_are_counted))]
 pub fn loose_things_are_counted()
     ensures { LooseThingsAreCounted }
 {}
@@ -27,7 +26,7 @@ pub fn loose_things_are_counted()
 /// Prices that fit give a lower bound for the length of each list of settings that reaches the day.
 ///
 /// The length is at least the number of loose things plus the sum of the prices.
-#[tactic(auto, using(crate::proofs::Shortest::fitting_prices_bound_lists))]
+#[tactic(auto, using(crate::proofs::Months::fitting_prices_bound_lists))]
 pub fn fitting_prices_bound_lists()
     ensures { FittingPricesBoundLists }
 {}
@@ -36,7 +35,7 @@ pub fn fitting_prices_bound_lists()
 ///
 /// A setting is unpriced if it changes no cable and no bar. It is needed if it lowers the number of loose things by
 /// one. All other settings count as needed.
-#[tactic(auto, using(crate::proofs::Shortest::as_few_are_needed))]
+#[tactic(auto, using(crate::proofs::Months::as_few_are_needed))]
 pub fn as_few_are_needed()
     ensures { AsFewAreNeeded }
 {}
@@ -44,7 +43,7 @@ pub fn as_few_are_needed()
 /// If a card by number proves itself, its length is the number of loose things plus the sum of its prices.
 ///
 /// The length is the number of settings. By number, each cable and column, or each bar and row, has its own price.
-#[tactic(auto, using(crate::proofs::Shortest::proving_cards_are_as_long))]
+#[tactic(auto, using(crate::proofs::Months::proving_cards_are_as_long))]
 pub fn proving_cards_are_as_long()
     ensures { ProvingCardsAreAsLong }
 {}
@@ -58,7 +57,7 @@ pub fn proving_cards_are_shortest()
 ///
 /// By number, each cable and column, or each bar and row, has its own price. Each row and each column of the table of
 /// costs has a cell where the prices of row and column add up to the cost.
-#[tactic(auto, using(crate::proofs::Shortest::proving_prices_are_tight))]
+#[tactic(auto, using(crate::proofs::Months::proving_prices_are_tight))]
 pub fn proving_prices_are_tight()
     ensures { ProvingPricesAreTight }
 {}

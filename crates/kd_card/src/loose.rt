@@ -1,11 +1,10 @@
 //! Counts a machine's loose things: those that differ from the day, except cables and bars.
+ghost use Rattle.kd_pins.specs.PinWheels.{pins_of};
+ghost use Rattle.kd_state.specs.{Machine.{machine_ring, machine_letter}, SameParts.{same_wheel, same_reflector}};
+ghost use Rattle.kd_state.specs.Costs.{exactly_one, one_unless};
 ghost use Rattle.std.specs.Prelude.{◌≡◌, ◌≤◌, false, not, nat_eq, length, map, sum, count_by, zip};
 ghost use Rattle.std.specs.Option.{option_map_or};
-ghost use Rattle.kd_pins.specs.PinWheels.{pins_of};
-ghost use Rattle.kd_state.specs.SameParts.{same_wheel, same_reflector};
-ghost use Rattle.kd_state.specs.Machine.{machine_ring, machine_letter};
 ghost use Rattle.kd_state.specs.Costs as costs;
-ghost use Rattle.kd_state.specs.Costs.{exactly_one, one_unless};
 
 use kd_pins::PinSet;
 use kd_state::{Entry, Machine, Parts, SheetDay, SheetWheel};

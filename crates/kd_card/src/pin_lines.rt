@@ -1,11 +1,9 @@
 //! The settings that a Converter M-209 needs for pins and for the letters that its wheels show.
-ghost use Rattle.std.specs.Prelude.{◌≡◌, ◌+◌, ◌<◌, ◌≤◌, ◌++◌, flat_map, length, zip};
 ghost use Rattle.arrayvec.specs.ArrayVec.{array_vec_len};
-ghost use Rattle.kd_pins.specs.PinWheels.{pins_of};
-ghost use Rattle.kd_state.specs.declared.machine.parts.Parts.TheVariants.{Pin};
-ghost use Rattle.kd_state.specs.SheetDay.{OfPins};
-ghost use Rattle.kd_state.specs.Entry.{pin_values};
 ghost use Rattle.kd_card.specs.Loose.{lines_from, pin_line, wheel_pin_lines, pin_wheel_turn_line, loose_lines};
+ghost use Rattle.kd_pins.specs.PinWheels.{pins_of};
+ghost use Rattle.kd_state.specs.{declared.machine.parts.Parts.TheVariants.Pin, Entry.pin_values, SheetDay.OfPins};
+ghost use Rattle.std.specs.Prelude.{◌≡◌, ◌+◌, ◌<◌, ◌≤◌, ◌++◌, flat_map, length, zip};
 
 use super::line::push_unless;
 use arrayvec::ArrayVec;

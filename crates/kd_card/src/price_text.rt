@@ -1,21 +1,16 @@
 //! Reads prices and numbers, and the first words of price lines.
-ghost use Rattle.std.specs.Prelude.{◌≡◌, ◌≢◌, ◌↔◌, ◌<◌, ◌≤◌, [], ◌∷◌, ℕ, List, ℤ, map, length, unsigned_abs, All};
-ghost use Rattle.std.specs.Prelude.{IsTrue, MatchOption, MatchResult, Ok, Err};
-ghost use Rattle.std.specs.Option.{option_copied};
-ghost use Rattle.std.specs.Fmt.{signed_decimal};
+ghost use Rattle.kd_card.specs.CardFault.{IsNumberText, IsNumeral, IsPricesAnswer, IsLineAnswer, IsTableAnswer};
+ghost use Rattle.kd_card.specs.{Reading.{IsPriceText, words_after_first}, Prices.ArePricesInRange};
 ghost use Rattle.kd_state.specs.Words.{words_of};
-ghost use Rattle.kd_card.specs.Prices.{ArePricesInRange};
-ghost use Rattle.kd_card.specs.CardFault.{IsNumberText, IsNumeral, IsPricesAnswer};
-ghost use Rattle.kd_card.specs.CardFault.{IsLineAnswer, IsFirstWordAnswer, first_text};
-ghost use Rattle.kd_card.specs.Reading.{IsPriceText, words_after_first};
+ghost use Rattle.std.specs.Prelude.{◌≡◌, ◌≢◌, ◌↔◌, ◌<◌, ◌≤◌, [], ◌∷◌, ℕ, List, ℤ, pos, map, length, All, unsigned_abs};
+ghost use Rattle.std.specs.Prelude.{decimal, IsTrue, MatchOption, MatchResult, Ok, Err};
+ghost use Rattle.std.specs.{Option.option_copied, Fmt.signed_decimal};
 
 use super::cost_table::CostTable;
 use super::fault::CardFault;
 use super::prices::Version;
 use arrayvec::ArrayVec;
-use itoa::Buffer;
-use kd_state::{is_word, split_once, split_words};
-use std::str;
+use kd_state::{is_word, split_once, split_words, wide_number_of_text};
 
 /// Whether `text` is an unsigned number: decimal digits without leading zeros.
 fn is_number_text(text: &[u8]) -> bool
@@ -45,12 +40,36 @@ pub(crate) fn price_of_text(text: &[u8]) -> Option<i16>
         ((price : ℤ) → unsigned_abs price ≤ 9999 → signed_decimal price ≢ text.now)
         (λ price. (signed_decimal price ≡ text.now) × (unsigned_abs price ≤ 9999)) }
 {
-    let price: i16 = str::from_utf8(text).ok()?.parse().ok()?;
-    if price.unsigned_abs() > 9999 {
-        return None;
+    match text {
+        [b'-', digits @ ..] => negative_price(digits),
+        _ => amount_of_text(text),
     }
-    let mut buffer = Buffer::new();
-    is_word(text, buffer.format(price)).then_some(price)
+}
+
+/// Parses the digits of a negative price, which follow its `-`.
+#[tactic(auto, using(crate::proofs::OneCard::no_negative, crate::proofs::OneCard::not_minus_zero))]
+fn negative_price(digits: &[u8]) -> Option<i16>
+    ensures { MatchOption result
+        ((price : ℤ) → unsigned_abs price ≤ 9999 → signed_decimal price ≢ 45 ∷ digits.now)
+        (λ price. (signed_decimal price ≡ 45 ∷ digits.now) × (unsigned_abs price ≤ 9999)) }
+{
+    let amount = amount_of_text(digits)?;
+    if amount > 0 { Some(-amount) } else { None }
+}
+
+/// Parses a price from 0 to 9999, without leading zeros and without a sign.
+#[tactic(auto, using(std::proofs::lemmas::Fmt::decimal_injective))]
+fn amount_of_text(text: &[u8]) -> Option<i16>
+    ensures { MatchOption result
+        ((amount : ℕ) → amount ≤ 9999 → decimal amount ≢ text.now)
+        (λ price. (amount : ℕ) × (amount ≤ 9999) × (decimal amount ≡ text.now) × (price ≡ pos amount)) }
+{
+    let number = wide_number_of_text(text)?;
+    if number <= 9999 {
+        Some(number as i16)
+    } else {
+        None
+    }
 }
 
 /// Splits `text` into the first word, the text after it on the first line (`None` without a space), and the next lines.
@@ -62,8 +81,8 @@ pub(crate) fn split_first(
     line: usize,
 ) -> Result<(&[u8], Option<&[u8]>, &[u8]), CardFault>
     ensures { MatchResult result
-        (λ found. let words = found.0.now ∷ words_after_first (option_copied found.1) in
-        IsLineAnswer line text.now (Ok (words, found.2.now)))
+        (λ found. let behind = words_after_first (option_copied found.1) in
+        IsLineAnswer line text.now (Ok (found.0.now, behind, found.2.now)))
         (λ fault. IsLineAnswer line text.now (Err fault)) }
 {
     if text.is_empty() {
@@ -79,59 +98,29 @@ pub(crate) fn split_first(
 }
 
 /// Reads the first word of the first price line. It shows whether the card has prices of cables or of bars.
-///
-/// Also returns the line's text after its first space, if any, and the text of the next lines.
 pub(crate) fn table_of_line(
     text: &[u8],
     version: Version,
     line: usize,
-) -> Result<(CostTable, Option<&[u8]>, &[u8]), CardFault>
-    ensures { let says = IsFirstWordAnswer (first_text version) line text.now in
-        MatchResult result
-        (λ found. says (Ok (found.0, words_after_first (option_copied found.1), found.2.now)))
-        (λ fault. says (Err fault)) }
+) -> Result<CostTable, CardFault>
+    ensures { IsTableAnswer version line text.now result }
 {
-    let (first, behind, rest) = split_first(text, line)?;
-    match table_of_word(first, version) {
-        Some(table) => Ok((table, behind, rest)),
-        None => Err(CardFault::PriceMissing),
-    }
-}
-
-/// Whether price lines that begin with `word` are for cables or for bars. `None` if they are for neither.
-fn table_of_word(word: &[u8], version: Version) -> Option<CostTable>
-    ensures { MatchOption result
-        ((table : _) → word.now ≢ first_text version table)
-        (λ table. word.now ≡ first_text version table) }
-{
-    if is_word(word, CostTable::OfCables.first_text(version)) {
-        Some(CostTable::OfCables)
-    } else if is_word(word, CostTable::OfBars.first_text(version)) {
-        Some(CostTable::OfBars)
+    let (first, _, _) = split_first(text, line)?;
+    if is_word(first, CostTable::OfCables.first_text(version)) {
+        Ok(CostTable::OfCables)
+    } else if is_word(first, CostTable::OfBars.first_text(version)) {
+        Ok(CostTable::OfBars)
     } else {
-        None
-    }
-}
-
-/// Parses `number` prices from `behind`: line `line` without its first word, or `None` if the line has only one word.
-pub(crate) fn prices_behind(
-    behind: Option<&[u8]>,
-    number: usize,
-    line: usize,
-) -> Result<ArrayVec<i16, 27>, CardFault>
-    requires some { 0 < number }
-    requires few { number ≤ 27 }
-    ensures { let says = IsPricesAnswer number line (words_after_first (option_copied behind.entry)) in
-        MatchResult result (λ prices. says (Ok prices.items)) (λ fault. says (Err fault)) }
-{
-    match behind {
-        Some(text) => prices_of_text(text, number, line),
-        None => Err(CardFault::PriceMissing),
+        Err(CardFault::PriceMissing)
     }
 }
 
 /// Parses `text` as `number` prices, with a space between two prices. The text is from line `line` of the card.
-fn prices_of_text(text: &[u8], number: usize, line: usize) -> Result<ArrayVec<i16, 27>, CardFault>
+pub(crate) fn prices_of_text(
+    text: &[u8],
+    number: usize,
+    line: usize,
+) -> Result<ArrayVec<i16, 27>, CardFault>
     requires { number ≤ 27 }
     ensures { MatchResult result
         (λ prices. IsPricesAnswer number line (words_of text.now) (Ok prices.items))

@@ -1,12 +1,8 @@
 //! The prices of a card: one for each cable, pair, bar or row (by number), or one for each kind of them (by kind).
-ghost use Rattle.std.specs.Prelude.{◌≡◌, ◌↔◌, ◌+◌, ◌*◌, ◌≤◌, ◌++◌, length, fold, pos, unsigned_abs, ◌+ℤ◌};
-ghost use Rattle.std.specs.Prelude.{IsTrue, MatchOption};
-ghost use Rattle.kd_card.specs.Prices.{price_sum, version_of};
-ghost use Rattle.kd_card.specs.Kinds.{prices_of_kinds as kind_prices};
-ghost use Rattle.kd_card.specs.CardFault.{parts_by_number};
-ghost use Rattle.kd_card.specs.Reading.{head_prefix};
-ghost use Rattle.kd_card.specs.Prices.{ArePricesInRange, ArePrices};
-ghost use Rattle.kd_card.specs.CardText.{price_count, price_lines, IsGroup};
+ghost use Rattle.kd_card.specs.{Prices.{price_sum, version_of, ArePricesInRange, ArePrices}, CardFault.parts_by_number};
+ghost use Rattle.kd_card.specs.{CardText.{price_count, price_lines}, Kinds.IsGroup, Reading.head_prefix};
+ghost use Rattle.std.specs.Prelude.{◌≡◌, ◌↔◌, ◌+◌, ◌*◌, ◌≤◌, ◌++◌, length, fold, pos, unsigned_abs, ◌+ℤ◌, IsTrue};
+ghost use Rattle.std.specs.Prelude.{MatchOption};
 
 use super::cost_table::CostTable;
 use super::kinds::{BarKind, CableKind, Kind, PairKind, RowKind, are_kinds, prices_of_kinds};
@@ -103,7 +99,6 @@ impl Prices {
     ///
     /// `None` if `cables` or `pairs` aren't strictly ascending, or the counts of either don't add up to 13. Also `None`
     /// if a kind has letters out of order, the count 0, or a price below -9999 or above 9999.
-    #[tactic(auto, using(crate::proofs::KindPrices::cables_are_prices))]
     pub fn cable_kinds(cables: &[CableKind], pairs: &[PairKind]) -> Option<Self>
         ensures { let parts =
             PriceParts.CableKinds (record { items = cables.now }) (record { items = pairs.now }) in
@@ -117,7 +112,6 @@ impl Prices {
     ///
     /// `None` if `bars` or `rows` aren't strictly ascending, or the counts of either don't add up to 27. Also `None` if
     /// a kind has the count 0, or a price below -9999 or above 9999.
-    #[tactic(auto, using(crate::proofs::KindPrices::bars_are_prices))]
     pub fn bar_kinds(bars: &[BarKind], rows: &[RowKind]) -> Option<Self>
         ensures { let parts =
             PriceParts.BarKinds (record { items = bars.now }) (record { items = rows.now }) in
@@ -196,35 +190,22 @@ impl Prices {
     }
 
     /// The sum of the prices of all rows and columns of the table of costs.
-    #[tactic(auto, using(crate::proofs::Lines::few_prices))]
     pub fn sum(&self) -> i32
         ensures { result ≡ price_sum self.now }
     {
         match &self.parts {
             PriceParts::Cables(cables, pairs) => sum_of_prices(cables, pairs),
             PriceParts::Bars(bars, rows) => sum_of_prices(bars, rows),
-            PriceParts::CableKinds(cables, pairs) => sum_of_kinds(
-                cables.as_slice(),
-                pairs.as_slice(),
+            PriceParts::CableKinds(cables, pairs) => sum_of_prices(
+                prices_of_kinds(cables.as_slice()).as_slice(),
+                prices_of_kinds(pairs.as_slice()).as_slice(),
             ),
-            PriceParts::BarKinds(bars, rows) => sum_of_kinds(bars.as_slice(), rows.as_slice()),
+            PriceParts::BarKinds(bars, rows) => sum_of_prices(
+                prices_of_kinds(bars.as_slice()).as_slice(),
+                prices_of_kinds(rows.as_slice()).as_slice(),
+            ),
         }
     }
-}
-
-/// Adds up the prices of the kinds `rows` and `columns`, each price as often as its kind's count says.
-fn sum_of_kinds<R: Kind, C: Kind>(rows: &[R], columns: &[C]) -> i32
-    requires rows { ArePricesInRange (kind_prices R.format rows.now) }
-    requires columns { ArePricesInRange (kind_prices C.format columns.now) }
-    requires few_rows { length (kind_prices R.format rows.now) ≤ 27 }
-    requires few_columns { length (kind_prices C.format columns.now) ≤ 27 }
-    ensures { let prices = kind_prices R.format rows.now ++ kind_prices C.format columns.now in
-        result ≡ fold (λ sum price. sum +ℤ price) (pos 0) prices }
-{
-    sum_of_prices(
-        prices_of_kinds(rows).as_slice(),
-        prices_of_kinds(columns).as_slice(),
-    )
 }
 
 /// Adds up the prices `rows` and `columns`.

@@ -1,17 +1,16 @@
 //! Reads the text of a card.
-ghost use Rattle.std.specs.Prelude.{◌≡◌, ◌≢◌, ℕ, ◌<◌, ◌≤◌, ◌∷◌, ◌++◌, List, MatchOption, MatchResult, Ok, Err};
+ghost use Rattle.kd_card.specs.CardFault.{BeginsWithHead, IsValueAnswer, IsPriceLineAnswer, IsGroupsAnswer};
+ghost use Rattle.kd_card.specs.CardFault.{IsTablePricesAnswer, IsAllPricesAnswer, IsCardFault};
+ghost use Rattle.kd_card.specs.{declared.prices.Version.TheVariants.ByNumber, CardText.IsCard};
 ghost use Rattle.kd_state.specs.Words.{IsWithout};
-ghost use Rattle.kd_card.specs.CardText.{IsCard};
-ghost use Rattle.kd_card.specs.CardFault.{BeginsWithHead, IsValueAnswer, IsCountAnswer, IsPriceLineAnswer};
-ghost use Rattle.kd_card.specs.CardFault.{IsByNumberPricesAnswer, IsGroupsAnswer, IsByKindPricesAnswer};
-ghost use Rattle.kd_card.specs.CardFault.{IsAllPricesAnswer, IsSumAnswer, IsCardFault};
+ghost use Rattle.std.specs.Prelude.{◌≡◌, ◌≢◌, ℕ, ◌<◌, ◌≤◌, ◌∷◌, ◌++◌, List, MatchOption, MatchResult, Ok, Err};
 
 use super::card::Card;
 use super::cost_table::CostTable;
 use super::fault::CardFault;
 use super::kind_text::read_kinds;
 use super::kinds::Kind;
-use super::price_text::{is_numeral, prices_behind, split_first, table_of_line};
+use super::price_text::{is_numeral, prices_of_text, split_first, table_of_line};
 use super::prices::{PriceParts, Prices, Version};
 use arrayvec::ArrayVec;
 use itoa::Buffer;
@@ -29,10 +28,12 @@ pub fn read_card(text: &[u8]) -> Result<(u8, Card), CardFault>
     let Some((settings, rest)) = split_settings(rest) else {
         return Err(CardFault::TooMany);
     };
+    let mut buffer = Buffer::new();
     let count = settings.len();
-    let rest = read_count(rest, count)?;
+    let rest = read_value(rest, "SETTINGS ", buffer.format(count), false, count + 2)?;
     let (prices, rest) = read_prices(rest, version, count + 3)?;
-    let rest = read_sum(rest, prices.sum(), count + 3 + prices.line_count())?;
+    let line = count + 3 + prices.line_count();
+    let rest = read_value(rest, "SUM ", buffer.format(prices.sum()), true, line)?;
     if !rest.is_empty() {
         return Err(CardFault::Trailing);
     }
@@ -75,27 +76,6 @@ fn read_day(text: &[u8], version: Version) -> Option<(u8, &[u8])>
     Some((day_of_text(day)?, rest))
 }
 
-/// Checks that the first line of `text` is `SETTINGS` and the number `count`. Returns the text after this line.
-fn read_count(text: &[u8], count: usize) -> Result<&[u8], CardFault>
-    requires { count ≤ 192 }
-    ensures { MatchResult result
-        (λ rest. IsCountAnswer count text.now (Ok rest.now))
-        (λ fault. IsCountAnswer count text.now (Err fault)) }
-{
-    let mut buffer = Buffer::new();
-    read_value(text, "SETTINGS ", buffer.format(count), false, count + 2)
-}
-
-/// Checks that line `line`, the first of `text`, is `SUM` and the number `sum`. Returns the text after this line.
-fn read_sum(text: &[u8], sum: i32, line: usize) -> Result<&[u8], CardFault>
-    ensures { MatchResult result
-        (λ rest. IsSumAnswer sum line text.now (Ok rest.now))
-        (λ fault. IsSumAnswer sum line text.now (Err fault)) }
-{
-    let mut buffer = Buffer::new();
-    read_value(text, "SUM ", buffer.format(sum), true, line)
-}
-
 /// Checks that line `line`, the first of `text`, is `front` and the number `due`. Returns the text after this line.
 ///
 /// If `signed`, the number may be negative.
@@ -128,51 +108,35 @@ fn read_prices(text: &[u8], version: Version, line: usize) -> Result<(Prices, &[
         (λ found. IsAllPricesAnswer version line text.now (Ok (found.0, found.1.now)))
         (λ fault. IsAllPricesAnswer version line text.now (Err fault)) }
 {
-    match version {
-        Version::ByNumber => read_numbered(text, line),
-        Version::ByKind => read_kinded(text, line),
+    let table = table_of_line(text, version, line)?;
+    match (version, table) {
+        (Version::ByNumber, table) => read_numbered(text, table, line),
+        (Version::ByKind, CostTable::OfCables) => {
+            let (cables, pairs, rest) = read_groups(text, line)?;
+            let parts = PriceParts::CableKinds(cables, pairs);
+            Ok((Prices::of_parts(parts), rest))
+        }
+        (Version::ByKind, CostTable::OfBars) => {
+            let (bars, rows, rest) = read_groups(text, line)?;
+            Ok((Prices::of_parts(PriceParts::BarKinds(bars, rows)), rest))
+        }
     }
 }
 
 /// Reads the two price lines of a card by number. The first is line `line` of the card.
 ///
 /// By number, each cable, pair, bar or row has its own price. Returns the prices, and the text after the lines.
-fn read_numbered(text: &[u8], line: usize) -> Result<(Prices, &[u8]), CardFault>
+fn read_numbered(text: &[u8], table: CostTable, line: usize) -> Result<(Prices, &[u8]), CardFault>
     requires { line < 200 }
-    ensures { MatchResult result
-        (λ found. IsByNumberPricesAnswer line text.now (Ok (found.0, found.1.now)))
-        (λ fault. IsByNumberPricesAnswer line text.now (Err fault)) }
+    ensures { let says = IsTablePricesAnswer ByNumber table line text.now in
+        MatchResult result (λ found. says (Ok (found.0, found.1.now))) (λ fault. says (Err fault)) }
 {
-    let (table, behind, rest) = table_of_line(text, Version::ByNumber, line)?;
     let number = table.number();
-    let rows = prices_behind(behind, number, line)?;
+    let word = table.first_text(Version::ByNumber);
+    let (rows, rest) = read_price_line(text, word, number, line)?;
     let (columns, rest) = read_price_line(rest, table.column_text(), number, line + 1)?;
     let prices = Prices::numbered(table, rows.as_slice(), columns.as_slice());
     Ok((prices, rest))
-}
-
-/// Reads the price lines of a card by kind, one line for each kind. The first is line `line` of the card.
-///
-/// Kinds of cables or bars come first, then kinds of pairs or rows. Returns the prices, and the text after them.
-fn read_kinded(text: &[u8], line: usize) -> Result<(Prices, &[u8]), CardFault>
-    requires { line < 200 }
-    ensures { MatchResult result
-        (λ found. IsByKindPricesAnswer line text.now (Ok (found.0, found.1.now)))
-        (λ fault. IsByKindPricesAnswer line text.now (Err fault)) }
-{
-    match table_of_line(text, Version::ByKind, line)?.0 {
-        CostTable::OfCables => {
-            let (cables, pairs, rest) = read_groups(text, line)?;
-            Ok((
-                Prices::of_parts(PriceParts::CableKinds(cables, pairs)),
-                rest,
-            ))
-        }
-        CostTable::OfBars => {
-            let (bars, rows, rest) = read_groups(text, line)?;
-            Ok((Prices::of_parts(PriceParts::BarKinds(bars, rows)), rest))
-        }
-    }
 }
 
 /// Reads two groups of kinds: for the `N` rows of a table of costs, and then for its `N` columns.
@@ -203,13 +167,15 @@ fn read_price_line<'a>(
 ) -> Result<(ArrayVec<i16, 27>, &'a [u8]), CardFault>
     requires some { 0 < number }
     requires few { number ≤ 27 }
-    ensures { let says = IsPriceLineAnswer (λ (_ : Unit {0}). word.now) (λ _. number) line text.now in
-        MatchResult result (λ found. says (Ok (tt, found.0.items, found.1.now)))
-        (λ fault. says (Err fault)) }
+    ensures { let says = IsPriceLineAnswer word.now number line text.now in
+        MatchResult result (λ found. says (Ok (found.0.items, found.1.now))) (λ fault. says (Err fault)) }
 {
     let (first, behind, rest) = split_first(text, line)?;
     if !is_word(first, word) {
         return Err(CardFault::PriceMissing);
     }
-    Ok((prices_behind(behind, number, line)?, rest))
+    match behind {
+        Some(behind) => Ok((prices_of_text(behind, number, line)?, rest)),
+        None => Err(CardFault::PriceMissing),
+    }
 }

@@ -1,15 +1,9 @@
 //! The settings that a rotor machine needs for wheels, reflector, rings and window letters.
-ghost use Rattle.std.specs.Prelude.{◌≡◌, ◌+◌, ◌<◌, ◌≤◌, ◌++◌, [], false, nat_eq, length, find, flat_map};
-ghost use Rattle.std.specs.Prelude.{zip};
-ghost use Rattle.std.specs.Option.{option_map_or};
 ghost use Rattle.arrayvec.specs.ArrayVec.{array_vec_len};
-ghost use Rattle.kd_state.specs.declared.machine.parts.Parts.TheVariants.{Rotor};
-ghost use Rattle.kd_state.specs.SameParts.{same_wheel};
-ghost use Rattle.kd_state.specs.Machine.{machine_ring};
-ghost use Rattle.kd_state.specs.SheetDay.{OfRotors};
-ghost use Rattle.kd_state.specs.Entry.{rotor_values};
-ghost use Rattle.kd_card.specs.Loose.{setting_unless, lines_from, slot_seat_line, wheel_ring_line, slot_turn_line};
-ghost use Rattle.kd_card.specs.Loose.{loose_lines};
+ghost use Rattle.kd_card.specs.Loose.{lines_from, slot_seat_line, wheel_ring_line, slot_turn_line, loose_lines};
+ghost use Rattle.kd_state.specs.{declared.machine.parts.Parts.TheVariants.Rotor, SameParts.same_wheel};
+ghost use Rattle.kd_state.specs.{Entry.rotor_values, SheetDay.OfRotors};
+ghost use Rattle.std.specs.Prelude.{◌≡◌, ◌+◌, ◌<◌, ◌≤◌, ◌++◌, length, find, flat_map, zip};
 
 use super::line::push_unless;
 use arrayvec::ArrayVec;
@@ -19,7 +13,7 @@ use kd_tables::Wheel;
 /// Lists the settings for the slots, reflector, rings and letters of a rotor machine that aren't as the day says.
 ///
 /// Slots come first, then the reflector, rings and letters. `parts` are the parts of `machine`.
-#[tactic(auto, using(crate::proofs::Counting::few_in_box))]
+#[tactic(auto, using(crate::proofs::Leading::few_in_box))]
 pub fn rotor_settings(machine: &Machine, parts: &RotorParts, entry: &RotorEntry) -> Settings
     requires { machine.now ≡ Rotor parts.now }
     ensures lines { result.items
@@ -32,8 +26,8 @@ pub fn rotor_settings(machine: &Machine, parts: &RotorParts, entry: &RotorEntry)
     let mut settings = ArrayVec::new();
     push_seats(&mut settings, 1, parts.slots.as_slice(), wheels);
     push_unless(&mut settings, parts.reflector == reflector, setting);
-    push_rings(&mut settings, machine, parts, parts.model.wheels(), wheels);
-    push_turns(&mut settings, machine, parts, 1, wheels);
+    push_rings(&mut settings, machine, parts.model.wheels(), wheels);
+    push_turns(&mut settings, machine, 1, wheels);
     settings
 }
 
@@ -58,47 +52,46 @@ fn push_seats(settings: &mut Settings, number: u8, slots: &[Option<Wheel>], whee
 }
 
 /// Appends the setting RING for each wheel in `boxed` that the day uses, unless its ring is at the day's letter.
-fn push_rings(
-    settings: &mut Settings,
-    machine: &Machine,
-    parts: &RotorParts,
-    boxed: &[Wheel],
-    wheels: &[SheetWheel],
-)
-    requires machine { machine.now ≡ Rotor parts.now }
+fn push_rings(settings: &mut Settings, machine: &Machine, boxed: &[Wheel], wheels: &[SheetWheel])
     requires room { array_vec_len settings.old + length boxed.now ≤ 192 }
     ensures items { settings.new.items ≡ settings.old.items
-        ++ flat_map (wheel_ring_line parts.now wheels.now) boxed.now }
+        ++ flat_map (wheel_ring_line machine.now wheels.now) boxed.now }
     ensures few { array_vec_len settings.new ≤ array_vec_len settings.old + length boxed.now }
 {
     if let [wheel, rest @ ..] = boxed {
-        push_ring(settings, machine, find_wheel(wheels, *wheel));
-        push_rings(settings, machine, parts, rest, wheels);
+        push_ring(settings, machine, wheels, *wheel);
+        push_rings(settings, machine, rest, wheels);
     }
 }
 
 /// Appends the setting TURN for each of the day's wheels that isn't turned to the day's letter.
 ///
 /// `wheels` are the day's wheels in slot `number` and the next slots. Slots are counted from 1.
-fn push_turns(
-    settings: &mut Settings,
-    machine: &Machine,
-    parts: &RotorParts,
-    number: u8,
-    wheels: &[SheetWheel],
-)
-    requires machine { machine.now ≡ Rotor parts.now }
+fn push_turns(settings: &mut Settings, machine: &Machine, number: u8, wheels: &[SheetWheel])
     requires few { number + length wheels.now < 256 }
     requires room { array_vec_len settings.old + length wheels.now ≤ 192 }
     ensures items { settings.new.items ≡ settings.old.items
-        ++ lines_from (slot_turn_line parts.now) number wheels.now }
+        ++ lines_from (slot_turn_line machine.now) number wheels.now }
     ensures few { array_vec_len settings.new ≤ array_vec_len settings.old + length wheels.now }
 {
     if let [SheetWheel { wheel, letter, .. }, rest @ ..] = wheels {
         let (slot, letter) = (number, *letter);
         let is_turned = machine.letter(*wheel) == Some(letter);
         push_unless(settings, is_turned, Setting::Turn { slot, letter });
-        push_turns(settings, machine, parts, number + 1, rest);
+        push_turns(settings, machine, number + 1, rest);
+    }
+}
+
+/// Appends the setting RING for `wheel`, unless the day doesn't use the wheel, or its ring is set already.
+fn push_ring(settings: &mut Settings, machine: &Machine, wheels: &[SheetWheel], wheel: Wheel)
+    requires { array_vec_len settings.old + 1 ≤ 192 }
+    ensures items { settings.new.items ≡ settings.old.items ++ wheel_ring_line machine.now wheels.now wheel }
+    ensures few { array_vec_len settings.new ≤ array_vec_len settings.old + 1 }
+{
+    if let Some(SheetWheel { wheel, ring, .. }) = find_wheel(wheels, wheel) {
+        let letter = ring;
+        let is_set = machine.ring(wheel) == Some(letter);
+        push_unless(settings, is_set, Setting::RingTo { wheel, letter });
     }
 }
 
@@ -107,20 +100,4 @@ fn find_wheel(wheels: &[SheetWheel], wheel: Wheel) -> Option<SheetWheel>
     ensures { result ≡ find (λ seated. same_wheel wheel seated.wheel) wheels.now }
 {
     wheels.iter().copied().find(|seated| wheel == seated.wheel)
-}
-
-/// Appends the setting RING for the day's wheel `wanted`, unless `wanted` is `None` or the wheel's ring is set already.
-fn push_ring(settings: &mut Settings, machine: &Machine, wanted: Option<SheetWheel>)
-    requires { array_vec_len settings.old + 1 ≤ 192 }
-    ensures items { let lines = option_map_or (λ seated.
-        let so = option_map_or (nat_eq seated.ring) (machine_ring machine.now seated.wheel) false in
-        setting_unless so (Setting.RingTo seated.wheel seated.ring)) wanted [] in
-        settings.new.items ≡ settings.old.items ++ lines }
-    ensures few { array_vec_len settings.new ≤ array_vec_len settings.old + 1 }
-{
-    if let Some(SheetWheel { wheel, ring, .. }) = wanted {
-        let letter = ring;
-        let is_set = machine.ring(wheel) == Some(letter);
-        push_unless(settings, is_set, Setting::RingTo { wheel, letter });
-    }
 }

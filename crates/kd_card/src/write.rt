@@ -1,24 +1,19 @@
 //! Writes the text of a card to a sink.
-ghost use Rattle.std.specs.Prelude.{◌≡◌, ◌+◌, ◌*◌, ◌≤◌, ◌||◌, [], ◌∷◌, ◌++◌, length, is_err, unsigned_abs, All};
-ghost use Rattle.std.specs.Prelude.{codes, decimal, map};
-ghost use Rattle.std.specs.Fmt.{signed_decimal};
 ghost use Rattle.arrayvec.specs.ArrayString.{array_string_len};
+ghost use Rattle.kd_card.specs.{CardText.{card_text, lines_text, price_lines, IsCard}, CardFault.line_then};
+ghost use Rattle.kd_card.specs.{Prices.{ArePricesInRange, ArePrices}, Reading.AreFewKinds, Kinds.kind_words};
+ghost use Rattle.kd_state.specs.{Line.{list_text, IsSettingInRange}, SheetDay.IsDayNumber};
 ghost use Rattle.kd_tables.specs.Writing.{Writes};
-ghost use Rattle.kd_state.specs.Line.{list_text, IsSettingInRange};
-ghost use Rattle.kd_state.specs.SheetDay.{IsDayNumber};
-ghost use Rattle.kd_card.specs.Prices.{ArePricesInRange, ArePrices};
-ghost use Rattle.kd_card.specs.CardText.{card_text, head_words, lines_text, price_lines, IsCard};
-ghost use Rattle.kd_card.specs.CardFault.{line_then};
-ghost use Rattle.kd_card.specs.Kinds.{kind_words};
-ghost use Rattle.kd_card.specs.Reading.{AreFewKinds};
+ghost use Rattle.std.specs.Prelude.{◌≡◌, ◌+◌, ◌*◌, ◌≤◌, ◌||◌, [], ◌∷◌, ◌++◌, length, map, is_err, All};
+ghost use Rattle.std.specs.Fmt.{signed_decimal};
 
 use super::card::Card;
 use super::kind_text::push_kinds;
 use super::kinds::Kind;
-use super::prices::{PriceParts, Prices, Version};
+use super::prices::{PriceParts, Prices};
 use arrayvec::ArrayString;
 use itoa::Buffer;
-use kd_state::{Setting, push_number};
+use kd_state::Setting;
 use kd_tables::{Device, Sink, put_all};
 
 /// A buffer size, in bytes, that is enough for any card: at most 192 settings, and 54 prices or kinds.
@@ -44,22 +39,24 @@ fn card_text(day: u8, card: &Card) -> ArrayString<LONGEST>
     ensures are_prices { ArePrices card.now.prices }
 {
     let mut text = ArrayString::new();
-    push_head(&mut text, card.prices.version(), day);
+    let mut buffer = Buffer::new();
+    push_value(&mut text, card.prices.version().front(), buffer.format(day));
     push_settings(&mut text, card.settings.as_slice());
-    push_count(&mut text, card.settings.len());
+    push_value(&mut text, "SETTINGS ", buffer.format(card.settings.len()));
     push_prices(&mut text, &card.prices);
-    push_sum(&mut text, card.prices.sum());
+    push_value(&mut text, "SUM ", buffer.format(card.prices.sum()));
     text
 }
 
-/// Appends a card's first line, such as `CARD 2 DAY 31`: the version of its prices, and the day of the month.
-fn push_head<const N: usize>(text: &mut ArrayString<N>, version: Version, day: u8)
-    requires { array_string_len text.old + 15 ≤ N }
-    ensures bytes { text.new.bytes ≡ text.old.bytes ++ line_then (head_words version day) [] }
-    ensures len { array_string_len text.new ≤ array_string_len text.old + 15 }
+/// Appends a line: `front`, and then `value`.
+fn push_value<const N: usize>(text: &mut ArrayString<N>, front: &str, value: &str)
+    requires { array_string_len text.old + length front.now + length value.now + 1 ≤ N }
+    ensures bytes { text.new.bytes ≡ text.old.bytes ++ (front.now ++ value.now ++ 10 ∷ []) }
+    ensures len { array_string_len text.new
+        ≡ array_string_len text.old + length front.now + length value.now + 1 }
 {
-    text.push_str(version.front());
-    push_number(text, day);
+    text.push_str(front);
+    text.push_str(value);
     text.push_str("\n");
 }
 
@@ -87,18 +84,6 @@ fn push_setting<const N: usize>(text: &mut ArrayString<N>, setting: &Setting)
     text.push_str("\n");
 }
 
-/// Appends the line `SETTINGS` with `count`, the number of settings.
-fn push_count<const N: usize>(text: &mut ArrayString<N>, count: usize)
-    requires { array_string_len text.old + 30 ≤ N }
-    ensures bytes { text.new.bytes ≡ text.old.bytes ++ line_then (codes "SETTINGS" ∷ decimal count ∷ []) [] }
-    ensures len { array_string_len text.new ≤ array_string_len text.old + 30 }
-{
-    let mut buffer = Buffer::new();
-    text.push_str("SETTINGS ");
-    text.push_str(buffer.format(count));
-    text.push_str("\n");
-}
-
 /// Appends the price lines of a card.
 fn push_prices<const N: usize>(text: &mut ArrayString<N>, prices: &Prices)
     requires { array_string_len text.old + 1404 ≤ N }
@@ -122,7 +107,7 @@ fn push_prices<const N: usize>(text: &mut ArrayString<N>, prices: &Prices)
 }
 
 /// Appends a line for each of the kinds `rows`, and then for each of the kinds `columns`.
-#[tactic(auto, using(crate::proofs::KindPrices::groups_joined))]
+#[tactic(auto, using(crate::proofs::OneCard::groups_joined))]
 fn push_groups<R: Kind, C: Kind, const N: usize>(
     text: &mut ArrayString<N>,
     rows: &[R],
@@ -148,33 +133,11 @@ fn push_price_line<const N: usize>(text: &mut ArrayString<N>, word: &str, prices
     ensures len { array_string_len text.new
         ≤ array_string_len text.old + length word.now + 7 * length prices.now + 1 }
 {
+    let mut buffer = Buffer::new();
     text.push_str(word);
     for price in prices {
-        push_price(text, *price);
+        text.push_str(" ");
+        text.push_str(buffer.format(*price));
     }
-    text.push_str("\n");
-}
-
-/// Appends a space and `price`.
-fn push_price<const N: usize>(text: &mut ArrayString<N>, price: i16)
-    requires room { array_string_len text.old + 7 ≤ N }
-    requires reach { unsigned_abs price ≤ 9999 }
-    ensures bytes { text.new.bytes ≡ text.old.bytes ++ (32 ∷ signed_decimal price) }
-    ensures len { array_string_len text.new ≤ array_string_len text.old + 7 }
-{
-    let mut buffer = Buffer::new();
-    text.push_str(" ");
-    text.push_str(buffer.format(price));
-}
-
-/// Appends the line `SUM` with `sum`, the sum of all prices.
-fn push_sum<const N: usize>(text: &mut ArrayString<N>, sum: i32)
-    requires { array_string_len text.old + 16 ≤ N }
-    ensures bytes { text.new.bytes ≡ text.old.bytes ++ line_then (codes "SUM" ∷ signed_decimal sum ∷ []) [] }
-    ensures len { array_string_len text.new ≤ array_string_len text.old + 16 }
-{
-    let mut buffer = Buffer::new();
-    text.push_str("SUM ");
-    text.push_str(buffer.format(sum));
     text.push_str("\n");
 }

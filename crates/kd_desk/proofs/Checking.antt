@@ -1,5 +1,5 @@
 -- The answers of `run_check` to a card.
-use Rattle.{kd_card.proofs.Shortest.proving_cards_are_shortest, kd_card.specs.Proving.Proves}
+use Rattle.{kd_card.proofs.Months.Shortest.proving_cards_are_shortest, kd_card.specs.Proving.Proves}
 use Rattle.kd_desk.specs.Ports.{WritesText}
 use Rattle.kd_desk.proofs.Prelude.{◌≡◌, ℕ, List, length, Result, Parts, Setting, IsMachine, Day, IsLegalDay, PriceParts}
 use Rattle.kd_desk.proofs.Prelude.{IsCard, DeskFault, Port, Checks, Shortest, verdict_text}

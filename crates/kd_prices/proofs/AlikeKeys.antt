@@ -1,16 +1,14 @@
 -- Cables, bars and columns at two different places are equal exactly if `StandAlike` or `ReadAlike` holds for these
 -- places. So equal keys have equal prices exactly if prices are equal wherever one of the two holds.
-use Rattle.kd_prices.proofs.{AlikePrices.{nothing_at, same_at}, InForm.cables_are_in_form}
-use Rattle.kd_state.specs.Setting.{has_letter}
-use Rattle.std.{proofs.lemmas.List.Elements.Contains-get_or, specs.List.IsDistinct}
-use Rattle.kd_prices.proofs.Prelude.{AllByRecursion, AreEnds, Contains, HaveOnePriceEach, HaveSameLetters, IsLegalDay}
-use Rattle.kd_prices.proofs.Prelude.{IsMachine, List, NoLetterTwice, None, OfRotors, Option, ReadAlike, Rotor, RotorDay}
-use Rattle.kd_prices.proofs.Prelude.{RotorParts, Some, StandAlike, [], ap, arith, cable_letters, columns_are_the_pairs}
-use Rattle.kd_prices.proofs.Prelude.{columns_in_order, columns_of, eqb, eqb-false, false, get_or, get_or-map}
-use Rattle.kd_prices.proofs.Prelude.{get_or-zip, get_or_default, inl, inr, length, length-map, length-zip}
-use Rattle.kd_prices.proofs.Prelude.{letters_in_pairs, nat_tests, pair_in_order, pos, price_at, refl, slice_get}
-use Rattle.kd_prices.proofs.Prelude.{slice_get-get_or, smaller_first, subst, suc, sym, tests_tell_letters, unwrap_or}
-use Rattle.kd_prices.proofs.Prelude.{zero, zip, ℕ, ℤ, ◌<◌, ◌↔◌, ◌∙◌, ◌∷◌, ◌≡◌, ◌≤◌, ◌⊎◌}
+use Rattle.kd_prices.proofs.{AlikePrices.{nothing_at, same_at}, InForm.cables_are_in_form, Prelude.{[], ap, ℕ, ℤ}}
+use Rattle.kd_prices.proofs.Prelude.{AllByRecursion, HaveSameLetters, NoLetterTwice, letters_in_pairs, slice_get-get_or}
+use Rattle.kd_prices.proofs.Prelude.{AreEnds, Contains, OfRotors, ReadAlike, eqb-false, nat_tests, slice_get, unwrap_or}
+use Rattle.kd_prices.proofs.Prelude.{HaveOnePriceEach, columns_are_the_pairs, columns_in_order, eqb, tests_tell_letters}
+use Rattle.kd_prices.proofs.Prelude.{IsLegalDay, IsMachine, cable_letters, get_or_default, pair_in_order, smaller_first}
+use Rattle.kd_prices.proofs.Prelude.{List, None, Option, Rotor, RotorDay, arith, false, get_or, length, price_at, subst}
+use Rattle.kd_prices.proofs.Prelude.{RotorParts, StandAlike, columns_of, get_or-map, get_or-zip, length-map, length-zip}
+use Rattle.kd_prices.proofs.Prelude.{Some, inl, inr, pos, refl, suc, sym, zero, zip, ◌<◌, ◌↔◌, ◌∙◌, ◌∷◌, ◌≡◌, ◌≤◌, ◌⊎◌}
+use Rattle.{kd_state.specs.Setting.has_letter, std.{proofs.lemmas.List.Elements.Contains-get_or, specs.List.IsDistinct}}
 
 -- ---- cables with the same letters
 
@@ -105,17 +103,10 @@ module _ {X : Type 0} (keys : List X) (d : X) (Alike : ℕ → ℕ → Type 0) (
         one (get_or keys i d) (price_at prices i) (price_at prices k) (has i low)
         (subst (λ x. Contains (zip keys prices) (x, price_at prices k)) (sym same) (has k under)),
     λ equal key price other one two.
-        let inside = one.1 in
-        let within = two.1 in
-        let low : one.0 < n = omega (arith, length-zip keys prices, many, size, inside) in
-        let under : two.0 < n = omega (arith, length-zip keys prices, many, size, within) in
+        let low : one.0 < n = omega (arith, one.1, length-zip keys prices, many, size) in
+        let under : two.0 < n = omega (arith, two.1, length-zip keys prices, many, size) in
         let here = sym (at one.0 low) ∙ pair_at (zip keys prices) one.0 (d, pos 0) (key, price) one.1 one.2 in
         let there = sym (at two.0 under) ∙ pair_at (zip keys prices) two.0 (d, pos 0) (key, other) two.1 two.2 in
-        let first = ap (λ (z : X × ℤ). z.1) here in
-        let second = ap (λ (z : X × ℤ). z.1) there in
-        let same = ap (λ (z : X × ℤ). z.0) here ∙ sym (ap (λ (z : X × ℤ). z.0) there) in
-        elim ((told one.0 two.0 (omega (arith, many, low)) (omega (arith, many, under))).0 same) [
-          | inl alike ↦ sym first ∙ equal one.0 two.0 low under alike ∙ second
-          | inr place ↦ sym first ∙ ap (price_at prices) place ∙ second
-        ],
+        let same = told one.0 two.0 (omega (arith, many, low)) (omega (arith, many, under)) in
+        grind (arith, equal one.0 two.0 low under),
   )

@@ -1,12 +1,11 @@
 -- In a card by number that proves itself, equal keys have equal prices. For equal rows have equal costs in each
 -- column, and each row has a column where the two prices add up to the cost; likewise for equal columns.
-use Rattle.kd_prices.proofs.Prelude.{AlikePricesAreEqual, AreEqualWhereAlike, ArePricesTight, Bars, Cables, Day, List}
-use Rattle.kd_prices.proofs.Prelude.{None, OfPins, OfRotors, One, Parts, Pin, PriceParts, PricesFit, ReadAlike, Rotor}
-use Rattle.kd_prices.proofs.Prelude.{StandAlike, ap, arith, bar_cost, cable_cost, cable_letters, columns_are_the_pairs}
-use Rattle.kd_prices.proofs.Prelude.{columns_of, cost_at, get_or, get_or-map, ints, length, map, no_rotors}
-use Rattle.kd_prices.proofs.Prelude.{proving_prices_are_tight, slice_get, slice_get_past, sym, table_rows}
-use Rattle.kd_prices.proofs.Prelude.{tests_tell_letters, thirteen_columns, unwrap_or, unwrap_or-slice_get, ℕ, ◌<◌, ◌∙◌}
-use Rattle.kd_prices.proofs.Prelude.{◌≡◌, ◌≤◌}
+use Rattle.kd_prices.proofs.Prelude.{AlikePricesAreEqual, PriceParts, columns_are_the_pairs, proving_prices_are_tight}
+use Rattle.kd_prices.proofs.Prelude.{AreEqualWhereAlike, Day, tests_tell_letters, thirteen_columns, unwrap_or-slice_get}
+use Rattle.kd_prices.proofs.Prelude.{ArePricesTight, StandAlike, cable_cost, cable_letters, columns_of, slice_get_past}
+use Rattle.kd_prices.proofs.Prelude.{Bars, List, None, Pin, ap, ints, map, sym, ℕ, ◌<◌, ◌∙◌, ◌≡◌, ◌≤◌}
+use Rattle.kd_prices.proofs.Prelude.{Cables, OfPins, OfRotors, Parts, Rotor, arith, bar_cost, cost_at, get_or, length}
+use Rattle.kd_prices.proofs.Prelude.{One, PricesFit, ReadAlike, get_or-map, no_rotors, slice_get, table_rows, unwrap_or}
 
 -- Prices that fit a table of costs. Each row has a column, and each column has a row, where the two prices add up
 -- to the cost.
@@ -26,33 +25,15 @@ module _ {A B : Type 0} (cost : A → B → ℕ) (rows : List A) (columns : List
     rows = λ i k lt lt' alike.
         let same = λ (j : ℕ) (within : j < table_rows prices). at i j lt within ∙ stand i k alike (get_or columns j b)
         ∙ sym (at k j lt' within) in
-        let here = tight.column_of i lt in
-        let there = tight.column_of k lt' in
-        omega (
-          arith,
-          ints,
-          here.2,
-          there.2,
-          fits k here.0 lt' here.1,
-          fits i there.0 lt there.1,
-          same here.0 here.1,
-          same there.0 there.1,
-        );
+        let one = tight.column_of i lt in
+        let two = tight.column_of k lt' in
+        omega (arith, ints, fits k one.0 lt' one.1, fits i two.0 lt two.1, same one.0 one.1, same two.0 two.1);
     columns = λ j k lt lt' alike.
         let same = λ (i : ℕ) (within : i < table_rows prices). at i j within lt
         ∙ ap (cost (get_or rows i a)) (read j k alike) ∙ sym (at i k within lt') in
-        let here = tight.row_of j lt in
-        let there = tight.row_of k lt' in
-        omega (
-          arith,
-          ints,
-          here.2,
-          there.2,
-          fits here.0 k here.1 lt',
-          fits there.0 j there.1 lt,
-          same here.0 here.1,
-          same there.0 there.1,
-        );
+        let one = tight.row_of j lt in
+        let two = tight.row_of k lt' in
+        omega (arith, ints, fits one.0 k one.1 lt', fits two.0 j two.1 lt, same one.0 one.1, same two.0 two.1);
   }
 
 -- If `slice_get` finds the same at two places of a list, so does `get_or`.

@@ -1,18 +1,16 @@
 -- When prices by number, one for each key, can become prices by kind, one for equal keys; and which these are.
-use Rattle.kd_card.proofs.KindPrices.{bars_are_prices, cables_are_prices}
 use Rattle.kd_prices.proofs.{AlikeKeys.{AreTold, cables_told, columns_told, each_told, one_price_is}, Runs.one_price}
-use Rattle.kd_prices.proofs.{InForm.{cables_are_in_form, columns_are_in_form}, Taking.size}
-use Rattle.kd_prices.proofs.Prelude.{All, Day, List, None, One, Parts, Pin, Rotor, Some, arith, length, refl, subst}
-use Rattle.kd_prices.proofs.Prelude.{columns_of, get_or-zip, length-map, length-zip, row_format, version_of}
-use Rattle.kd_prices.proofs.Prelude.{AreEqualWhereAlike, ArePricesInRange, Contains-permutation, length_permutation, ℕ}
-use Rattle.kd_prices.proofs.Prelude.{AreKinds, ArePrices, ByKind, CableKind, IsMachine, ReadAlike, day_model, expansion}
-use Rattle.kd_prices.proofs.Prelude.{AreKindsOf, Bars, CanBeByKind, MatchOption, cable_format, pair_format}
-use Rattle.kd_prices.proofs.Prelude.{BarKind, Cables, Expands, IfSome, IsFine, IsGroup, OfPins, Option, PinDay, RowKind}
-use Rattle.kd_prices.proofs.Prelude.{BarKinds, Expanded, OfRotors, PairKind, PinParts, RotorDay, model_of, price_at, ℤ}
+use Rattle.kd_prices.proofs.InForm.{cables_are_in_form, columns_are_in_form}
+use Rattle.kd_prices.proofs.{Prelude.{All, Day, One, Pin, map, sym, zip, ◌<◌, ◌↔◌, ◌∙◌, ◌≡◌}, Taking.size}
+use Rattle.kd_prices.proofs.Prelude.{AreKinds, BarKinds, Expanded, OfRotors, PairKind, PinParts, RotorDay, model_of, ℤ}
+use Rattle.kd_prices.proofs.Prelude.{AreKindsOf, CanBeByKind, MatchOption, cable_format, pair_format, pair_in_order, ℕ}
+use Rattle.kd_prices.proofs.Prelude.{AreModelPrices, IsPermutation, column_prices, columns_in_order, thirteen_columns}
+use Rattle.kd_prices.proofs.Prelude.{ArePrices, CableKind, IsMachine, List, ReadAlike, day_model, expansion, version_of}
+use Rattle.kd_prices.proofs.Prelude.{ArePricesInRange, Bars, Contains-permutation, HaveOnePriceEach, length_permutation}
+use Rattle.kd_prices.proofs.Prelude.{BarKind, ByKind, Cables, Expands, IfSome, IsFine, IsGroup, None, RowKind, price_at}
 use Rattle.kd_prices.proofs.Prelude.{CableKinds, IsLegalDay, KindFormat, PriceParts, RotorParts, StandAlike, bar_format}
-use Rattle.kd_prices.proofs.Prelude.{HaveOnePriceEach, IsPermutation, columns_in_order, pair_in_order, thirteen_columns}
-use Rattle.kd_prices.proofs.Prelude.{map, sym, zip, ◌<◌, ◌∙◌, ◌≡◌}
-use Rattle.kd_prices.proofs.Prelude.{AreModelPrices, IsSome, column_prices, row_prices, table_rows, ◌↔◌}
+use Rattle.kd_prices.proofs.Prelude.{IsSome, OfPins, Option, Parts, PinDay, Rotor, Some, arith, length, refl, subst}
+use Rattle.kd_prices.proofs.Prelude.{columns_of, get_or-zip, length-map, length-zip, row_format, row_prices, table_rows}
 
 -- what `kinds_of` ensures of the kinds of `keys` with `prices`
 pub record AreGrouped {K X : Type 0} (format : KindFormat K X) (keys : List X) (prices : List ℤ) (kinds : List K)
@@ -103,13 +101,13 @@ pub cables_by_kind : (m : RotorParts) (s : RotorDay) (rows columns : List ℤ) (
 cables_by_kind m s rows columns row col machine legal are same first second =
     let thirteen : length (columns_in_order s.pairs) ≡ 13 = length-map (columns_of s.pairs) pair_in_order
     ∙ thirteen_columns s.pairs legal.pairs.few in
-    made_by_kind cable_format pair_format (Rotor m) (OfRotors s) (Cables rows columns) _ m.cables
-    (columns_in_order s.pairs) row col same tt refl
+    made_by_kind cable_format pair_format (Rotor m) (OfRotors s) (Cables rows columns)
+    (CableKinds (record { items = row }) (record { items = col })) m.cables (columns_in_order s.pairs) row col same tt refl
     (are_kinds_for cable_format m.cables (None, None) (StandAlike (Rotor m)) (cables_told m machine)
-    (cables_are_in_form m machine) 13 machine.legal.cables.count rows are.rows are.row_reach row first)
+    (cables_are_in_form m machine) 13 machine.legal.cables.count rows are.0.count are.0.reach row first)
     (are_kinds_for pair_format (columns_in_order s.pairs) None (ReadAlike (OfRotors s)) (columns_told s legal)
-    (columns_are_in_form s legal) 13 thirteen columns are.columns are.column_reach col second)
-    (cables_are_prices row col) (λ good of also. Expanded good are (of, also))
+    (columns_are_in_form s legal) 13 thirteen columns are.1.count are.1.reach col second)
+    (λ good. good, λ good. good) (λ good of also. Expanded good are (of, also))
 
 pub bars_by_kind : (m : PinParts) (s : PinDay) (rows columns : List ℤ) (row : List BarKind) (col : List RowKind)
     → IsMachine (Pin m) → IsLegalDay (OfPins s) → ArePrices (Bars rows columns)
@@ -119,9 +117,10 @@ pub bars_by_kind : (m : PinParts) (s : PinDay) (rows columns : List ℤ) (row : 
     (λ made. made ≡ BarKinds (record { items = row }) (record { items = col })) → IfSome result ArePrices
     → ArePricesByKind (Pin m) (OfPins s) (Bars rows columns) result
 bars_by_kind m s rows columns row col machine legal are same first second =
-    made_by_kind bar_format row_format (Pin m) (OfPins s) (Bars rows columns) _ m.bars s.rows row col same tt refl
+    made_by_kind bar_format row_format (Pin m) (OfPins s) (Bars rows columns)
+    (BarKinds (record { items = row }) (record { items = col })) m.bars s.rows row col same tt refl
     (are_kinds_for bar_format m.bars (One, One) (StandAlike (Pin m)) (each_told m.bars (One, One)) machine.legal.apart
-    27 machine.legal.bars rows are.rows are.row_reach row first)
+    27 machine.legal.bars rows are.0.count are.0.reach row first)
     (are_kinds_for row_format s.rows (0, 0) (ReadAlike (OfPins s)) (each_told s.rows (0, 0)) legal.rows 27 legal.count
-    columns are.columns are.column_reach col second)
-    (bars_are_prices row col) (λ good of also. Expanded good are (of, also))
+    columns are.1.count are.1.reach col second)
+    (λ good. good, λ good. good) (λ good of also. Expanded good are (of, also))

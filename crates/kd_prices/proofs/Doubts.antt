@@ -1,14 +1,11 @@
 -- A card that proves itself has no doubt, and a card has at most one.
-use Rattle.kd_prices.proofs.Leading.{Leads-not_refused, needed_at}
-use Rattle.kd_prices.proofs.Meaning.{are_numbered, belong, one_expansion}
-use Rattle.kd_prices.specs.Doubt.{IsCarriedAnswer, IsDoubt, IsFitsAnswer}
-use Rattle.kd_state.specs.Setting.{IsFirstIllegal}
-use Rattle.kd_prices.proofs.Prelude.{AreSettingsNeeded, Day, Doubt, Err, GoesOn, HasOneAnswer, HasOneAnswer-Demands}
-use Rattle.kd_prices.proofs.Prelude.{HasOneAnswer-Finds, HasOneAnswer-ThenNext, IfErr, IllegalAt, IsCheckedAnswer}
-use Rattle.kd_prices.proofs.Prelude.{IsFirstNeedless, IsFirstWithout, IsNeededAnswer, IsOk, Leads, List, NeedlessLine}
-use Rattle.kd_prices.proofs.Prelude.{Ok, Parts, PriceParts, Proves, Result, Setting, ThenNext-Ok, Why, [], ap, arith}
-use Rattle.kd_prices.proofs.Prelude.{cases_order, cost_table, false≢true, leads_to_one, length, refl, subst, sym}
-use Rattle.kd_prices.proofs.Prelude.{why_refused, ℕ, ◌++◌, ◌↔◌, ◌∙◌, ◌∷◌, ◌≡◌}
+use Rattle.kd_prices.proofs.{Leading.{Leads-not_refused, needed_at}, Meaning.{are_numbered, belong, one_expansion}}
+use Rattle.kd_prices.proofs.Prelude.{AreSettingsNeeded, HasOneAnswer-Demands, HasOneAnswer-Finds, HasOneAnswer-ThenNext}
+use Rattle.kd_prices.proofs.Prelude.{Day, Err, List, Why, [], ap, arith, refl, subst, sym, ℕ, ◌++◌, ◌↔◌, ◌∙◌, ◌∷◌, ◌≡◌}
+use Rattle.kd_prices.proofs.Prelude.{Doubt, GoesOn, IfErr, IllegalAt, Leads, Parts, Proves, Result, Setting, false≢true}
+use Rattle.kd_prices.proofs.Prelude.{HasOneAnswer, IsCheckedAnswer, IsFirstNeedless, IsFirstWithout, IsNeededAnswer, Ok}
+use Rattle.kd_prices.proofs.Prelude.{IsOk, NeedlessLine, PriceParts, ThenNext-Ok, cases_order, cost_table, leads_to_one}
+use Rattle.{kd_prices.specs.Doubt.{IsCarriedAnswer, IsDoubt, IsFitsAnswer}, kd_state.specs.Setting.IsFirstIllegal}
 
 -- A list has only one good prefix that, with the item after it, begins no good list.
 one_front : {X : Type 0} (Good : List X → Type 0) (front other after behind : List X) (x y : X)
@@ -33,22 +30,19 @@ IsFirstWithout-one Holds number row column i j h k = grind (arith, cases_order, 
 
 -- ---- prices by number
 
--- If the machine refuses a setting of a list after the settings before it were carried out, no list that begins with
--- all of these leads to a machine.
+-- If the machine refuses a setting of a list, no list that begins with the settings up to this one leads to a machine.
 IsFirstIllegal-not_Leads : {m : Parts} {settings : List Setting} {line : ℕ} {why : Why}
-    (h : IsFirstIllegal m settings line why)
-    (n : Parts)
-    (rest : List Setting) → ¬ (Leads m (h.front ++ h.setting ∷ rest) n)
-IsFirstIllegal-not_Leads {m} h n rest leads = Leads-not_refused m h.between n h.front rest h.setting _ h.leads
-    h.refused leads
+    (h : IsFirstIllegal m settings line why) (n : Parts) (rest : List Setting)
+    → ¬ (Leads m (h.front ++ h.setting ∷ rest) n)
+IsFirstIllegal-not_Leads {m} h n rest =
+    Leads-not_refused m h.between n h.front rest h.setting _ h.leads h.refused
 
--- If a setting of a list isn't needed after the settings before it, no list that begins with all of these has only
--- needed settings.
+-- If a setting of a list isn't needed, this holds in each list that begins with the settings up to this one.
 IsFirstNeedless-not_needed : {m : Parts} {s : Day} {settings : List Setting} {line : ℕ}
-    (h : IsFirstNeedless m s settings line)
-    (rest : List Setting) → ¬ (AreSettingsNeeded m s (h.front ++ h.setting ∷ rest))
-IsFirstNeedless-not_needed {m} {s} h rest needed = h.needless
-    (needed_at m h.between s h.front rest h.setting h.leads needed)
+    (h : IsFirstNeedless m s settings line) (rest : List Setting)
+    → ¬ (AreSettingsNeeded m s (h.front ++ h.setting ∷ rest))
+IsFirstNeedless-not_needed {m} {s} h rest needed =
+    h.needless (needed_at m h.between s h.front rest h.setting h.leads needed)
 
 module _ (m : Parts) (settings : List Setting) where
   only_carried : HasOneAnswer (IsCarriedAnswer m settings)
@@ -65,13 +59,7 @@ module _ (m : Parts) (settings : List Setting) where
       (λ rest leads. IsFirstIllegal-not_Leads b leads.0 rest leads.1) in
       let between = leads_to_one m a.between b.between b.front
       (subst (λ front. Leads m front a.between) same.0 a.leads) b.leads in
-      let reasons : why_refused a.between a.setting ≡ why_refused b.between b.setting = cc in
-      let first = a.refused in
-      let second = b.refused in
-      let whys : why ≡ reason = cc in
-      let counts = ap length same.0 in
-      let lines : line ≡ other = omega (arith, a.number, b.number) in
-      ap (λ l. Err (IllegalAt l why)) lines ∙ ap (λ w. Err (IllegalAt other w)) whys
+      grind (arith, a.refused, b.refused, a.number, b.number)
   only_carried v w a b = absurd (assumption)
 
 module _ (costs : List (List ℕ)) (prices : PriceParts) where
@@ -90,9 +78,7 @@ module _ (m : Parts) (s : Day) (settings : List Setting) where
       one_front (AreSettingsNeeded m s) a.front b.front a.rest b.rest a.setting b.setting
       (sym a.split ∙ b.split) a.needed b.needed
       (IsFirstNeedless-not_needed a) (IsFirstNeedless-not_needed b) in
-      let counts = ap length same.0 in
-      let lines : line ≡ other = omega (arith, a.number, b.number) in
-      ap (λ l. Err (NeedlessLine l)) lines
+      grind (arith, a.number, b.number)
   only_needed v w a b = absurd (assumption)
 
 -- ---- the whole check

@@ -1,15 +1,12 @@
 -- If a result is right for the prices that were found for rows and columns, it is right for the check of the card.
-use Rattle.kd_prices.proofs.Meaning.{are_numbered}
-use Rattle.kd_prices.proofs.Prelude.{AreKindsOf, MatchOption, PriceMissing, cable_format, column_prices, pair_format, ℤ}
-use Rattle.kd_prices.proofs.Prelude.{AreModelPrices, ArePricesInRange, IsCheckedAnswer, columns_in_order}
-use Rattle.kd_prices.proofs.Prelude.{ArePrices, BarKinds, BelongTo, CableKind, Expanded, HasFault, OfRotors, day_model}
-use Rattle.kd_prices.proofs.Prelude.{BarKind, Cables, Expands, PairKind, PinParts, RotorDay, RowKind, Setting, model_of}
-use Rattle.kd_prices.proofs.Prelude.{Bars, Day, Err, List, None, Ok, Pin, Same, Some, ap, refl, sym, ◌∙◌, ◌≡◌}
-use Rattle.kd_prices.proofs.Prelude.{CableKinds, OtherModel, PriceParts, RotorParts, bar_format, row_format, row_prices}
-use Rattle.kd_prices.proofs.Prelude.{Doubt, GoesOn, OfPins, Option, Parts, PinDay, Result, Rotor, arith, length, subst}
-use Rattle.kd_prices.specs.Doubt.{ArePricesFound, IsByNumberAnswer}
-use Rattle.{kd_state.specs.FirstFaults.Finds, std.specs.Option.{ok_or, option_zip}}
-use Rattle.kd_prices.proofs.Prelude.{KindFormat}
+use Rattle.kd_prices.proofs.{Meaning.are_numbered, Prelude.{Err, Pin, Some, ap, refl, sym, ℤ, ◌≡◌}}
+use Rattle.kd_prices.proofs.Prelude.{AreKindsOf, Bars, CableKinds, MatchOption, PriceMissing, cable_format, pair_format}
+use Rattle.kd_prices.proofs.Prelude.{AreModelPrices, ArePricesInRange, IsCheckedAnswer, column_prices, columns_in_order}
+use Rattle.kd_prices.proofs.Prelude.{ArePrices, KindFormat, PriceParts, RotorParts, bar_format, row_format, row_prices}
+use Rattle.kd_prices.proofs.Prelude.{BarKind, Cables, Expands, GoesOn, OfPins, Ok, RotorDay, RowKind, Setting, model_of}
+use Rattle.kd_prices.proofs.Prelude.{BarKinds, BelongTo, CableKind, HasFault, OfRotors, PairKind, PinParts, day_model}
+use Rattle.kd_prices.proofs.Prelude.{Day, Doubt, List, None, Option, Parts, PinDay, Result, Rotor, arith, length, subst}
+use Rattle.{kd_prices.specs.Doubt.{ArePricesFound, IsByNumberAnswer}, std.specs.Option.{ok_or, option_zip}}
 
 same_fault : {F X : Type 0} {f g : F} → ◌≡◌ {A = Result X F} (Err f) (Err g) → f ≡ g
 same_fault e = cc

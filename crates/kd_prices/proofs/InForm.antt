@@ -1,11 +1,10 @@
 -- The cables of a machine and the columns of a day are in the form that a card writes: their letters are in order.
+use Rattle.kd_prices.proofs.Prelude.{All, Pin, ap, eqb, map, suc, zero, ℕ, ◌++◌, ◌-◌, ◌<◌, ◌∷◌, ◌≡◌}
+use Rattle.kd_prices.proofs.Prelude.{All-from_recursion, Parts, columns_in_order, letters_in_cables, recursion_from_All}
+use Rattle.kd_prices.proofs.Prelude.{AllByRecursion, IsPairInOrder, NoLetterTwice, [], cable_in_order, letters_in_pairs}
+use Rattle.kd_prices.proofs.Prelude.{AreEnds, List, None, OfRotors, Option, Rotor, RotorDay, Some, arith, false, length}
+use Rattle.kd_prices.proofs.Prelude.{IsLegalDay, IsMachine, RotorParts, eqb-false, nat_tests, pair_in_order, replicate}
 use Rattle.std.specs.List.{IsDistinct}
-use Rattle.kd_prices.proofs.Prelude.{All, All-from_recursion, AllByRecursion, AreEnds, IsLegalDay, IsMachine}
-use Rattle.kd_prices.proofs.Prelude.{IsPairInOrder, List, NoLetterTwice, None, OfRotors, Option, Parts, Pin, Rotor}
-use Rattle.kd_prices.proofs.Prelude.{RotorDay, RotorParts, Some, [], ap, arith, cable_in_order, columns_in_order, eqb}
-use Rattle.kd_prices.proofs.Prelude.{eqb-false, false, length, letters_in_cables, letters_in_pairs, map, nat_tests}
-use Rattle.kd_prices.proofs.Prelude.{pair_in_order, recursion_from_All, replicate, suc, zero, ℕ, ◌++◌, ◌-◌, ◌<◌, ◌∷◌}
-use Rattle.kd_prices.proofs.Prelude.{◌≡◌}
 
 abbrev in_each_order : List (Option ℕ × Option ℕ) → List (Option ℕ × Option ℕ)
 in_each_order cables = map (λ cable. cable_in_order cable.0 cable.1) cables

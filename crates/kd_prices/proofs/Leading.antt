@@ -1,12 +1,12 @@
 -- Lists of settings that lead from one machine to another, split and joined.
-use Rattle.kd_card.{proofs.Falling.model_of-changed, specs.Proving.is_priced_setting}
+use Rattle.kd_card.{proofs.Months.Shortest.Falling.model_of-changed, specs.Proving.is_priced_setting}
+use Rattle.kd_prices.proofs.Prelude.{AreSettingsNeeded, IsNeededAnswer, IsSettingNeeded, NeedlessLine, take-append-drop}
+use Rattle.kd_prices.proofs.Prelude.{Day, Err, Ok, Why, [], ap, sym, ◌+◌, ◌<◌, ◌∙◌, ◌∷◌, ◌≡◌}
+use Rattle.kd_prices.proofs.Prelude.{Doubt, Leads, List, Parts, Result, Some, arith, get_or, length, subst, take, ◌++◌}
+use Rattle.kd_prices.proofs.Prelude.{Setting, day_model, leads_next, machine_after, model_of, take_more, why_refused, ℕ}
 use Rattle.kd_state.specs.{Costs.loose_count, Setting.Carries}
 use Rattle.std.proofs.{Math.Seq.drop-cons, lemmas.List.length-take-le}
 use Rattle.std.specs.{Prelude.IsFalse, Result.{MatchResult, result_and}}
-use Rattle.kd_prices.proofs.Prelude.{AreSettingsNeeded, Day, Doubt, Err, IsNeededAnswer, IsSettingNeeded, Leads, List}
-use Rattle.kd_prices.proofs.Prelude.{NeedlessLine, Ok, Parts, Result, Setting, Some, Why, [], ap, arith, day_model}
-use Rattle.kd_prices.proofs.Prelude.{get_or, leads_next, length, machine_after, model_of, subst, sym, take}
-use Rattle.kd_prices.proofs.Prelude.{take-append-drop, take_more, why_refused, ℕ, ◌++◌, ◌+◌, ◌<◌, ◌∙◌, ◌∷◌, ◌≡◌}
 
 -- If `front` leads from `m` to `between`, and `front` with `rest` leads to `n`, then `rest` leads from `between`
 -- to `n`.

@@ -1,24 +1,20 @@
 -- A card's prices expand to at most one list of prices by number, which is for the same format of machine.
-use Rattle.kd_prices.proofs.Runs.{prices_alike}
-use Rattle.kd_state.specs.declared.machine.one_model.OneModel.{OneModel}
-use Rattle.kd_prices.proofs.Prelude.{AreExpanded, AreModelPrices, ArePrices, AreTakenApart}
-use Rattle.kd_prices.proofs.Prelude.{BarKinds, Bars, BelongTo, ByNumber, CableKinds, Cables, Day, Expanded, Expands}
-use Rattle.kd_prices.proofs.Prelude.{List, OfPins, OfRotors, Parts, Pin, PriceParts, Proves, Rotor, Same, Setting, ap}
-use Rattle.kd_prices.proofs.Prelude.{arith, bar_format, cable_format, day_model, model_of, pair_format, row_format, sym}
-use Rattle.kd_prices.proofs.Prelude.{version_of, ◌∙◌, ◌≡◌}
-use Rattle.kd_state.specs.declared.machine.one_model.OneModel.TheVariants as both
+use Rattle.kd_prices.proofs.Prelude.{AreExpanded, AreModelPrices, CableKinds, PriceParts, cable_format, pair_format}
+use Rattle.kd_prices.proofs.Prelude.{ArePrices, BarKinds, BelongTo, ByNumber, Parts, bar_format, row_format, version_of}
+use Rattle.kd_prices.proofs.Prelude.{Bars, Cables, Day, Expanded, Expands, OfPins, OfRotors, Pin, Rotor, Same, arith}
+use Rattle.kd_prices.proofs.{Prelude.{sym, ◌∙◌, ◌≡◌}, Runs.prices_alike}
 
 -- ---- prices by kind
 
 same_lists : (m : Parts) (s : Day) (prices numbered other : PriceParts) → ArePrices prices
     → AreExpanded m s prices numbered → AreExpanded m s prices other → numbered ≡ other
 same_lists (Rotor m) (OfRotors s) (CableKinds row col) (Cables a b) (Cables c d) are one two =
-    let rows = prices_alike cable_format _ row.items a c are.kinds.0 one.0 two.0 in
-    let columns = prices_alike pair_format _ col.items b d are.kinds.1 one.1 two.1 in
+    let rows = prices_alike cable_format _ row.items a c are.0.in_order one.0 two.0 in
+    let columns = prices_alike pair_format _ col.items b d are.1.in_order one.1 two.1 in
     cc
 same_lists (Pin m) (OfPins s) (BarKinds row col) (Bars a b) (Bars c d) are one two =
-    let rows = prices_alike bar_format _ row.items a c are.kinds.0 one.0 two.0 in
-    let columns = prices_alike row_format _ col.items b d are.kinds.1 one.1 two.1 in
+    let rows = prices_alike bar_format _ row.items a c are.0.in_order one.0 two.0 in
+    let columns = prices_alike row_format _ col.items b d are.1.in_order one.1 two.1 in
     cc
 same_lists m s prices numbered other are one two = absurd (assumption)
 
@@ -44,8 +40,3 @@ belong m s prices numbered expands are = grind arith
 pub are_numbered : (m : Parts) (s : Day) (prices numbered : PriceParts) → Expands m s prices numbered
     → BelongTo m prices → AreModelPrices m numbered
 are_numbered m s prices numbered expands belong = grind arith
-
--- A machine and a day that are taken apart together are of one model.
-pub one_model : (m : Parts) (s : Day) (both : OneModel) → AreTakenApart m s both → model_of m ≡ day_model s
-one_model m s (both.Rotor parts entry) h = ap model_of h.0 ∙ h.2 ∙ sym (ap day_model h.1)
-one_model m s (both.Pin parts entry) h = ap model_of h.0 ∙ sym (ap day_model h.1)

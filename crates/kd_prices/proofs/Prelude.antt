@@ -1,25 +1,20 @@
 -- The definitions and lemmas that most proofs of this crate use.
-pub use Rattle.kd_card.proofs.Shortest.{no_rotors, proving_cards_are_shortest, proving_prices_are_tight}
-pub use Rattle.kd_card.specs.CardText.{IsGroup}
+pub use Rattle.kd_card.proofs.Months.Shortest.{no_rotors, proving_cards_are_shortest, proving_prices_are_tight}
+pub use Rattle.kd_card.specs.{Kinds.IsGroup, Proving.{Expanded, Expands, Proves, Same, pair_in_order, priced_count}}
 pub use Rattle.kd_card.specs.Kinds.{AreEnds, AreKinds, IsKind, expansion, row_format}
 pub use Rattle.kd_card.specs.Kinds.{AreKindsOf, IsPairInOrder, KindFormat, bar_format, cable_format, pair_format}
-pub use Rattle.kd_card.specs.Prices.{ArePrices, ArePricesInRange, ArePricesTight, column_prices, row_prices, table_rows}
-pub use Rattle.kd_card.specs.Prices.{PricesFit, PricesFitAt, cost_at, price_at, price_sum, version_of}
+pub use Rattle.kd_card.specs.Prices.{ArePrices, PricesFit, cost_at, price_sum, table_rows, version_of}
+pub use Rattle.kd_card.specs.Prices.{ArePricesInRange, ArePricesTight, PricesFitAt, column_prices, price_at, row_prices}
 pub use Rattle.kd_card.specs.Proving.{AreExpanded, AreModelPrices, AreSettingsNeeded, IsSettingNeeded, columns_in_order}
-pub use Rattle.kd_card.specs.Proving.{Expanded, Expands, Proves, Same, pair_in_order, priced_count}
 pub use Rattle.kd_card.specs.declared.kinds.{BarKind.BarKind, CableKind.CableKind, PairKind.PairKind, RowKind.RowKind}
-pub use Rattle.kd_card.specs.declared.kinds.KindOf.{KindOf}
+pub use Rattle.kd_card.specs.declared.{kinds.KindOf.KindOf, prices.Version.TheVariants.{ByKind, ByNumber}}
 pub use Rattle.kd_card.specs.declared.prices.PriceParts.{PriceParts, TheVariants.{BarKinds, Bars, CableKinds, Cables}}
-pub use Rattle.kd_card.specs.declared.prices.Version.TheVariants.{ByKind, ByNumber}
 pub use Rattle.kd_enigma.specs.Plugs.{NoLetterTwice, letters_in_pairs}
-pub use Rattle.kd_prices.specs.Alike.{ReadAlike, StandAlike}
-pub use Rattle.kd_prices.specs.Doubt.{BelongTo}
-pub use Rattle.kd_prices.specs.Doubt.{IsCheckedAnswer, IsFirstNeedless, IsFirstWithout, IsNeededAnswer}
-pub use Rattle.kd_prices.specs.{Fitting.{FitsAtColumn, ListsFitAt}, KindCards.{CanBeByKind}}
+pub use Rattle.kd_prices.specs.{Alike.{ReadAlike, StandAlike}, Fitting.{FitsAtColumn, ListsFitAt}}
+pub use Rattle.kd_prices.specs.Doubt.{BelongTo, IsCheckedAnswer, IsFirstNeedless, IsFirstWithout, IsNeededAnswer}
 pub use Rattle.kd_prices.specs.Grouping.{AppendsKinds, CanBeKinds, HaveOnePriceEach, IsFine, kind_of_one}
-pub use Rattle.kd_prices.specs.Laws.{AlikePricesAreEqual, AreEqualWhereAlike, RestIsShortest}
-pub use Rattle.kd_prices.specs.declared.doubt.Doubt.{Doubt}
-pub use Rattle.kd_prices.specs.declared.doubt.Doubt.TheVariants.{IllegalAt, OtherModel, SumDiffers}
+pub use Rattle.kd_prices.specs.{KindCards.CanBeByKind, Laws.{AlikePricesAreEqual, AreEqualWhereAlike, RestIsShortest}}
+pub use Rattle.kd_prices.specs.declared.doubt.Doubt.{Doubt, TheVariants.{IllegalAt, OtherModel, SumDiffers}}
 pub use Rattle.kd_prices.specs.declared.doubt.Doubt.TheVariants.{NeedlessLine, NotTheSheet, PriceMissing, PriceTooHigh}
 pub use Rattle.kd_state.proofs.{Cables.tests_tell_letters, Telling.Refusing.{leads_join, leads_next, leads_to_one}}
 pub use Rattle.kd_state.proofs.CostTable.{columns_are_the_pairs, thirteen_columns}
@@ -27,27 +22,24 @@ pub use Rattle.kd_state.specs.{Costs.{bar_cost, cable_cost, columns_of, cost_tab
 pub use Rattle.kd_state.specs.FirstFaults.{GoesOn, HasFault, HasOneAnswer}
 pub use Rattle.kd_state.specs.FirstFaults.{HasOneAnswer-Demands, HasOneAnswer-Finds, HasOneAnswer-ThenNext, ThenNext-Ok}
 pub use Rattle.kd_state.specs.Machine.{IsMachine, cable_in_order, cable_letters, letters_in_cables, model_of}
-pub use Rattle.kd_state.specs.{OnKey.HaveSameLetters, Setting.{Leads, machine_after, why_refused}}
+pub use Rattle.kd_state.specs.{OnKey.HaveSameLetters, declared.setting.{Setting.Setting, why.Why.Why}}
+pub use Rattle.kd_state.specs.Setting.{Leads, machine_after, why_refused}
 pub use Rattle.kd_state.specs.SheetDay.{Day, IsLegalDay, OfPins, OfRotors, PinDay, RotorDay, day_model}
 pub use Rattle.kd_state.specs.declared.machine.parts.Parts.{Parts, TheVariants.{Pin, Rotor}}
 pub use Rattle.kd_state.specs.declared.machine.{pin_parts.PinParts.PinParts, rotor_parts.RotorParts.RotorParts}
-pub use Rattle.kd_state.specs.declared.setting.{Setting.Setting, why.Why.Why}
 pub use Rattle.kd_tables.specs.{Places.smaller_first, declared.place.Place.TheVariants.One}
 pub use Rattle.std.proofs.Common.{Bool, List, None, Some, eqb, inl, inr, of_z, pos, refl, to_z, true, zero, ◌++◌, ◌+ℤ◌}
 pub use Rattle.std.proofs.Common.{Contains, Option, arith, false, get_or, length, rules, slice_get, subst, unwrap_or, ℕ}
 pub use Rattle.std.proofs.Common.{MatchOption, SFits, append_assoc, length-append, length-drop, replicate, unsigned_abs}
 pub use Rattle.std.proofs.Common.{[], ap, set, suc, sym, w16, w32, ℤ, ◌+◌, ◌-◌, ◌<◌, ◌^◌, ◌∙◌, ◌∷◌, ◌≡◌, ◌≢◌, ◌≤◌, ◌⊎◌}
 pub use Rattle.std.proofs.lemmas.Bool.{cases_order, eqb-false, false≢true, true≢false, Decides.nat_tests}
-pub use Rattle.std.proofs.lemmas.{Cmp.tied_itself, Int.{ints, to_z-of_z, to_z_pos}, Slice.Zip.{get_or-zip, length-zip}}
-pub use Rattle.std.proofs.lemmas.{Grind.common_steps, Option.{slice_get-get_or, slice_get_past, unwrap_or-slice_get}}
+pub use Rattle.std.proofs.lemmas.{Cmp.tied_itself, Option.{slice_get-get_or, slice_get_past, unwrap_or-slice_get}}
+pub use Rattle.std.proofs.lemmas.{Grind.common_steps, List.{append-nil, get_or-map, length-map, length-take, take_more}}
+pub use Rattle.std.proofs.lemmas.{Int.{ints, to_z-of_z, to_z_pos}, Slice.Zip.{get_or-zip, length-zip}}
 pub use Rattle.std.proofs.lemmas.List.Elements.{All-append, All-contains_itself, All-from_recursion, recursion_from_All}
-pub use Rattle.std.proofs.lemmas.List.Elements.{All-cons, All-contains, All-head, All-replicate, All-tail, All-weaker}
-pub use Rattle.std.proofs.lemmas.List.Elements.{All-nil}
-pub use Rattle.std.proofs.lemmas.List.Sorted.{All-permutation}
+pub use Rattle.std.proofs.lemmas.List.Elements.{All-contains, All-head, All-nil, All-replicate, All-tail, All-weaker}
 pub use Rattle.std.proofs.lemmas.List.Sorted.{Contains-permutation, IsPermutation-sym, length_permutation}
-pub use Rattle.std.proofs.lemmas.List.{append-nil, get_or_default, length-replicate, length-take, take-append-drop}
-pub use Rattle.std.proofs.lemmas.List.{get_or-map, length-map, take_more}
-pub use Rattle.std.proofs.lemmas.Result.{err_from_is_err_and}
+pub use Rattle.std.proofs.lemmas.List.{get_or_default, length-replicate, take-append-drop, Sorted.All-permutation}
+pub use Rattle.std.{proofs.lemmas.Result.err_from_is_err_and, specs.List.{All, AllByRecursion, zip}}
 pub use Rattle.std.specs.{Cmp.IsTotalOrder, declared.cmp.Ordering.{Ordering, TheVariants.{Equal, Greater, Less}}}
-pub use Rattle.std.specs.List.{All, AllByRecursion, zip}
-pub use Rattle.std.specs.Prelude.{Err, IfErr, IfSome, IsSome, IsOk, IsPermutation, Ok, Result, drop, map, take, ◌↔◌}
+pub use Rattle.std.specs.Prelude.{Err, IfErr, IfSome, IsOk, IsPermutation, IsSome, Ok, Result, drop, map, take, ◌↔◌}

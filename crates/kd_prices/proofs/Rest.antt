@@ -1,7 +1,7 @@
 -- The rest of a card that proves itself, after its first lines.
 use Rattle.kd_prices.proofs.Leading.{leads_on}
-use Rattle.kd_prices.proofs.Prelude.{Leads, RestIsShortest, arith, drop, leads_join, length-append, length-drop}
-use Rattle.kd_prices.proofs.Prelude.{length-take, proving_cards_are_shortest, subst, sym, take, take-append-drop, ◌++◌}
+use Rattle.kd_prices.proofs.Prelude.{Leads, RestIsShortest, length-append, proving_cards_are_shortest, take-append-drop}
+use Rattle.kd_prices.proofs.Prelude.{arith, drop, leads_join, length-drop, length-take, subst, sym, take, ◌++◌}
 
 pub rest_is_shortest : RestIsShortest
 rest_is_shortest m between s settings prices lines machine legal are_prices proves within leads =

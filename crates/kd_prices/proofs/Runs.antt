@@ -1,16 +1,14 @@
 -- Sorted keys with their prices are grouped into kinds. Valid kinds determine the price of each key.
-use Rattle.kd_card.specs.Kinds.{KeyComesBefore}
-use Rattle.std.proofs.lemmas.Cmp.{nat_list_cmp_total}
-use Rattle.std.proofs.{Common.add-one, lemmas.List.{get_or-replicate, replicate_more, Elements.Contains-append_cases}}
+use Rattle.{kd_card.specs.Kinds.KeyComesBefore, std.proofs.{Common.add-one, lemmas.Cmp.nat_list_cmp_total}}
+use Rattle.kd_prices.proofs.Prelude.{All, All-contains, All-permutation, All-replicate, IsPermutation, length-replicate}
+use Rattle.kd_prices.proofs.Prelude.{All-append, All-weaker, AreKindsOf, CanBeKinds, KindFormat, expansion, true≢false}
+use Rattle.kd_prices.proofs.Prelude.{All-contains_itself, Contains-permutation, HaveOnePriceEach, IsPermutation-sym, []}
+use Rattle.kd_prices.proofs.Prelude.{All-head, All-nil, All-tail, AreKinds, Contains, Greater, Ordering, map, replicate}
+use Rattle.kd_prices.proofs.Prelude.{AppendsKinds, IsTotalOrder, append_assoc, common_steps, kind_of_one, tied_itself}
+use Rattle.kd_prices.proofs.Prelude.{Equal, IsFine, IsKind, KindOf, Less, List, None, Option, arith, false, length, suc}
+use Rattle.kd_prices.proofs.Prelude.{Some, ap, refl, zip, ℤ, ◌++◌, ◌+◌, ◌↔◌, ◌∙◌, ◌∷◌, ◌≡◌, ◌≢◌, ◌≤◌, ◌⊎◌}
+use Rattle.std.proofs.lemmas.List.{get_or-replicate, replicate_more, Elements.Contains-append_cases}
 use Rattle.std.specs.{List.{refill, Sorted.IsSorted}, Ordering.{int_cmp, is_lt, ordering_reverse, ordering_then}}
-use Rattle.kd_prices.proofs.Prelude.{All, All-append, All-contains, All-contains_itself, All-head, All-nil}
-use Rattle.kd_prices.proofs.Prelude.{All-permutation, All-replicate, All-tail, All-weaker, AppendsKinds, AreKinds}
-use Rattle.kd_prices.proofs.Prelude.{AreKindsOf, CanBeKinds, Contains, Contains-permutation, Equal, Greater}
-use Rattle.kd_prices.proofs.Prelude.{HaveOnePriceEach, IsFine, IsKind, IsPermutation, IsPermutation-sym, IsTotalOrder}
-use Rattle.kd_prices.proofs.Prelude.{KindOf, Less, List, None, Option, Ordering, Some, KindFormat, [], ap, append_assoc}
-use Rattle.kd_prices.proofs.Prelude.{arith, common_steps, expansion, false, inl, inr, kind_of_one, length}
-use Rattle.kd_prices.proofs.Prelude.{length-replicate, map, refl, replicate, suc, sym, tied_itself, true≢false, zip, ℤ}
-use Rattle.kd_prices.proofs.Prelude.{◌++◌, ◌+◌, ◌↔◌, ◌∙◌, ◌∷◌, ◌≡◌, ◌≢◌, ◌≤◌, ◌⊎◌}
 
 -- ---- grouping
 
@@ -113,17 +111,16 @@ module _ {K X : Type 0} (format : KindFormat K X) where
       → KeyComesBefore format x z
   comes_before-trans x y z = nat_list_cmp_total.trans (format.order x) (format.order y) (format.order z)
 
+  abbrev After : K → X × ℤ → Type 0
+  After last z = KeyComesBefore format (format.kind last).key z.0
+
   behind : (last : K) (kinds : List K) → AreKinds format (Some last) kinds
-      → All (λ (z : X × ℤ). KeyComesBefore format (format.kind last).key z.0) (expansion (map format.kind kinds))
-  behind last [] are = All-nil (λ (z : X × ℤ). KeyComesBefore format (format.kind last).key z.0)
+      → All (After last) (expansion (map format.kind kinds))
+  behind last [] are = All-nil (After last)
   behind last (kind ∷ kinds) are =
-      let k = format.kind kind in
-      let After : X → X × ℤ → Type 0 = λ x z. KeyComesBefore format x z.0 in
-      let x = (format.kind last).key in
       let rest = expansion (map format.kind kinds) in
-      All-append (After x) (replicate k.count (k.key, k.price)) rest
-      (All-replicate (After x) k.count (k.key, k.price) are.1)
-      (All-weaker (After k.key) (After x) (λ z. comes_before-trans x k.key z.0 are.1) rest (behind kind kinds are.2))
+      All-append (After last) _ rest (All-replicate (After last) _ _ are.1)
+      (All-weaker (After kind) (After last) (λ z. comes_before-trans _ _ z.0 are.1) rest (behind kind kinds are.2))
 
   first_or_later : (last : Option K) (kind : K) (kinds : List K) (z : X × ℤ) → AreKinds format last (kind ∷ kinds)
       → Contains (expansion (map format.kind (kind ∷ kinds))) z
@@ -131,35 +128,26 @@ module _ {K X : Type 0} (format : KindFormat K X) where
       ⊎ (KeyComesBefore format (format.kind kind).key z.0 × Contains (expansion (map format.kind kinds)) z)
   first_or_later last kind kinds z are has =
       let k = format.kind kind in
-      let pair : X × ℤ = (k.key, k.price) in
       let rest = expansion (map format.kind kinds) in
-      elim (Contains-append_cases (replicate k.count pair) rest z has) [
-        | inl here ↦
-            let inside = here.1 in
-            inl (sym here.2 ∙ get_or-replicate k.count here.0 pair z
-            (omega (arith, inside, length-replicate k.count pair)))
-        | inr there ↦
-            inr (
-              All-contains (λ (z : X × ℤ). KeyComesBefore format k.key z.0) rest z (behind kind kinds are.2) there,
-              there,
-            )
-      ]
+      grind (
+        arith,
+        get_or-replicate,
+        length-replicate,
+        Contains-append_cases (replicate k.count (k.key, k.price)) rest z has,
+        All-contains (After kind) rest z (behind kind kinds are.2),
+      )
 
   pub one_price : (last : Option K) (kinds : List K) → AreKinds format last kinds
       → HaveOnePriceEach (expansion (map format.kind kinds))
   one_price last [] are x price other one two = absurd (omega (arith, one.1))
   one_price last (kind ∷ kinds) are x price other one two =
-      let key = (format.kind kind).key in
-      elim (first_or_later last kind kinds (x, price) are one) [
-        | inl here ↦ elim (first_or_later last kind kinds (x, other) are two) [
-          | inl same ↦ ap (λ (z : X × ℤ). z.1) (here ∙ sym same)
-          | inr far ↦ absurd (not_before_itself key (rw (ap (λ (z : X × ℤ). z.0) here) at far.0))
-        ]
-        | inr there ↦ elim (first_or_later last kind kinds (x, other) are two) [
-          | inl same ↦ absurd (not_before_itself key (rw (ap (λ (z : X × ℤ). z.0) same) at there.0))
-          | inr far ↦ one_price (Some kind) kinds are.2 x price other there.1 far.1
-        ]
-      ]
+      grind (
+        arith,
+        not_before_itself,
+        first_or_later last kind kinds (x, price) are one,
+        first_or_later last kind kinds (x, other) are two,
+        one_price (Some kind) kinds are.2 x price other,
+      )
 
 same_prices : {X : Type 0} (all : List (X × ℤ)) → HaveOnePriceEach all → (keys : List X) (prices others : List ℤ)
     → length prices ≡ length keys → length others ≡ length keys → All (Contains all) (zip keys prices)

@@ -1,32 +1,25 @@
 -- Keys are taken out of kinds, one by one. If all can be taken, the kinds' prices are the prices of the keys.
-use Rattle.kd_card.specs.Kinds.{counted}
-use Rattle.kd_prices.specs.Grouping.{HasNoneLeft, HaveKeys, TakesAll, TakesOne}
-use Rattle.std.proofs.lemmas.List.Folds.{sum_by-replicate}
-use Rattle.std.proofs.lemmas.List.Sorted.{IsPermutation-append_right, IsPermutation-cons, IsPermutation-middle}
-use Rattle.std.proofs.lemmas.List.Sorted.{IsPermutation-refl, IsPermutation-trans, sum_by-IsPermutation}
-use Rattle.std.proofs.lemmas.List.Sums.{sum_by-append, sum_by-cons}
-use Rattle.std.specs.{Bool.then_some, List.sum_by, Ordering.is_eq, Prelude.{if◌then◌else◌}}
+use Rattle.{kd_card.specs.Kinds.counted, kd_prices.specs.Grouping.{HasNoneLeft, HaveKeys, TakesAll, TakesOne}}
+use Rattle.kd_prices.proofs.Prelude.{All, [], ap, map, set, suc, sym, zip, ℕ, ℤ, ◌-◌, ◌<◌, ◌↔◌, ◌∙◌, ◌∷◌, ◌≡◌, ◌≤◌}
+use Rattle.kd_prices.proofs.Prelude.{All-append, AreKindsOf, Bool, MatchOption, common_steps, tied_itself, unsigned_abs}
+use Rattle.kd_prices.proofs.Prelude.{All-nil, ArePricesInRange, IsPermutation-sym, length-replicate, length_permutation}
+use Rattle.kd_prices.proofs.Prelude.{All-permutation, All-replicate, IsPermutation, IsTotalOrder, KindOf, length-append}
+use Rattle.kd_prices.proofs.Prelude.{AreKinds, KindFormat, List, Ordering, append-nil, expansion, length-zip, replicate}
+use Rattle.kd_prices.proofs.Prelude.{Equal, IsGroup, None, Option, Some, arith, false, length, refl, subst, true, ◌++◌}
+use Rattle.std.proofs.lemmas.List.{Folds.{fold-map, sum_by-replicate}, Sums.{sum_by-append, sum_by-cons}}
+use Rattle.std.proofs.lemmas.List.Sorted.{IsPermutation-append_right, IsPermutation-middle, sum_by-IsPermutation}
+use Rattle.std.proofs.lemmas.List.Sorted.{IsPermutation-cons, IsPermutation-refl, IsPermutation-trans}
+use Rattle.std.proofs.lemmas.{List.{nil_from_length, Elements.All-map}, Slice.Zip.{firsts-zip, seconds-zip}}
+use Rattle.std.specs.{Bool.then_some, Cmp.Equal-is, List.sum_by, Ordering.is_eq, Prelude.if◌then◌else◌}
 use borrow.Rule.Slice.PartMut.{put_mid}
-use Rattle.kd_prices.proofs.Prelude.{All, All-append, All-cons, All-head, All-nil, All-permutation, All-replicate}
-use Rattle.kd_prices.proofs.Prelude.{All-tail, AreKinds, AreKindsOf, ArePricesInRange, Bool, Equal, Greater, IsGroup}
-use Rattle.kd_prices.proofs.Prelude.{IsPermutation, IsPermutation-sym, IsTotalOrder, KindOf, Less, List, MatchOption}
-use Rattle.kd_prices.proofs.Prelude.{None, Option, Ordering, Some, KindFormat, [], ap, append-nil, arith, common_steps}
-use Rattle.kd_prices.proofs.Prelude.{expansion, false, length, length-append, length-replicate, length-zip}
-use Rattle.kd_prices.proofs.Prelude.{length_permutation, map, refl, replicate, set, subst, suc, sym, tied_itself, true}
-use Rattle.kd_prices.proofs.Prelude.{true≢false, unsigned_abs, zip, ℕ, ℤ, ◌++◌, ◌-◌, ◌<◌, ◌↔◌, ◌∙◌, ◌∷◌, ◌≡◌, ◌≤◌}
 
 -- ---- equal keys
-
-is_equal : (o : Ordering) → is_eq o ≡ true → o ≡ Equal
-is_equal Less e = absurd (true≢false (sym e))
-is_equal Equal e = refl
-is_equal Greater e = absurd (true≢false (sym e))
 
 pub eq_decides : {X : Type 0} (cmp : X → X → Ordering) → IsTotalOrder cmp → (eq : X → X → Bool)
     → ((x y : X) → eq x y ≡ is_eq (cmp x y)) → ((x y : X) → cmp x y ≡ Equal → x ≡ y) → (x y : X)
     → (eq x y ≡ true) ↔ (x ≡ y)
 eq_decides cmp order eq matches told x y = (
-  λ same. told x y (is_equal (cmp x y) (sym (matches x y) ∙ same)),
+  λ same. told x y ((Equal-is (cmp x y)).0 (sym (matches x y) ∙ same)),
   λ same. rw same (matches y y ∙ ap is_eq (tied_itself order y)),
 )
 
@@ -57,16 +50,10 @@ module _ {X : Type 0} (key : X) (kind : KindOf X) (kinds : List (KindOf X)) wher
   takes_later eq None left other none = none_in_first eq (eq kind.key key) refl other none
   takes_later eq (Some price) left other takes =
       let run = replicate kind.count (kind.key, kind.price) in
-      let taken : List (X × ℤ) = (key, price) ∷ expansion left in
-      IsPermutation-trans (run ++ expansion kinds) (run ++ taken) ((key, price) ∷ (run ++ expansion left))
-      (IsPermutation-append_right run (expansion kinds) taken takes)
+      IsPermutation-trans (run ++ expansion kinds) _ _ (IsPermutation-append_right run _ _ takes)
       (IsPermutation-middle run (key, price) (expansion left))
 
 -- ---- all keys
-
-pub no_item : {X : Type 0} (xs : List X) → length xs ≡ 0 → xs ≡ []
-no_item [] none = refl
-no_item (x ∷ xs) none = absurd (omega arith)
 
 pub put_rest : (xs ys : List ℤ) (x : ℤ) → 0 < length xs
     → put_mid 1 (length (set xs 0 x) - 1) (set xs 0 x) ys ≡ x ∷ ys
@@ -82,10 +69,7 @@ module _ {X : Type 0} (eq : X → X → Bool) (kinds : List (KindOf X)) (key : X
       → TakesOne kinds key price new → TakesAll eq new keys prices left done
       → TakesAll eq kinds (key ∷ keys) (price ∷ prices) left done
   takes_more price prices new left true one all =
-      let pair : X × ℤ = (key, price) in
-      let rest = zip keys prices ++ expansion left in
-      IsPermutation-trans (expansion kinds) (pair ∷ expansion new) (pair ∷ rest) one
-      (IsPermutation-cons pair (expansion new) rest all)
+      IsPermutation-trans (expansion kinds) _ _ one (IsPermutation-cons (key, price) (expansion new) _ all)
   takes_more price prices new left false one none = λ have. none (λ other.
       let f : X × ℤ → ℕ = λ z. once (eq z.0 other) in
       omega (
@@ -100,23 +84,11 @@ module _ {X : Type 0} (eq : X → X → Bool) (kinds : List (KindOf X)) (key : X
 
 counted_beside : {X : Type 0} (f : X → ℕ) (keys : List X) (prices : List ℤ) → length prices ≡ length keys
     → sum_by (λ (z : X × ℤ). f z.0) (zip keys prices) ≡ sum_by f keys
-counted_beside f [] prices same = refl
-counted_beside f (t ∷ keys) [] same = absurd (omega arith)
-counted_beside {X} f (t ∷ keys) (q ∷ prices) same =
-    let rest = counted_beside f keys prices (omega arith) in
-    omega (arith, sum_by-cons (λ (z : X × ℤ). f z.0) (t, q) (zip keys prices), sum_by-cons f t keys, rest)
+counted_beside {X} f keys prices same =
+    sym (fold-map _ (λ (z : X × ℤ). z.0) 0 (zip keys prices)) ∙ ap (sum_by f) (firsts-zip keys prices same)
 
 abbrev IsNear : {X : Type 0} → X × ℤ → Type 0
 IsNear z = unsigned_abs z.1 ≤ 9999
-
-near_prices : {X : Type 0} (keys : List X) (prices : List ℤ) → length prices ≡ length keys
-    → All (λ (z : X × ℤ). IsNear z) (zip keys prices) → ArePricesInRange prices
-near_prices keys [] same all = All-nil (λ price. unsigned_abs price ≤ 9999)
-near_prices [] (q ∷ prices) same all = absurd (omega arith)
-near_prices {X} (x ∷ keys) (q ∷ prices) same all =
-    All-cons (λ price. unsigned_abs price ≤ 9999) q prices
-    (All-head (λ (z : X × ℤ). IsNear z) (x, q) (zip keys prices) all)
-    (near_prices keys prices (omega arith) (All-tail (λ (z : X × ℤ). IsNear z) (x, q) (zip keys prices) all))
 
 module _ {K X : Type 0} (format : KindFormat K X) where
   pub size : (kinds : List K) → length (expansion (map format.kind kinds)) ≡ counted format kinds
@@ -127,10 +99,7 @@ module _ {K X : Type 0} (format : KindFormat K X) where
       → All (λ (z : X × ℤ). IsNear z) (expansion (map format.kind kinds))
   all_near last [] are = All-nil (λ (z : X × ℤ). IsNear z)
   all_near last (kind ∷ kinds) are =
-      let k = format.kind kind in
-      All-append (λ (z : X × ℤ). IsNear z) (replicate k.count (k.key, k.price)) (expansion (map format.kind kinds))
-      (All-replicate (λ (z : X × ℤ). IsNear z) k.count (k.key, k.price) are.0.reach)
-      (all_near (Some kind) kinds are.2)
+      grind (arith, common_steps, All-append, All-replicate, are.0.reach, all_near (Some kind) kinds are.2)
 
   pub prices_taken : (eq : X → X → Bool) (kinds : List K) (keys : List X) (prices : List ℤ) (left : List (KindOf X))
       → IsGroup format (length keys) kinds → length prices ≡ length keys
@@ -142,11 +111,11 @@ module _ {K X : Type 0} (format : KindFormat K X) where
       let all = expansion (map format.kind kinds) in
       let lengths = length_permutation all (pairs ++ expansion left) moved in
       let same = length-append pairs (expansion left) in
-      let none = no_item (expansion left) (omega (arith, size kinds, length-zip keys prices, group.count)) in
+      let none = nil_from_length (expansion left) (omega (arith, size kinds, length-zip keys prices, group.count)) in
       let kept = rw (none, append-nil) at moved in (
         record { number = number; expand = IsPermutation-sym all pairs kept },
-        near_prices keys prices number
-            (All-permutation (λ (z : X × ℤ). IsNear z) all pairs kept (all_near None kinds group.in_order)),
+        subst ArePricesInRange (seconds-zip keys prices number) (All-map (λ price. unsigned_abs price ≤ 9999) (λ z. z.1)
+            pairs (All-permutation (λ (z : X × ℤ). IsNear z) all pairs kept (all_near None kinds group.in_order))),
       )
   prices_taken eq kinds keys prices left group number false none = λ others are.
       none (λ key.

@@ -53,7 +53,6 @@ fn first_doubt(machine: &Machine, day: &SheetDay, card: &Card) -> Result<(), Dou
 }
 
 /// Finds the price of each cable and each column: its own price, or the price of its kind.
-#[tactic(auto, using(kd_card::proofs::KindPrices::cables_are_prices))]
 fn cable_prices(
     parts: &RotorParts,
     entry: &RotorEntry,
@@ -76,7 +75,6 @@ fn cable_prices(
 }
 
 /// Finds the price of each bar and each row of the sheet: its own price, or the price of its kind.
-#[tactic(auto, using(kd_card::proofs::KindPrices::bars_are_prices))]
 fn bar_prices(
     parts: &PinParts,
     entry: &PinEntry,
@@ -118,22 +116,12 @@ fn doubt_by_prices<const N: usize>(
     if !carried.reached.reads_as(day) {
         return Err(Doubt::NotTheSheet);
     }
-    if let Some(cell) = first_too_high(costs, rows, columns) {
-        return Err(Doubt::PriceTooHigh(cell.row as u8 + 1, cell.column as u8 + 1));
+    if let Some((row, column)) = first_too_high(costs, rows, columns) {
+        return Err(Doubt::PriceTooHigh(row as u8 + 1, column as u8 + 1));
     }
-    if sum_of_prices(rows, columns) != priced_count(settings) as i32 {
+    let priced = settings.iter().filter(|x| is_priced_setting(x)).count();
+    if sum_of_prices(rows, columns) != priced as i32 {
         return Err(Doubt::SumDiffers);
     }
     carried.needed
-}
-
-/// Counts the settings that change a cable or a bar.
-fn priced_count(settings: &[Setting]) -> usize
-    ensures value { result ≡ priced_count settings.now }
-    ensures few { result ≤ length settings.now }
-{
-    settings
-        .iter()
-        .filter(|setting| is_priced_setting(setting))
-        .count()
 }

@@ -1,7 +1,6 @@
 //! Finds the price of each cable, column, bar or row on a card where each kind has one price.
 ghost use Rattle.std.specs.Prelude.{◌≡◌, ◌↔◌, ◌<◌, ◌≤◌, length, map, ℤ, List, true, IsTrue, MatchOption};
-ghost use Rattle.kd_card.specs.Kinds.{AreKindsOf};
-ghost use Rattle.kd_card.specs.CardText.{IsGroup};
+ghost use Rattle.kd_card.specs.Kinds.{AreKindsOf, IsGroup};
 ghost use Rattle.kd_card.specs.Prices.{ArePricesInRange};
 ghost use Rattle.kd_prices.specs.Grouping.{HasNoneLeft, TakesOne, TakesAll};
 

@@ -3,28 +3,23 @@ ghost use Rattle.std.specs.Prelude.{◌≡◌, ◌↔◌, ℕ, ◌<◌, length, 
 ghost use Rattle.kd_prices.specs.Doubt.{IsFirstWithout};
 ghost use Rattle.kd_prices.specs.Fitting.{ListsFitAt, FitsAtColumn, IsFirstPlaceWithout};
 
-/// A cell of a table of costs: its row and its column, counted from 0.
-#[derive(Clone, Copy)]
-pub(crate) struct Cell {
-    pub row: usize,
-    pub column: usize,
-}
-
 /// Finds the first cell, row by row, where the prices of row and column add up to more than the cell's cost.
+///
+/// The cell's row and column are counted from 0.
 pub(crate) fn first_too_high<const N: usize>(
     costs: &[[u8; N]; N],
     rows: &[i16],
     columns: &[i16],
-) -> Option<Cell>
+) -> Option<(usize, usize)>
     requires rows { length rows.now ≡ N }
     requires columns { length columns.now ≡ N }
     ensures { MatchOption result
         ((i j : ℕ) → i < N → j < N → ListsFitAt costs.now rows.now columns.now i j)
-        (λ cell. IsFirstWithout (ListsFitAt costs.now rows.now columns.now) N cell.row cell.column) }
+        (λ cell. IsFirstWithout (ListsFitAt costs.now rows.now columns.now) N cell.0 cell.1) }
 {
     for (row, price) in rows.iter().enumerate() {
         if let Some(column) = first_column_too_high(&costs[row], *price, columns) {
-            return Some(Cell { row, column });
+            return Some((row, column));
         }
     }
     None

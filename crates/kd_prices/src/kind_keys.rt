@@ -1,6 +1,6 @@
 //! Converts cables and columns to `Ends` and `Column`, which are sorted like a card's lines.
 ghost use Rattle.std.specs.Prelude.{◌≡◌, ◌+◌, ◌++◌, ◌≤◌, length, zip};
-ghost use Rattle.kd_card.specs.Proving.{columns_in_order, pair_in_order};
+ghost use Rattle.kd_card.specs.Proving.{columns_in_order};
 
 use arrayvec::ArrayVec;
 use kd_card::{Column, Ends, KindKey};
@@ -27,17 +27,10 @@ pub(crate) fn columns_of(pairs: &[(Letter, Letter)]) -> ArrayVec<Column, 13>
 {
     let mut columns = ArrayVec::new();
     for place in 0..13 {
-        columns.push(Column::new(in_order(column_at(pairs, place))));
+        let pair = column_at(pairs, place).map(|(one, other)| letters_in_order(one, other));
+        columns.push(Column::new(pair));
     }
     columns
-}
-
-/// `pair` with its letters in alphabetical order, or `None` if `pair` is `None`.
-fn in_order(pair: Option<(Letter, Letter)>) -> Option<(Letter, Letter)>
-    ensures { result ≡ pair_in_order pair }
-{
-    let (one, other) = pair?;
-    Some(letters_in_order(one, other))
 }
 
 /// Pairs each key in `keys` with the price at the same place in `prices`.

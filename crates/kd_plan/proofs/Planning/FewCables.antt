@@ -33,15 +33,6 @@ put_within number m s none few (suc place) letter within h =
       | inr fits ↦ omega arith
     ]
 
--- A legal PUT names a cable that exists. A legal PULL names one that is in use.
-put_there : (m : RotorParts) (cable letter : ℕ) → why_refused (Rotor m) (Put cable letter) ≡ None
-    → is_none (numbered_item m.cables cable) ≡ false
-put_there m cable letter h = grind arith
-
-pull_there : (m : RotorParts) (cable letter : ℕ) → why_refused (Rotor m) (Pull cable letter) ≡ None
-    → (is_none (numbered_item m.cables cable) ≡ false) × (has_letter (cable_letters (cable_at m cable)) letter ≡ true)
-pull_there m cable letter h = (grind arith, grind arith)
-
 in_use : (cable : Cable) (letter : ℕ) → has_letter (cable_letters cable) letter ≡ true → is_spare cable ≡ false
 in_use (None, None) letter h = absurd (cc)
 in_use _ letter h = refl
@@ -76,19 +67,19 @@ one_step : (number : ℕ) (start : Parts) (s : Day) (m : Parts) (x : Setting) (s
     → SparesStayFree start s (x ∷ settings) → why_refused m x ≡ None
     → NamesNoneAbove number x × HasFewInUse number start (machine_after m x)
 one_step number (Rotor start) (OfRotors s) (Rotor m) (Put cable letter) settings none few now free allowed =
-    let there = put_there m cable letter allowed in
+    let there : is_none (numbered_item m.cables cable) ≡ false = grind arith in
     let last = (IsNumbered-not_none m.cables cable (None, None) there).last in
     let within =
     put_within number start s none few cable letter (omega (arith, last, now.0)) (free cable letter (0, omega arith, refl)) in
     (within, (rw length-set now.0, set_within number m cable _ now.1 within there))
 one_step number (Rotor start) s (Rotor m) (Pull cable letter) settings none few now free allowed =
-    let there = pull_there m cable letter allowed in
-    let used = in_use (cable_at m cable) letter there.1 in
+    let there : is_none (numbered_item m.cables cable) ≡ false = grind arith in
+    let used = in_use (cable_at m cable) letter (grind arith) in
     let within : cable ≤ number = elim (cases_lt number cable) [
       | inl above ↦ let spare = now.1 cable above in absurd (cc)
       | inr fits ↦ omega arith
     ] in
-    (within, (rw length-set now.0, set_within number m cable _ now.1 within there.0))
+    (within, (rw length-set now.0, set_within number m cable _ now.1 within there))
 one_step number (Rotor start) (OfPins s) (Rotor m) (Put cable letter) settings none few now free allowed = absurd free
 one_step number (Rotor start) s (Rotor m) x settings none few now free allowed = (tt, now)
 one_step number (Pin start) s (Pin m) (Put cable letter) settings none few now free allowed = absurd (cc)

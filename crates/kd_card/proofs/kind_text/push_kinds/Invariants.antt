@@ -1,4 +1,6 @@
-use Rattle.kd_card.proofs.Prelude.{◌≡◌, ◌+◌, ◌*◌, ◌≤◌, ◌++◌, take, array_string_len, kinds_text}
+use Rattle.arrayvec.specs.ArrayString.{array_string_len}
+use Rattle.kd_card.specs.Kinds.{kinds_text}
+use Rattle.std.proofs.Common.{◌≡◌, ◌+◌, ◌*◌, ◌≤◌, ◌++◌, take}
 use Rattle.kd_card.proofs.kind_text.push_kinds.Given as goal
 
 abbrev pub invariant-loop-kind : goal.invariant-loop-kind

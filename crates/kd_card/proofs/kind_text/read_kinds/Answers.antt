@@ -1,6 +1,5 @@
-use Rattle.kd_card.proofs.Prelude.{KindOf, arith, ◌∙◌, refl, ap, BadLine, PriceMissing, HasFault, GoesOn, Ok, counted}
-use Rattle.kd_card.proofs.Prelude.{◌≡◌}
-use Rattle.kd_card.proofs.KindPrices.{all_read, reads_on}
+use Rattle.kd_card.proofs.OneCard.{KindOf, arith, ◌∙◌, refl, ap, BadLine, PriceMissing, HasFault, GoesOn, Ok, counted}
+use Rattle.kd_card.proofs.OneCard.{◌≡◌, all_read, reads_on}
 use Rattle.kd_card.proofs.kind_text.read_kinds.Goals as goal
 
 pub returns-in-Err : goal.returns-in-Err
@@ -15,7 +14,7 @@ kind-preserved g c =
     let next = rw c.in-Ok-Some.field-0-is at c.in-Ok-Some.ensures in
     reads_on c.kind.invariant next (omega
     (arith, c.min-number.ensures, c.from.ensures, ap (λ (k : KindOf _). k.count) c.parts.ensures))
-    c.push_if_room.ensures
+    (λ within. grind (arith, c.try_push.ensures.variant.1 within))
 
 pub returns-then-number : goal.returns-then-number
 returns-then-number g c =

@@ -1,4 +1,4 @@
-use Rattle.kd_card.proofs.{Prelude.length, KindPrices.HasRead}
+use Rattle.kd_card.proofs.OneCard.{length, HasRead}
 use Rattle.kd_card.proofs.kind_text.read_kinds.Given as goal
 
 abbrev pub invariant-kind : goal.invariant-kind

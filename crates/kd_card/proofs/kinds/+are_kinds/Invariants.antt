@@ -1,4 +1,4 @@
-use Rattle.kd_card.proofs.Prelude.{length}
+use Rattle.std.proofs.Common.{length}
 use Rattle.kd_card.proofs.kinds.+are_kinds.Given as goal
 
 abbrev pub decreases-are_kinds : goal.decreases-are_kinds

@@ -1,5 +1,4 @@
-use Rattle.kd_card.proofs.Prelude.{KindOf, arith, ap, take, length}
-use Rattle.kd_card.proofs.KindPrices.{counted_within, length_of_kinds}
+use Rattle.kd_card.proofs.OneCard.{KindOf, arith, ap, take, length, counted_within, kind_price_list, refl, length_of_kinds}
 use Rattle.kd_card.proofs.kinds.prices_of_kinds.Goals as goal
 
 pub push_prices-requires : goal.push_prices-requires
@@ -12,8 +11,10 @@ push_prices-requires g c =
       arith,
       within,
       length_of_kinds format (take at kinds),
-      length_of_kinds format kinds,
       ap length c.loop-kind.invariant,
       ap (λ (k : KindOf _). k.count) c.parts.ensures,
-      c.requires,
+      c.requires.few,
     )
+
+pub returns-clause-list : goal.returns-clause-list
+returns-clause-list g c = kind_price_list _ _ _ (record { in_order = c.requires.kinds; count = refl })

@@ -1,4 +1,4 @@
-use Rattle.kd_card.proofs.Prelude.{◌≡◌, take, prices_of_kinds}
+use Rattle.kd_card.proofs.OneCard.{◌≡◌, take, prices_of_kinds}
 use Rattle.kd_card.proofs.kinds.prices_of_kinds.Given as goal
 
 abbrev pub invariant-loop-kind : goal.invariant-loop-kind

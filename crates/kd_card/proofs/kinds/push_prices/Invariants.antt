@@ -1,4 +1,4 @@
-use Rattle.kd_card.proofs.Prelude.{◌≡◌, ◌++◌, replicate}
+use Rattle.std.proofs.Common.{◌≡◌, ◌++◌, replicate}
 use Rattle.kd_card.proofs.kinds.push_prices.Given as goal
 
 abbrev pub invariant-loop : goal.invariant-loop

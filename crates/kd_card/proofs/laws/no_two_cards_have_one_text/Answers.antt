@@ -1,5 +1,4 @@
-use Rattle.kd_card.proofs.Prelude.{rules}
-use Rattle.kd_card.proofs.OneCard.{texts_tell_cards, no_card_begins_another, cards_are_said, cards_have_no_fault}
+use Rattle.kd_card.proofs.OneCard.{rules, texts_tell_cards, no_card_begins_another, cards_are_said, cards_have_no_fault}
 use Rattle.kd_card.proofs.OneCard.{one_card_fault}
 use Rattle.kd_card.proofs.laws.no_two_cards_have_one_text.Goals as goal
 

@@ -1,4 +1,4 @@
-use Rattle.kd_card.proofs.{Prelude.rules, Shortest.proving_cards_are_shortest}
+use Rattle.kd_card.proofs.Months.{rules, proving_cards_are_shortest}
 use Rattle.kd_card.proofs.laws.proving_cards_are_shortest.Goals as goal
 
 pub returns : goal.returns

@@ -1,5 +1,6 @@
-use Rattle.std.proofs.lemmas.Iterator.{Splits.YieldsList-from_slice_split, Search.true_from_All, cases_from_all}
-use Rattle.kd_card.proofs.{Prelude.{rules, arith, eqb, IsPriceText}, Lines.tells_price}
+use Rattle.kd_card.proofs.OneCard.{rules, arith, eqb, IsPriceText, tells_price}
+use Rattle.std.proofs.lemmas.{Iterator.Splits.YieldsList-from_slice_split, Iterator.Search.true_from_All}
+use Rattle.std.proofs.lemmas.Iterator.{cases_from_all}
 use borrow.Author.Tests.{tests}
 use Rattle.kd_card.proofs.price_text.are_prices.Goals as goal
 

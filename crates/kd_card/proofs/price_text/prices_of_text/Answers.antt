@@ -1,5 +1,5 @@
-use Rattle.kd_card.proofs.Prelude.{◌∙◌, Bor, List, ℕ, map, ap, sym, refl, arith, GoesOn, rules}
-use Rattle.kd_card.proofs.Lines.{other_count, too_many, no_prices}
+use Rattle.kd_card.proofs.OneCard.{◌∙◌, Bor, List, ℕ, map, ap, sym, refl, arith, GoesOn, rules, other_count, too_many}
+use Rattle.kd_card.proofs.OneCard.{no_prices}
 use Rattle.kd_card.proofs.price_text.prices_of_text.Goals as goal
 
 pub returns-then-are_prices : goal.returns-then-are_prices

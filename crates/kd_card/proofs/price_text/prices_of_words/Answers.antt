@@ -1,4 +1,4 @@
-use Rattle.kd_card.proofs.{Prelude.arith, Lines.not_at}
+use Rattle.kd_card.proofs.OneCard.{arith, not_at}
 use Rattle.kd_card.proofs.price_text.prices_of_words.Goals as goal
 
 pub returns-in_err-price_of_text : goal.returns-in_err-price_of_text

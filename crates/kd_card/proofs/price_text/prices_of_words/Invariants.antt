@@ -1,4 +1,4 @@
-use Rattle.kd_card.proofs.Prelude.{◌≡◌, length, map, take, signed_decimal, ArePricesInRange}
+use Rattle.kd_card.proofs.OneCard.{◌≡◌, length, map, take, signed_decimal, ArePricesInRange}
 use Rattle.kd_card.proofs.price_text.prices_of_words.Given as goal
 
 abbrev pub invariant-loop-word : goal.invariant-loop-word

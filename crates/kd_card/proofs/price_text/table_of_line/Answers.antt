@@ -1,11 +1,28 @@
-use Rattle.kd_card.proofs.{Prelude.{refl, HasFault}, Lines.{MatchResult-err, first_found, other_first}}
+use Rattle.kd_card.proofs.OneCard.{◌∙◌, sym, refl, err_from_is_err_and, HasFault, GoesOn, OfCables, OfBars}
+use Rattle.kd_card.proofs.OneCard.{not_from_false}
 use Rattle.kd_card.proofs.price_text.table_of_line.Goals as goal
 
 pub returns-in_err-first : goal.returns-in_err-first
-returns-in_err-first c = MatchResult-err _ _ _ _ c.from_residual.ensures.1 (HasFault _ c.in_err-first.ensures refl)
+returns-in_err-first c =
+    let is = err_from_is_err_and c.from_residual.result c.from_residual.ensures.1 in
+    rw (is.1, is.2) (HasFault _ c.in_err-first.ensures refl)
 
-pub returns-in-Some : goal.returns-in-Some
-returns-in-Some c = first_found _ c.in-Some.table c.in_ok-first.ensures c.in-Some.ensures
+pub returns-then-is_word : goal.returns-then-is_word
+returns-then-is_word c =
+    GoesOn _ c.in_ok-first.ensures (c.is_word.ensures.0 c.if-is_word.true ∙ c.first_text.ensures)
 
-pub returns-in-None : goal.returns-in-None
-returns-in-None c = other_first _ c.in_ok-first.ensures c.in-None.ensures
+pub returns-then-is_word-2 : goal.returns-then-is_word-2
+returns-then-is_word-2 c =
+    GoesOn _ c.in_ok-first.ensures
+    (c.is_word-else-is_word.ensures.0 c.if-is_word-2.true ∙ c.first_text-else-is_word.ensures)
+
+pub returns-else-is_word-2 : goal.returns-else-is_word-2
+returns-else-is_word-2 c =
+    GoesOn _ c.in_ok-first.ensures (
+      elim [
+        | OfCables ↦ λ is. not_from_false c.is_word.ensures c.if-is_word.false (is ∙ sym c.first_text.ensures)
+        | OfBars ↦ λ is. not_from_false c.is_word-else-is_word.ensures c.if-is_word-2.false
+            (is ∙ sym c.first_text-else-is_word.ensures)
+      ],
+      refl,
+    )

@@ -1,4 +1,4 @@
-use Rattle.kd_card.proofs.Prelude.{◌≡◌, ◌+◌, ◌*◌, ◌≤◌, take, fold, unsigned_abs, ◌+ℤ◌}
+use Rattle.std.proofs.Common.{◌≡◌, ◌+◌, ◌*◌, ◌≤◌, take, fold, unsigned_abs, ◌+ℤ◌}
 use Rattle.kd_card.proofs.prices.sum_onto.Given as goal
 
 abbrev pub invariant-loop-price : goal.invariant-loop-price

@@ -1,6 +1,8 @@
-use Rattle.kd_card.proofs.Prelude.{rules, ◌∙◌, sym, refl, w32, eqb-true, to_z-of_z, nil_from_length, BadHead, TooMany}
-use Rattle.kd_card.proofs.Prelude.{Trailing, HasFault, GoesOn}
-use Rattle.kd_card.proofs.{Lines.{nonempty-by_length, MatchResult-err}, OneCard.{up_to_settings, card_said}}
+use Rattle.kd_card.proofs.OneCard.{rules, ◌∙◌, sym, refl, to_z-of_z, nil_from_length, Trailing, HasFault, GoesOn}
+use Rattle.kd_card.proofs.OneCard.{nonempty-by_length, MatchResult-err, up_to_settings, card_said}
+use Rattle.kd_card.specs.declared.fault.CardFault.TheVariants.{BadHead, TooMany}
+use Rattle.std.proofs.Common.{w32}
+use Rattle.std.proofs.lemmas.Bool.{eqb-true}
 use Rattle.kd_card.proofs.read.read_card.Goals as goal
 
 pub returns-in_default : goal.returns-in_default
@@ -14,29 +16,29 @@ pub returns-in_err-rest : goal.returns-in_err-rest
 returns-in_err-rest c =
     MatchResult-err _ _ _ _ c.from_residual.ensures.1
     (up_to_settings c.in-Some.ensures c.in-Some-split_settings.ensures c.len-count.ensures.value
-    (HasFault _ c.in_err-rest.ensures refl))
+    (HasFault _ (rw c.format.ensures.text at c.in_err-rest.ensures) refl))
 
 pub returns-in_err-prices : goal.returns-in_err-prices
 returns-in_err-prices c =
     MatchResult-err _ _ _ _ c.from_residual-in_err-prices.ensures.1
     (up_to_settings c.in-Some.ensures c.in-Some-split_settings.ensures c.len-count.ensures.value
-    (GoesOn _ c.in_ok-rest.ensures (HasFault _ c.in_err-prices.ensures refl)))
+    (GoesOn _ (rw c.format.ensures.text at c.in_ok-rest.ensures) (HasFault _ c.in_err-prices.ensures refl)))
 
 pub returns-in_err-rest-2 : goal.returns-in_err-rest-2
 returns-in_err-rest-2 c =
     let sum = to_z-of_z w32 c.sum.result (search rules) ∙ c.sum.ensures in
     MatchResult-err _ _ _ _ c.from_residual-in_err-rest-2.ensures.1
     (up_to_settings c.in-Some.ensures c.in-Some-split_settings.ensures c.len-count.ensures.value
-    (GoesOn _ c.in_ok-rest.ensures
-    (GoesOn _ c.in_ok-prices.ensures (HasFault _ (rw (sum, c.line_count.ensures.value) at c.in_err-rest-2.ensures)
+    (GoesOn _ (rw c.format.ensures.text at c.in_ok-rest.ensures)
+    (GoesOn _ c.in_ok-prices.ensures (HasFault _ (rw (c.format-2.ensures.text, sum, c.line_count.ensures.value) at c.in_err-rest-2.ensures)
     refl))))
 
 pub returns-then-not-is_empty : goal.returns-then-not-is_empty
 returns-then-not-is_empty c =
     let sum = to_z-of_z w32 c.sum.result (search rules) ∙ c.sum.ensures in
     up_to_settings c.in-Some.ensures c.in-Some-split_settings.ensures c.len-count.ensures.value
-    (GoesOn _ c.in_ok-rest.ensures (GoesOn _ c.in_ok-prices.ensures
-    (GoesOn c.in_ok-rest-2.rest.now (rw (sum, c.line_count.ensures.value) at c.in_ok-rest-2.ensures)
+    (GoesOn _ (rw c.format.ensures.text at c.in_ok-rest.ensures) (GoesOn _ c.in_ok-prices.ensures
+    (GoesOn c.in_ok-rest-2.rest.now (rw (c.format-2.ensures.text, sum, c.line_count.ensures.value) at c.in_ok-rest-2.ensures)
     (HasFault Trailing ((λ same. nonempty-by_length c.is_empty.ensures c.if-not-is_empty.true), refl) refl))))
 
 pub returns : goal.returns
@@ -44,7 +46,7 @@ returns c =
     let sum = to_z-of_z w32 c.sum.result (search rules) ∙ c.sum.ensures in
     card_said (c.in-Some.day, c.in-Some-split_settings.settings.items, c.in_ok-prices.prices)
     (up_to_settings c.in-Some.ensures c.in-Some-split_settings.ensures c.len-count.ensures.value
-    (GoesOn _ c.in_ok-rest.ensures (GoesOn _ c.in_ok-prices.ensures
-    (GoesOn c.in_ok-rest-2.rest.now (rw (sum, c.line_count.ensures.value) at c.in_ok-rest-2.ensures)
+    (GoesOn _ (rw c.format.ensures.text at c.in_ok-rest.ensures) (GoesOn _ c.in_ok-prices.ensures
+    (GoesOn c.in_ok-rest-2.rest.now (rw (c.format-2.ensures.text, sum, c.line_count.ensures.value) at c.in_ok-rest-2.ensures)
     (GoesOn tt (nil_from_length c.in_ok-rest-2.rest.now
     (eqb-true _ 0 (sym c.is_empty.ensures ∙ c.if-not-is_empty.false))) refl)))))

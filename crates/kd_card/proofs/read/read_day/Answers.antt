@@ -1,4 +1,4 @@
-use Rattle.kd_card.proofs.{Lines.{head_text, day_unbroken, same_values}, Prelude.{◌∷◌, ◌++◌, ◌∙◌, ap, decimal, sym}}
+use Rattle.kd_card.proofs.OneCard.{head_text, day_unbroken, same_values, ◌∷◌, ◌++◌, ◌∙◌, ap, decimal, sym}
 use Rattle.kd_card.proofs.read.read_day.Goals as goal
 
 pub returns-in_err-day : goal.returns-in_err-day

@@ -1,4 +1,4 @@
-use Rattle.kd_card.proofs.{Prelude.{refl, HasFault, GoesOn}, Lines.MatchResult-err}
+use Rattle.kd_card.proofs.OneCard.{refl, HasFault, GoesOn, MatchResult-err}
 use Rattle.kd_card.proofs.read.read_groups.Goals as goal
 
 pub returns-in_err-rows : goal.returns-in_err-rows

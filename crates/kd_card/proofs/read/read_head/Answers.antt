@@ -1,4 +1,4 @@
-use Rattle.kd_card.proofs.Prelude.{arith}
+use Rattle.std.proofs.Common.{arith}
 use Rattle.kd_card.proofs.read.read_head.Goals as goal
 
 pub returns-in_err-day : goal.returns-in_err-day

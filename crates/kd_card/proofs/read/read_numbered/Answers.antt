@@ -1,24 +1,19 @@
-use Rattle.kd_card.proofs.{Prelude.{refl, HasFault, GoesOn}, Lines.MatchResult-err}
+use Rattle.kd_card.proofs.OneCard.{refl, HasFault, GoesOn, MatchResult-err}
 use Rattle.kd_card.proofs.read.read_numbered.Goals as goal
-
-pub returns-in_err-table : goal.returns-in_err-table
-returns-in_err-table c =
-    MatchResult-err _ _ _ _ c.from_residual.ensures.1 (HasFault _ (HasFault _ c.in_err-table.ensures refl) refl)
 
 pub returns-in_err-rows : goal.returns-in_err-rows
 returns-in_err-rows c =
-    MatchResult-err _ _ _ _ c.from_residual-in_err-rows.ensures.1
-    (HasFault _ (GoesOn _ c.in_ok-table.ensures (HasFault _ (rw c.number-number.ensures at c.in_err-rows.ensures) refl))
-    refl)
+    MatchResult-err _ _ _ _ c.from_residual.ensures.1
+    (HasFault _ (rw (c.first_text-word.ensures, c.number-number.ensures) at c.in_err-rows.ensures) refl)
 
 pub returns-in_err-columns : goal.returns-in_err-columns
 returns-in_err-columns c =
     MatchResult-err _ _ _ _ c.from_residual-in_err-columns.ensures.1
-    (GoesOn _ (GoesOn _ c.in_ok-table.ensures (GoesOn _ (rw c.number-number.ensures at c.in_ok-rows.ensures) refl))
+    (GoesOn _ (rw (c.first_text-word.ensures, c.number-number.ensures) at c.in_ok-rows.ensures)
     (HasFault _ (rw (c.column_text.ensures, c.number-number.ensures) at c.in_err-columns.ensures) refl))
 
 pub returns : goal.returns
 returns c =
     rw (c.numbered-prices.ensures.value, c.as_slice.ensures.value, c.as_slice-2.ensures.value)
-    (GoesOn _ (GoesOn _ c.in_ok-table.ensures (GoesOn _ (rw c.number-number.ensures at c.in_ok-rows.ensures) refl))
+    (GoesOn _ (rw (c.first_text-word.ensures, c.number-number.ensures) at c.in_ok-rows.ensures)
     (GoesOn _ (rw (c.column_text.ensures, c.number-number.ensures) at c.in_ok-columns.ensures) refl))

@@ -1,5 +1,5 @@
-use Rattle.kd_card.proofs.Prelude.{◌∷◌, ◌++◌, ◌∙◌, refl, ap, subst, IsNumeral, HasFault, GoesOn}
-use Rattle.kd_card.proofs.Lines.{same_values, not_from_false, numeral_word, value_says}
+use Rattle.kd_card.proofs.OneCard.{◌∷◌, ◌++◌, ◌∙◌, refl, ap, subst, IsNumeral, HasFault, GoesOn, same_values}
+use Rattle.kd_card.proofs.OneCard.{not_from_false, numeral_word, value_says}
 use Rattle.kd_card.proofs.read.read_value.Goals as goal
 
 pub returns-in_default : goal.returns-in_default

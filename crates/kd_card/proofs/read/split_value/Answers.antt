@@ -1,5 +1,5 @@
+use Rattle.kd_card.proofs.OneCard.{◌∷◌, ◌++◌, ◌∙◌, None, Some, Decides-eqb, append_assoc, value_split}
 use Rattle.std.proofs.lemmas.Slice.Eq.{strip_prefix_is}
-use Rattle.kd_card.proofs.{Prelude.{◌∷◌, ◌++◌, ◌∙◌, None, Some, Decides-eqb, append_assoc}, Lines.value_split}
 use Rattle.kd_card.proofs.read.split_value.Goals as goal
 
 pub returns-in_err-behind : goal.returns-in_err-behind

@@ -1,4 +1,4 @@
-use Rattle.kd_card.proofs.Prelude.{length}
+use Rattle.std.proofs.Common.{length}
 use Rattle.kd_card.proofs.write.+push_settings.Given as goal
 
 abbrev pub decreases-push_settings : goal.decreases-push_settings

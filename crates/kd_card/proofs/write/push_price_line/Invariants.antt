@@ -1,4 +1,5 @@
-use Rattle.kd_card.proofs.{Prelude.{◌≡◌, ◌+◌, ◌*◌, ◌≤◌, ◌++◌, length, take, array_string_len}, Lines.behind_spaces}
+use Rattle.arrayvec.specs.ArrayString.{array_string_len}
+use Rattle.kd_card.proofs.OneCard.{◌≡◌, ◌+◌, ◌*◌, ◌≤◌, ◌++◌, length, take, behind_spaces}
 use Rattle.kd_card.proofs.write.push_price_line.Given as goal
 
 abbrev pub invariant-loop-price : goal.invariant-loop-price

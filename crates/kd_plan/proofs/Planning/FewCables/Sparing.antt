@@ -1,23 +1,20 @@
 -- The settings of an assignment in which spare cables come last leave spare cables free.
 pub mod Moving
 unfoldable pub use Moving.*
-pub use Rattle.kd_plan.specs.Spares.{SparesComeLast, SparesStayFree, comes_before, is_spare, is_spare_at}
-pub use Rattle.kd_plan.specs.FewCables.{FewCablesServe, HasPairsUpTo, NamesNoneAbove, UsesNoneAbove}
-pub use Rattle.kd_state.specs.{Setting.{Leads, cable_at, machine_after}, declared.setting.Setting.TheVariants.Pull}
-pub use Rattle.kd_state.specs.{Costs.costs_by, SameParts.numbered_item, SheetDay.{Day, IsLegalDay, day_model}}
-pub use Rattle.kd_state.specs.Machine.{model_of}
-pub use Rattle.kd_state.proofs.Slots.{IsNumbered-not_none, numbered_other}
-pub use Rattle.std.proofs.lemmas.List.{Elements.{All-append, All-cons, All-nil, filter_passes}, Folds.Any-from_list_any}
-pub use Rattle.std.proofs.lemmas.List.{get_or-set_other, length-replicate, Kept.AllPairs-filter, Sorted.All-permutation}
-pub use Rattle.std.proofs.lemmas.List.{get_or_default, length-append, length-set}
-pub use Rattle.std.proofs.lemmas.Map.Made.{AllPairs-from_IsDistinct, IsDistinct-from_AllPairs}
-pub use Rattle.std.proofs.lemmas.Map.{Keys.IsDistinct-IsPermutation, Steps.length-le_from_distinct_below}
-pub use Rattle.std.proofs.lemmas.Bool.{cases_eq, cases_lt, Decides.Decides-eqb}
-pub use Rattle.std.proofs.lemmas.Option.{slice_get_past, unwrap_or-slice_get}
-pub use Rattle.std.proofs.Common.{inl, inr}
-pub use Rattle.std.specs.{List.SwappedAt, Prelude.{IsTrue, is_none, take}}
 pub use Rattle.kd_assign.specs.{Assignment.{IsOneToOne, assignment_cost}, Prices.cost_at}
 pub use Rattle.kd_card.specs.{Loose.loose_lines, Proving.priced_count}
+pub use Rattle.kd_plan.specs.FewCables.{FewCablesServe, HasPairsUpTo, NamesNoneAbove, UsesNoneAbove}
+pub use Rattle.kd_plan.specs.Spares.{SparesComeLast, SparesStayFree, comes_before, is_spare, is_spare_at}
+pub use Rattle.kd_state.{proofs.Slots.{IsNumbered-not_none, numbered_other}, specs.Machine.model_of}
+pub use Rattle.kd_state.specs.{Costs.costs_by, SameParts.numbered_item, SheetDay.{Day, IsLegalDay, day_model}}
+pub use Rattle.kd_state.specs.{Setting.{Leads, cable_at, machine_after}, declared.setting.Setting.TheVariants.Pull}
+pub use Rattle.std.proofs.{Common.{inl, inr}, lemmas.Option.{slice_get_past, unwrap_or-slice_get}}
+pub use Rattle.std.proofs.lemmas.{Bool.{cases_eq, cases_lt, Decides.Decides-eqb}, List.{length-append, length-set}}
+pub use Rattle.std.proofs.lemmas.List.{Elements.{All-append, All-cons, All-nil, filter_passes}, Folds.Any-from_list_any}
+pub use Rattle.std.proofs.lemmas.List.{get_or-set_other, length-replicate, Kept.AllPairs-filter, Sorted.All-permutation}
+pub use Rattle.std.proofs.lemmas.Map.{Keys.IsDistinct-IsPermutation, Steps.length-le_from_distinct_below}
+pub use Rattle.std.proofs.lemmas.Map.Made.{AllPairs-from_IsDistinct, IsDistinct-from_AllPairs}
+pub use Rattle.std.specs.{List.SwappedAt, Prelude.{IsTrue, is_none, take}}
 
 -- ---- a spare cable exchanges its pair for another cable's column, which has no pair
 
@@ -105,21 +102,20 @@ still_free cables xs ys pairs spare place swapped before none free k low high em
 -- Let each cable in use, and each of the first `first` cables, become a pair. Then the number of cables in use, plus
 -- the number of spare ones among the first `first`, is at most the number of cables that become pairs.
 pairs-counted : (cables : List Cable) (to : List ℕ) (pairs first : ℕ) → length cables ≡ length to
-    → ((k : ℕ) → k < length to → is_spare_at cables k ≡ false → get_or to k 0 < pairs)
-    → ((k : ℕ) → k < length to → k < first → get_or to k 0 < pairs)
+    → ((k : ℕ) → k < length to → comes_before cables k first ≡ true → get_or to k 0 < pairs)
     → count_by (λ cable. not (is_spare cable)) cables + count_by is_spare (take first cables)
     ≤ count_by (λ j. nat_lt j pairs) to
-pairs-counted [] to pairs zero size used low = omega arith
-pairs-counted [] to pairs (suc first) size used low = omega arith
-pairs-counted (cable ∷ cables) [] pairs first size used low = absurd (omega arith)
-pairs-counted (cable ∷ cables) (j ∷ to) pairs zero size used low =
-    let rest = pairs-counted cables to pairs zero (omega arith) (λ k lt e. used (suc k) (omega arith) e)
-    (λ k lt e. absurd (omega arith)) in
-    simp sum_by-cons (grind (arith, nat_tests, used zero (omega arith)))
-pairs-counted (cable ∷ cables) (j ∷ to) pairs (suc first) size used low =
-    let rest = pairs-counted cables to pairs first (omega arith) (λ k lt e. used (suc k) (omega arith) e)
-    (λ k lt e. low (suc k) (omega arith) (omega arith)) in
-    simp sum_by-cons (grind (arith, nat_tests, low zero (omega arith) (omega arith)))
+pairs-counted [] to pairs zero size taken = omega arith
+pairs-counted [] to pairs (suc first) size taken = omega arith
+pairs-counted (cable ∷ cables) [] pairs first size taken = absurd (omega arith)
+pairs-counted (cable ∷ cables) (j ∷ to) pairs zero size taken =
+    let rest = pairs-counted cables to pairs zero (omega arith)
+    (λ k lt e. taken (suc k) (omega arith) (grind (arith, nat_tests))) in
+    simp sum_by-cons (grind (arith, nat_tests, taken zero (omega arith)))
+pairs-counted (cable ∷ cables) (j ∷ to) pairs (suc first) size taken =
+    let rest = pairs-counted cables to pairs first (omega arith)
+    (λ k lt e. taken (suc k) (omega arith) (grind (arith, nat_tests))) in
+    simp sum_by-cons (grind (arith, nat_tests, taken zero (omega arith)))
 
 -- At most as many cables become pairs as there are pairs.
 few_pairs : (to : List ℕ) (pairs : ℕ) → IsOneToOne to → count_by (λ j. nat_lt j pairs) to ≤ pairs
@@ -141,13 +137,9 @@ few_spares : (cables : List Cable) (pairs : List (ℕ × ℕ)) (to : List ℕ) �
     → is_spare_at cables place ≡ true
     → count_by is_spare (take number cables) ≤ length pairs - count_by (λ cable. not (is_spare cable)) cables
 few_spares cables pairs to many size once last number place next lt taken spare =
-    let before = λ (k : ℕ) (lt' : k < 13). last place k lt spare taken lt' in
-    let all = pairs-counted cables to (length pairs) number (omega arith)
-    (λ k lt' e. before k (omega arith) (grind (arith, nat_tests)))
-    (λ k lt' low. elim (cases_eq k place) [
-      | inl e ↦ omega (arith, ap (λ i. get_or to i 0) e)
-      | inr other ↦ before k
-          (omega arith) (grind (arith, nat_tests))
+    let all = pairs-counted cables to (length pairs) number (omega arith) (λ k lt' e. elim (cases_eq k place) [
+      | inl same ↦ omega (arith, ap (λ i. get_or to i 0) same)
+      | inr other ↦ last place k lt spare taken (omega arith) (grind (arith, nat_tests))
     ]) in
     omega (arith, all, few_pairs to (length pairs) once)
 

@@ -1,5 +1,4 @@
-use Rattle.kd_plan.proofs.Planning.{costs_no_more, one_to_one_still, still_free}
-use Rattle.kd_plan.specs.Spares.{is_spare_at}
+use Rattle.kd_plan.{proofs.Planning.{costs_no_more, one_to_one_still, still_free}, specs.Spares.is_spare_at}
 use Rattle.std.proofs.Common.{arith, get_or, length, rules, true, ◌-◌, ◌<◌, ◌≡◌, ◌≤◌}
 use Rattle.kd_plan.proofs.spares.keep_spares_free.Goals as goal
 

@@ -1,5 +1,4 @@
-use Rattle.kd_prices.proofs.Found.{bar_kinds_found}
-use Rattle.kd_prices.proofs.Prelude.{GoesOn, HasFault, OtherModel, Same, arith, refl, rules}
+use Rattle.kd_prices.proofs.{Found.bar_kinds_found, Prelude.{GoesOn, HasFault, OtherModel, Same, arith, refl, rules}}
 use Rattle.kd_prices.proofs.checking.bar_prices.Goals as goal
 
 pub returns-in-Bars-clause-found : goal.returns-in-Bars-clause-found

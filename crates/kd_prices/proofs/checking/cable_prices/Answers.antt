@@ -1,6 +1,5 @@
-use Rattle.kd_prices.proofs.Found.{cable_kinds_found}
+use Rattle.kd_prices.proofs.{Found.cable_kinds_found, Prelude.{GoesOn, HasFault, OtherModel, Same, arith, refl}}
 use Rattle.kd_state.specs.Entry.{rotor_values}
-use Rattle.kd_prices.proofs.Prelude.{GoesOn, HasFault, OtherModel, Same, arith, refl}
 use Rattle.kd_prices.proofs.checking.cable_prices.Goals as goal
 
 pub returns-in-Cables-clause-found : goal.returns-in-Cables-clause-found

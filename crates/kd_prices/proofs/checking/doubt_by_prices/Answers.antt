@@ -1,8 +1,7 @@
-use Rattle.kd_prices.proofs.Prelude.{GoesOn, HasFault, IsFirstWithout, List, ListsFitAt, NotTheSheet}
-use Rattle.kd_prices.proofs.Prelude.{PriceParts, PriceTooHigh, PricesFitAt, SFits, SumDiffers, ap, arith, column_prices}
-use Rattle.kd_prices.proofs.Prelude.{err_from_is_err_and, false≢true, of_z, pos, price_sum, priced_count, refl}
-use Rattle.kd_prices.proofs.Prelude.{row_prices, rules, subst, sym, table_rows, to_z, to_z-of_z, to_z_pos, w32, ℕ, ℤ}
-use Rattle.kd_prices.proofs.Prelude.{◌+◌, ◌<◌, ◌^◌, ◌∙◌, ◌≡◌, ◌≢◌}
+use Rattle.kd_prices.proofs.Prelude.{GoesOn, List, SFits, arith, price_sum, row_prices, table_rows, to_z-of_z, to_z_pos}
+use Rattle.kd_prices.proofs.Prelude.{HasFault, ListsFitAt, NotTheSheet, PriceParts, PricesFitAt, SumDiffers, false≢true}
+use Rattle.kd_prices.proofs.Prelude.{IsFirstWithout, PriceTooHigh, ap, column_prices, err_from_is_err_and, priced_count}
+use Rattle.kd_prices.proofs.Prelude.{of_z, pos, refl, rules, sym, to_z, w32, ℕ, ℤ, ◌+◌, ◌<◌, ◌^◌, ◌∙◌, ◌≡◌, ◌≢◌}
 use Rattle.kd_prices.proofs.checking.doubt_by_prices.Goals as goal
 
 pub returns-in_err-carried : goal.returns-in_err-carried
@@ -19,18 +18,15 @@ returns-then-not-reads_as g c = λ prices row column many.
 too_high : (prices : PriceParts) (costs : List (List ℕ)) (rows columns : List ℤ) (n i j : ℕ) → table_rows prices ≡ n
     → row_prices prices ≡ rows → column_prices prices ≡ columns → IsFirstWithout (ListsFitAt costs rows columns) n i j
     → IsFirstWithout (PricesFitAt costs prices) (table_rows prices) i j
-too_high prices costs rows columns n i j many row column first =
-    subst (λ r. IsFirstWithout (ListsFitAt costs r (column_prices prices)) (table_rows prices) i j) (sym row)
-    (subst (λ c. IsFirstWithout (ListsFitAt costs rows c) (table_rows prices) i j) (sym column)
-    (subst (λ m. IsFirstWithout (ListsFitAt costs rows columns) m i j) (sym many) first))
+too_high prices costs rows columns n i j many row column first = grind (arith, first.here, first.before)
 
 pub returns-in-Some : goal.returns-in-Some
 returns-in-Some g c = λ prices row column many.
     GoesOn c.in_ok-carried.carried.reached c.in_ok-carried.ensures.leads
     (GoesOn tt (c.reads_as.ensures.0 c.if-not-reads_as.false)
-    (HasFault (PriceTooHigh (c.in-Some.cell.row + 1) (c.in-Some.cell.column + 1)) (
-      c.in-Some.cell.row,
-      c.in-Some.cell.column,
+    (HasFault (PriceTooHigh (c.in-Some.row + 1) (c.in-Some.column + 1)) (
+      c.in-Some.row,
+      c.in-Some.column,
       refl,
       refl,
       too_high prices _ _ _ _ _ _ many row column (rw c.requires.costs at c.in-Some.ensures),
@@ -40,8 +36,8 @@ returns-in-Some g c = λ prices row column many.
 same_sum : (sum : ℤ) (count : ℕ) → SFits w32 sum → count < 2 ^ 31 → of_z w32 sum ≡ count → sum ≡ pos count
 same_sum sum count small few e = sym (to_z-of_z w32 sum small) ∙ ap (to_z w32) e ∙ to_z_pos w32 count few
 
-pub returns-then-sum_of_prices-priced_count : goal.returns-then-sum_of_prices-priced_count
-returns-then-sum_of_prices-priced_count g c = λ prices row column many.
+pub returns-then-sum_of_prices-priced : goal.returns-then-sum_of_prices-priced
+returns-then-sum_of_prices-priced g c = λ prices row column many.
     let is : c.sum_of_prices.result ≡ price_sum prices = rw (row, column) c.sum_of_prices.ensures in
     let differs : price_sum prices ≢ pos (priced_count c.args.settings.now) = search rules in
     GoesOn c.in_ok-carried.carried.reached c.in_ok-carried.ensures.leads
@@ -51,11 +47,11 @@ returns-then-sum_of_prices-priced_count g c = λ prices row column many.
 
 pub returns : goal.returns
 returns g c = λ prices row column many.
-    let few : c.priced_count.result < 2 ^ 31 = omega (arith, c.priced_count.ensures.few, c.requires.few) in
-    let same =
-    same_sum c.sum_of_prices.result c.priced_count.result (search rules) few c.if-sum_of_prices-priced_count.false in
+    let value : c.count-priced.result ≡ priced_count c.args.settings.now = search rules in
+    let few : c.count-priced.result < 2 ^ 31 = search rules in
+    let same = same_sum c.sum_of_prices.result c.count-priced.result (search rules) few c.if-sum_of_prices-priced.false in
     let is : c.sum_of_prices.result ≡ price_sum prices = rw (row, column) c.sum_of_prices.ensures in
     GoesOn c.in_ok-carried.carried.reached c.in_ok-carried.ensures.leads
     (GoesOn tt (c.reads_as.ensures.0 c.if-not-reads_as.false)
     (GoesOn tt (rw (row, column, many) (rw c.requires.costs at c.in_default.ensures))
-    (GoesOn tt (sym is ∙ same ∙ ap pos c.priced_count.ensures.value) c.in_ok-carried.ensures.needed)))
+    (GoesOn tt (sym is ∙ same ∙ ap pos value) c.in_ok-carried.ensures.needed)))

@@ -1,4 +1,4 @@
-use Rattle.kd_prices.proofs.{Found.{bars_made, by_fault, by_found, cables_made}, Meaning.one_model}
+use Rattle.kd_prices.proofs.Found.{bars_made, by_fault, by_found, cables_made}
 use Rattle.kd_prices.proofs.Prelude.{Bars, Cables, HasFault, OtherModel, err_from_is_err_and, refl}
 use Rattle.kd_prices.proofs.checking.first_doubt.Goals as goal
 
@@ -11,7 +11,7 @@ returns-in_err-rows-in-Some-Rotor c =
     let apart = rw h.field-0-is at h.ensures.parted in
     let is = err_from_is_err_and c.from_residual.result c.from_residual.ensures.1 in
     rw (is.1, is.2, apart.0, apart.1)
-    (by_fault _ _ _ _ _ (rw (apart.0, apart.1) at (one_model _ _ _ h.ensures.parted)) (cables_made h.parts.now) _
+    (by_fault _ _ _ _ _ apart.2 (cables_made h.parts.now) _
     (rw c.parts.ensures.value at c.in_err-rows-in-Some-Rotor.ensures.found))
 
 pub returns-in_err-rows-in-Some-Pin : goal.returns-in_err-rows-in-Some-Pin
@@ -21,7 +21,7 @@ returns-in_err-rows-in-Some-Pin c =
     let is = err_from_is_err_and c.from_residual-in_err-rows-in-Some-Pin.result
     c.from_residual-in_err-rows-in-Some-Pin.ensures.1 in
     rw (is.1, is.2, apart.0, apart.1)
-    (by_fault _ _ _ _ _ (rw (apart.0, apart.1) at (one_model _ _ _ h.ensures.parted)) (bars_made h.parts.now) _
+    (by_fault _ _ _ _ _ refl (bars_made h.parts.now) _
     (rw c.parts-in-Some-Pin.ensures.value at c.in_err-rows-in-Some-Pin.ensures.found))
 
 pub returns-in_ok-rows-in-Some-Rotor : goal.returns-in_ok-rows-in-Some-Rotor
@@ -30,7 +30,7 @@ returns-in_ok-rows-in-Some-Rotor c =
     let apart = rw h.field-0-is at h.ensures.parted in
     let found = c.in_ok-rows-in-Some-Rotor in
     rw (apart.0, apart.1)
-    (by_found _ _ _ _ _ (rw (apart.0, apart.1) at (one_model _ _ _ h.ensures.parted)) (found.rows, found.columns) _
+    (by_found _ _ _ _ _ apart.2 (found.rows, found.columns) _
     (rw c.parts.ensures.value at found.ensures.found)
     (rw (apart.0, apart.1, c.as_slice-settings.ensures.value)
     at (c.doubt_by_prices.ensures (Cables found.rows found.columns) refl refl refl)))
@@ -41,7 +41,7 @@ returns-in_ok-rows-in-Some-Pin c =
     let apart = rw h.field-0-is at h.ensures.parted in
     let found = c.in_ok-rows-in-Some-Pin in
     rw (apart.0, apart.1)
-    (by_found _ _ _ _ _ (rw (apart.0, apart.1) at (one_model _ _ _ h.ensures.parted)) (found.rows, found.columns) _
+    (by_found _ _ _ _ _ refl (found.rows, found.columns) _
     (rw c.parts-in-Some-Pin.ensures.value at found.ensures.found)
     (rw (apart.0, apart.1, c.as_slice-settings.ensures.value)
     at (c.doubt_by_prices-in-Some-Pin.ensures (Bars found.rows found.columns) refl refl refl)))

@@ -1,5 +1,4 @@
-use Rattle.kd_prices.proofs.Taking.{eq_decides, takes_first, takes_later}
-use Rattle.kd_prices.proofs.Prelude.{SFits, map, rules, to_z-of_z, w16}
+use Rattle.kd_prices.proofs.{Prelude.{SFits, map, rules, to_z-of_z, w16}, Taking.{eq_decides, takes_first, takes_later}}
 use Rattle.kd_prices.proofs.expanding.+take_one.Goals as goal
 
 pub returns-then-has_one_left : goal.returns-then-has_one_left

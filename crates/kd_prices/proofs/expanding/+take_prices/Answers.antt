@@ -1,6 +1,5 @@
-use Rattle.kd_prices.proofs.Taking.{eq_decides, put_rest, takes_more, takes_none}
 use Rattle.kd_prices.proofs.Prelude.{arith, common_steps, drop, length, map, refl, rules, take, to_z-of_z, w16, ◌-◌}
-use Rattle.kd_prices.proofs.Prelude.{◌∷◌, ◌≡◌}
+use Rattle.kd_prices.proofs.{Prelude.{◌∷◌, ◌≡◌}, Taking.{eq_decides, put_rest, takes_more, takes_none}}
 use Rattle.kd_prices.proofs.expanding.+take_prices.Goals as goal
 
 pub returns-in-Some-clause-taken : goal.returns-in-Some-clause-taken

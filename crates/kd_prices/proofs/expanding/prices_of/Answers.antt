@@ -1,5 +1,4 @@
-use Rattle.kd_prices.proofs.Taking.{prices_taken}
-use Rattle.kd_prices.proofs.Prelude.{length-replicate, map, pos, sym, ◌∙◌}
+use Rattle.kd_prices.proofs.{Prelude.{length-replicate, map, pos, sym, ◌∙◌}, Taking.prices_taken}
 use Rattle.kd_prices.proofs.expanding.prices_of.Goals as goal
 
 pub returns : goal.returns

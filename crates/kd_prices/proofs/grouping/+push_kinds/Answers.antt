@@ -1,11 +1,11 @@
-use Rattle.kd_prices.proofs.{Runs.{appends_one, begins_another, both_same, counts_more}, Taking.{eq_decides, no_item}}
 use Rattle.kd_prices.proofs.Prelude.{SFits, arith, common_steps, drop, length, rules, take, to_z-of_z, w16, ◌-◌, ◌∷◌}
-use Rattle.kd_prices.proofs.Prelude.{◌≡◌}
+use Rattle.kd_prices.proofs.{Prelude.◌≡◌, Runs.{appends_one, begins_another, both_same, counts_more}, Taking.eq_decides}
+use Rattle.std.proofs.lemmas.List.{nil_from_length}
 use Rattle.kd_prices.proofs.grouping.+push_kinds.Goals as goal
 
 pub returns-in-empty : goal.returns-in-empty
 returns-in-empty g t c =
-    rw (no_item c.args.pairs.now (omega arith))
+    rw (nil_from_length c.args.pairs.now (omega arith))
     (appends_one g.K.Kind.format g.K.Key.Ord.cmp c.args.kind c.requires.some (omega arith) c.args.kinds.now.items
     c.push.new.self.items c.of.result c.of.ensures c.push.ensures.items)
 

@@ -1,5 +1,5 @@
-use Rattle.kd_prices.proofs.Runs.{all_kinds, refilled}
 use Rattle.kd_prices.proofs.Prelude.{ap, arith, common_steps, drop, length, take, ◌-◌, ◌∙◌, ◌∷◌, ◌≡◌}
+use Rattle.kd_prices.proofs.Runs.{all_kinds, refilled}
 use Rattle.kd_prices.proofs.grouping.kinds_of.Goals as goal
 
 pub returns-in-len1-up-clause-in_order : goal.returns-in-len1-up-clause-in_order

@@ -1,5 +1,5 @@
-use Rattle.kd_prices.proofs.{ByKind.{bars_by_kind, cables_by_kind}, Meaning.one_model}
-use Rattle.kd_prices.proofs.Prelude.{ArePrices, AreTakenApart, IfSome, IsLegalDay, IsMachine, rules, subst, sym, ◌∙◌}
+use Rattle.kd_prices.proofs.{ByKind.{bars_by_kind, cables_by_kind}, Prelude.◌∙◌}
+use Rattle.kd_prices.proofs.Prelude.{ArePrices, AreTakenApart, IfSome, IsLegalDay, IsMachine, refl, rules, subst, sym}
 use Rattle.kd_prices.proofs.kind_cards.prices_by_kind.Goals as goal
 
 pub returns-in-Rotor-Cables : goal.returns-in-Rotor-Cables
@@ -22,7 +22,7 @@ returns-in-Rotor-Cables c =
     rw (sym c.parts.ensures.value ∙ h.is-1, parted.0, parted.1)
     (cables_by_kind h.parts.now _ h.rows h.columns c.kinds_of.result.items c.kinds_of-in-Rotor-Cables.result.items
     (subst IsMachine parted.0 so.machine) (subst IsLegalDay parted.1 so.day)
-    (subst ArePrices h.is-1 c.parts.ensures.are_prices) (rw (parted.0, parted.1) at (one_model _ _ _ so.parted))
+    (subst ArePrices h.is-1 c.parts.ensures.are_prices) parted.2
     (record { expand = rows.expand; in_order = rows.in_order })
     (record { expand = columns.expand; in_order = columns.in_order }) _
     (rw (c.as_slice-in-Rotor-Cables-2.ensures.value, c.as_slice-in-Rotor-Cables-4.ensures.value)
@@ -39,7 +39,7 @@ returns-in-Pin-Bars c =
     rw (sym c.parts.ensures.value ∙ h.is-1, parted.0, parted.1)
     (bars_by_kind h.parts.now _ h.rows h.columns c.kinds_of-in-Pin-Bars.result.items
     c.kinds_of-in-Pin-Bars-2.result.items (subst IsMachine parted.0 so.machine) (subst IsLegalDay parted.1 so.day)
-    (subst ArePrices h.is-1 c.parts.ensures.are_prices) (rw (parted.0, parted.1) at (one_model _ _ _ so.parted))
+    (subst ArePrices h.is-1 c.parts.ensures.are_prices) refl
     (record { expand = rows.expand; in_order = rows.in_order })
     (record { expand = columns.expand; in_order = columns.in_order }) _
     (rw (c.as_slice-in-Pin-Bars.ensures.value, c.as_slice-in-Pin-Bars-2.ensures.value) at c.bar_kinds.ensures) valid)

@@ -1,5 +1,4 @@
-use Rattle.kd_prices.proofs.Doubts.{only_checked, proving_says}
-use Rattle.kd_prices.proofs.Prelude.{Err, Ok}
+use Rattle.kd_prices.proofs.{Doubts.{only_checked, proving_says}, Prelude.{Err, Ok}}
 use Rattle.kd_prices.proofs.laws.a_card_is_in_one_doubt_at_most.Goals as goal
 
 pub returns : goal.returns

@@ -1,5 +1,4 @@
-use Rattle.kd_prices.proofs.Leading.{walks_on}
-use Rattle.kd_prices.proofs.Prelude.{arith, sym}
+use Rattle.kd_prices.proofs.{Leading.walks_on, Prelude.{arith, sym}}
 use Rattle.kd_prices.proofs.walking.carry_settings.Goals as goal
 
 pub loop-place-preserved : goal.loop-place-preserved

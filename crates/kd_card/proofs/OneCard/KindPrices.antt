@@ -1,16 +1,6 @@
 -- The prices of kinds: one for each key, and kinds that are read one after another.
-use Rattle.kd_card.proofs.Prelude.{rules, ◌≡◌, ◌↔◌, ℕ, ◌+◌, ◌≤◌, ◌<◌, List, [], ◌∷◌, ◌++◌, length, map, refl, sym, ap}
-use Rattle.kd_card.proofs.Prelude.{◌∙◌, length-append, arith, unsigned_abs, Option, Some, None, min, zero, suc}
-use Rattle.kd_card.proofs.Prelude.{length-replicate, All-append, All-nil, All-replicate, CableKinds, ℤ, BarKinds}
-use Rattle.kd_card.proofs.Prelude.{KindFormat, cable_format, pair_format, bar_format, row_format, counted}
-use Rattle.kd_card.proofs.Prelude.{prices_of_kinds, AreKinds}
-use Rattle.kd_card.proofs.Prelude.{IsKind, kind_words, kinds_text, ArePricesInRange, ArePrices, flat_map-append}
-use Rattle.kd_card.proofs.Prelude.{flat_map-map, line_of, CostTable, price_count, lines_text, IsGroup, line_then}
-use Rattle.kd_card.proofs.Prelude.{common_steps, take, get_or, subst, append_assoc, All, All-cons, IsNextKind}
-use Rattle.kd_card.proofs.Prelude.{BeginsWithKinds, append-nil, HasNoNext, BarKind, CableKind, PairKind, RowKind}
-use Rattle.kd_card.proofs.Prelude.{PriceParts, row_prices, column_prices, table_rows}
-use Rattle.kd_card.specs.{Prices.HaveKindsInOrder, Reading.AreFewKinds}
-use Rattle.kd_card.proofs.Lines.{line_and_more, is_line}
+pub mod KindWords
+unfoldable pub use KindWords.*
 
 module _ {K X : Type 0} (format : KindFormat K X) where
   pub length_of_kinds : (kinds : List K) → length (prices_of_kinds format kinds) ≡ counted format kinds
@@ -47,61 +37,28 @@ module _ {K X : Type 0} (format : KindFormat K X) where
   counted_within (first ∷ kinds) zero inside is = let same = ap (λ (k : K). (format.kind k).count) is in omega arith
   counted_within (first ∷ kinds) (suc i) inside is = omega (arith, counted_within kinds i (omega arith) is)
 
-few_of_group : {K X : Type 0} (format : KindFormat K X) (number : ℕ) (kinds : List K) → number ≤ 27
+pub few_of_group : {K X : Type 0} (format : KindFormat K X) (number : ℕ) (kinds : List K) → number ≤ 27
     → IsGroup format number kinds → AreFewKinds format kinds
 few_of_group format number kinds few group = search (rules, few_kinds, all_kinds)
 
 -- ---- valid prices by kind
 
--- There are `number` prices, each from -9999 to 9999.
-pub record AreValued (number : ℕ) (prices : List ℤ) : Type 0 where
-  pub count : length prices ≡ number
-  pub reach : ArePricesInRange prices
+pub kind_price_list : {K X : Type 0} (format : KindFormat K X) (number : ℕ) (kinds : List K)
+    → IsGroup format number kinds → IsPriceList number (prices_of_kinds format kinds)
+kind_price_list format number kinds group = grind (arith, length_of_kinds, reach_of_kinds)
 
-pub valued : {K X : Type 0} (format : KindFormat K X) (number : ℕ) (kinds : List K) → IsGroup format number kinds
-    → AreValued number (prices_of_kinds format kinds)
-valued format number kinds group = grind (arith, length_of_kinds, reach_of_kinds)
+both_lists : (prices : PriceParts) → ArePrices prices
+    → IsPriceList (table_rows prices) (row_prices prices) × IsPriceList (table_rows prices) (column_prices prices)
+both_lists (CableKinds rows columns) are =
+    (kind_price_list cable_format 13 rows.items are.0, kind_price_list pair_format 13 columns.items are.1)
+both_lists (BarKinds rows columns) are =
+    (kind_price_list bar_format 27 rows.items are.0, kind_price_list row_format 27 columns.items are.1)
+both_lists prices are = are
 
-grouped : {K X : Type 0} (format : KindFormat K X) (number : ℕ) (kinds : List K) → AreKinds format None kinds
-    → length (prices_of_kinds format kinds) ≡ number → IsGroup format number kinds
-grouped format number kinds are count = record { in_order = are; count = sym (length_of_kinds format kinds) ∙ count }
-
--- Prices by kind are valid exactly if both groups of kinds are.
-both_valued : {R X C Y : Type 0} (rows : KindFormat R X) (columns : KindFormat C Y) (number : ℕ) (xs : List R)
-    (ys : List C) (prices : PriceParts) → row_prices prices ≡ prices_of_kinds rows xs
-    → column_prices prices ≡ prices_of_kinds columns ys → table_rows prices ≡ number
-    → HaveKindsInOrder prices ↔ (AreKinds rows None xs × AreKinds columns None ys)
-    → ArePrices prices ↔ (IsGroup rows number xs × IsGroup columns number ys)
-both_valued rows columns number xs ys prices e d n k = grind (arith, grouped, valued)
-
-pub cables_are_prices : (rows : List CableKind) (columns : List PairKind)
-    → ArePrices (CableKinds (record { items = rows }) (record { items = columns }))
-    ↔ (IsGroup cable_format 13 rows × IsGroup pair_format 13 columns)
-cables_are_prices rows columns =
-    both_valued cable_format pair_format 13 rows columns _ refl refl refl (λ are. are, λ are. are)
-
-pub bars_are_prices : (rows : List BarKind) (columns : List RowKind)
-    → ArePrices (BarKinds (record { items = rows }) (record { items = columns }))
-    ↔ (IsGroup bar_format 27 rows × IsGroup row_format 27 columns)
-bars_are_prices rows columns =
-    both_valued bar_format row_format 27 rows columns _ refl refl refl (λ are. are, λ are. are)
-
--- Valid prices by kind have at most 27 kinds of rows, and at most 27 kinds of columns.
-pub few_cables : (rows : List CableKind) (columns : List PairKind)
-    → ArePrices (CableKinds (record { items = rows }) (record { items = columns }))
-    → AreFewKinds cable_format rows × AreFewKinds pair_format columns
-few_cables rows columns are =
-    let groups = (cables_are_prices rows columns).0 are in (
-      few_of_group cable_format 13 rows (omega arith) groups.0,
-      few_of_group pair_format 13 columns (omega arith) groups.1,
-    )
-
-pub few_bars : (rows : List BarKind) (columns : List RowKind)
-    → ArePrices (BarKinds (record { items = rows }) (record { items = columns }))
-    → AreFewKinds bar_format rows × AreFewKinds row_format columns
-few_bars rows columns are =
-    let groups = (bars_are_prices rows columns).0 are in
-    (few_of_group bar_format 27 rows (omega arith) groups.0, few_of_group row_format 27 columns (omega arith) groups.1)
+pub price_sum_is_small : (prices : PriceParts) → ArePrices prices → unsigned_abs (price_sum prices) < 2 ^ 64
+price_sum_is_small prices p =
+    let both = both_lists prices p in
+    grind (arith, common_steps, All-append, sum_bound, recursion_from_All, length-append, few_prices)
 
 pub some_and_few : (table : CostTable) → (0 < price_count table) × (price_count table ≤ 27)
 some_and_few table = grind arith
@@ -179,6 +136,4 @@ pub all_read : {K X : Type 0} {format : KindFormat K X} {room line : ℕ} {text 
     {number at : ℕ} {kept : List K}
     → (read : HasRead format room line text rest last number at kept) → HasNoNext format last rest
     → BeginsWithKinds format None text read.read rest
-all_read {format} {text} {rest} read none =
-    subst (λ kinds. BeginsWithKinds format None text kinds rest) (append-nil read.read)
-    (read.goes_on [] rest (record { lines = refl; in_order = tt; none_more = none }))
+all_read {format} {text} {rest} read none = rw (← append-nil read.read) (read.goes_on [] rest (record { lines = refl; in_order = tt; none_more = none }))

@@ -1,29 +1,7 @@
 -- The cost of an assignment falls by at most one with each setting that changes a cable or a bar. Any other
 -- setting lowers the number of loose things by at most one.
-use Rattle.kd_card.proofs.Prelude.{rules, count_by-cons, six_lists, ◌≡◌, ℕ, suc, ◌+◌, ◌-◌, ◌≤◌, nat_eq, min, Bool}
-use Rattle.kd_card.proofs.Prelude.{false, inl, inr, List, [], ◌∷◌, get_or, set, map, fold, count_by, Option, None}
-use Rattle.kd_card.proofs.Prelude.{unwrap_or, ℤ, sym, ◌∙◌, subst, arith, length, Place, alphabet, RotorParts, Parts}
-use Rattle.kd_card.proofs.Prelude.{Rotor, Pin, Setting, Pull, Put, LugTo, cable_letters, letters_in_cables, IsLegal}
-use Rattle.kd_card.proofs.Prelude.{has_letter, refusal_reasons, why_refused, cable_at, cable_without, cable_with}
-use Rattle.kd_card.proofs.Prelude.{with_lug, machine_after, Leads, exactly_one, one_unless, column_letters, cable_cost}
-use Rattle.kd_card.proofs.Prelude.{lugs_moved, bar_cost, All-set, length-set, numbered_item, common_steps, All}
-use Rattle.kd_card.proofs.Prelude.{no_reason, still_before, IsPermutation, refl, true, ◌⊎◌, not-false}
-use Rattle.kd_card.proofs.Prelude.{Contains-permutation, IsPermutation-sym, IsDistinct-IsPermutation, IsDistinct-cons}
-use Rattle.kd_card.proofs.Prelude.{IsDistinct-tail, get_or_from_slice_get, IsDistinct, eqb_flips}
-use Rattle.kd_card.proofs.Prelude.{has_letter-AllByRecursion, set_moves, with_moves, without_moves, tests_tell_letters}
-use Rattle.kd_card.proofs.Prelude.{IsNumbered-not_none, PinParts, HasLugsInOrder, bars_with_lug, ◌≢◌, zero, not, cond}
-use Rattle.kd_card.proofs.Prelude.{zip, sum, AllPairs, Some, slice_get, ap, AllByRecursion, sum_by, option_map_or}
-use Rattle.kd_card.proofs.Prelude.{bytes_eq, cases_eq, eq-eqb, recursion_from_All, map-id, sum-map, sum_by-cons}
-use Rattle.kd_card.proofs.Prelude.{unwrap_or-slice_get, bytes_eq-Decides, Model, wheel_text, reflector_text, Seat}
-use Rattle.kd_card.proofs.Prelude.{SeatReflector, RingTo, Turn, PinTo, same_wheel, same_reflector, place_in_box}
-use Rattle.kd_card.proofs.Prelude.{model_of, ring_at, letter_at, wheel_in_slot, seat_without, letters_with, RotorDay}
-use Rattle.kd_card.proofs.Prelude.{PinDay, Day, OfRotors, OfPins, IsLegalDay, day_model, ReadsAs}
-use Rattle.kd_card.proofs.Prelude.{loose_count, is_priced_setting, set_other, days_wheels_have_their_places, is_none}
-use Rattle.kd_state.specs.{Costs.standings_as, declared.sheet_day.rotor_entry.SheetWheel.SheetWheel}
-use Rattle.kd_state.specs.{Pins.wheel_pins, Pins.with_pin}
-use Rattle.kd_tables.specs.{declared.lug.Lug.Lug, declared.wheel.Wheel.Wheel, Rings.ring_of, Rings.place_on}
-use Rattle.kd_card.proofs.{Counts.{zip_set, at_most_one, once_in_alphabet}, Duality.pairing_cost}
-use Rattle.kd_pins.specs.{PinWheels.pins_of, declared.pin_set.PinSet.PinSet}
+pub mod Duality
+unfoldable pub use Duality.*
 
 pub not_differing : (b : Bool) → exactly_one b b ≡ false
 not_differing b = grind arith

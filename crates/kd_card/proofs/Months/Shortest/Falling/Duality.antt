@@ -1,11 +1,7 @@
 -- Prices that fit bound the cost of each assignment of rows to columns from below.
-use Rattle.kd_card.proofs.Prelude.{common_steps, ◌≡◌, ℕ, zero, suc, ◌<◌, List, [], ◌∷◌, ◌++◌, length, get_or, set, map}
-use Rattle.kd_card.proofs.Prelude.{zip, fold, ℤ, pos, ◌+ℤ◌, ◌≤ℤ◌, ◌∙◌, ap, IsPermutation, refl, arith, All, AllZip}
-use Rattle.kd_card.proofs.Prelude.{ints, fold-append, sum_by-cons, sum_by-IsPermutation, IsPermutation-keeps}
-use Rattle.kd_card.proofs.Prelude.{IsPermutation-refl, IsPermutation-trans, IsPermutation-swap, AllZip-long, All-head}
-use Rattle.kd_card.proofs.Prelude.{All-tail, IsPermutation-map, seconds-zip}
+pub mod Counts
+unfoldable pub use Counts.*
 use Rattle.std.specs.List as lists
-use borrow.Author.Differences.{up, down}
 
 -- the sum of prices
 abbrev pub sum_of : List ℤ → ℤ

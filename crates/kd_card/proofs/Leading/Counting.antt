@@ -1,24 +1,40 @@
 -- How many settings there are for loose things, and how many of all settings are priced.
-use Rattle.kd_card.proofs.{Prelude.count_by-cons, Falling.HaveTheirPlaces}
-use Rattle.kd_card.proofs.Prelude.{AllByRecursion, Contains, All, Bool, Day, IsLegalDay, IsMachine, List, Model, OfPins}
-use Rattle.kd_card.proofs.Prelude.{OfRotors, Parts, Pin, PinDay, PinParts, Rotor, RotorDay, RotorParts, SeatReflector}
-use Rattle.kd_card.proofs.Prelude.{Setting, [], ap, arith, cond, count_by, day_model, days_wheels_have_their_places}
-use Rattle.kd_card.proofs.Prelude.{exactly_one, is_priced_setting, length, length-append, length-zip, loose_count}
-use Rattle.kd_card.proofs.Prelude.{model_of, nat_eq, not, option_map_or, place_in_box, priced_count, recursion_from_All}
-use Rattle.kd_card.proofs.Prelude.{refl, ring_at, same_reflector, same_wheel, seconds-zip, subst, suc, sum_by}
-use Rattle.kd_card.proofs.Prelude.{sum_by-append, sum_by-cons, sums_add, sym, true, zero, zip, ℕ, ◌++◌, ◌+◌, ◌∙◌, ◌∷◌}
-use Rattle.kd_card.proofs.Prelude.{◌≡◌, ◌≢◌, ◌≤◌}
-use Rattle.kd_card.specs.Loose.{lines_from, loose_lines, pin_line, pin_wheel_turn_line, wheel_ring_line, slot_seat_line}
-use Rattle.kd_card.specs.Loose.{slot_turn_line, setting_unless, wheel_pin_lines}
-use Rattle.kd_card.specs.Laws.{LooseThingsAreCounted}
-use Rattle.kd_state.proofs.Wheels.{allowed_in_box, has_wheel-Decides, same_wheel-Decides, same_wheel_differs}
-use Rattle.kd_state.specs.{Machine.HasAllPins, Pins.wheel_pins, Machine.AreLegalSeats, SheetDay.seats_of_wheels}
-use Rattle.kd_state.specs.declared.sheet_day.rotor_entry.SheetWheel.{SheetWheel}
-use Rattle.std.specs.List.{list_any}
-use Rattle.kd_pins.specs.PinWheels.{pins_of}
-use Rattle.kd_tables.specs.{Rings.ring_of, Tables.box_of, declared.wheel.Wheel.Wheel}
-use Rattle.std.proofs.Common.{◌&&◌, false, find, flat_map}
-use Rattle.std.proofs.lemmas.{List.Folds.fold-map, List.Sums.sum_by-le, Option.slice_get-get_or, Option.slice_get-map}
+pub use Rattle.kd_card.proofs.Months.Shortest.Falling.{HaveTheirPlaces}
+pub use Rattle.kd_card.specs.Loose.{lines_from, loose_lines, pin_line, pin_wheel_turn_line, wheel_ring_line}
+pub use Rattle.kd_card.specs.Loose.{slot_seat_line, slot_turn_line, setting_unless, wheel_pin_lines}
+pub use Rattle.kd_card.specs.{Proving.{is_priced_setting, priced_count}, Laws.LooseThingsAreCounted}
+pub use Rattle.kd_pins.specs.{declared.pin_set.PinSet.PinSet, PinWheels.pins_of}
+pub use Rattle.kd_state.proofs.Wheels.{days_wheels_have_their_places, allowed_in_box, has_wheel-Decides}
+pub use Rattle.kd_state.proofs.Wheels.{same_wheel-Decides, same_wheel_differs, has_reflector-Decides, place_within}
+pub use Rattle.kd_state.proofs.Wheels.{same_reflector-Decides, same_wheel_self}
+pub use Rattle.kd_state.proofs.{Slots.{set_other, has_letter-Decides, is_some-place_on, set_here}, CostTable.sums_add}
+pub use Rattle.kd_state.proofs.{Telling.letters_have_places, Telling.Refusing.leads_join, SortedAlike.count_by-cons}
+pub use Rattle.kd_state.specs.Machine.{IsMachine, model_of, ring_at, HasAllPins, AreOnWheels, IsSeatedAt}
+pub use Rattle.kd_state.specs.Machine.{AreLegalSeats}
+pub use Rattle.kd_state.specs.SheetDay.{Day, IsLegalDay, OfPins, OfRotors, PinDay, RotorDay, day_model}
+pub use Rattle.kd_state.specs.SheetDay.{seats_of_wheels, IsLegalPinDay, IsLegalRotorDay}
+pub use Rattle.kd_state.specs.Setting.{Leads, machine_after, has_letter, why_refused, seat_without}
+pub use Rattle.kd_state.specs.{declared.machine.parts.Parts.TheVariants.{Pin, Rotor}, Costs.{exactly_one, loose_count}}
+pub use Rattle.kd_state.specs.{SameParts.{place_in_box, same_reflector, same_wheel}, declared.machine.parts.Parts.Parts}
+pub use Rattle.kd_state.specs.{declared.sheet_day.rotor_entry.SheetWheel.SheetWheel, declared.setting.Setting.Setting}
+pub use Rattle.kd_state.specs.{declared.machine.rotor_parts.RotorParts.RotorParts, Pins.{wheel_pins, pin_set, with_pin}}
+pub use Rattle.kd_state.specs.declared.setting.Setting.TheVariants.{SeatReflector}
+pub use Rattle.kd_state.specs.declared.machine.pin_parts.PinParts.{PinParts}
+pub use Rattle.kd_tables.specs.{Tables.{box_of, reflectors_of, wheels_for}, declared.reflector.Reflector.Reflector}
+pub use Rattle.kd_tables.specs.{declared.model.Model.Model, declared.wheel.Wheel.Wheel, Rings.{ring_of, place_on}}
+pub use Rattle.std.proofs.Common.{Contains, Bool, List, [], ap, arith, cond, count_by, length, length-append, nat_eq}
+pub use Rattle.std.proofs.Common.{not, refl, subst, suc, sym, true, zero, zip, ℕ, ◌++◌, ◌+◌, ◌∙◌, ◌∷◌, ◌≡◌, ◌≢◌, ◌≤◌}
+pub use Rattle.std.proofs.Common.{◌&&◌, false, find, flat_map, AllPairs, None, Option, Some, append_assoc, fold, get_or}
+pub use Rattle.std.proofs.Common.{is_some, map, set, slice_get, unwrap_or, ◌<◌}
+pub use Rattle.std.proofs.lemmas.List.{append-nil, get_or-map, get_or_at, length-map, length-set, map-append}
+pub use Rattle.std.proofs.lemmas.List.{set-get_or, set_at}
+pub use Rattle.std.proofs.lemmas.Option.{slice_get-get_or, slice_get-map, get_or_from_slice_get, slice_get_within}
+pub use Rattle.std.proofs.lemmas.{Slice.Zip.{length-zip, seconds-zip, firsts-zip}, Bool.{eqb-true, cond_both}}
+pub use Rattle.std.proofs.lemmas.{Grind.common_steps, Simd.map-map}
+pub use Rattle.std.proofs.lemmas.List.FromFn.{fill_by_all, get_or-range_with_len, length-range_with_len}
+pub use Rattle.std.proofs.lemmas.List.{Sums.{sum_by-append, sum_by-cons, sum_by-le, fold_push}, Recursion.found_at}
+pub use Rattle.std.proofs.lemmas.List.{Quantifiers.all_pairs_remove, Elements.recursion_from_All, Folds.fold-map}
+pub use Rattle.std.specs.{List.{AllByRecursion, All, sum_by, list_any, range_with_len}, Option.option_map_or}
 
 -- `lines` are `loose` settings for loose things and `cost` priced ones, which change a cable or a bar.
 pub record AreCounted (lines : List Setting) (loose cost : ℕ) : Type 0 where
@@ -100,11 +116,11 @@ module _ (m : RotorParts) (s : RotorDay) where
   abbrev wrong : SheetWheel → Bool
   wrong w = not (option_map_or (nat_eq w.ring) (ring_at m w.wheel) false)
 
-  counted_rings : AreCounted (flat_map (wheel_ring_line m s.wheels) (box_of m.model))
+  counted_rings : AreCounted (flat_map (wheel_ring_line (Rotor m) s.wheels) (box_of m.model))
       (count_by (finds_wheel wrong s.wheels) (box_of m.model)) 0
   counted_rings =
-      rw (lines_of_each (wheel_ring_line m s.wheels) (box_of m.model) 1) (rw sum_none at
-      (counted_each (λ n wheel. wheel_ring_line m s.wheels wheel)
+      rw (lines_of_each (wheel_ring_line (Rotor m) s.wheels) (box_of m.model) 1) (rw sum_none at
+      (counted_each (λ n wheel. wheel_ring_line (Rotor m) s.wheels wheel)
       (λ wheel. cond (finds_wheel wrong s.wheels wheel) 1 0) (λ z. 0)
       (λ n wheel. grind (arith, counted_loose)) (box_of m.model) 1))
 
@@ -117,7 +133,7 @@ module _ (m : RotorParts) (s : RotorDay) where
       (days_wheels_have_their_places m.model s.wheels seated) in
       let seats = counted_each slot_seat_line _ (λ z. 0) (λ n z. counted_loose _ _ refl) (zip m.slots s.wheels) 1 in
       let reflector = counted_loose (same_reflector m.reflector s.reflector) (SeatReflector s.reflector) refl in
-      let turns = counted_each (slot_turn_line m) _ (λ z. 0) (λ n w. counted_loose _ _ refl) s.wheels 1 in
+      let turns = counted_each (slot_turn_line (Rotor m)) _ (λ z. 0) (λ n w. counted_loose _ _ refl) s.wheels 1 in
       let all = simp sum_none at (counted-append _ _ (counted-append _ _ (counted-append _ _ seats reflector)
       counted_rings) turns) in
       record { count = grind (arith, all.count, found); priced = all.priced }

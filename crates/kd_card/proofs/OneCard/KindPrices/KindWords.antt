@@ -1,17 +1,6 @@
 -- The words of a kind's line determine what its keys have in common, their number and their price.
-use Rattle.kd_card.proofs.Prelude.{common_steps, ◌≡◌, ◌≢◌, ℕ, ◌<◌, List, [], ◌∷◌, ◌++◌, get_or, drop, subst, refl, ℤ}
-use Rattle.kd_card.proofs.Prelude.{Option, Some, None, sym, ap, ◌∙◌, append_assoc, length-append, arith, decimal, All}
-use Rattle.kd_card.proofs.Prelude.{decimal_injective, signed_decimal_injective, All-append, All-weaker}
-use Rattle.kd_card.proofs.Prelude.{All-from_recursion, Place, place_text, standing_text, IsWord, IsWithout, KindFormat}
-use Rattle.kd_card.proofs.Prelude.{KindOf, cable_format, pair_format, bar_format, row_format, kind_words, AreEnds}
-use Rattle.kd_card.proofs.Prelude.{IsKind}
-use Rattle.kd_card.proofs.Prelude.{ComesAfter, KeyComesBefore, kinds_text, HasKindWords, HasText, IsOnlyKey}
-use Rattle.kd_card.proofs.Prelude.{signed_decimal, append-nil, HasLineWords, BeginsWithWord, EndsGroup, AtNothing}
-use Rattle.kd_card.proofs.Prelude.{AtOther, IsNextKind, HasNoNext, numbers_are_words, texts_tell_first_parts}
-use Rattle.kd_card.proofs.Prelude.{word_by_bytes, word_by_test, EndsKindsAt, IsBadKindAt, IsKindOfWords, letters_text}
-use Rattle.kd_card.proofs.Prelude.{cable_letters, column_letters}
-use Rattle.kd_tables.specs.Places.{reading_text}
-use Rattle.kd_card.proofs.Lines.{bytes_above, same_words, some_bytes, bytes_are_word, signed_word, mag-small}
+pub mod Lines
+unfoldable pub use Lines.*
 
 -- ---- the texts of keys
 
@@ -123,13 +112,14 @@ module _ {K X : Type 0} {format : KindFormat K X} where
 
   -- If there are bytes, but no whole line begins them, the group doesn't end before them, and no kind follows.
   pub unended : {bytes : List ℕ} (last : Option K) → bytes ≢ []
-      → ((found : List (List ℕ) × List ℕ) → ¬ (HasLineWords bytes found.0 found.1)) → IsBadKindAt format last bytes
+      → ((found : List ℕ × List (List ℕ) × List ℕ) → ¬ (HasLineWords bytes (found.0 ∷ found.1) found.2))
+      → IsBadKindAt format last bytes
   unended last some none = record {
     goes_on = λ ends. elim ends [
       | AtNothing empty ↦ some empty
-      | AtOther word begins differs ↦ none (word ∷ begins.behind, begins.rest) begins.has
+      | AtOther word begins differs ↦ none (word, begins.behind, begins.rest) begins.has
     ];
-    none_more = λ kind rest next. none (kind_words format kind, rest) next.line;
+    none_more = λ kind rest next. none (format.word, drop 1 (kind_words format kind), rest) next.line;
   }
 
   -- If a line begins with the format's word but isn't the line of a kind after `last`, the group doesn't end before it,
@@ -156,7 +146,7 @@ module _ {K X : Type 0} {format : KindFormat K X} where
 
 pub no_count : {K X : Type 0} (format : KindFormat K X) (key count price : List ℕ) → decimal 0 ≡ count
     → (kind : K) → ¬ (HasKindWords format (format.word ∷ key ∷ count ∷ price ∷ []) kind)
-no_count format key count price zero kind has = grind (arith, common_steps, decimal_injective)
+no_count format key count price is kind has = grind (arith, common_steps, decimal_injective)
 
 -- ---- writing a line
 

@@ -1,34 +1,8 @@
 -- On a machine that reads as the day, cables or bars have an assignment that costs nothing. So each list that
 -- reaches the day has at least as many settings as loose things plus the sum of prices that fit, and a card that
 -- proves itself has exactly as many.
-use Rattle.kd_card.proofs.Prelude.{count_by-cons, ◌≡◌, ◌≢◌, ℕ, zero, suc, ◌+◌, ◌-◌, ◌≤◌, nat_eq, cond, List, [], ◌∷◌}
-use Rattle.kd_card.proofs.Prelude.{◌++◌, length, get_or, map, zip, replicate, Contains, IsPermutation, count_by, remove}
-use Rattle.kd_card.proofs.Prelude.{Option, Some, None, ℤ, refl, sym, ap, ◌∙◌, subst, arith, AllByRecursion, AllZip}
-use Rattle.kd_card.proofs.Prelude.{flat_map, eq-eqb, All-contains, recursion_from_All, sum_by-cons, get_or-le-sum_by}
-use Rattle.kd_card.proofs.Prelude.{sum_by-IsPermutation, Contains-permutation, IsPermutation-refl, IsPermutation-sym}
-use Rattle.kd_card.proofs.Prelude.{IsPermutation-cons, IsPermutation-trans, IsPermutation-remove, Place, One, alphabet}
-use Rattle.kd_card.proofs.Prelude.{reading_of, IsBefore, letters_in_pairs, cable_letters, letters_in_cables, has_letter}
-use Rattle.kd_card.proofs.Prelude.{HaveSameLetters, HasPairLetters, AreThePairs, exactly_one, cable_cost}
-use Rattle.kd_card.proofs.Prelude.{bar_cost, columns_of, tests_tell_letters, thirteen_columns, rules}
-use Rattle.kd_card.proofs.Prelude.{Contains-append_right, sum_by, HasLugsInOrder, Contains-tail, ◌<◌, Bool, pos, ◌+ℤ◌}
-use Rattle.kd_card.proofs.Prelude.{◌≤ℤ◌, ints, length_permutation, All-permutation, Model, reflectors_of, Parts, Rotor}
-use Rattle.kd_card.proofs.Prelude.{Pin, Setting, model_of, IsMachine, Leads, machine_after, Day, OfRotors, OfPins}
-use Rattle.kd_card.proofs.Prelude.{day_model, IsLegalDay, ReadsAs, cost_table, loose_count, PriceParts, Cables, Bars}
-use Rattle.kd_card.proofs.Prelude.{ArePrices, PricesFit, ArePricesTight, price_sum, is_priced_setting, priced_count}
-use Rattle.kd_card.proofs.Prelude.{AreModelPrices, IsSettingNeeded, AreSettingsNeeded, Same, Expanded}
-use Rattle.kd_card.proofs.Prelude.{FittingPricesBoundLists, ProvingCardsAreAsLong, ProvingCardsAreShortest}
-use Rattle.kd_card.proofs.Prelude.{ProvingPricesAreTight, get_or_default, get_or-map, length-zip, get_or-zip}
-use Rattle.kd_card.proofs.Prelude.{AsFewAreNeeded, why_refused, IsPriceTightAt, column_prices, cost_at, table_rows}
-use Rattle.kd_card.proofs.Prelude.{common_steps, price_at, row_prices, All-from_get_or, Contains-get_or, AllZip-long}
-use Rattle.kd_card.proofs.Prelude.{length-map}
-use Rattle.std.proofs.Common.{Any}
-use Rattle.{kd_state.specs.Costs.standings_as, std.proofs.lemmas.List.Edits.length-remove}
-use Rattle.kd_card.proofs.Duality.{pairing_cost, reordered, fold_of_both, prices_moved, fitting_prices, tight_at}
-use Rattle.kd_card.proofs.Duality.{sum_of, prices_with, FitTogether, FitAll}
-use Rattle.kd_card.proofs.Counts.{times, times-append, AreOnce, once_of_distinct}
-use Rattle.kd_card.proofs.Falling.{HasCables, HasBars, not_differing, machines_have_all, list_keeps, left_to_do}
-use Rattle.kd_card.proofs.Falling.{left_to_do-lowered, loose_count-priced, model_of-changed, nothing_loose}
-use Rattle.kd_tables.specs.declared.{model.Model.TheVariants.M209, reflector.Reflector.Reflector}
+pub mod Falling
+unfoldable pub use Falling.*
 
 -- A cable with the letters of its column costs nothing.
 none_differ : (xs ys : List ℕ) → ((letter : ℕ) → has_letter xs letter ≡ has_letter ys letter) → (letters : List ℕ)
@@ -279,7 +253,8 @@ pub record AreBounds (costs : List (List ℕ)) (prices : PriceParts) (loose line
 module _ {A B : Type 0} (a : A) (b : B) (cost : A → B → ℕ) (rows : List A) (columns : List B) (prices : PriceParts)
     (loose lines : ℕ) (rows_count : length rows ≡ table_rows prices)
     (columns_count : length columns ≡ table_rows prices)
-    (are : ArePrices prices) (fits : PricesFit (map (λ row. map (cost row) columns) rows) prices)
+    (row_count : length (row_prices prices) ≡ table_rows prices)
+    (column_count : length (column_prices prices) ≡ table_rows prices) (fits : PricesFit (map (λ row. map (cost row) columns) rows) prices)
     (beside : List (B × ℤ))
     (order : IsPermutation (zip columns (column_prices prices)) beside)
     (enough : loose + pairing_cost cost rows beside ≤ lines) where
@@ -290,14 +265,14 @@ module _ {A B : Type 0} (a : A) (b : B) (cost : A → B → ℕ) (rows : List A)
   priced = zip columns (column_prices prices)
 
   zipped : length priced ≡ table_rows prices
-  zipped = omega (arith, length-zip columns (column_prices prices), are.columns)
+  zipped = grind (arith, length-zip)
 
   size : length beside ≡ table_rows prices
   size = length_permutation priced beside order ∙ zipped
 
   column : (j : ℕ) → j < table_rows prices
       → get_or priced j (b, pos 0) ≡ (get_or columns j b, price_at (column_prices prices) j)
-  column j lt = get_or-zip columns (column_prices prices) j (b, pos 0) (omega arith) (omega (arith, are.columns))
+  column j lt = get_or-zip columns (column_prices prices) j (b, pos 0) (omega arith) (omega arith)
 
   at : (i j : ℕ) → i < table_rows prices → j < table_rows prices
       → cost_at costs i j ≡ cost (get_or rows i a) (get_or columns j b)
@@ -317,7 +292,7 @@ module _ {A B : Type 0} (a : A) (b : B) (cost : A → B → ℕ) (rows : List A)
 
   below : (pos loose +ℤ price_sum prices) ≤ℤ pos lines
   below =
-      let many = rows_count ∙ sym are.rows in
+      let many = rows_count ∙ sym row_count in
       let fitting = fitting_prices cost a rows (row_prices prices) beside (rows_count ∙ sym size) many fit in
       omega (arith, ints, sums)
 
@@ -329,7 +304,7 @@ module _ {A B : Type 0} (a : A) (b : B) (cost : A → B → ℕ) (rows : List A)
         let all = sum_of (row_prices prices) +ℤ prices_with beside in
         let due : pos (pairing_cost cost rows beside) ≤ℤ all = omega (arith, ints, sums) in
         let tight =
-        tight_at cost a rows (row_prices prices) beside i (b, pos 0) (rows_count ∙ sym size) (rows_count ∙ sym are.rows)
+        tight_at cost a rows (row_prices prices) beside i (b, pos 0) (rows_count ∙ sym size) (rows_count ∙ sym row_count)
         fit due (omega arith) in
         rw (at i j lt lt') (rw (e ∙ column j lt') at tight)
 
@@ -362,19 +337,19 @@ AreBounds-prices (Rotor m) (Rotor n) (OfRotors s) (Cables row column) settings m
     let at_first = machines_have_all (Rotor m) machine.legal in
     let at_last = list_keeps (Rotor m) (Rotor n) settings leads at_first in
     let once = once_of_distinct (letters_in_pairs s.pairs) legal.pairs.apart in
-    let pairing = cables_paired n.cables s.pairs column at_last once legal.pairs.few are.columns reads.key.cables in
+    let pairing = cables_paired n.cables s.pairs column at_last once legal.pairs.few are.1.count reads.key.cables in
     let same = sym (model_of-list (Rotor m) (Rotor n) settings leads) ∙ reads.key.model in
     let falling = list_lowers pairing.beside [] (OfRotors s) legal (Rotor m) (Rotor n) settings same leads in
     bounded (None, None) None cable_cost m.cables (columns_of s.pairs) (Cables row column)
-    (loose_count (Rotor m) (OfRotors s)) (length settings) at_first.count (thirteen_columns s.pairs legal.pairs.few) are
-    fits pairing.beside pairing.order (omega (arith, falling, pairing.free, nothing_loose (Rotor n) (OfRotors s) reads))
+    (loose_count (Rotor m) (OfRotors s)) (length settings) at_first.count (thirteen_columns s.pairs legal.pairs.few)
+    are.0.count are.1.count fits pairing.beside pairing.order (omega (arith, falling, pairing.free, nothing_loose (Rotor n) (OfRotors s) reads))
 AreBounds-prices (Pin m) (Pin n) (OfPins s) (Bars row column) settings machine legal are kind fits leads reads =
     let at_first = machines_have_all (Pin m) machine.legal in
     let at_last = list_keeps (Pin m) (Pin n) settings leads at_first in
-    let pairing = bars_paired n.bars s.rows column at_last (legal.count ∙ sym are.columns) reads.key.1 in
+    let pairing = bars_paired n.bars s.rows column at_last (legal.count ∙ sym are.1.count) reads.key.1 in
     let falling = list_lowers [] pairing.beside (OfPins s) legal (Pin m) (Pin n) settings refl leads in
     bounded (One, One) (0, 0) bar_cost m.bars s.rows (Bars row column) (loose_count (Pin m) (OfPins s))
-    (length settings) at_first.count legal.count are fits pairing.beside pairing.order
+    (length settings) at_first.count legal.count are.0.count are.1.count fits pairing.beside pairing.order
     (omega (arith, falling, pairing.free, nothing_loose (Pin n) (OfPins s) reads))
 AreBounds-prices (Rotor m) (Pin n) (OfPins s) prices settings machine legal are kind fits leads reads =
     grind (arith, common_steps, no_rotors, model_of-list)

@@ -1,30 +1,57 @@
 -- Lines of words as they are written and split, texts of prices, and what the lines of a card have.
-use Rattle.kd_card.proofs.Prelude.{rules, IsNumeralModel-digits, ◌≡◌, ◌≢◌, ℕ, ◌<◌, true, false, eqb, ltb, List, [], ◌∷◌}
-use Rattle.kd_card.proofs.Prelude.{◌++◌, length, refl, sym, ap, ◌∙◌, append_assoc, length-append, append_cancel_left}
-use Rattle.kd_card.proofs.Prelude.{arith, ℤ, All, list_all, flat_map, signed_decimal, ne_eqb, ltb-true, append-nil}
-use Rattle.kd_card.proofs.Prelude.{get_or_at, take_all, flat_map-append, AllPass-from_list_all, All-weaker}
-use Rattle.kd_card.proofs.Prelude.{All-from_recursion, flat_map-map, Setting, words_of, line_of, IsWord, IsWithout}
-use Rattle.kd_card.proofs.Prelude.{IsFirstPart, setting_line, list_text, PriceParts, Version, version_of, price_sum}
-use Rattle.kd_card.proofs.Prelude.{head_words, lines_text, price_lines, card_text, line_then, HasLineWords}
-use Rattle.kd_card.proofs.Prelude.{common_steps, lines_split_into_words, texts_tell_first_parts, words_make_one_line}
-use Rattle.kd_card.proofs.Prelude.{map, setting_words, suc, ◌^◌, ◌≤◌, Bool, get_or, Option, Some, None, MatchOption}
-use Rattle.kd_card.proofs.Prelude.{Result, Ok, Err, MatchResult, Decides, Bor, ◌↔◌, IsTrue, is_some, subst, pos, negsuc}
-use Rattle.kd_card.proofs.Prelude.{unsigned_abs, FitsSigned, w16, to_z, of_z, then_some, IsUtf8, ParsesSigned}
-use Rattle.kd_card.proofs.Prelude.{AllByRecursion, false≢true, fits_signed_from_abs, to_z-of_z, get_or-map, length-map}
-use Rattle.kd_card.proofs.Prelude.{recursion_from_All, All-map, IsPriceText, IsPricesAnswer, BadLine, PriceMissing}
-use Rattle.kd_card.proofs.Prelude.{HasFault, GoesOn, parse-signed_decimal, IsAscii-signed, ArePricesInRange, codes}
-use Rattle.kd_card.proofs.Prelude.{zero, ◌+◌, ◌*◌, inl, inr, fold, decimal, not, pointwise, not-false, Decides-eqb}
-use Rattle.kd_card.proofs.Prelude.{slice_eq-Decides, err_from_is_err_and, ◌+ℤ◌, digits_value, decimal_nonempty}
-use Rattle.kd_card.proofs.Prelude.{digits_decimal, decimal_digit, first_decimal, All-cons, All-append, All-from_get_or}
-use Rattle.kd_card.proofs.Prelude.{table_rows, ArePrices, CostTable, KindFormat, CountWrong, BeginsWithHead, kinds_text}
-use Rattle.kd_card.proofs.Prelude.{first_text, column_word, IsGroup, ByNumber, IsDigit, IsNumberText, IsNumeral}
-use Rattle.kd_card.proofs.Prelude.{IsValueAnswer, IsLineAnswer, IsFirstWordAnswer, IsPriceLineAnswer, IsGroupAnswer}
-use Rattle.kd_card.proofs.Prelude.{nil_from_length, numbers_are_words, word_by_bytes, word_by_test, ThenNext-Ok}
-use Rattle.kd_card.proofs.Prelude.{CardFault}
-use Rattle.std.proofs.lemmas.List.Splits.{slice_split_none, slice_split_at, join_with_byte-slice_split}
-use Rattle.std.{proofs.lemmas.Str.IsUtf8-from_ascii, specs.{Result.{result_ok, IsErrAnd}, Int.Signed.mag}}
-use Rattle.kd_card.specs.Reading.{head_prefix}
-use Rattle.kd_state.specs.SheetDay.{IsDayNumber}
+pub use Rattle.kd_card.specs.CardFault.{line_then, HasLineWords, IsPricesAnswer, BeginsWithHead, first_text, IsDigit}
+pub use Rattle.kd_card.specs.CardFault.{IsNumberText, IsNumeral, IsValueAnswer, IsLineAnswer, IsPriceLineAnswer}
+pub use Rattle.kd_card.specs.CardFault.{IsGroupAnswer, BeginsWithWord, EndsGroup, AtNothing, AtOther, IsNextKind}
+pub use Rattle.kd_card.specs.CardFault.{HasNoNext, BeginsWithKinds, IsSettingsAnswer, last_of, IsGroupsAnswer}
+pub use Rattle.kd_card.specs.CardFault.{IsTablePricesAnswer, IsAllPricesAnswer, IsRestAnswer, IsCardAnswer}
+pub use Rattle.kd_card.specs.CardFault.{parts_by_number}
+pub use Rattle.kd_card.specs.CardText.{head_words, lines_text, price_lines, card_text, column_word}
+pub use Rattle.kd_card.specs.CardText.{price_count, IsCard}
+pub use Rattle.kd_card.specs.Kinds.{KindFormat, kinds_text, cable_format, pair_format, bar_format, row_format}
+pub use Rattle.kd_card.specs.Kinds.{kind_words, AreEnds, IsKind, ComesAfter, KeyComesBefore, HasKindWords, HasText}
+pub use Rattle.kd_card.specs.Kinds.{IsOnlyKey, letters_text, counted, prices_of_kinds, AreKinds, IsGroup}
+pub use Rattle.kd_card.specs.Laws.{TextsTellCards, NoCardBeginsAnother, CardsHaveNoFault, OneCardFault, CardsAreSaid}
+pub use Rattle.kd_card.specs.Prices.{version_of, price_sum, ArePricesInRange, table_rows, ArePrices, row_prices}
+pub use Rattle.kd_card.specs.Prices.{column_prices, IsPriceList}
+pub use Rattle.kd_card.specs.Reading.{IsPriceText, head_prefix, EndsKindsAt, IsBadKindAt, IsKindOfWords, AreFewKinds}
+pub use Rattle.kd_card.specs.declared.fault.CardFault.TheVariants.{BadHead, BadLine, PriceMissing, CountWrong, Trailing}
+pub use Rattle.kd_card.specs.declared.prices.PriceParts.TheVariants.{CableKinds, BarKinds, Cables, Bars}
+pub use Rattle.kd_card.specs.declared.cost_table.CostTable.TheVariants.{OfCables, OfBars}
+pub use Rattle.kd_card.specs.{declared.prices.Version.TheVariants.{ByNumber, ByKind}, declared.kinds.PairKind.PairKind}
+pub use Rattle.kd_card.specs.{declared.cost_table.CostTable.CostTable, declared.prices.PriceParts.PriceParts}
+pub use Rattle.kd_card.specs.{declared.fault.CardFault.CardFault, declared.kinds.CableKind.CableKind}
+pub use Rattle.kd_card.specs.{declared.prices.Version.Version, declared.kinds.BarKind.BarKind}
+pub use Rattle.kd_card.specs.{declared.kinds.RowKind.RowKind, declared.kinds.KindOf.KindOf}
+pub use Rattle.kd_state.proofs.Lines.{IsNumeralModel-digits, lines_split_into_words, texts_tell_first_parts}
+pub use Rattle.kd_state.proofs.Lines.{words_make_one_line, numbers_are_words, word_by_bytes, word_by_test, not_longer}
+pub use Rattle.kd_state.proofs.Lines.{same_end}
+pub use Rattle.kd_state.specs.FirstFaults.{HasFault, GoesOn, ThenNext, ThenNext-Ok, Yields-Ok, Yields, Demands}
+pub use Rattle.kd_state.specs.FirstFaults.{HasOneAnswer, HasOneAnswer-Demands, HasOneAnswer-Finds, HasOneAnswer-Yields}
+pub use Rattle.kd_state.specs.FirstFaults.{HasOneAnswer-FindsAlways, HasOneAnswer-ThenNext}
+pub use Rattle.kd_state.specs.Line.{setting_line, list_text, setting_words, BeginsWithSettingLines, BeginsWithNoSetting}
+pub use Rattle.kd_state.specs.Line.{BeginsWithAllSettings}
+pub use Rattle.kd_state.specs.{Words.{words_of, line_of, IsWord, IsWithout, IsFirstPart}, Machine.cable_letters}
+pub use Rattle.kd_state.specs.{declared.setting.Setting.Setting, Costs.column_letters, SheetDay.IsDayNumber}
+pub use Rattle.kd_tables.specs.{Places.{place_text, standing_text, reading_text}, declared.place.Place.Place}
+pub use Rattle.std.proofs.Common.{rules, ◌≡◌, ◌≢◌, ℕ, ◌<◌, true, false, eqb, ltb, List, [], ◌∷◌, ◌++◌, length, refl}
+pub use Rattle.std.proofs.Common.{sym, ap, ◌∙◌, append_assoc, length-append, arith, ℤ, map, suc, ◌^◌, ◌≤◌, Bool, get_or}
+pub use Rattle.std.proofs.Common.{Option, Some, None, MatchOption, Result, Ok, Err, MatchResult, Decides, Bor, ◌↔◌}
+pub use Rattle.std.proofs.Common.{IsTrue, is_some, subst, pos, negsuc, unsigned_abs, FitsSigned, w16, to_z, of_z, codes}
+pub use Rattle.std.proofs.Common.{zero, ◌+◌, ◌*◌, inl, inr, fold, decimal, not, ◌+ℤ◌, drop, min, take}
+pub use Rattle.std.proofs.lemmas.Fmt.{parse-signed_decimal, IsAscii-signed, decimal_nonempty, digits_decimal}
+pub use Rattle.std.proofs.lemmas.Fmt.{decimal_digit, decimal_injective, first_decimal, signed_decimal_injective}
+pub use Rattle.std.proofs.lemmas.List.{append_cancel_left, append-nil, get_or_at, take_all, get_or-map, length-map}
+pub use Rattle.std.proofs.lemmas.List.{nil_from_length, length-replicate}
+pub use Rattle.std.proofs.lemmas.{Bool.{ne_eqb, ltb-true, false≢true, not-false}, Int.{fits_signed_from_abs, to_z-of_z}}
+pub use Rattle.std.proofs.lemmas.{Result.err_from_is_err_and, Slice.Eq.slice_eq-Decides, Bool.Decides.Decides-eqb}
+pub use Rattle.std.proofs.lemmas.Grind.{common_steps}
+pub use Rattle.std.proofs.lemmas.List.Elements.{All-weaker, All-from_recursion, recursion_from_All, All-map, All-cons}
+pub use Rattle.std.proofs.lemmas.List.Elements.{All-append, All-from_get_or, All-nil, All-replicate}
+pub use Rattle.std.proofs.lemmas.List.Splits.{slice_split_none, slice_split_at, join_with_byte-slice_split}
+pub use Rattle.std.proofs.lemmas.List.{Sums.AllPass-from_list_all, Concat.flat_map-append, Folds.flat_map-map}
+pub use Rattle.std.specs.{List.{All, list_all, flat_map, AllByRecursion}, Str.Parse.{ParsesSigned, digits_value}}
+pub use Rattle.std.specs.{Fmt.signed_decimal, Result.IsErrAnd, Bool.then_some, Int.Signed.mag, Str.IsUtf8}
+pub use lib.Pointwise.{pointwise}
 
 abbrev pub settings_words : ℕ → List (List ℕ)
 settings_words number = codes "SETTINGS" ∷ decimal number ∷ []
@@ -40,13 +67,13 @@ sum_words sum = codes "SUM" ∷ signed_decimal sum ∷ []
 abbrev pub behind_spaces : List ℤ → List ℕ
 behind_spaces prices = flat_map (λ price. 32 ∷ signed_decimal price) prices
 
-line_of_prices : (word : List ℕ) (prices : List ℤ) → line_of (price_words word prices) ≡ word ++ behind_spaces prices
-line_of_prices word [] = sym (append-nil word)
-line_of_prices word (price ∷ prices) = ap (λ text. word ++ 32 ∷ text) (line_of_prices (signed_decimal price) prices)
+line_of-prices : (word : List ℕ) (prices : List ℤ) → line_of (price_words word prices) ≡ word ++ behind_spaces prices
+line_of-prices word [] = sym (append-nil word)
+line_of-prices word (price ∷ prices) = ap (λ text. word ++ 32 ∷ text) (line_of-prices (signed_decimal price) prices)
 
 pub all_prices : (front word : List ℕ) (prices : List ℤ)
     → (front ++ (word ++ behind_spaces prices)) ++ 10 ∷ [] ≡ front ++ line_then (price_words word prices) []
-all_prices front word prices = simp (append_assoc, line_of_prices word prices)
+all_prices front word prices = simp (append_assoc, line_of-prices word prices)
 
 pub ruleset prices_written = (all_prices, take_all)
 
@@ -66,6 +93,11 @@ pub card_and_more : (day : ℕ) (xs : List Setting) (prices : PriceParts) (rest 
     (lines_text (price_lines prices) ++ line_then (sum_words (price_sum prices)) rest))
 card_and_more day xs prices rest = grind (arith, common_steps, all_lines, flat_map-map)
 
+-- A card's head is the text before the day, the day, and an LF.
+pub head_text : {front : List ℕ} (version : Version) (day : ℕ) (rest : List ℕ) → front ≡ head_prefix version
+    → front ++ decimal day ++ 10 ∷ rest ≡ line_then (head_words version day) rest
+head_text version day rest e = rw e (grind arith)
+
 lines_text-card : (head count sum : List (List ℕ)) (settings lines : List (List (List ℕ)))
     → (((([] ++ line_then head []) ++ lines_text settings) ++ line_then count []) ++ lines_text lines)
     ++ line_then sum []
@@ -73,14 +105,14 @@ lines_text-card : (head count sum : List (List ℕ)) (settings lines : List (Lis
 lines_text-card head count sum settings lines = simp (flat_map-append, append_assoc)
 
 pub card_text-joined : (version : Version) (day count : ℕ) (xs ys : List Setting) (prices : PriceParts) (sum : ℤ)
-    (empty head list number lines whole : List ℕ)
-    → empty ≡ [] → head ≡ empty ++ line_then (head_words version day) [] → list ≡ head ++ list_text ys
-    → number ≡ list ++ line_then (settings_words count) [] → lines ≡ number ++ lines_text (price_lines prices)
-    → whole ≡ lines ++ line_then (sum_words sum) [] → version ≡ version_of prices → ys ≡ xs → count ≡ length xs
-    → sum ≡ price_sum prices
+    (empty top head list below counted lines end whole : List ℕ)
+    → empty ≡ [] → top ≡ line_then (head_words version day) [] → below ≡ line_then (settings_words count) []
+    → end ≡ line_then (sum_words sum) [] → head ≡ empty ++ top → list ≡ head ++ list_text ys
+    → counted ≡ list ++ below → lines ≡ counted ++ lines_text (price_lines prices) → whole ≡ lines ++ end
+    → version ≡ version_of prices → ys ≡ xs → count ≡ length xs → sum ≡ price_sum prices
     → whole ≡ card_text day xs prices
-card_text-joined version day count xs ys prices sum empty head list number lines whole a b c d e f by same counted
-    summed =
+card_text-joined version day count xs ys prices sum empty top head list below counted lines end whole
+    a t n s h l c p w by same many summed =
     let lines_of = map setting_words xs in
     let card = lines_text-card (head_words version day) (settings_words count) (sum_words sum) lines_of
     (price_lines prices) in
@@ -164,30 +196,20 @@ written_price text p e within = e ∙ ap signed_decimal (to_z-of_z w16 p (FitsSi
 pub mag-small : (p : ℤ) → unsigned_abs p ≤ 9999 → mag p < 2 ^ 63
 mag-small p e = grind arith
 
-pub signed_decimal-not_text : {S E : Type 0} (bs : List ℕ) (r : Result S E) (P : S → Type 0) (Q : E → Type 0)
-    → MatchResult r P (λ e. ¬ (IsUtf8 bs) × Q e) → result_ok r ≡ None → (price : ℤ) → unsigned_abs price ≤ 9999
-    → signed_decimal price ≢ bs
-signed_decimal-not_text bs (Ok s) P Q h none price within e = cc
-signed_decimal-not_text bs (Err f) P Q h none price within e =
-    h.0 (subst IsUtf8 e (IsUtf8-from_ascii (signed_decimal price) (IsAscii-signed price (mag-small price within))))
+no_minus : (amount : ℕ) (digits : List ℕ) → amount ≤ 9999 → decimal amount ≢ 45 ∷ digits
+no_minus zero digits small e = omega (arith, ap (λ t. get_or t 0 0) (sym (decimal_digit 0 (omega arith)) ∙ e))
+no_minus (suc n) digits small e =
+    omega (arith, first_decimal (suc n) (omega arith) (omega arith), ap (λ t. get_or t 0 0) e)
 
-pub read_price : {E : Type 0} (bs : List ℕ) (r : Result ℤ E) → ParsesSigned w16 10 bs r → (price : ℤ)
-    → unsigned_abs price ≤ 9999 → signed_decimal price ≡ bs
-    → result_ok r ≡ Some price
-read_price bs r h price within e =
-    ap result_ok (parse-signed_decimal w16 price bs r (FitsSigned-price price within) (mag-small price within)
-    (sym e) h)
+-- If no positive amount is written as `digits`, no price is written as `-` and `digits`.
+pub no_negative : (digits : List ℕ) → ((n : ℕ) → suc n ≤ 9999 → decimal (suc n) ≢ digits) → (price : ℤ)
+    → unsigned_abs price ≤ 9999 → signed_decimal price ≢ 45 ∷ digits
+no_negative digits none (pos n) near e = no_minus n digits near e
+no_negative digits none (negsuc n) near e = none n near (cc)
 
-pub only_price : {E : Type 0} (bs : List ℕ) (r : Result ℤ E) (q : ℤ) (test : Bool) → ParsesSigned w16 10 bs r
-    → result_ok r ≡ Some q
-    → unsigned_abs q ≤ 9999 → Decides test (bs ≡ signed_decimal q)
-    → MatchOption (then_some test q)
-    ((price : ℤ) → unsigned_abs price ≤ 9999 → signed_decimal price ≢ bs)
-    (λ price. (signed_decimal price ≡ bs) × (unsigned_abs price ≤ 9999))
-only_price bs r q true h some near d = (sym (d.0 refl), near)
-only_price bs r q false h some near d = λ price within e.
-    let same : q ≡ price = let read = read_price bs r h price within e in cc in
-    false≢true (d.1 (sym e ∙ ap signed_decimal (sym same)))
+pub not_minus_zero : (digits : List ℕ) → decimal 0 ≡ digits → (price : ℤ) → unsigned_abs price ≤ 9999
+    → signed_decimal price ≢ 45 ∷ digits
+not_minus_zero digits is = no_negative digits (λ n small e. grind (arith, decimal_injective))
 
 -- ---- words that are prices
 
@@ -245,6 +267,14 @@ pub MatchResult-err : {F Y : Type 0} (answer : Result Y F) (fault : F) (Good : Y
     → IsErrAnd answer (λ made. made ≡ fault) → Bad fault → MatchResult answer Good Bad
 MatchResult-err answer fault Good Bad made bad = let is = err_from_is_err_and answer made in rw (is.1, is.2) bad
 
+-- If the first step finds `x`, and the result is right by the rule of the next step, it is right by the rule of both.
+pub goes_on : {F X Y Z : Type 0} (First : Result X F → Type 0) (Next : X → Result Z F → Type 0) (x : X)
+    → First (Ok x) → (answer : Result Y F) (f : Y → Z)
+    → MatchResult answer (λ y. Next x (Ok (f y))) (λ fault. Next x (Err fault))
+    → MatchResult answer (λ y. ThenNext First Next (Ok (f y))) (λ fault. ThenNext First Next (Err fault))
+goes_on First Next x is (Ok y) f next = GoesOn x is next
+goes_on First Next x is (Err fault) f next = GoesOn x is next
+
 -- A test that is false refutes what it decides.
 pub not_from_false : {P : Type 0} {test : Bool} → Decides test P → test ≡ false → ¬ P
 not_from_false decides e is = false≢true (sym e ∙ decides.1 is)
@@ -255,7 +285,8 @@ nonempty-by_length is e none = false≢true (sym e ∙ is ∙ ap (λ t. eqb (len
 -- If reading a line fails although there are bytes, no whole line begins them, and the fault is that line `line`
 -- is bad.
 pub no_line : {line : ℕ} {bytes : List ℕ} {fault : CardFault} → bytes ≢ [] → IsLineAnswer line bytes (Err fault)
-    → ((found : List (List ℕ) × List ℕ) → ¬ (HasLineWords bytes found.0 found.1)) × (fault ≡ BadLine line)
+    → ((found : List ℕ × List (List ℕ) × List ℕ) → ¬ (HasLineWords bytes (found.0 ∷ found.1) found.2))
+    × (fault ≡ BadLine line)
 no_line some (HasFault f none e) = absurd (none.0 tt some)
 no_line some (GoesOn x is next) = next
 
@@ -276,11 +307,6 @@ numeral_word signed text e = grind (arith, number_word, below_zero)
 pub signed_word : (z : ℤ) → unsigned_abs z < 2 ^ 64 → IsWord (signed_decimal z)
 signed_word z small = grind (arith, numbers_are_words, below_zero)
 
--- A card's head is the text before the day, the day, and an LF.
-pub head_text : {front : List ℕ} (version : Version) (day : ℕ) (rest : List ℕ) → front ≡ head_prefix version
-    → front ++ decimal day ++ 10 ∷ rest ≡ line_then (head_words version day) rest
-head_text version day rest e = rw e (grind arith)
-
 pub day_unbroken : (day : ℕ) → IsDayNumber day → IsWithout 10 (decimal day)
 day_unbroken day month = let last = month.last in (numbers_are_words day (omega arith)).unbroken
 
@@ -300,11 +326,9 @@ number_by_parts : (text : List ℕ) → 0 < length text → ((i : ℕ) → i < l
     → (get_or text 0 0 ≡ 48 → length text ≡ 1)
     → IsNumberText text
 number_by_parts [] some digits lead = absurd (omega arith)
-number_by_parts (digit ∷ rest) some digits lead = (
-  digits 0 (omega arith),
-  All-from_get_or IsDigit rest 0 (λ i inside. digits (suc i) (omega arith)),
-  λ e. nil_from_length rest (omega (arith, lead e)),
-)
+number_by_parts (digit ∷ rest) some digits lead =
+    let all = All-from_get_or IsDigit rest 0 (λ i inside. digits (suc i) (omega arith)) in
+    grind (arith, digits 0 (omega arith), nil_from_length)
 
 no_leading_zero : (number : ℕ) → number < 2 ^ 64 → get_or (decimal number) 0 0 ≡ 48 → length (decimal number) ≡ 1
 no_leading_zero number small e = grind (arith, decimal_digit, first_decimal)
@@ -321,17 +345,13 @@ signed_text z small = grind (arith, number_text, not_zero)
 
 -- ---- a bound of the sum of prices
 
-sum_bound : (a : ℤ) (prices : List ℤ) → AllByRecursion (λ price. unsigned_abs price ≤ 9999) prices
+pub sum_bound : (a : ℤ) (prices : List ℤ) → AllByRecursion (λ price. unsigned_abs price ≤ 9999) prices
     → unsigned_abs (fold (λ sum price. sum +ℤ price) a prices) ≤ unsigned_abs a + 9999 * length prices
 sum_bound a [] reach = omega arith
 sum_bound a (price ∷ prices) reach = grind (arith, sum_bound (a +ℤ price) prices reach.1)
 
 pub few_prices : (prices : PriceParts) → table_rows prices ≤ 27
 few_prices prices = grind arith
-
-pub price_sum_is_small : (prices : PriceParts) → ArePrices prices → unsigned_abs (price_sum prices) < 2 ^ 64
-price_sum_is_small prices p =
-    grind (arith, common_steps, All-append, sum_bound, recursion_from_All, length-append, few_prices)
 
 -- ---- a name and a value
 
@@ -353,60 +373,30 @@ same_values front {value} {other} {rest} {more} free clear e d =
 
 -- ---- a first word, and prices
 
-module _ {K : Type 0} (word : K → List ℕ) {line : ℕ} {bytes : List ℕ} where
-  pub first_found : {first : List ℕ} {words : List (List ℕ)} {rest : List ℕ} (key : K)
-      → IsLineAnswer line bytes (Ok (first ∷ words, rest)) → first ≡ word key
-      → IsFirstWordAnswer word line bytes (Ok (key, words, rest))
-  first_found {first} {words} {rest} key says is =
-      GoesOn (first ∷ words, rest) says (GoesOn (key, words) (ap (λ w. w ∷ words) is) refl)
-
-  pub other_first : {first : List ℕ} {words : List (List ℕ)} {rest : List ℕ}
-      → IsLineAnswer line bytes (Ok (first ∷ words, rest))
-      → ((key : K) → first ≢ word key) → IsFirstWordAnswer word line bytes (Err PriceMissing)
-  other_first {first} {words} {rest} says none =
-      GoesOn (first ∷ words, rest) says
-      (HasFault PriceMissing ((λ key is. none key.0 (ap (λ ws. get_or ws 0 []) is)), refl) refl)
-
-  pub first_says : (key : K) (words : List (List ℕ)) (rest : List ℕ) → HasLineWords bytes (word key ∷ words) rest
-      → IsFirstWordAnswer word line bytes (Ok (key, words, rest))
-  first_says key words rest has = first_found key (GoesOn tt (some_bytes has) has) refl
+pub first_says : {line : ℕ} {bytes word : List ℕ} {words : List (List ℕ)} {rest : List ℕ}
+    → HasLineWords bytes (word ∷ words) rest → IsLineAnswer line bytes (Ok (word, words, rest))
+first_says has = GoesOn tt (some_bytes has) has
 
 -- A line has a first word and `number` prices after it.
 pub record HasPrices (bytes word : List ℕ) (number : ℕ) (prices : List ℤ) (rest : List ℕ) : Type 0 where
   pub text : bytes ≡ line_then (price_words word prices) rest
-  pub reach : ArePricesInRange prices
-  pub count : length prices ≡ number
+  pub list : IsPriceList number prices
 
 pub prices_said : {number line : ℕ} {words : List (List ℕ)} {prices : List ℤ}
     → IsPricesAnswer number line words (Ok prices)
-    → (words ≡ map signed_decimal prices) × ArePricesInRange prices × (length prices ≡ number)
+    → (words ≡ map signed_decimal prices) × IsPriceList number prices
 prices_said {number} {words} {prices} says = grind (arith, ThenNext-Ok)
 
-pub line_said : {K : Type 0} (word : K → List ℕ) (number : K → ℕ) {line : ℕ} {bytes : List ℕ} (x : K × List ℤ × List ℕ)
-    → IsPriceLineAnswer word number line bytes (Ok x) → HasPrices bytes (word x.0) (number x.0) x.1 x.2
-line_said {K} word number {bytes} x says =
-    let first = ThenNext-Ok says in
-    let found = ThenNext-Ok first.says in
-    let split = ThenNext-Ok found.says in
-    let key = ThenNext-Ok found.next in
+pub line_said : {word : List ℕ} {number line : ℕ} {bytes : List ℕ} (x : List ℤ × List ℕ)
+    → IsPriceLineAnswer word number line bytes (Ok x) → HasPrices bytes word number x.0 x.1
+line_said {word} {number} {bytes} x says =
+    let line = ThenNext-Ok says in
+    let split = ThenNext-Ok line.says in
+    let first = ThenNext-Ok line.next in
     let prices = ThenNext-Ok first.next in
     let are = prices_said prices.says in
-    let is : x ≡ (key.found.0, prices.found, found.found.1) = cc in
-    let words : found.found.0 ≡ price_words (word key.found.0) prices.found =
-    key.says ∙ ap (λ w. word key.found.0 ∷ w) (cc) in
-    subst (λ (y : K × List ℤ × List ℕ). HasPrices bytes (word y.0) (number y.0) y.1 y.2) (sym is) (record {
-      text = is_line split.next ∙ ap (λ w. line_then w found.found.1) words;
-      reach = are.1;
-      count = are.2 ∙ ap number (cc);
+    let words : line.found.0 ∷ line.found.1 ≡ price_words word prices.found = cc in
+    subst (λ (y : List ℤ × List ℕ). HasPrices bytes word number y.0 y.1) (sym (Yields-Ok prices.next)) (record {
+      text = is_line split.next ∙ ap (λ ws. line_then ws line.found.2) words;
+      list = are.1;
     })
-
--- ---- groups of kinds
-
-pub record HasGroup {K X : Type 0} (format : KindFormat K X) (number : ℕ) (bytes : List ℕ) (kinds : List K)
-    (rest : List ℕ) : Type 0 where
-  pub lines : bytes ≡ kinds_text format kinds ++ rest
-  pub group : IsGroup format number kinds
-
-pub group_said : {K X : Type 0} {format : KindFormat K X} {number : ℕ} (line : ℕ) {bytes : List ℕ} (x : List K × List ℕ)
-    → IsGroupAnswer format number line bytes (Ok x) → HasGroup format number bytes x.0 x.1
-group_said line x says = grind (arith, ThenNext-Ok)

@@ -1,5 +1,0 @@
-use Rattle.kd_card.proofs.{Prelude.arith, KindWords.line_in_pieces, Lines.written_price}
-use Rattle.kd_card.proofs.kind_text.push_kind.Goals as goal
-
-pub returns-clause-bytes : goal.returns-clause-bytes
-returns-clause-bytes g c = grind (arith, line_in_pieces, written_price)

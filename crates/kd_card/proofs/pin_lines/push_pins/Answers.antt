@@ -1,5 +1,0 @@
-use Rattle.kd_card.proofs.Prelude.{arith, common_steps}
-use Rattle.kd_card.proofs.pin_lines.push_pins.Goals as goal
-
-pub returns-clause-items : goal.returns-clause-items
-returns-clause-items c = grind (arith, common_steps)

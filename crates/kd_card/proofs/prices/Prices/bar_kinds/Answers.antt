@@ -1,6 +1,0 @@
-use Rattle.kd_card.proofs.{Prelude.rules, KindPrices.bars_are_prices}
-use Rattle.kd_card.proofs.prices.Prices.bar_kinds.Goals as goal
-
-pub of_parts-requires : goal.of_parts-requires
-of_parts-requires c =
-    (bars_are_prices _ _).1 (rw (c.in_ok-in_order.ensures.0, c.in_ok-in_order-2.ensures.0) (search rules))

@@ -1,5 +1,0 @@
-use Rattle.kd_card.proofs.Prelude.{arith, common_steps, rules}
-use Rattle.kd_card.proofs.prices.sum_onto.Goals as goal
-
-pub loop-price-preserved : goal.loop-price-preserved
-loop-price-preserved c = record { value = grind (arith, common_steps); bound = search rules }
