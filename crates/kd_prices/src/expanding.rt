@@ -68,7 +68,6 @@ fn take_one<K: Kind>(key: &K::Key, kinds: &mut [K]) -> Option<i16>
     }
 }
 
-/// Whether `kind` has the key `key` and a count above 0.
 fn has_one_left<K: Kind>(key: &K::Key, kind: &K) -> bool
     ensures { let parts = K.format.kind kind.now in
         IsTrue result ↔ ((K.Key.eq parts.key key.now ≡ true) × (0 < parts.count)) }

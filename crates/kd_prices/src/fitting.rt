@@ -42,9 +42,6 @@ fn first_column_too_high(costs: &[u8], price: i16, columns: &[i16]) -> Option<us
     None
 }
 
-/// Whether `price` and the price of column `column`, counted from 0, add up to at most the cost in this column.
-///
-/// `price` is the price of one row of the table of costs, and `costs` are the costs in this row.
 fn fits_at_column(costs: &[u8], price: i16, columns: &[i16], column: usize) -> bool
     requires inside { column < length columns.now }
     requires each { length costs.now ≡ length columns.now }

@@ -45,9 +45,7 @@ pub(crate) fn carry_settings(
     Ok(Carried { reached, needed })
 }
 
-/// Checks that `setting`, on line `line`, changes a cable or a bar, or lowers the number of loose things by one.
-///
-/// `before` and `after` are the numbers of loose things before and after the setting.
+/// Checks that `setting`, on line `line`, is needed. `before` and `after` are the numbers of loose things around it.
 fn check_need(setting: &Setting, line: usize, before: usize, after: usize) -> Result<(), Doubt>
     requires { after ≤ 137 }
     ensures { let is_needed = IsFalse (proving.is_priced_setting setting.now) → before ≡ after + 1 in
