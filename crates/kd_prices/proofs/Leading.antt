@@ -1,9 +1,10 @@
 -- Lists of settings that lead from one machine to another, split and joined.
 use Rattle.kd_card.{proofs.Falling.model_of-changed, specs.Proving.is_priced_setting}
-use Rattle.kd_prices.proofs.Prelude.{AreSettingsNeeded, IsNeededAnswer, IsSettingNeeded, NeedlessLine, take-append-drop}
-use Rattle.kd_prices.proofs.Prelude.{Day, Err, Ok, Why, [], ap, sym, ◌+◌, ◌<◌, ◌∙◌, ◌∷◌, ◌≡◌}
-use Rattle.kd_prices.proofs.Prelude.{Doubt, Leads, List, Parts, Result, Some, arith, get_or, length, subst, take, ◌++◌}
-use Rattle.kd_prices.proofs.Prelude.{Setting, day_model, leads_next, machine_after, model_of, take_more, why_refused, ℕ}
+use Rattle.kd_prices.proofs.Prelude.{AreSettingsNeeded, IsSettingNeeded, proving_cards_are_shortest, take-append-drop}
+use Rattle.kd_prices.proofs.Prelude.{Day, Err, Ok, Why, [], ap, drop, sym, take, ℕ, ◌++◌, ◌+◌, ◌<◌, ◌∙◌, ◌∷◌, ◌≡◌}
+use Rattle.kd_prices.proofs.Prelude.{Doubt, Leads, List, Parts, Setting, Some, arith, get_or, length, subst, take_more}
+use Rattle.kd_prices.proofs.Prelude.{IsNeededAnswer, NeedlessLine, RestIsShortest, Result, length-append, machine_after}
+use Rattle.kd_prices.proofs.Prelude.{day_model, leads_join, leads_next, length-drop, length-take, model_of, why_refused}
 use Rattle.kd_state.specs.{Costs.loose_count, Setting.Carries}
 use Rattle.std.proofs.{Math.Seq.drop-cons, lemmas.List.length-take-le}
 use Rattle.std.specs.{Prelude.IsFalse, Result.{MatchResult, result_and}}
@@ -87,3 +88,28 @@ walks_on {m} {n} {o} {s} {xs} {place} {needed} x here inside is walked carries l
   judged = judged_on m n s xs place x inside is walked.leads needed here walked.judged
       (rw (← carries.made, ← walked.loose_is, ← left) tells);
 }
+
+-- After its first lines, the rest of a card that proves itself is a shortest list.
+pub rest_is_shortest : RestIsShortest
+rest_is_shortest m between s settings prices lines machine legal are_prices proves within leads =
+    let whole = proves.proves.leads in
+    record {
+      leads = (
+        whole.0,
+        leads_on m between whole.0 (take lines settings) (drop lines settings) leads
+            (subst (λ xs. Leads m xs whole.0) (sym (take-append-drop lines settings)) whole.1),
+        whole.2,
+      );
+      shortest = λ others reached.
+          let longer = proving_cards_are_shortest m s settings prices machine legal are_prices proves
+          (take lines settings ++ others)
+          (reached.0, leads_join m between reached.0 (take lines settings) others leads reached.1, reached.2) in
+          omega (
+            arith,
+            longer,
+            length-append (take lines settings) others,
+            length-take lines settings,
+            length-drop lines settings,
+          );
+      count = length-drop lines settings;
+    }

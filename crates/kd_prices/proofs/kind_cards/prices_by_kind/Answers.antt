@@ -23,8 +23,7 @@ returns-in-Rotor-Cables c =
     (cables_by_kind h.parts.now _ h.rows h.columns c.kinds_of.result.items c.kinds_of-in-Rotor-Cables.result.items
     (subst IsMachine parted.0 so.machine) (subst IsLegalDay parted.1 so.day)
     (subst ArePrices h.is-1 c.parts.ensures.are_prices) parted.2
-    (record { expand = rows.expand; in_order = rows.in_order })
-    (record { expand = columns.expand; in_order = columns.in_order }) _
+    rows columns _
     (rw (c.as_slice-in-Rotor-Cables-2.ensures.value, c.as_slice-in-Rotor-Cables-4.ensures.value)
     at c.cable_kinds.ensures) valid)
 
@@ -40,6 +39,5 @@ returns-in-Pin-Bars c =
     (bars_by_kind h.parts.now _ h.rows h.columns c.kinds_of-in-Pin-Bars.result.items
     c.kinds_of-in-Pin-Bars-2.result.items (subst IsMachine parted.0 so.machine) (subst IsLegalDay parted.1 so.day)
     (subst ArePrices h.is-1 c.parts.ensures.are_prices) refl
-    (record { expand = rows.expand; in_order = rows.in_order })
-    (record { expand = columns.expand; in_order = columns.in_order }) _
+    rows columns _
     (rw (c.as_slice-in-Pin-Bars.ensures.value, c.as_slice-in-Pin-Bars-2.ensures.value) at c.bar_kinds.ensures) valid)
