@@ -4,7 +4,7 @@ use Rattle.kd_desk.proofs.Prelude.{List, Ok, Parts, [], machine_of, subst, sym, 
 use Rattle.kd_desk.specs.FewCables.{DayHasPairsUpTo, FewCablesServeAMonth, FileUsesNoneAbove, KeepsToFirst}
 use Rattle.kd_desk.specs.Month.{Papers, SetTheMachineInTurn}
 use Rattle.kd_desk.proofs.Months.{months_set_the_machine}
-use Rattle.kd_plan.proofs.Planning.{few_cables_serve}
+use Rattle.kd_plan.proofs.Planning.FewCables.{few_cables_serve}
 use Rattle.kd_plan.specs.FewCables.{NamesNoneAbove, UsesNoneAbove}
 use Rattle.std.proofs.Common.{All, arith}
 use Rattle.std.proofs.lemmas.List.Elements.{All-cons, All-head, All-nil, All-tail}

@@ -108,7 +108,7 @@ module _ (m : Parts) (s : Day) (settings : List Setting) (prices : PriceParts) w
       → IsOk answer ↔ Proves m s settings prices
   told (Ok x) says = (λ ok. says_proving says, λ proves. refl)
   told (Err doubt) says = (
-    λ ok. absurd (false≢true ok),
+    λ ok. absurd (cc),
     λ proves. absurd (let same = only_checked (Err doubt) (Ok tt) says (proving_says proves) in cc),
   )
 

@@ -14,17 +14,14 @@ use Rattle.std.specs.{Prelude.IsFalse, Result.{MatchResult, result_and}}
 pub leads_on : (m between n : Parts) (front rest : List Setting) → Leads m front between → Leads m (front ++ rest) n
     → Leads between rest n
 leads_on m between n [] rest first leads = subst (λ machine. Leads machine rest n) (sym first) leads
-leads_on m between n (x ∷ front) rest first leads =
-    leads_on leads.0 between n front rest (subst (λ machine. Leads machine front between)
-    (first.1.made ∙ sym leads.1.made) first.2) leads.2
+leads_on m between n (x ∷ front) rest first leads = grind (arith, leads_on leads.0 between n front rest)
 
 -- If all settings of a list are needed, the setting after `front` is.
 pub needed_at : (m between : Parts) (s : Day) (front rest : List Setting) (x : Setting) → Leads m front between
     → AreSettingsNeeded m s (front ++ x ∷ rest) → IsSettingNeeded between s x
 needed_at m between s [] rest x leads needed = subst (λ machine. IsSettingNeeded machine s x) (sym leads) needed.0
 needed_at m between s (y ∷ front) rest x leads needed =
-    needed_at (machine_after m y) between s front rest x
-    (subst (λ machine. Leads machine front between) leads.1.made leads.2) needed.1
+    grind (arith, needed_at (machine_after m y) between s front rest x)
 
 -- In a list that leads to a machine, no setting is refused.
 pub Leads-not_refused : (m between n : Parts) (front rest : List Setting) (x : Setting) (why : Why)
@@ -39,8 +36,7 @@ needed_join : (m n : Parts) (s : Day) (front : List Setting) (x : Setting) → L
     → IsSettingNeeded n s x → AreSettingsNeeded m s (front ++ x ∷ [])
 needed_join m n s [] x leads needed here = (subst (λ machine. IsSettingNeeded machine s x) leads here, tt)
 needed_join m n s (y ∷ front) x leads needed here =
-    let behind = subst (λ between. Leads between front n) leads.1.made leads.2 in
-    (needed.0, needed_join (machine_after m y) n s front x behind needed.1 here)
+    grind (arith, needed_join (machine_after m y) n s front x)
 
 -- The settings before `place` have been carried out. `needed` is `Ok` if all of them were needed, and otherwise has
 -- the first one that wasn't.
