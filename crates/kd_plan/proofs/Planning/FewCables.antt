@@ -34,8 +34,7 @@ put_within number m s none few (suc place) letter within h =
     ]
 
 in_use : (cable : Cable) (letter : ℕ) → has_letter (cable_letters cable) letter ≡ true → is_spare cable ≡ false
-in_use (None, None) letter h = absurd (cc)
-in_use _ letter h = refl
+in_use cable letter h = grind arith
 
 -- A change of a cable whose number is at most `number` leaves the cables above `number` spare.
 set_within : (number : ℕ) (m : RotorParts) (cable : ℕ) (ends : Cable) → UsesNoneAbove number (Rotor m) → cable ≤ number
@@ -51,9 +50,7 @@ HasFewInUse number (Pin start) (Pin m) = Unit {0}
 HasFewInUse number _ _ = ⊥
 
 HasFewInUse-UsesNoneAbove : (number : ℕ) (start m : Parts) → HasFewInUse number start m → UsesNoneAbove number m
-HasFewInUse-UsesNoneAbove number (Rotor start) (Rotor m) few = few.1
-HasFewInUse-UsesNoneAbove number start (Pin m) few = tt
-HasFewInUse-UsesNoneAbove number (Pin start) (Rotor m) few = absurd few
+HasFewInUse-UsesNoneAbove number start m few = grind arith
 
 SparesStayFree-tail : (m : Parts) (s : Day) (x : Setting) (settings : List Setting) → SparesStayFree m s (x ∷ settings)
     → SparesStayFree m s settings

@@ -47,10 +47,6 @@ cond-exchanged : (p q : Bool)
     ≤ cond (exactly_one false q) 1 0 + cond (exactly_one p false) 1 0
 cond-exchanged p q = grind arith
 
-abbrev lies_in_exactly_one : Cable → Column → ℕ → Bool
-lies_in_exactly_one cable column letter =
-    exactly_one (has_letter (cable_letters cable) letter) (has_letter (column_letters column) letter)
-
 -- Two cables cost no more after the exchange: `cable` becomes the pair, and `spare` the column without a pair.
 cable_cost-exchanged : (spare cable : Cable) (column : Column) → is_spare spare ≡ true
     → cable_cost spare None + cable_cost cable column ≤ cable_cost spare column + cable_cost cable None
@@ -181,18 +177,17 @@ LeavesSpares m s (Put cable letter) =
 LeavesSpares m s _ = Unit {0}
 
 unpriced_leave : (m : RotorParts) (s : RotorDay) (x : Setting) → is_priced_setting x ≡ false → LeavesSpares m s x
-unpriced_leave m s (Put cable letter) e = absurd (cc)
-unpriced_leave m s _ e = tt
+unpriced_leave m s x e = grind arith
 
 pub is_spare_at-cable_at : (m : RotorParts) (number place : ℕ) → number ≡ suc place
     → is_spare_at m.cables place ≡ is_spare (cable_at m number)
 is_spare_at-cable_at m number place e = rw e (ap is_spare (sym (unwrap_or-slice_get m.cables place (None, None))))
 
-spares_stay_free : (m : RotorParts) (s : RotorDay) (to : List ℕ) → IsMachine (Rotor m) → IsLegalDay (OfRotors s)
+pub SparesStayFree-planned : (m : RotorParts) (s : RotorDay) (to : List ℕ) → IsMachine (Rotor m) → IsLegalDay (OfRotors s)
     → m.model ≡ s.model
     → length to ≡ 13 → IsOneToOne to → SparesComeLast m.cables (length s.pairs) to
     → SparesStayFree (Rotor m) (OfRotors s) (planned_lines (Rotor m) (OfRotors s) to)
-spares_stay_free m s to machine legal same size once last cable letter (k, lt, e) =
+SparesStayFree-planned m s to machine legal same size once last cable letter (k, lt, e) =
     let loose = All-unpriced (LeavesSpares m s) (unpriced_leave m s) (loose_lines (Rotor m) (OfRotors s))
     (all_counted (Rotor m) (OfRotors s) machine legal same).priced in
     let pulls = all_moves (LeavesSpares m s) Out s.pairs m.cables to 1 (λ k n cable e lt.
@@ -204,13 +199,3 @@ spares_stay_free m s to machine legal same size once last cable letter (k, lt, e
     (is_spare_at-cable_at m n k (omega arith) ∙ spare))) in
     let all = All-append (LeavesSpares m s) _ _ (All-append (LeavesSpares m s) _ _ loose pulls) puts in
     subst (LeavesSpares m s) e (all k (Put cable letter) lt)
-
-pub SparesStayFree-planned : (m : RotorParts) (s : RotorDay) (pairs : List (ℕ × ℕ)) (to : List ℕ)
-    (settings : List Setting)
-    → IsMachine (Rotor m) → IsLegalDay (OfRotors s) → m.model ≡ s.model → pairs ≡ s.pairs
-    → length to ≡ 13 → IsOneToOne to → SparesComeLast m.cables (length pairs) to
-    → settings ≡ planned_lines (Rotor m) (OfRotors s) to → SparesStayFree (Rotor m) (OfRotors s) settings
-SparesStayFree-planned m s pairs to settings machine legal same alike size once last lines =
-    rw lines
-    (spares_stay_free m s to machine legal same size once
-    (subst (λ all. SparesComeLast m.cables (length all) to) alike last))
