@@ -49,8 +49,7 @@ nothings_in_form zero = tt
 nothings_in_form (suc n) = (tt, nothings_in_form n)
 
 pairs_in_form : (n : ℕ) (pairs : List (ℕ × ℕ)) → AllByRecursion (λ letter. letter < 26) (letters_in_pairs pairs)
-    → NoLetterTwice pairs
-    → AllByRecursion IsPairInOrder (map pair_in_order (map Some pairs ++ replicate n None))
+    → NoLetterTwice pairs → AllByRecursion IsPairInOrder (map pair_in_order (map Some pairs ++ replicate n None))
 unfolding IsDistinct
 pairs_in_form n [] within apart = nothings_in_form n
 pairs_in_form n ((a, b) ∷ pairs) within apart = grind (arith, eqb-false, pairs_in_form n pairs within.1.1 apart.1.1)
@@ -93,12 +92,10 @@ pairs_told (p ∷ pairs) (suc i) (suc k) apart e = grind (arith, pairs_told pair
 -- places are one.
 abbrev pub AreTold : {X : Type 0} → List X → X → (ℕ → ℕ → Type 0) → Type 0
 AreTold keys d Alike =
-    (i k : ℕ) → i < length keys → k < length keys
-    → (get_or keys i d ≡ get_or keys k d → Alike i k ⊎ (i ≡ k))
+    (i k : ℕ) → i < length keys → k < length keys → (get_or keys i d ≡ get_or keys k d → Alike i k ⊎ (i ≡ k))
     × (Alike i k → get_or keys i d ≡ get_or keys k d)
 
-pub each_told : {X : Type 0} (keys : List X) (d : X)
-    → AreTold keys d (λ i k. slice_get keys i ≡ slice_get keys k)
+pub each_told : {X : Type 0} (keys : List X) (d : X) → AreTold keys d (λ i k. slice_get keys i ≡ slice_get keys k)
 each_told keys d i k inside within = (
   λ same. inl (slice_get-get_or keys i d inside ∙ ap (λ x. Some x) same ∙ sym (slice_get-get_or keys k d within)),
   λ alike. same_at keys i k d alike,

@@ -25,15 +25,12 @@ needed_at m between s (y ∷ front) rest x leads needed =
 
 -- In a list that leads to a machine, no setting is refused.
 pub Leads-not_refused : (m between n : Parts) (front rest : List Setting) (x : Setting) (why : Why)
-    → Leads m front between
-    → why_refused between x ≡ Some why
-    → Leads m (front ++ x ∷ rest) n → ⊥
+    → Leads m front between → why_refused between x ≡ Some why → Leads m (front ++ x ∷ rest) n → ⊥
 Leads-not_refused m between n front rest x why first refused leads = grind (arith, leads_on)
 
 -- If all settings of `front` are needed, and `x` is needed after them, then all settings of both are needed.
 needed_join : (m n : Parts) (s : Day) (front : List Setting) (x : Setting) → Leads m front n
-    → AreSettingsNeeded m s front
-    → IsSettingNeeded n s x → AreSettingsNeeded m s (front ++ x ∷ [])
+    → AreSettingsNeeded m s front → IsSettingNeeded n s x → AreSettingsNeeded m s (front ++ x ∷ [])
 needed_join m n s [] x leads needed here = (subst (λ machine. IsSettingNeeded machine s x) leads here, tt)
 needed_join m n s (y ∷ front) x leads needed here =
     grind (arith, needed_join (machine_after m y) n s front x)
@@ -72,8 +69,7 @@ module _ (m n : Parts) (s : Day) (xs : List Setting) (place : ℕ) (x : Setting)
 pub walks_on : {m n o : Parts} {s : Day} {xs : List Setting} {place loose left : ℕ} {needed : Result (Unit {0}) Doubt}
     (x : Setting)
     (here : Result (Unit {0}) Doubt) → place < length xs → get_or xs place x ≡ x → IsWalked m n s xs place loose needed
-    → Carries n x o
-    → left ≡ loose_count o s
+    → Carries n x o → left ≡ loose_count o s
     → MatchResult here (λ _. IsFalse (is_priced_setting x) → loose ≡ left + 1)
     (λ doubt. (doubt ≡ NeedlessLine (place + 1)) × ¬ (IsFalse (is_priced_setting x) → loose ≡ left + 1))
     → IsWalked m o s xs (place + 1) left (result_and needed here)

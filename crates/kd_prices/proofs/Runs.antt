@@ -107,8 +107,7 @@ module _ {K X : Type 0} (format : KindFormat K X) where
   not_before_itself : (x : X) → ¬ (KeyComesBefore format x x)
   not_before_itself x before = let tied = tied_itself nat_list_cmp_total (format.order x) in cc
 
-  comes_before-trans : (x y z : X) → KeyComesBefore format x y → KeyComesBefore format y z
-      → KeyComesBefore format x z
+  comes_before-trans : (x y z : X) → KeyComesBefore format x y → KeyComesBefore format y z → KeyComesBefore format x z
   comes_before-trans x y z = nat_list_cmp_total.trans (format.order x) (format.order y) (format.order z)
 
   abbrev After : K → X × ℤ → Type 0

@@ -55,8 +55,7 @@ module _ {X : Type 0} (key : X) (kind : KindOf X) (kinds : List (KindOf X)) wher
 
 -- ---- all keys
 
-pub put_rest : (xs ys : List ℤ) (x : ℤ) → 0 < length xs
-    → put_mid 1 (length (set xs 0 x) - 1) (set xs 0 x) ys ≡ x ∷ ys
+pub put_rest : (xs ys : List ℤ) (x : ℤ) → 0 < length xs → put_mid 1 (length (set xs 0 x) - 1) (set xs 0 x) ys ≡ x ∷ ys
 put_rest [] ys x some = absurd (omega arith)
 put_rest (y ∷ xs) ys x some = grind (arith, common_steps)
 

@@ -25,11 +25,8 @@ put_within number m s none few (suc place) letter within h =
       | inl above ↦
           let bound = h (none (suc place) above) in
           let spare = λ (k : ℕ) (low : place ≤ k). is_spare_at-cable_at m (suc k) k refl ∙ none (suc k) (omega arith) in
-          omega (
-            arith,
-            all_first m.cables place (omega arith) spare,
-            all_first m.cables (suc place) within (λ k low. spare k (omega arith)),
-          )
+          let fewer = all_first m.cables place (omega arith) spare in
+          omega (arith, all_first m.cables (suc place) within (λ k low. spare k (omega arith)))
       | inr fits ↦ omega arith
     ]
 

@@ -42,8 +42,7 @@ sums_within : {X : Type 0} (f g h k : X → ℕ) → ((x : X) → f x + g x ≤ 
 sums_within f g h k e [] = omega arith
 sums_within f g h k e (x ∷ xs) = simp sum_by-cons (omega (arith, e x, sums_within f g h k e xs))
 
-cond-exchanged : (p q : Bool)
-    → cond {A = ℕ} (exactly_one false false) 1 0 + cond (exactly_one p q) 1 0
+cond-exchanged : (p q : Bool) → cond {A = ℕ} (exactly_one false false) 1 0 + cond (exactly_one p q) 1 0
     ≤ cond (exactly_one false q) 1 0 + cond (exactly_one p false) 1 0
 cond-exchanged p q = grind arith
 
@@ -119,18 +118,13 @@ few_pairs to pairs h =
     let below : ℕ → Bool = λ j. nat_lt j pairs in
     let apart = IsDistinct-from_AllPairs Decides-eqb (filter below to)
     (AllPairs-filter (λ j k. j ≢ k) below to h.distinct) in
-    omega (
-      arith,
-      length-filter below to,
-      length-le_from_distinct_below (filter below to) pairs apart
-          (λ q there. grind (arith, Any-from_list_any, eqb-true, ltb-true, filter_passes below to)),
-    )
+    let few = length-le_from_distinct_below (filter below to) pairs apart
+    (λ q there. grind (arith, Any-from_list_any, eqb-true, ltb-true, filter_passes below to)) in
+    omega (arith, length-filter below to)
 
 few_spares : (cables : List Cable) (pairs : List (ℕ × ℕ)) (to : List ℕ) → length cables ≡ 13 → length to ≡ 13
-    → IsOneToOne to
-    → SparesComeLast cables (length pairs) to → (number place : ℕ) → number ≡ suc place → place < 13
-    → get_or to place 0 < length pairs
-    → is_spare_at cables place ≡ true
+    → IsOneToOne to → SparesComeLast cables (length pairs) to → (number place : ℕ) → number ≡ suc place → place < 13
+    → get_or to place 0 < length pairs → is_spare_at cables place ≡ true
     → count_by is_spare (take number cables) ≤ length pairs - count_by (λ cable. not (is_spare cable)) cables
 few_spares cables pairs to many size once last number place next lt taken spare =
     let all = pairs-counted cables to (length pairs) number (omega arith) (λ k lt' e. elim (cases_eq k place) [
@@ -151,8 +145,7 @@ put_lines P number cable (Some pair) h =
 
 -- If `P` holds of each cable's settings in one direction, it holds of all settings in this direction.
 all_moves : (P : Setting → Type 0) (direction : CableMove) (pairs : List (ℕ × ℕ)) (cables : List Cable) (to : List ℕ)
-    (number : ℕ)
-    → ((k n : ℕ) (cable : Cable) → n ≡ number + k → k < length to
+    (number : ℕ) → ((k n : ℕ) (cable : Cable) → n ≡ number + k → k < length to
     → All P (cable_moves direction n (cable, column_at pairs (get_or to k 0))))
     → All P (lines_from (cable_moves direction) number (cables_with_columns cables pairs to))
 all_moves P direction pairs [] to number h = All-nil P
@@ -184,8 +177,7 @@ pub is_spare_at-cable_at : (m : RotorParts) (number place : ℕ) → number ≡ 
 is_spare_at-cable_at m number place e = rw e (ap is_spare (sym (unwrap_or-slice_get m.cables place (None, None))))
 
 pub SparesStayFree-planned : (m : RotorParts) (s : RotorDay) (to : List ℕ) → IsMachine (Rotor m) → IsLegalDay (OfRotors s)
-    → m.model ≡ s.model
-    → length to ≡ 13 → IsOneToOne to → SparesComeLast m.cables (length s.pairs) to
+    → m.model ≡ s.model → length to ≡ 13 → IsOneToOne to → SparesComeLast m.cables (length s.pairs) to
     → SparesStayFree (Rotor m) (OfRotors s) (planned_lines (Rotor m) (OfRotors s) to)
 SparesStayFree-planned m s to machine legal same size once last cable letter (k, lt, e) =
     let loose = All-unpriced (LeavesSpares m s) (unpriced_leave m s) (loose_lines (Rotor m) (OfRotors s))
