@@ -1,10 +1,8 @@
 //! Carries out the settings of a card, and finds the first setting that isn't needed.
 ghost use Rattle.std.specs.Prelude.{◌≡◌, ◌+◌, ◌≤◌, IsFalse, MatchResult, IfOk, IfErr, Err};
-ghost use Rattle.kd_state.specs.Machine.{model_of};
-ghost use Rattle.kd_state.specs.Setting.{Leads};
-ghost use Rattle.kd_state.specs.SheetDay.{day_model};
-ghost use Rattle.kd_card.specs.Proving as proving;
+ghost use Rattle.kd_state.specs.{Machine.model_of, Setting.Leads, SheetDay.day_model};
 ghost use Rattle.kd_prices.specs.Doubt.{IsCarriedAnswer, IsNeededAnswer};
+ghost use Rattle.kd_card.specs.Proving as proving;
 
 use super::doubt::Doubt;
 use kd_card::loose_count;
