@@ -5,7 +5,9 @@ use Rattle.kd_state.specs.{Machine.IsMachine, Setting.Leads}
 use Rattle.kd_card.specs.declared.prices.PriceParts.{PriceParts}
 use Rattle.kd_card.specs.Prices.{row_prices, column_prices, table_rows, price_at, ArePrices}
 use Rattle.kd_card.specs.Proving.{LeadsToTheDay, ProvesByNumber, Proves, IsShortest}
-use Rattle.kd_prices.specs.{Alike.{ReadAlike, StandAlike}, Doubt.IsDoubt, declared.doubt.Doubt.Doubt}
+use Rattle.kd_prices.specs.Alike.{ReadAlike, StandAlike}
+use Rattle.kd_prices.specs.Doubt.{IsDoubt}
+use Rattle.kd_prices.specs.declared.doubt.Doubt.{Doubt}
 
 -- If a card proves itself, there is no doubt about it. `OneDoubt`: no card has two different first doubts.
 abbrev pub ProvingCardsAreInNoDoubt : Type 0
