@@ -1,5 +1,5 @@
 //! Finds the price of each cable, column, bar or row on a card where each kind has one price.
-ghost use Rattle.std.specs.Prelude.{◌≡◌, ◌↔◌, ◌<◌, ◌≤◌, length, map, ℤ, List, true, IsTrue, MatchOption};
+ghost use Rattle.std.specs.Prelude.{◌≡◌, ◌↔◌, ◌<◌, length, map, ℤ, List, true, IsTrue, MatchOption};
 ghost use Rattle.kd_card.specs.{CardText.IsGroup, Kinds.AreKindsOf, Prices.ArePricesInRange};
 ghost use Rattle.kd_prices.specs.Grouping.{HasNoneLeft, TakesOne, TakesAll};
 

@@ -43,7 +43,7 @@ pub(crate) fn carry_settings(
     Ok(Carried { reached, needed })
 }
 
-/// Checks that `setting`, on line `line`, is needed. `before` and `after` are the numbers of loose things around it.
+/// Checks that `setting`, on line `line`, is needed, from the numbers of loose things before and after it.
 fn check_need(setting: &Setting, line: usize, before: usize, after: usize) -> Result<(), Doubt>
     requires { after ≤ 137 }
     ensures { let is_needed = IsFalse (proving.is_priced_setting setting.now) → before ≡ after + 1 in
