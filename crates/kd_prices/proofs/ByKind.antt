@@ -51,8 +51,8 @@ are_kinds_for format keys d Alike told forms n many prices number reach kinds gr
           (Contains-permutation pairs all (key, other) grouped.expand b));
     }
 
--- What `prices_by_kind` ensures of its result: prices by kind, unless equal cables, columns, bars or rows have different
--- prices in `prices`.
+-- What `prices_by_kind` ensures of its result: prices by kind, unless equal cables, columns, bars or rows have
+-- different prices in `prices`.
 abbrev pub ArePricesByKind : Parts → Day → PriceParts → Option PriceParts → Type 0
 ArePricesByKind m s prices result = record {
   some : IsSome result ↔ CanBeByKind m s prices;

@@ -68,7 +68,8 @@ module _ (m : Parts) (s : Day) (settings : List Setting) (prices : PriceParts) (
       GoesOn tt model (GoesOn x belong (HasFault PriceMissing (
         (λ numbered expands.
             none.0 (row_prices numbered, column_prices numbered)
-            (subst (Expands m s prices) (sym (made numbered (are_numbered m s prices numbered expands belong))) expands)),
+            (subst (Expands m s prices) (sym (made numbered (are_numbered m s prices numbered expands belong)))
+            expands)),
         refl,
       ) (ap Err none.1)))
 
@@ -80,8 +81,8 @@ AreFound format keys kinds found =
     MatchOption found ((prices : List ℤ) → ¬ (AreKindsOf format keys prices kinds))
     (λ prices. AreKindsOf format keys prices kinds × ArePricesInRange prices)
 
-module _ {R X C Y : Type 0} (rows : KindFormat R X) (columns : KindFormat C Y) (xs : List X) (ys : List Y) (row : List R)
-    (col : List C) (m : Parts) (s : Day) (prices : PriceParts) (make : List ℤ → List ℤ → PriceParts)
+module _ {R X C Y : Type 0} (rows : KindFormat R X) (columns : KindFormat C Y) (xs : List X) (ys : List Y)
+    (row : List R) (col : List C) (m : Parts) (s : Day) (prices : PriceParts) (make : List ℤ → List ℤ → PriceParts)
     (belong : BelongTo m prices)
     (to : (found : List ℤ × List ℤ) → AreFound rows xs row (Some found.0) → AreFound columns ys col (Some found.1)
     → Expands m s prices (make found.0 found.1))

@@ -162,7 +162,8 @@ same_prices {X} all one (x ∷ keys) (p ∷ prices) (q ∷ others) number same h
 same_prices all one keys prices others number same has have = absurd (omega arith)
 
 pub prices_alike : {K X : Type 0} (format : KindFormat K X) (keys : List X) (kinds : List K) (prices others : List ℤ)
-    → AreKinds format None kinds → AreKindsOf format keys prices kinds → AreKindsOf format keys others kinds → prices ≡ others
+    → AreKinds format None kinds → AreKindsOf format keys prices kinds → AreKindsOf format keys others kinds
+    → prices ≡ others
 prices_alike {X = X} format keys kinds prices others are of also =
     let all = expansion (map format.kind kinds) in
     let has = λ (prices : List ℤ) (of : AreKindsOf format keys prices kinds).

@@ -63,8 +63,8 @@ one_step : (number : ℕ) (start : Parts) (s : Day) (m : Parts) (x : Setting) (s
 one_step number (Rotor start) (OfRotors s) (Rotor m) (Put cable letter) settings none few now free allowed =
     let there : is_none (numbered_item m.cables cable) ≡ false = grind arith in
     let last = (IsNumbered-not_none m.cables cable (None, None) there).last in
-    let within =
-    put_within number start s none few cable letter (omega (arith, last, now.0)) (free cable letter (0, omega arith, refl)) in
+    let within = put_within number start s none few cable letter (omega (arith, last, now.0))
+    (free cable letter (0, omega arith, refl)) in
     (within, (rw length-set now.0, set_within number m cable _ now.1 within there))
 one_step number (Rotor start) s (Rotor m) (Pull cable letter) settings none few now free allowed =
     let there : is_none (numbered_item m.cables cable) ≡ false = grind arith in

@@ -152,7 +152,7 @@ all_moves P direction pairs [] to number h = All-nil P
 all_moves P direction pairs (cable ∷ cables) [] number h = All-nil P
 all_moves P direction pairs (cable ∷ cables) (j ∷ to) number h =
     All-append P _ _ (h zero number cable (omega arith) (omega arith))
-    (all_moves P direction pairs cables to (number + 1) (λ k n cable e lt. h (suc k) n cable (omega arith) (omega arith)))
+    (all_moves P direction pairs cables to (number + 1) (λ k n x e lt. h (suc k) n x (omega arith) (omega arith)))
 
 -- If `P` holds of each setting that isn't priced, it holds of all settings in a list without priced ones.
 All-unpriced : (P : Setting → Type 0) → ((x : Setting) → is_priced_setting x ≡ false → P x) → (xs : List Setting)
@@ -176,8 +176,9 @@ pub is_spare_at-cable_at : (m : RotorParts) (number place : ℕ) → number ≡ 
     → is_spare_at m.cables place ≡ is_spare (cable_at m number)
 is_spare_at-cable_at m number place e = rw e (ap is_spare (sym (unwrap_or-slice_get m.cables place (None, None))))
 
-pub SparesStayFree-planned : (m : RotorParts) (s : RotorDay) (to : List ℕ) → IsMachine (Rotor m) → IsLegalDay (OfRotors s)
-    → m.model ≡ s.model → length to ≡ 13 → IsOneToOne to → SparesComeLast m.cables (length s.pairs) to
+pub SparesStayFree-planned : (m : RotorParts) (s : RotorDay) (to : List ℕ) → IsMachine (Rotor m)
+    → IsLegalDay (OfRotors s) → m.model ≡ s.model → length to ≡ 13 → IsOneToOne to
+    → SparesComeLast m.cables (length s.pairs) to
     → SparesStayFree (Rotor m) (OfRotors s) (planned_lines (Rotor m) (OfRotors s) to)
 SparesStayFree-planned m s to machine legal same size once last cable letter (k, lt, e) =
     let loose = All-unpriced (LeavesSpares m s) (unpriced_leave m s) (loose_lines (Rotor m) (OfRotors s))

@@ -36,4 +36,5 @@ returns-in-Pin-Bars c =
     (bars_by_kind h.parts.now _ h.rows h.columns c.kinds_of-in-Pin-Bars.result.items
     c.kinds_of-in-Pin-Bars-2.result.items (subst IsMachine parted.0 so.machine) (subst IsLegalDay parted.1 so.day)
     (subst ArePrices h.is-1 c.parts.ensures.are_prices) refl rows columns _
-    (rw (c.as_slice-in-Pin-Bars.ensures.value, c.as_slice-in-Pin-Bars-2.ensures.value) at c.bar_kinds.ensures) (search rules))
+    (rw (c.as_slice-in-Pin-Bars.ensures.value, c.as_slice-in-Pin-Bars-2.ensures.value)
+    at c.bar_kinds.ensures) (search rules))
