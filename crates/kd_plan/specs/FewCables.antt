@@ -1,11 +1,8 @@
 -- A day of at most `number` pairs needs only the first `number` cables, if no other cable is in use.
 use Rattle.std.specs.Prelude.{ℕ, ◌<◌, ◌≤◌, All, IsTrue, List, length}
-use Rattle.kd_state.specs.declared.machine.parts.Parts.{Parts}
-use Rattle.kd_state.specs.declared.machine.parts.Parts.TheVariants.{Rotor, Pin}
-use Rattle.kd_state.specs.declared.setting.Setting.{Setting}
-use Rattle.kd_state.specs.declared.setting.Setting.TheVariants.{Pull, Put}
-use Rattle.kd_state.specs.Setting.{Leads, cable_at}
-use Rattle.kd_state.specs.SheetDay.{Day, OfRotors, OfPins}
+use Rattle.kd_state.specs.declared.machine.parts.Parts.{Parts, TheVariants.{Pin, Rotor}}
+use Rattle.kd_state.specs.{Setting.{Leads, cable_at}, declared.setting.Setting.{Setting, TheVariants.{Pull, Put}}}
+use Rattle.kd_state.specs.SheetDay.{Day, OfPins, OfRotors}
 use Rattle.kd_plan.specs.Spares.{is_spare, SparesStayFree}
 
 -- All cables with numbers above `number` are spare: they have no letter.

@@ -1,12 +1,9 @@
 -- Spare cables, and settings that leave them free.
 use Rattle.std.specs.Prelude.{ℕ, ◌-◌, ◌<◌, ◌≤◌, nat_lt, not, ◌&&◌, ◌||◌, Bool, IsTrue, List, length, count_by, take}
 use Rattle.std.specs.Prelude.{Contains, Option, None, is_none, slice_index, slice_index_or}
-use Rattle.kd_state.specs.declared.machine.parts.Parts.{Parts}
-use Rattle.kd_state.specs.declared.machine.parts.Parts.TheVariants.{Rotor, Pin}
-use Rattle.kd_state.specs.declared.setting.Setting.{Setting}
-use Rattle.kd_state.specs.declared.setting.Setting.TheVariants.{Put}
+use Rattle.kd_state.specs.declared.machine.parts.Parts.{Parts, TheVariants.{Pin, Rotor}}
+use Rattle.kd_state.specs.{SheetDay.{Day, OfPins, OfRotors}, declared.setting.Setting.{Setting, TheVariants.Put}}
 use Rattle.kd_state.specs.Setting.{cable_at}
-use Rattle.kd_state.specs.SheetDay.{Day, OfRotors, OfPins}
 
 -- whether the cable is spare, that is, has no letter; all other cables are in use
 abbrev pub is_spare : Option ℕ × Option ℕ → Bool

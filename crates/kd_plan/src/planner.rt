@@ -1,8 +1,7 @@
 //! Plans a card: settings for loose things, and a minimum-cost assignment for cables or bars.
-ghost use Rattle.std.specs.Prelude.{◌≡◌, ◌≢◌, ◌≤◌, ◌*◌, ◌==◌, if◌then◌else◌, IfOk, IsErr, IfSome, MatchOption, ◌↔◌, All};
-ghost use Rattle.std.specs.Prelude.{length, pos, replicate, unsigned_abs};
-ghost use Rattle.kd_plan.specs.Planned.{IsPlannedCard, IsProvedPlannedCard};
-ghost use Rattle.kd_plan.specs.Spares.{SparesStayFree};
+ghost use Rattle.std.specs.Prelude.{◌≡◌, ◌≢◌, ◌≤◌, ◌*◌, ◌==◌, if◌then◌else◌, IfOk, IsErr, IfSome, MatchOption, ◌↔◌};
+ghost use Rattle.std.specs.Prelude.{All, length, pos, replicate, unsigned_abs};
+ghost use Rattle.kd_plan.specs.{Planned.{IsPlannedCard, IsProvedPlannedCard}, Spares.SparesStayFree};
 ghost use Rattle.kd_state.specs.SheetDay.{OfRotors, OfPins, IsLegalDay, day_model};
 ghost use Rattle.kd_state.specs.{Entry.{rotor_values, pin_values}, Machine.{IsMachine, model_of}};
 

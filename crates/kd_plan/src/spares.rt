@@ -48,7 +48,6 @@ fn find_left_out(spare: usize, cables: &[Cable; 13], pairs: usize, to: &[u8; 13]
     None
 }
 
-/// Whether the cable has no letter.
 fn is_spare(cable: &Cable) -> bool
     ensures { result ≡ is_spare cable.now }
 {

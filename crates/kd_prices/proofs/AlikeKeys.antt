@@ -1,14 +1,64 @@
 -- Cables, bars and columns at two different places are equal exactly if `StandAlike` or `ReadAlike` holds for these
 -- places. So equal keys have equal prices exactly if prices are equal wherever one of the two holds.
-use Rattle.kd_prices.proofs.{AlikePrices.{nothing_at, same_at}, InForm.cables_are_in_form, Prelude.{[], ap, ℕ, ℤ}}
-use Rattle.kd_prices.proofs.Prelude.{AllByRecursion, HaveSameLetters, NoLetterTwice, letters_in_pairs, slice_get-get_or}
-use Rattle.kd_prices.proofs.Prelude.{AreEnds, Contains, OfRotors, ReadAlike, eqb-false, nat_tests, slice_get, unwrap_or}
-use Rattle.kd_prices.proofs.Prelude.{HaveOnePriceEach, columns_are_the_pairs, columns_in_order, eqb, tests_tell_letters}
-use Rattle.kd_prices.proofs.Prelude.{IsLegalDay, IsMachine, cable_letters, get_or_default, pair_in_order, smaller_first}
-use Rattle.kd_prices.proofs.Prelude.{List, None, Option, Rotor, RotorDay, arith, false, get_or, length, price_at, subst}
-use Rattle.kd_prices.proofs.Prelude.{RotorParts, StandAlike, columns_of, get_or-map, get_or-zip, length-map, length-zip}
-use Rattle.kd_prices.proofs.Prelude.{Some, inl, inr, pos, refl, suc, sym, zero, zip, ◌<◌, ◌↔◌, ◌∙◌, ◌∷◌, ◌≡◌, ◌≤◌, ◌⊎◌}
+use Rattle.kd_prices.proofs.AlikePrices.{nothing_at, same_at}
+use Rattle.kd_prices.proofs.Prelude.{All, Pin, Some, [], arith, eqb, false, inl, inr, map, pos, refl, subst, zero, ◌++◌}
+use Rattle.kd_prices.proofs.Prelude.{All-from_recursion, columns_are_the_pairs, recursion_from_All, tests_tell_letters}
+use Rattle.kd_prices.proofs.Prelude.{AllByRecursion, HaveSameLetters, cable_in_order, get_or_default, slice_get-get_or}
+use Rattle.kd_prices.proofs.Prelude.{AreEnds, IsPairInOrder, NoLetterTwice, cable_letters, pair_in_order, smaller_first}
+use Rattle.kd_prices.proofs.Prelude.{Contains, None, OfRotors, Option, Parts, Rotor, RotorDay, get_or, length, price_at}
+use Rattle.kd_prices.proofs.Prelude.{HaveOnePriceEach, IsMachine, columns_in_order, letters_in_cables, letters_in_pairs}
+use Rattle.kd_prices.proofs.Prelude.{IsLegalDay, RotorParts, StandAlike, columns_of, get_or-map, get_or-zip, length-map}
+use Rattle.kd_prices.proofs.Prelude.{List, ReadAlike, eqb-false, length-zip, nat_tests, replicate, slice_get, unwrap_or}
+use Rattle.kd_prices.proofs.Prelude.{ap, suc, sym, zip, ℕ, ℤ, ◌-◌, ◌<◌, ◌↔◌, ◌∙◌, ◌∷◌, ◌≡◌, ◌≤◌, ◌⊎◌}
 use Rattle.{kd_state.specs.Setting.has_letter, std.{proofs.lemmas.List.Elements.Contains-get_or, specs.List.IsDistinct}}
+
+-- ---- the letters of cables and columns are in order, as a card writes them
+
+abbrev in_each_order : List (Option ℕ × Option ℕ) → List (Option ℕ × Option ℕ)
+in_each_order cables = map (λ cable. cable_in_order cable.0 cable.1) cables
+
+abbrev are_ends : Option ℕ × Option ℕ → Type 0
+are_ends ends = AreEnds ends.0 ends.1
+
+two_ordered : (a b : ℕ) → cable_in_order (Some a) (Some b) ≡ (Some a, Some b) → eqb a b ≡ false → a < b
+two_ordered a b e apart = grind (arith, nat_tests)
+
+cables_in_form : (cables : List (Option ℕ × Option ℕ)) → in_each_order cables ≡ cables
+    → AllByRecursion (λ letter. letter < 26) (letters_in_cables cables)
+    → IsDistinct eqb (letters_in_cables cables) → AllByRecursion are_ends cables
+unfolding IsDistinct
+cables_in_form [] e within apart = tt
+cables_in_form ((None, None) ∷ cables) e within apart = (tt, cables_in_form cables (cc) within apart)
+cables_in_form ((None, Some b) ∷ cables) e within apart = grind arith
+cables_in_form ((Some a, None) ∷ cables) e within apart = (within.0, cables_in_form cables (cc) within.1 apart.1)
+cables_in_form ((Some a, Some b) ∷ cables) e within apart =
+    grind (arith, two_ordered, cables_in_form cables (cc) within.1.1 apart.1.1)
+
+abbrev cables_of : Parts → List (Option ℕ × Option ℕ)
+cables_of (Rotor m) = m.cables
+cables_of (Pin m) = []
+
+pub cables_are_in_form : (m : RotorParts) → IsMachine (Rotor m) → All (λ ends. AreEnds ends.0 ends.1) m.cables
+cables_are_in_form m machine =
+    let cables = machine.legal.cables in
+    All-from_recursion are_ends m.cables (cables_in_form m.cables (ap cables_of machine.cables)
+    (recursion_from_All (λ letter. letter < 26) (letters_in_cables m.cables) cables.within) cables.apart)
+
+nothings_in_form : (n : ℕ) → AllByRecursion IsPairInOrder (map pair_in_order (replicate n None))
+nothings_in_form zero = tt
+nothings_in_form (suc n) = (tt, nothings_in_form n)
+
+pairs_in_form : (n : ℕ) (pairs : List (ℕ × ℕ)) → AllByRecursion (λ letter. letter < 26) (letters_in_pairs pairs)
+    → NoLetterTwice pairs → AllByRecursion IsPairInOrder (map pair_in_order (map Some pairs ++ replicate n None))
+unfolding IsDistinct
+pairs_in_form n [] within apart = nothings_in_form n
+pairs_in_form n ((a, b) ∷ pairs) within apart = grind (arith, eqb-false, pairs_in_form n pairs within.1.1 apart.1.1)
+
+pub columns_are_in_form : (s : RotorDay) → IsLegalDay (OfRotors s) → All IsPairInOrder (columns_in_order s.pairs)
+columns_are_in_form s legal =
+    let pairs = legal.pairs in
+    All-from_recursion IsPairInOrder (columns_in_order s.pairs) (pairs_in_form (13 - length s.pairs) s.pairs
+    (recursion_from_All (λ letter. letter < 26) (letters_in_pairs s.pairs) pairs.within) pairs.apart)
 
 -- ---- cables with the same letters
 
@@ -42,12 +92,10 @@ pairs_told (p ∷ pairs) (suc i) (suc k) apart e = grind (arith, pairs_told pair
 -- places are one.
 abbrev pub AreTold : {X : Type 0} → List X → X → (ℕ → ℕ → Type 0) → Type 0
 AreTold keys d Alike =
-    (i k : ℕ) → i < length keys → k < length keys
-    → (get_or keys i d ≡ get_or keys k d → Alike i k ⊎ (i ≡ k))
+    (i k : ℕ) → i < length keys → k < length keys → (get_or keys i d ≡ get_or keys k d → Alike i k ⊎ (i ≡ k))
     × (Alike i k → get_or keys i d ≡ get_or keys k d)
 
-pub each_told : {X : Type 0} (keys : List X) (d : X)
-    → AreTold keys d (λ i k. slice_get keys i ≡ slice_get keys k)
+pub each_told : {X : Type 0} (keys : List X) (d : X) → AreTold keys d (λ i k. slice_get keys i ≡ slice_get keys k)
 each_told keys d i k inside within = (
   λ same. inl (slice_get-get_or keys i d inside ∙ ap (λ x. Some x) same ∙ sym (slice_get-get_or keys k d within)),
   λ alike. same_at keys i k d alike,

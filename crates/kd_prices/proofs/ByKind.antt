@@ -1,7 +1,7 @@
 -- When prices by number, one for each key, can become prices by kind, one for equal keys; and which these are.
-use Rattle.kd_prices.proofs.{AlikeKeys.{AreTold, cables_told, columns_told, each_told, one_price_is}, Runs.one_price}
-use Rattle.kd_prices.proofs.InForm.{cables_are_in_form, columns_are_in_form}
-use Rattle.kd_prices.proofs.{Prelude.{All, Day, One, Pin, map, sym, zip, ◌<◌, ◌↔◌, ◌∙◌, ◌≡◌}, Taking.size}
+use Rattle.kd_prices.proofs.{AlikeKeys.{AreTold, each_told}, Taking.size}
+use Rattle.kd_prices.proofs.AlikeKeys.{cables_are_in_form, cables_told, columns_are_in_form, columns_told, one_price_is}
+use Rattle.kd_prices.proofs.{Prelude.{All, Day, One, Pin, map, sym, zip, ◌<◌, ◌↔◌, ◌∙◌, ◌≡◌}, Runs.one_price}
 use Rattle.kd_prices.proofs.Prelude.{AreKinds, BarKinds, Expanded, OfRotors, PairKind, PinParts, RotorDay, model_of, ℤ}
 use Rattle.kd_prices.proofs.Prelude.{AreKindsOf, CanBeByKind, MatchOption, cable_format, pair_format, pair_in_order, ℕ}
 use Rattle.kd_prices.proofs.Prelude.{AreModelPrices, IsPermutation, column_prices, columns_in_order, thirteen_columns}
@@ -13,10 +13,11 @@ use Rattle.kd_prices.proofs.Prelude.{IsSome, OfPins, Option, Parts, PinDay, Roto
 use Rattle.kd_prices.proofs.Prelude.{columns_of, get_or-zip, length-map, length-zip, row_format, row_prices, table_rows}
 
 -- what `kinds_of` ensures of the kinds of `keys` with `prices`
-pub record AreGrouped {K X : Type 0} (format : KindFormat K X) (keys : List X) (prices : List ℤ) (kinds : List K)
-    : Type 0 where
-  pub expand : IsPermutation (zip keys prices) (expansion (map format.kind kinds))
-  pub in_order : HaveOnePriceEach (zip keys prices) → All (IsFine format) (zip keys prices) → AreKinds format None kinds
+abbrev pub AreGrouped : {K X : Type 0} → KindFormat K X → List X → List ℤ → List K → Type 0
+AreGrouped format keys prices kinds = record {
+  expand : IsPermutation (zip keys prices) (expansion (map format.kind kinds));
+  in_order : HaveOnePriceEach (zip keys prices) → All (IsFine format) (zip keys prices) → AreKinds format None kinds;
+}
 
 -- The kinds are those of the keys with these prices, and they are valid exactly if equal keys have equal prices.
 record AreKindsFor {K X : Type 0} (format : KindFormat K X) (keys : List X) (n : ℕ) (Alike : ℕ → ℕ → Type 0)
@@ -33,18 +34,15 @@ are_kinds_for format keys d Alike told forms n many prices number reach kinds gr
     let pairs = zip keys prices in
     let all = expansion (map format.kind kinds) in
     let iff = one_price_is keys d Alike told prices n many number in
-    let fine : All (IsFine format) pairs = λ i z inside.
-    let low : i < length keys = omega (arith, length-zip keys prices, many, number) in
-    let under : i < length prices = omega (arith, many, number) in
-    subst (IsFine format) (sym (get_or-zip keys prices i z low under)) (forms i z.0 low, reach i z.1 under) in
+    let fine : All (IsFine format) pairs =
+    λ i z inside. grind (arith, get_or-zip, length-zip keys prices, forms i z.0, reach i z.1) in
+    let same = length_permutation pairs all grouped.expand in
     record {
       of = record { number = number ∙ sym many; expand = grouped.expand };
-      valid = λ equal.
-          let same = length_permutation pairs all grouped.expand in
-          record {
-            in_order = grouped.in_order (iff.1 equal) fine;
-            count = omega (arith, size format kinds, same, length-zip keys prices, many, number);
-          };
+      valid = λ equal. record {
+        in_order = grouped.in_order (iff.1 equal) fine;
+        count = omega (arith, size format kinds, same, length-zip keys prices, many, number);
+      };
       equal = λ group.
           iff.0 (λ key price other a b.
           one_price format None kinds group.in_order key price other
@@ -52,8 +50,8 @@ are_kinds_for format keys d Alike told forms n many prices number reach kinds gr
           (Contains-permutation pairs all (key, other) grouped.expand b));
     }
 
--- What `prices_by_kind` ensures of its result: prices by kind, unless equal cables, columns, bars or rows have different
--- prices in `prices`.
+-- What `prices_by_kind` ensures of its result: prices by kind, unless equal cables, columns, bars or rows have
+-- different prices in `prices`.
 abbrev pub ArePricesByKind : Parts → Day → PriceParts → Option PriceParts → Type 0
 ArePricesByKind m s prices result = record {
   some : IsSome result ↔ CanBeByKind m s prices;

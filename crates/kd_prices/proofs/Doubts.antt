@@ -1,5 +1,5 @@
 -- A card that proves itself has no doubt, and a card has at most one.
-use Rattle.kd_prices.proofs.{Leading.{Leads-not_refused, needed_at}, Meaning.{are_numbered, belong, one_expansion}}
+use Rattle.kd_prices.proofs.{Found.{are_numbered, belong, one_expansion}, Leading.{Leads-not_refused, needed_at}}
 use Rattle.kd_prices.proofs.Prelude.{AreSettingsNeeded, HasOneAnswer-Demands, HasOneAnswer-Finds, HasOneAnswer-ThenNext}
 use Rattle.kd_prices.proofs.Prelude.{Day, Err, List, Why, [], ap, arith, refl, subst, sym, ℕ, ◌++◌, ◌↔◌, ◌∙◌, ◌∷◌, ◌≡◌}
 use Rattle.kd_prices.proofs.Prelude.{Doubt, GoesOn, IfErr, IllegalAt, Leads, Parts, Proves, Result, Setting, false≢true}
@@ -108,7 +108,7 @@ module _ (m : Parts) (s : Day) (settings : List Setting) (prices : PriceParts) w
       → IsOk answer ↔ Proves m s settings prices
   told (Ok x) says = (λ ok. says_proving says, λ proves. refl)
   told (Err doubt) says = (
-    λ ok. absurd (false≢true ok),
+    λ ok. absurd (cc),
     λ proves. absurd (let same = only_checked (Err doubt) (Ok tt) says (proving_says proves) in cc),
   )
 

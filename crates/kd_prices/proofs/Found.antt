@@ -1,12 +1,50 @@
 -- If a result is right for the prices that were found for rows and columns, it is right for the check of the card.
-use Rattle.kd_prices.proofs.{Meaning.are_numbered, Prelude.{Err, Pin, Some, ap, refl, sym, ℤ, ◌≡◌}}
-use Rattle.kd_prices.proofs.Prelude.{AreKindsOf, Bars, CableKinds, MatchOption, PriceMissing, cable_format, pair_format}
+use Rattle.kd_prices.proofs.Prelude.{AreExpanded, AreKindsOf, Day, MatchOption, PriceMissing, cable_format, pair_format}
 use Rattle.kd_prices.proofs.Prelude.{AreModelPrices, ArePricesInRange, IsCheckedAnswer, column_prices, columns_in_order}
-use Rattle.kd_prices.proofs.Prelude.{ArePrices, KindFormat, PriceParts, RotorParts, bar_format, row_format, row_prices}
-use Rattle.kd_prices.proofs.Prelude.{BarKind, Cables, Expands, GoesOn, OfPins, Ok, RotorDay, RowKind, Setting, model_of}
-use Rattle.kd_prices.proofs.Prelude.{BarKinds, BelongTo, CableKind, HasFault, OfRotors, PairKind, PinParts, day_model}
-use Rattle.kd_prices.proofs.Prelude.{Day, Doubt, List, None, Option, Parts, PinDay, Result, Rotor, arith, length, subst}
-use Rattle.{kd_prices.specs.Doubt.{ArePricesFound, IsByNumberAnswer}, std.specs.Option.{ok_or, option_zip}}
+use Rattle.kd_prices.proofs.Prelude.{ArePrices, BarKind, BarKinds, BelongTo, ByNumber, CableKind, day_model, version_of}
+use Rattle.kd_prices.proofs.Prelude.{Bars, List, None, Parts, Pin, Rotor, Same, Some, arith, refl, subst, sym, ◌∙◌, ◌≡◌}
+use Rattle.kd_prices.proofs.Prelude.{CableKinds, KindFormat, PriceParts, RotorParts, bar_format, row_format, row_prices}
+use Rattle.kd_prices.proofs.Prelude.{Cables, Doubt, GoesOn, OfPins, Option, PinDay, Result, RowKind, Setting, length, ℤ}
+use Rattle.kd_prices.proofs.Prelude.{Err, Expanded, Expands, HasFault, OfRotors, PairKind, PinParts, RotorDay, model_of}
+use Rattle.kd_prices.{proofs.{Prelude.{Ok, ap}, Runs.prices_alike}, specs.Doubt.{ArePricesFound, IsByNumberAnswer}}
+use Rattle.std.specs.Option.{ok_or, option_zip}
+
+-- ---- prices by kind
+
+same_lists : (m : Parts) (s : Day) (prices numbered other : PriceParts) → ArePrices prices
+    → AreExpanded m s prices numbered → AreExpanded m s prices other → numbered ≡ other
+same_lists (Rotor m) (OfRotors s) (CableKinds row col) (Cables a b) (Cables c d) are one two =
+    let rows = prices_alike cable_format _ row.items a c are.0.in_order one.0 two.0 in
+    let columns = prices_alike pair_format _ col.items b d are.1.in_order one.1 two.1 in
+    cc
+same_lists (Pin m) (OfPins s) (BarKinds row col) (Bars a b) (Bars c d) are one two =
+    let rows = prices_alike bar_format _ row.items a c are.0.in_order one.0 two.0 in
+    let columns = prices_alike row_format _ col.items b d are.1.in_order one.1 two.1 in
+    cc
+same_lists m s prices numbered other are one two = absurd (assumption)
+
+by_kind : (m : Parts) (s : Day) (prices numbered : PriceParts) → AreExpanded m s prices numbered
+    → ¬ (version_of prices ≡ ByNumber)
+by_kind m s prices numbered e by = grind arith
+
+pub one_expansion : (m : Parts) (s : Day) (prices numbered other : PriceParts) → Expands m s prices numbered
+    → Expands m s prices other → numbered ≡ other
+one_expansion m s prices numbered other (Same by e) (Same also f) = sym e ∙ f
+one_expansion m s prices numbered other (Same by e) (Expanded are good is) = absurd (by_kind m s prices other is by)
+one_expansion m s prices numbered other (Expanded are good is) (Same by f) = absurd (by_kind m s prices numbered is by)
+one_expansion m s prices numbered other (Expanded are good is) (Expanded also fine same) =
+    same_lists m s prices numbered other are is same
+
+-- ---- models
+
+-- Prices, and the prices by number that they expand to, are for the same format of machine.
+pub belong : (m : Parts) (s : Day) (prices numbered : PriceParts) → Expands m s prices numbered
+    → AreModelPrices m numbered → BelongTo m prices
+belong m s prices numbered expands are = grind arith
+
+pub are_numbered : (m : Parts) (s : Day) (prices numbered : PriceParts) → Expands m s prices numbered
+    → BelongTo m prices → AreModelPrices m numbered
+are_numbered m s prices numbered expands belong = grind arith
 
 same_fault : {F X : Type 0} {f g : F} → ◌≡◌ {A = Result X F} (Err f) (Err g) → f ≡ g
 same_fault e = cc
@@ -30,7 +68,8 @@ module _ (m : Parts) (s : Day) (settings : List Setting) (prices : PriceParts) (
       GoesOn tt model (GoesOn x belong (HasFault PriceMissing (
         (λ numbered expands.
             none.0 (row_prices numbered, column_prices numbered)
-            (subst (Expands m s prices) (sym (made numbered (are_numbered m s prices numbered expands belong))) expands)),
+            (subst (Expands m s prices) (sym (made numbered (are_numbered m s prices numbered expands belong)))
+            expands)),
         refl,
       ) (ap Err none.1)))
 
@@ -42,8 +81,8 @@ AreFound format keys kinds found =
     MatchOption found ((prices : List ℤ) → ¬ (AreKindsOf format keys prices kinds))
     (λ prices. AreKindsOf format keys prices kinds × ArePricesInRange prices)
 
-module _ {R X C Y : Type 0} (rows : KindFormat R X) (columns : KindFormat C Y) (xs : List X) (ys : List Y) (row : List R)
-    (col : List C) (m : Parts) (s : Day) (prices : PriceParts) (make : List ℤ → List ℤ → PriceParts)
+module _ {R X C Y : Type 0} (rows : KindFormat R X) (columns : KindFormat C Y) (xs : List X) (ys : List Y)
+    (row : List R) (col : List C) (m : Parts) (s : Day) (prices : PriceParts) (make : List ℤ → List ℤ → PriceParts)
     (belong : BelongTo m prices)
     (to : (found : List ℤ × List ℤ) → AreFound rows xs row (Some found.0) → AreFound columns ys col (Some found.1)
     → Expands m s prices (make found.0 found.1))

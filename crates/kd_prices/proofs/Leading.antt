@@ -1,9 +1,10 @@
 -- Lists of settings that lead from one machine to another, split and joined.
 use Rattle.kd_card.{proofs.Months.Shortest.Falling.model_of-changed, specs.Proving.is_priced_setting}
-use Rattle.kd_prices.proofs.Prelude.{AreSettingsNeeded, IsNeededAnswer, IsSettingNeeded, NeedlessLine, take-append-drop}
-use Rattle.kd_prices.proofs.Prelude.{Day, Err, Ok, Why, [], ap, sym, ◌+◌, ◌<◌, ◌∙◌, ◌∷◌, ◌≡◌}
-use Rattle.kd_prices.proofs.Prelude.{Doubt, Leads, List, Parts, Result, Some, arith, get_or, length, subst, take, ◌++◌}
-use Rattle.kd_prices.proofs.Prelude.{Setting, day_model, leads_next, machine_after, model_of, take_more, why_refused, ℕ}
+use Rattle.kd_prices.proofs.Prelude.{AreSettingsNeeded, IsSettingNeeded, proving_cards_are_shortest, take-append-drop}
+use Rattle.kd_prices.proofs.Prelude.{Day, Err, Ok, Why, [], ap, drop, sym, take, ℕ, ◌++◌, ◌+◌, ◌<◌, ◌∙◌, ◌∷◌, ◌≡◌}
+use Rattle.kd_prices.proofs.Prelude.{Doubt, Leads, List, Parts, Setting, Some, arith, get_or, length, subst, take_more}
+use Rattle.kd_prices.proofs.Prelude.{IsNeededAnswer, NeedlessLine, RestIsShortest, Result, length-append, machine_after}
+use Rattle.kd_prices.proofs.Prelude.{day_model, leads_join, leads_next, length-drop, length-take, model_of, why_refused}
 use Rattle.kd_state.specs.{Costs.loose_count, Setting.Carries}
 use Rattle.std.proofs.{Math.Seq.drop-cons, lemmas.List.length-take-le}
 use Rattle.std.specs.{Prelude.IsFalse, Result.{MatchResult, result_and}}
@@ -13,33 +14,26 @@ use Rattle.std.specs.{Prelude.IsFalse, Result.{MatchResult, result_and}}
 pub leads_on : (m between n : Parts) (front rest : List Setting) → Leads m front between → Leads m (front ++ rest) n
     → Leads between rest n
 leads_on m between n [] rest first leads = subst (λ machine. Leads machine rest n) (sym first) leads
-leads_on m between n (x ∷ front) rest first leads =
-    leads_on leads.0 between n front rest (subst (λ machine. Leads machine front between)
-    (first.1.made ∙ sym leads.1.made) first.2) leads.2
+leads_on m between n (x ∷ front) rest first leads = grind (arith, leads_on leads.0 between n front rest)
 
 -- If all settings of a list are needed, the setting after `front` is.
 pub needed_at : (m between : Parts) (s : Day) (front rest : List Setting) (x : Setting) → Leads m front between
     → AreSettingsNeeded m s (front ++ x ∷ rest) → IsSettingNeeded between s x
 needed_at m between s [] rest x leads needed = subst (λ machine. IsSettingNeeded machine s x) (sym leads) needed.0
 needed_at m between s (y ∷ front) rest x leads needed =
-    needed_at (machine_after m y) between s front rest x
-    (subst (λ machine. Leads machine front between) leads.1.made leads.2) needed.1
+    grind (arith, needed_at (machine_after m y) between s front rest x)
 
 -- In a list that leads to a machine, no setting is refused.
 pub Leads-not_refused : (m between n : Parts) (front rest : List Setting) (x : Setting) (why : Why)
-    → Leads m front between
-    → why_refused between x ≡ Some why
-    → Leads m (front ++ x ∷ rest) n → ⊥
+    → Leads m front between → why_refused between x ≡ Some why → Leads m (front ++ x ∷ rest) n → ⊥
 Leads-not_refused m between n front rest x why first refused leads = grind (arith, leads_on)
 
 -- If all settings of `front` are needed, and `x` is needed after them, then all settings of both are needed.
 needed_join : (m n : Parts) (s : Day) (front : List Setting) (x : Setting) → Leads m front n
-    → AreSettingsNeeded m s front
-    → IsSettingNeeded n s x → AreSettingsNeeded m s (front ++ x ∷ [])
+    → AreSettingsNeeded m s front → IsSettingNeeded n s x → AreSettingsNeeded m s (front ++ x ∷ [])
 needed_join m n s [] x leads needed here = (subst (λ machine. IsSettingNeeded machine s x) leads here, tt)
 needed_join m n s (y ∷ front) x leads needed here =
-    let behind = subst (λ between. Leads between front n) leads.1.made leads.2 in
-    (needed.0, needed_join (machine_after m y) n s front x behind needed.1 here)
+    grind (arith, needed_join (machine_after m y) n s front x)
 
 -- The settings before `place` have been carried out. `needed` is `Ok` if all of them were needed, and otherwise has
 -- the first one that wasn't.
@@ -75,8 +69,7 @@ module _ (m n : Parts) (s : Day) (xs : List Setting) (place : ℕ) (x : Setting)
 pub walks_on : {m n o : Parts} {s : Day} {xs : List Setting} {place loose left : ℕ} {needed : Result (Unit {0}) Doubt}
     (x : Setting)
     (here : Result (Unit {0}) Doubt) → place < length xs → get_or xs place x ≡ x → IsWalked m n s xs place loose needed
-    → Carries n x o
-    → left ≡ loose_count o s
+    → Carries n x o → left ≡ loose_count o s
     → MatchResult here (λ _. IsFalse (is_priced_setting x) → loose ≡ left + 1)
     (λ doubt. (doubt ≡ NeedlessLine (place + 1)) × ¬ (IsFalse (is_priced_setting x) → loose ≡ left + 1))
     → IsWalked m o s xs (place + 1) left (result_and needed here)
@@ -87,3 +80,28 @@ walks_on {m} {n} {o} {s} {xs} {place} {needed} x here inside is walked carries l
   judged = judged_on m n s xs place x inside is walked.leads needed here walked.judged
       (rw (← carries.made, ← walked.loose_is, ← left) tells);
 }
+
+-- After its first lines, the rest of a card that proves itself is a shortest list.
+pub rest_is_shortest : RestIsShortest
+rest_is_shortest m between s settings prices lines machine legal are_prices proves within leads =
+    let whole = proves.proves.leads in
+    record {
+      leads = (
+        whole.0,
+        leads_on m between whole.0 (take lines settings) (drop lines settings) leads
+            (subst (λ xs. Leads m xs whole.0) (sym (take-append-drop lines settings)) whole.1),
+        whole.2,
+      );
+      shortest = λ others reached.
+          let longer = proving_cards_are_shortest m s settings prices machine legal are_prices proves
+          (take lines settings ++ others)
+          (reached.0, leads_join m between reached.0 (take lines settings) others leads reached.1, reached.2) in
+          omega (
+            arith,
+            longer,
+            length-append (take lines settings) others,
+            length-take lines settings,
+            length-drop lines settings,
+          );
+      count = length-drop lines settings;
+    }

@@ -2,11 +2,8 @@ pub mod Prelude
 pub mod Taking
 pub mod Runs
 pub mod Leading
-pub mod Meaning
 pub mod Doubts
 pub mod Found
-pub mod Rest
 pub mod AlikePrices
-pub mod InForm
 pub mod AlikeKeys
 pub mod ByKind

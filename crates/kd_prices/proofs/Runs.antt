@@ -107,8 +107,7 @@ module _ {K X : Type 0} (format : KindFormat K X) where
   not_before_itself : (x : X) → ¬ (KeyComesBefore format x x)
   not_before_itself x before = let tied = tied_itself nat_list_cmp_total (format.order x) in cc
 
-  comes_before-trans : (x y z : X) → KeyComesBefore format x y → KeyComesBefore format y z
-      → KeyComesBefore format x z
+  comes_before-trans : (x y z : X) → KeyComesBefore format x y → KeyComesBefore format y z → KeyComesBefore format x z
   comes_before-trans x y z = nat_list_cmp_total.trans (format.order x) (format.order y) (format.order z)
 
   abbrev After : K → X × ℤ → Type 0
@@ -163,7 +162,8 @@ same_prices {X} all one (x ∷ keys) (p ∷ prices) (q ∷ others) number same h
 same_prices all one keys prices others number same has have = absurd (omega arith)
 
 pub prices_alike : {K X : Type 0} (format : KindFormat K X) (keys : List X) (kinds : List K) (prices others : List ℤ)
-    → AreKinds format None kinds → AreKindsOf format keys prices kinds → AreKindsOf format keys others kinds → prices ≡ others
+    → AreKinds format None kinds → AreKindsOf format keys prices kinds → AreKindsOf format keys others kinds
+    → prices ≡ others
 prices_alike {X = X} format keys kinds prices others are of also =
     let all = expansion (map format.kind kinds) in
     let has = λ (prices : List ℤ) (of : AreKindsOf format keys prices kinds).

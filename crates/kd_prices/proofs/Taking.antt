@@ -55,8 +55,7 @@ module _ {X : Type 0} (key : X) (kind : KindOf X) (kinds : List (KindOf X)) wher
 
 -- ---- all keys
 
-pub put_rest : (xs ys : List ℤ) (x : ℤ) → 0 < length xs
-    → put_mid 1 (length (set xs 0 x) - 1) (set xs 0 x) ys ≡ x ∷ ys
+pub put_rest : (xs ys : List ℤ) (x : ℤ) → 0 < length xs → put_mid 1 (length (set xs 0 x) - 1) (set xs 0 x) ys ≡ x ∷ ys
 put_rest [] ys x some = absurd (omega arith)
 put_rest (y ∷ xs) ys x some = grind (arith, common_steps)
 
@@ -71,14 +70,9 @@ module _ {X : Type 0} (eq : X → X → Bool) (kinds : List (KindOf X)) (key : X
   takes_more price prices new left true one all =
       IsPermutation-trans (expansion kinds) _ _ one (IsPermutation-cons (key, price) (expansion new) _ all)
   takes_more price prices new left false one none = λ have. none (λ other.
-      let f : X × ℤ → ℕ = λ z. once (eq z.0 other) in
-      omega (
-        arith,
-        have other,
-        sum_by-cons (λ x. once (eq x other)) key keys,
-        sum_by-IsPermutation f (expansion kinds) ((key, price) ∷ expansion new) one,
-        sum_by-cons f (key, price) (expansion new),
-      ))
+      let moved = sum_by-IsPermutation (λ (z : X × ℤ). once (eq z.0 other)) (expansion kinds) _ one in
+      let first = sum_by-cons (λ (z : X × ℤ). once (eq z.0 other)) (key, price) (expansion new) in
+      omega (arith, have other, sum_by-cons (λ x. once (eq x other)) key keys))
 
 -- ---- the prices of kinds
 
@@ -117,12 +111,6 @@ module _ {K X : Type 0} (format : KindFormat K X) where
         subst ArePricesInRange (seconds-zip keys prices number) (All-map (λ price. unsigned_abs price ≤ 9999) (λ z. z.1)
             pairs (All-permutation (λ (z : X × ℤ). IsNear z) all pairs kept (all_near None kinds group.in_order))),
       )
-  prices_taken eq kinds keys prices left group number false none = λ others are.
-      none (λ key.
-      let f : X × ℤ → ℕ = λ z. once (eq z.0 key) in
+  prices_taken eq kinds keys prices left group number false none = λ others are. none (λ key.
       let beside = counted_beside (λ x. once (eq x key)) keys others are.number in
-      omega (
-        arith,
-        beside,
-        sum_by-IsPermutation f (zip keys others) (expansion (map format.kind kinds)) are.expand,
-      ))
+      omega (arith, beside, sum_by-IsPermutation (λ (z : X × ℤ). once (eq z.0 key)) (zip keys others) _ are.expand))

@@ -1,10 +1,7 @@
 -- Equal rows and equal columns of a table of costs. Places are counted from 0.
 use Rattle.std.specs.Prelude.{◌≡◌, ℕ, ◌≤◌, length, slice_get, slice_index_or, None}
-use Rattle.kd_state.specs.declared.machine.parts.Parts.{Parts}
-use Rattle.kd_state.specs.declared.machine.parts.Parts.TheVariants.{Rotor, Pin}
-use Rattle.kd_state.specs.Machine.{cable_letters}
-use Rattle.kd_state.specs.SheetDay.{Day, OfRotors, OfPins}
-use Rattle.kd_state.specs.OnKey.{HaveSameLetters}
+use Rattle.kd_state.specs.{Machine.cable_letters, declared.machine.parts.Parts.{Parts, TheVariants.{Pin, Rotor}}}
+use Rattle.kd_state.specs.{OnKey.HaveSameLetters, SheetDay.{Day, OfPins, OfRotors}}
 
 -- Cables `place` and `other` have the same letters; or bars `place` and `other` have the same standing.
 abbrev pub StandAlike : Parts → ℕ → ℕ → Type 0

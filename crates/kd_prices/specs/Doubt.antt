@@ -1,22 +1,14 @@
 -- Why a card doesn't prove itself: the first doubt, in a fixed order. In a doubt, settings, rows and columns are
 -- counted from 1.
 use Rattle.std.specs.Prelude.{◌≡◌, ◌⊎◌, ℕ, ◌+◌, ◌<◌, List, ◌∷◌, ◌++◌, length, ℤ, pos, Ok, Err}
-use Rattle.kd_state.specs.declared.machine.parts.Parts.{Parts}
-use Rattle.kd_state.specs.declared.setting.Setting.{Setting}
-use Rattle.kd_state.specs.Machine.{model_of}
-use Rattle.kd_state.specs.Setting.{IsFirstIllegal, Leads}
-use Rattle.kd_state.specs.SheetDay.{Day, day_model}
-use Rattle.kd_state.specs.OnKey.{ReadsAs}
-use Rattle.kd_state.specs.Costs.{cost_table}
-use Rattle.kd_state.specs.declared.machine.parts.Parts.TheVariants.{Rotor, Pin}
-use Rattle.kd_card.specs.declared.prices.PriceParts.{PriceParts}
-use Rattle.kd_card.specs.declared.prices.PriceParts.TheVariants.{Cables, Bars, CableKinds, BarKinds}
-use Rattle.kd_state.specs.FirstFaults.{AnswerRule, ◌>>=◌, Finds, Demands}
-use Rattle.kd_card.specs.Prices.{PricesFit, PricesFitAt, table_rows, price_sum, row_prices, column_prices}
-use Rattle.kd_card.specs.Proving.{Expands, IsSettingNeeded, AreSettingsNeeded, priced_count}
-use Rattle.kd_prices.specs.declared.doubt.Doubt.{Doubt}
-use Rattle.kd_prices.specs.declared.doubt.Doubt.TheVariants.{OtherModel, PriceMissing, IllegalAt, NotTheSheet}
-use Rattle.kd_prices.specs.declared.doubt.Doubt.TheVariants.{PriceTooHigh, SumDiffers, NeedlessLine}
+use Rattle.kd_state.specs.{FirstFaults.{AnswerRule, Demands, Finds, ◌>>=◌}, Setting.{IsFirstIllegal, Leads}}
+use Rattle.kd_state.specs.declared.{machine.parts.Parts.{Parts, TheVariants.{Pin, Rotor}}, setting.Setting.Setting}
+use Rattle.kd_state.specs.{Costs.cost_table, Machine.model_of, OnKey.ReadsAs, SheetDay.{Day, day_model}}
+use Rattle.kd_card.specs.Prices.{PricesFit, PricesFitAt, column_prices, price_sum, row_prices, table_rows}
+use Rattle.kd_card.specs.declared.prices.PriceParts.{PriceParts, TheVariants.{BarKinds, Bars, CableKinds, Cables}}
+use Rattle.kd_card.specs.Proving.{AreSettingsNeeded, Expands, IsSettingNeeded, priced_count}
+use Rattle.kd_prices.specs.declared.doubt.Doubt.TheVariants.{NeedlessLine, NotTheSheet, PriceMissing, PriceTooHigh}
+use Rattle.kd_prices.specs.declared.doubt.Doubt.{Doubt, TheVariants.{IllegalAt, OtherModel, SumDiffers}}
 
 -- The prices are for machines like this one: prices of cables and columns for a rotor machine, or prices of bars
 -- and rows for a Converter M-209.

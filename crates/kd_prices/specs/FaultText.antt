@@ -1,11 +1,10 @@
 -- The text of a doubt about a card.
 use Rattle.std.specs.Prelude.{decimal, ℕ, List, ◌++◌}
-use Rattle.kd_tables.specs.declared.refusal.Refusal.TheVariants as refusals
 use Rattle.kd_tables.specs.Refusals.{refusal_name, word_after_space}
 use Rattle.kd_state.specs.FaultText.{illegal_at_text}
-use Rattle.kd_prices.specs.declared.doubt.Doubt.{Doubt}
-use Rattle.kd_prices.specs.declared.doubt.Doubt.TheVariants.{OtherModel, PriceMissing, IllegalAt, NotTheSheet}
-use Rattle.kd_prices.specs.declared.doubt.Doubt.TheVariants.{PriceTooHigh, SumDiffers, NeedlessLine}
+use Rattle.kd_prices.specs.declared.doubt.Doubt.TheVariants.{NeedlessLine, NotTheSheet, PriceMissing, PriceTooHigh}
+use Rattle.kd_prices.specs.declared.doubt.Doubt.{Doubt, TheVariants.{IllegalAt, OtherModel, SumDiffers}}
+use Rattle.kd_tables.specs.declared.refusal.Refusal.TheVariants as refusals
 
 abbrev pub doubt_text : Doubt → List ℕ
 doubt_text OtherModel = refusal_name refusals.OtherModel

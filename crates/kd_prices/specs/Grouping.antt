@@ -1,11 +1,9 @@
 -- Grouping keys with prices into kinds, and finding the price of a key in the kinds. Keys are the letters of cables or
 -- columns, standings or readings. No contract of a public function cites these definitions.
-use Rattle.std.specs.Prelude.{◌≡◌, ◌≤◌, List, ◌∷◌, ◌++◌, map, replicate, count_by, ℤ, All}
-use Rattle.std.specs.Prelude.{IsPermutation, Bool, true, false, Option, unsigned_abs}
-use Rattle.std.specs.{List.{Contains, zip, Sorted.{IsSorted}}, Ordering.{ordering_then, int_cmp}}
-use Rattle.std.specs.declared.cmp.Ordering.{Ordering}
-use Rattle.kd_card.specs.declared.kinds.KindOf.{KindOf}
-use Rattle.kd_card.specs.Kinds.{KindFormat, ComesAfter, AreKinds, expansion}
+use Rattle.std.specs.Prelude.{Bool, IsPermutation, List, Option, count_by, false, replicate, true, unsigned_abs, ◌++◌}
+use Rattle.std.specs.{List.{Contains, zip, Sorted.IsSorted}, Prelude.{All, map, ℤ, ◌∷◌, ◌≡◌, ◌≤◌}}
+use Rattle.std.specs.{Ordering.{int_cmp, ordering_then}, declared.cmp.Ordering.Ordering}
+use Rattle.kd_card.specs.{Kinds.{AreKinds, ComesAfter, KindFormat, expansion}, declared.kinds.KindOf.KindOf}
 
 -- In this list of keys (letters, standings or readings) with their prices, equal keys have equal prices.
 abbrev pub HaveOnePriceEach : {X : Type 0} → List (X × ℤ) → Type 0

@@ -1,12 +1,8 @@
 -- When and how a card with a price for each cable, pair, bar or row becomes a card with a price for each kind.
 use Rattle.std.specs.Prelude.{◌≡◌}
-use Rattle.kd_state.specs.declared.machine.parts.Parts.{Parts}
-use Rattle.kd_state.specs.{Machine.{model_of}, SheetDay.{Day, day_model}}
-use Rattle.kd_card.specs.declared.card.Card.{Card}
-use Rattle.kd_card.specs.declared.prices.PriceParts.{PriceParts}
-use Rattle.kd_card.specs.declared.prices.Version.TheVariants.{ByKind}
-use Rattle.kd_card.specs.Prices.{version_of}
-use Rattle.kd_card.specs.Proving.{AreModelPrices, Expands}
+use Rattle.kd_state.specs.{Machine.model_of, SheetDay.{Day, day_model}, declared.machine.parts.Parts.Parts}
+use Rattle.kd_card.specs.declared.{card.Card.Card, prices.{PriceParts.PriceParts, Version.TheVariants.ByKind}}
+use Rattle.kd_card.specs.{Prices.version_of, Proving.{AreModelPrices, Expands}}
 use Rattle.kd_prices.specs.Laws.{AreEqualWhereAlike}
 
 -- Machine and day are of one model. Each cable and column, or each bar and row, has its own price. Equal cables,

@@ -1,16 +1,13 @@
 -- What the laws on checked cards promise.
 use Rattle.std.specs.Prelude.{◌≡◌, ℕ, ◌-◌, ◌<◌, ◌≤◌, List, length, take, drop}
-use Rattle.kd_state.specs.declared.machine.parts.Parts.{Parts}
-use Rattle.kd_state.specs.declared.setting.Setting.{Setting}
-use Rattle.kd_state.specs.Machine.{IsMachine}
-use Rattle.kd_state.specs.Setting.{Leads}
-use Rattle.kd_state.specs.SheetDay.{Day, IsLegalDay}
+use Rattle.kd_state.specs.{SheetDay.{Day, IsLegalDay}, declared.{machine.parts.Parts.Parts, setting.Setting.Setting}}
+use Rattle.kd_state.specs.{Machine.IsMachine, Setting.Leads}
 use Rattle.kd_card.specs.declared.prices.PriceParts.{PriceParts}
 use Rattle.kd_card.specs.Prices.{row_prices, column_prices, table_rows, price_at, ArePrices}
 use Rattle.kd_card.specs.Proving.{LeadsToTheDay, ProvesByNumber, Proves, IsShortest}
-use Rattle.kd_prices.specs.declared.doubt.Doubt.{Doubt}
+use Rattle.kd_prices.specs.Alike.{ReadAlike, StandAlike}
 use Rattle.kd_prices.specs.Doubt.{IsDoubt}
-use Rattle.kd_prices.specs.Alike.{StandAlike, ReadAlike}
+use Rattle.kd_prices.specs.declared.doubt.Doubt.{Doubt}
 
 -- If a card proves itself, there is no doubt about it. `OneDoubt`: no card has two different first doubts.
 abbrev pub ProvingCardsAreInNoDoubt : Type 0

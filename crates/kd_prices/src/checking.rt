@@ -3,9 +3,8 @@ ghost use Rattle.std.specs.Prelude.{◌≡◌, ◌↔◌, ◌≤◌, length, IsO
 ghost use Rattle.kd_state.specs.{Costs.{cost_table}, Entry.{rotor_values, pin_values}};
 ghost use Rattle.kd_state.specs.{Machine.{model_of}, SheetDay.{day_model, OfRotors, OfPins}};
 ghost use Rattle.kd_state.specs.declared.machine.parts.Parts.TheVariants.{Rotor, Pin};
-ghost use Rattle.kd_card.specs.declared.prices.PriceParts.TheVariants.{Cables, Bars};
+ghost use Rattle.kd_card.specs.{Proving.Proves, declared.prices.PriceParts.TheVariants.{Bars, Cables}};
 ghost use Rattle.kd_card.specs.Prices.{ArePrices, ArePricesInRange};
-ghost use Rattle.kd_card.specs.Proving.{Proves, priced_count};
 ghost use Rattle.kd_prices.specs.Doubt.{IsDoubt, IsCheckedAnswer, IsByPricesAnswer, ArePricesFound};
 
 use super::doubt::Doubt;

@@ -1,7 +1,6 @@
 //! Finds the price of each cable, column, bar or row on a card where each kind has one price.
-ghost use Rattle.std.specs.Prelude.{◌≡◌, ◌↔◌, ◌<◌, ◌≤◌, length, map, ℤ, List, true, IsTrue, MatchOption};
-ghost use Rattle.kd_card.specs.Kinds.{AreKindsOf, IsGroup};
-ghost use Rattle.kd_card.specs.Prices.{ArePricesInRange};
+ghost use Rattle.std.specs.Prelude.{◌≡◌, ◌↔◌, ◌<◌, length, map, ℤ, List, true, IsTrue, MatchOption};
+ghost use Rattle.kd_card.specs.{Kinds.{AreKindsOf, IsGroup}, Prices.ArePricesInRange};
 ghost use Rattle.kd_prices.specs.Grouping.{HasNoneLeft, TakesOne, TakesAll};
 
 use arrayvec::ArrayVec;
@@ -26,8 +25,6 @@ pub(crate) fn prices_of<K: Kind, const N: usize>(
 }
 
 /// For each key in `keys`, lowers the count of its kind by one, and writes the kind's price to `prices`.
-///
-/// The result is `false` if a key's kind isn't among `kinds`, or its count is too low.
 fn take_prices<K: Kind>(keys: &[K::Key], kinds: &mut [K], prices: &mut [i16]) -> bool
     requires prices { length prices.old ≡ length keys.now }
     ensures len { length prices.new ≡ length prices.old }
@@ -47,8 +44,6 @@ fn take_prices<K: Kind>(keys: &[K::Key], kinds: &mut [K], prices: &mut [i16]) ->
 }
 
 /// Lowers the count of the kind with the key `key` by one, and returns the price of this kind.
-///
-/// `None` if no kind has this key and a count above 0.
 fn take_one<K: Kind>(key: &K::Key, kinds: &mut [K]) -> Option<i16>
     ensures { MatchOption result
         (HasNoneLeft K.Key.eq (map K.format.kind kinds.old) key.now)
@@ -67,7 +62,6 @@ fn take_one<K: Kind>(key: &K::Key, kinds: &mut [K]) -> Option<i16>
     }
 }
 
-/// Whether `kind` has the key `key` and a count above 0.
 fn has_one_left<K: Kind>(key: &K::Key, kind: &K) -> bool
     ensures { let parts = K.format.kind kind.now in
         IsTrue result ↔ ((K.Key.eq parts.key key.now ≡ true) × (0 < parts.count)) }

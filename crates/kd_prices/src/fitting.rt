@@ -1,7 +1,6 @@
 //! Finds the first cell of a table of costs where the prices of row and column add up to more than the cost.
 ghost use Rattle.std.specs.Prelude.{◌≡◌, ◌↔◌, ℕ, ◌<◌, length, MatchOption, IsTrue};
-ghost use Rattle.kd_prices.specs.Doubt.{IsFirstWithout};
-ghost use Rattle.kd_prices.specs.Fitting.{ListsFitAt, FitsAtColumn, IsFirstPlaceWithout};
+ghost use Rattle.kd_prices.specs.{Doubt.IsFirstWithout, Fitting.{FitsAtColumn, IsFirstPlaceWithout, ListsFitAt}};
 
 /// Finds the first cell, row by row, where the prices of row and column add up to more than the cell's cost.
 ///
@@ -25,9 +24,7 @@ pub(crate) fn first_too_high<const N: usize>(
     None
 }
 
-/// Finds the first column, counted from 0, where `price` and the column's price add up to more than the cost.
-///
-/// `price` is the price of one row of the table of costs, and `costs` are the costs in this row.
+/// Finds the first column, counted from 0, where a row's `price` and the column's price exceed the cost in this row.
 fn first_column_too_high(costs: &[u8], price: i16, columns: &[i16]) -> Option<usize>
     requires { length costs.now ≡ length columns.now }
     ensures { MatchOption result
@@ -42,9 +39,6 @@ fn first_column_too_high(costs: &[u8], price: i16, columns: &[i16]) -> Option<us
     None
 }
 
-/// Whether `price` and the price of column `column`, counted from 0, add up to at most the cost in this column.
-///
-/// `price` is the price of one row of the table of costs, and `costs` are the costs in this row.
 fn fits_at_column(costs: &[u8], price: i16, columns: &[i16], column: usize) -> bool
     requires inside { column < length columns.now }
     requires each { length costs.now ≡ length columns.now }

@@ -25,7 +25,6 @@ pub(crate) fn kinds_of<K: Kind, const N: usize>(pairs: ArrayVec<(K::Key, i16), N
     kinds
 }
 
-/// Makes a kind with the count 1 from a key and its price.
 fn kind_of_one<T: KindKey>(pair: &(T, i16)) -> KindOf<T>
     ensures { result ≡ kind_of_one pair.now }
 {
@@ -64,7 +63,6 @@ fn push_kinds<K: Kind, const N: usize>(
     }
 }
 
-/// Whether `pair` has the key and the price of `kind`.
 fn is_of_kind<T: KindKey>(pair: &(T, i16), kind: &KindOf<T>) -> bool
     ensures { IsTrue result ↔ ((T.eq pair.now.0 kind.now.key ≡ true) × (pair.now.1 ≡ kind.now.price)) }
 {

@@ -1,7 +1,6 @@
 //! Converts a card with a price for each cable, pair, bar or row to a card with a price for each kind.
 ghost use Rattle.std.specs.Prelude.{◌≡◌, ◌↔◌, IfSome, IsSome};
-ghost use Rattle.kd_card.specs.{Prices.version_of, Proving.Expands};
-ghost use Rattle.kd_card.specs.declared.prices.Version.TheVariants.{ByKind};
+ghost use Rattle.kd_card.specs.{Prices.version_of, Proving.Expands, declared.prices.Version.TheVariants.ByKind};
 ghost use Rattle.kd_prices.specs.KindCards.{CanBeByKind, IsByKind};
 
 use super::grouping::kinds_of;

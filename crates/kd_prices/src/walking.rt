@@ -1,10 +1,8 @@
 //! Carries out the settings of a card, and finds the first setting that isn't needed.
 ghost use Rattle.std.specs.Prelude.{◌≡◌, ◌+◌, ◌≤◌, IsFalse, MatchResult, IfOk, IfErr, Err};
-ghost use Rattle.kd_state.specs.Machine.{model_of};
-ghost use Rattle.kd_state.specs.Setting.{Leads};
-ghost use Rattle.kd_state.specs.SheetDay.{day_model};
-ghost use Rattle.kd_card.specs.Proving as proving;
+ghost use Rattle.kd_state.specs.{Machine.model_of, Setting.Leads, SheetDay.day_model};
 ghost use Rattle.kd_prices.specs.Doubt.{IsCarriedAnswer, IsNeededAnswer};
+ghost use Rattle.kd_card.specs.Proving as proving;
 
 use super::doubt::Doubt;
 use kd_card::loose_count;
@@ -45,9 +43,7 @@ pub(crate) fn carry_settings(
     Ok(Carried { reached, needed })
 }
 
-/// Checks that `setting`, on line `line`, changes a cable or a bar, or lowers the number of loose things by one.
-///
-/// `before` and `after` are the numbers of loose things before and after the setting.
+/// Checks that `setting`, on line `line`, is needed, from the numbers of loose things before and after it.
 fn check_need(setting: &Setting, line: usize, before: usize, after: usize) -> Result<(), Doubt>
     requires { after ≤ 137 }
     ensures { let is_needed = IsFalse (proving.is_priced_setting setting.now) → before ≡ after + 1 in

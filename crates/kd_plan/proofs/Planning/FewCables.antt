@@ -25,17 +25,13 @@ put_within number m s none few (suc place) letter within h =
       | inl above ↦
           let bound = h (none (suc place) above) in
           let spare = λ (k : ℕ) (low : place ≤ k). is_spare_at-cable_at m (suc k) k refl ∙ none (suc k) (omega arith) in
-          omega (
-            arith,
-            all_first m.cables place (omega arith) spare,
-            all_first m.cables (suc place) within (λ k low. spare k (omega arith)),
-          )
+          let fewer = all_first m.cables place (omega arith) spare in
+          omega (arith, all_first m.cables (suc place) within (λ k low. spare k (omega arith)))
       | inr fits ↦ omega arith
     ]
 
 in_use : (cable : Cable) (letter : ℕ) → has_letter (cable_letters cable) letter ≡ true → is_spare cable ≡ false
-in_use (None, None) letter h = absurd (cc)
-in_use _ letter h = refl
+in_use cable letter h = grind arith
 
 -- A change of a cable whose number is at most `number` leaves the cables above `number` spare.
 set_within : (number : ℕ) (m : RotorParts) (cable : ℕ) (ends : Cable) → UsesNoneAbove number (Rotor m) → cable ≤ number
@@ -51,9 +47,7 @@ HasFewInUse number (Pin start) (Pin m) = Unit {0}
 HasFewInUse number _ _ = ⊥
 
 HasFewInUse-UsesNoneAbove : (number : ℕ) (start m : Parts) → HasFewInUse number start m → UsesNoneAbove number m
-HasFewInUse-UsesNoneAbove number (Rotor start) (Rotor m) few = few.1
-HasFewInUse-UsesNoneAbove number start (Pin m) few = tt
-HasFewInUse-UsesNoneAbove number (Pin start) (Rotor m) few = absurd few
+HasFewInUse-UsesNoneAbove number start m few = grind arith
 
 SparesStayFree-tail : (m : Parts) (s : Day) (x : Setting) (settings : List Setting) → SparesStayFree m s (x ∷ settings)
     → SparesStayFree m s settings
@@ -69,8 +63,8 @@ one_step : (number : ℕ) (start : Parts) (s : Day) (m : Parts) (x : Setting) (s
 one_step number (Rotor start) (OfRotors s) (Rotor m) (Put cable letter) settings none few now free allowed =
     let there : is_none (numbered_item m.cables cable) ≡ false = grind arith in
     let last = (IsNumbered-not_none m.cables cable (None, None) there).last in
-    let within =
-    put_within number start s none few cable letter (omega (arith, last, now.0)) (free cable letter (0, omega arith, refl)) in
+    let within = put_within number start s none few cable letter (omega (arith, last, now.0))
+    (free cable letter (0, omega arith, refl)) in
     (within, (rw length-set now.0, set_within number m cable _ now.1 within there))
 one_step number (Rotor start) s (Rotor m) (Pull cable letter) settings none few now free allowed =
     let there : is_none (numbered_item m.cables cable) ≡ false = grind arith in

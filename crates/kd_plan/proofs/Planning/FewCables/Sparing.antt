@@ -42,14 +42,9 @@ sums_within : {X : Type 0} (f g h k : X → ℕ) → ((x : X) → f x + g x ≤ 
 sums_within f g h k e [] = omega arith
 sums_within f g h k e (x ∷ xs) = simp sum_by-cons (omega (arith, e x, sums_within f g h k e xs))
 
-cond-exchanged : (p q : Bool)
-    → cond {A = ℕ} (exactly_one false false) 1 0 + cond (exactly_one p q) 1 0
+cond-exchanged : (p q : Bool) → cond {A = ℕ} (exactly_one false false) 1 0 + cond (exactly_one p q) 1 0
     ≤ cond (exactly_one false q) 1 0 + cond (exactly_one p false) 1 0
 cond-exchanged p q = grind arith
-
-abbrev lies_in_exactly_one : Cable → Column → ℕ → Bool
-lies_in_exactly_one cable column letter =
-    exactly_one (has_letter (cable_letters cable) letter) (has_letter (column_letters column) letter)
 
 -- Two cables cost no more after the exchange: `cable` becomes the pair, and `spare` the column without a pair.
 cable_cost-exchanged : (spare cable : Cable) (column : Column) → is_spare spare ≡ true
@@ -123,18 +118,13 @@ few_pairs to pairs h =
     let below : ℕ → Bool = λ j. nat_lt j pairs in
     let apart = IsDistinct-from_AllPairs Decides-eqb (filter below to)
     (AllPairs-filter (λ j k. j ≢ k) below to h.distinct) in
-    omega (
-      arith,
-      length-filter below to,
-      length-le_from_distinct_below (filter below to) pairs apart
-          (λ q there. grind (arith, Any-from_list_any, eqb-true, ltb-true, filter_passes below to)),
-    )
+    let few = length-le_from_distinct_below (filter below to) pairs apart
+    (λ q there. grind (arith, Any-from_list_any, eqb-true, ltb-true, filter_passes below to)) in
+    omega (arith, length-filter below to)
 
 few_spares : (cables : List Cable) (pairs : List (ℕ × ℕ)) (to : List ℕ) → length cables ≡ 13 → length to ≡ 13
-    → IsOneToOne to
-    → SparesComeLast cables (length pairs) to → (number place : ℕ) → number ≡ suc place → place < 13
-    → get_or to place 0 < length pairs
-    → is_spare_at cables place ≡ true
+    → IsOneToOne to → SparesComeLast cables (length pairs) to → (number place : ℕ) → number ≡ suc place → place < 13
+    → get_or to place 0 < length pairs → is_spare_at cables place ≡ true
     → count_by is_spare (take number cables) ≤ length pairs - count_by (λ cable. not (is_spare cable)) cables
 few_spares cables pairs to many size once last number place next lt taken spare =
     let all = pairs-counted cables to (length pairs) number (omega arith) (λ k lt' e. elim (cases_eq k place) [
@@ -155,15 +145,14 @@ put_lines P number cable (Some pair) h =
 
 -- If `P` holds of each cable's settings in one direction, it holds of all settings in this direction.
 all_moves : (P : Setting → Type 0) (direction : CableMove) (pairs : List (ℕ × ℕ)) (cables : List Cable) (to : List ℕ)
-    (number : ℕ)
-    → ((k n : ℕ) (cable : Cable) → n ≡ number + k → k < length to
+    (number : ℕ) → ((k n : ℕ) (cable : Cable) → n ≡ number + k → k < length to
     → All P (cable_moves direction n (cable, column_at pairs (get_or to k 0))))
     → All P (lines_from (cable_moves direction) number (cables_with_columns cables pairs to))
 all_moves P direction pairs [] to number h = All-nil P
 all_moves P direction pairs (cable ∷ cables) [] number h = All-nil P
 all_moves P direction pairs (cable ∷ cables) (j ∷ to) number h =
     All-append P _ _ (h zero number cable (omega arith) (omega arith))
-    (all_moves P direction pairs cables to (number + 1) (λ k n cable e lt. h (suc k) n cable (omega arith) (omega arith)))
+    (all_moves P direction pairs cables to (number + 1) (λ k n x e lt. h (suc k) n x (omega arith) (omega arith)))
 
 -- If `P` holds of each setting that isn't priced, it holds of all settings in a list without priced ones.
 All-unpriced : (P : Setting → Type 0) → ((x : Setting) → is_priced_setting x ≡ false → P x) → (xs : List Setting)
@@ -181,18 +170,17 @@ LeavesSpares m s (Put cable letter) =
 LeavesSpares m s _ = Unit {0}
 
 unpriced_leave : (m : RotorParts) (s : RotorDay) (x : Setting) → is_priced_setting x ≡ false → LeavesSpares m s x
-unpriced_leave m s (Put cable letter) e = absurd (cc)
-unpriced_leave m s _ e = tt
+unpriced_leave m s x e = grind arith
 
 pub is_spare_at-cable_at : (m : RotorParts) (number place : ℕ) → number ≡ suc place
     → is_spare_at m.cables place ≡ is_spare (cable_at m number)
 is_spare_at-cable_at m number place e = rw e (ap is_spare (sym (unwrap_or-slice_get m.cables place (None, None))))
 
-spares_stay_free : (m : RotorParts) (s : RotorDay) (to : List ℕ) → IsMachine (Rotor m) → IsLegalDay (OfRotors s)
-    → m.model ≡ s.model
-    → length to ≡ 13 → IsOneToOne to → SparesComeLast m.cables (length s.pairs) to
+pub SparesStayFree-planned : (m : RotorParts) (s : RotorDay) (to : List ℕ) → IsMachine (Rotor m)
+    → IsLegalDay (OfRotors s) → m.model ≡ s.model → length to ≡ 13 → IsOneToOne to
+    → SparesComeLast m.cables (length s.pairs) to
     → SparesStayFree (Rotor m) (OfRotors s) (planned_lines (Rotor m) (OfRotors s) to)
-spares_stay_free m s to machine legal same size once last cable letter (k, lt, e) =
+SparesStayFree-planned m s to machine legal same size once last cable letter (k, lt, e) =
     let loose = All-unpriced (LeavesSpares m s) (unpriced_leave m s) (loose_lines (Rotor m) (OfRotors s))
     (all_counted (Rotor m) (OfRotors s) machine legal same).priced in
     let pulls = all_moves (LeavesSpares m s) Out s.pairs m.cables to 1 (λ k n cable e lt.
@@ -204,13 +192,3 @@ spares_stay_free m s to machine legal same size once last cable letter (k, lt, e
     (is_spare_at-cable_at m n k (omega arith) ∙ spare))) in
     let all = All-append (LeavesSpares m s) _ _ (All-append (LeavesSpares m s) _ _ loose pulls) puts in
     subst (LeavesSpares m s) e (all k (Put cable letter) lt)
-
-pub SparesStayFree-planned : (m : RotorParts) (s : RotorDay) (pairs : List (ℕ × ℕ)) (to : List ℕ)
-    (settings : List Setting)
-    → IsMachine (Rotor m) → IsLegalDay (OfRotors s) → m.model ≡ s.model → pairs ≡ s.pairs
-    → length to ≡ 13 → IsOneToOne to → SparesComeLast m.cables (length pairs) to
-    → settings ≡ planned_lines (Rotor m) (OfRotors s) to → SparesStayFree (Rotor m) (OfRotors s) settings
-SparesStayFree-planned m s pairs to settings machine legal same alike size once last lines =
-    rw lines
-    (spares_stay_free m s to machine legal same size once
-    (subst (λ all. SparesComeLast m.cables (length all) to) alike last))

@@ -49,7 +49,8 @@ pub returns : goal.returns
 returns g c = λ prices row column many.
     let value : c.count-priced.result ≡ priced_count c.args.settings.now = search rules in
     let few : c.count-priced.result < 2 ^ 31 = search rules in
-    let same = same_sum c.sum_of_prices.result c.count-priced.result (search rules) few c.if-sum_of_prices-priced.false in
+    let same =
+    same_sum c.sum_of_prices.result c.count-priced.result (search rules) few c.if-sum_of_prices-priced.false in
     let is : c.sum_of_prices.result ≡ price_sum prices = rw (row, column) c.sum_of_prices.ensures in
     GoesOn c.in_ok-carried.carried.reached c.in_ok-carried.ensures.leads
     (GoesOn tt (c.reads_as.ensures.0 c.if-not-reads_as.false)

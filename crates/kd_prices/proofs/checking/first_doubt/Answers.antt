@@ -7,27 +7,24 @@ returns-in-None c = HasFault OtherModel ((λ same model. c.in-None.ensures.parte
 
 pub returns-in_err-rows-in-Some-Rotor : goal.returns-in_err-rows-in-Some-Rotor
 returns-in_err-rows-in-Some-Rotor c =
-    let h = c.in-Some-Rotor in
-    let apart = rw h.field-0-is at h.ensures.parted in
+    let apart = rw c.in-Some-Rotor.field-0-is at c.in-Some-Rotor.ensures.parted in
     let is = err_from_is_err_and c.from_residual.result c.from_residual.ensures.1 in
     rw (is.1, is.2, apart.0, apart.1)
-    (by_fault _ _ _ _ _ apart.2 (cables_made h.parts.now) _
+    (by_fault _ _ _ _ _ apart.2 (cables_made c.in-Some-Rotor.parts.now) _
     (rw c.parts.ensures.value at c.in_err-rows-in-Some-Rotor.ensures.found))
 
 pub returns-in_err-rows-in-Some-Pin : goal.returns-in_err-rows-in-Some-Pin
 returns-in_err-rows-in-Some-Pin c =
-    let h = c.in-Some-Pin in
-    let apart = rw h.field-0-is at h.ensures.parted in
+    let apart = rw c.in-Some-Pin.field-0-is at c.in-Some-Pin.ensures.parted in
     let is = err_from_is_err_and c.from_residual-in_err-rows-in-Some-Pin.result
     c.from_residual-in_err-rows-in-Some-Pin.ensures.1 in
     rw (is.1, is.2, apart.0, apart.1)
-    (by_fault _ _ _ _ _ refl (bars_made h.parts.now) _
+    (by_fault _ _ _ _ _ refl (bars_made c.in-Some-Pin.parts.now) _
     (rw c.parts-in-Some-Pin.ensures.value at c.in_err-rows-in-Some-Pin.ensures.found))
 
 pub returns-in_ok-rows-in-Some-Rotor : goal.returns-in_ok-rows-in-Some-Rotor
 returns-in_ok-rows-in-Some-Rotor c =
-    let h = c.in-Some-Rotor in
-    let apart = rw h.field-0-is at h.ensures.parted in
+    let apart = rw c.in-Some-Rotor.field-0-is at c.in-Some-Rotor.ensures.parted in
     let found = c.in_ok-rows-in-Some-Rotor in
     rw (apart.0, apart.1)
     (by_found _ _ _ _ _ apart.2 (found.rows, found.columns) _
@@ -37,8 +34,7 @@ returns-in_ok-rows-in-Some-Rotor c =
 
 pub returns-in_ok-rows-in-Some-Pin : goal.returns-in_ok-rows-in-Some-Pin
 returns-in_ok-rows-in-Some-Pin c =
-    let h = c.in-Some-Pin in
-    let apart = rw h.field-0-is at h.ensures.parted in
+    let apart = rw c.in-Some-Pin.field-0-is at c.in-Some-Pin.ensures.parted in
     let found = c.in_ok-rows-in-Some-Pin in
     rw (apart.0, apart.1)
     (by_found _ _ _ _ _ refl (found.rows, found.columns) _

@@ -1,5 +1,5 @@
 use Rattle.kd_prices.proofs.{ByKind.{bars_by_kind, cables_by_kind}, Prelude.◌∙◌}
-use Rattle.kd_prices.proofs.Prelude.{ArePrices, AreTakenApart, IfSome, IsLegalDay, IsMachine, refl, rules, subst, sym}
+use Rattle.kd_prices.proofs.Prelude.{ArePrices, AreTakenApart, IsLegalDay, IsMachine, refl, rules, subst, sym}
 use Rattle.kd_prices.proofs.kind_cards.prices_by_kind.Goals as goal
 
 pub returns-in-Rotor-Cables : goal.returns-in-Rotor-Cables
@@ -7,7 +7,6 @@ returns-in-Rotor-Cables c =
     let h = c.in-Rotor-Cables in
     let so = c.in_ok-parts.ensures in
     let parted = subst (AreTakenApart _ _) h.is-0 so.parted in
-    let valid : IfSome c.cable_kinds.result ArePrices = search rules in
     let rows =
     rw (c.beside.ensures, c.as_slice-in-Rotor-Cables.ensures.value, c.ends_of-ends.ensures.value)
     at c.kinds_of.ensures in
@@ -22,24 +21,20 @@ returns-in-Rotor-Cables c =
     rw (sym c.parts.ensures.value ∙ h.is-1, parted.0, parted.1)
     (cables_by_kind h.parts.now _ h.rows h.columns c.kinds_of.result.items c.kinds_of-in-Rotor-Cables.result.items
     (subst IsMachine parted.0 so.machine) (subst IsLegalDay parted.1 so.day)
-    (subst ArePrices h.is-1 c.parts.ensures.are_prices) parted.2
-    (record { expand = rows.expand; in_order = rows.in_order })
-    (record { expand = columns.expand; in_order = columns.in_order }) _
+    (subst ArePrices h.is-1 c.parts.ensures.are_prices) parted.2 rows columns _
     (rw (c.as_slice-in-Rotor-Cables-2.ensures.value, c.as_slice-in-Rotor-Cables-4.ensures.value)
-    at c.cable_kinds.ensures) valid)
+    at c.cable_kinds.ensures) (search rules))
 
 pub returns-in-Pin-Bars : goal.returns-in-Pin-Bars
 returns-in-Pin-Bars c =
     let h = c.in-Pin-Bars in
     let so = c.in_ok-parts.ensures in
     let parted = subst (AreTakenApart _ _) h.is-0 so.parted in
-    let valid : IfSome c.bar_kinds.result ArePrices = search rules in
     let rows = rw c.beside-in-Pin-Bars.ensures at c.kinds_of-in-Pin-Bars.ensures in
     let columns = rw c.beside-in-Pin-Bars-2.ensures at c.kinds_of-in-Pin-Bars-2.ensures in
     rw (sym c.parts.ensures.value ∙ h.is-1, parted.0, parted.1)
     (bars_by_kind h.parts.now _ h.rows h.columns c.kinds_of-in-Pin-Bars.result.items
     c.kinds_of-in-Pin-Bars-2.result.items (subst IsMachine parted.0 so.machine) (subst IsLegalDay parted.1 so.day)
-    (subst ArePrices h.is-1 c.parts.ensures.are_prices) refl
-    (record { expand = rows.expand; in_order = rows.in_order })
-    (record { expand = columns.expand; in_order = columns.in_order }) _
-    (rw (c.as_slice-in-Pin-Bars.ensures.value, c.as_slice-in-Pin-Bars-2.ensures.value) at c.bar_kinds.ensures) valid)
+    (subst ArePrices h.is-1 c.parts.ensures.are_prices) refl rows columns _
+    (rw (c.as_slice-in-Pin-Bars.ensures.value, c.as_slice-in-Pin-Bars-2.ensures.value)
+    at c.bar_kinds.ensures) (search rules))
