@@ -187,7 +187,8 @@ module _ (m : RotorParts) (s : RotorDay) (machine : IsMachine (Rotor m)) (legal 
   seats_lead : Led (Rotor m) (lines_from slot_seat_line 1 (zip m.slots s.wheels))
       (with_slots m (seats_of_wheels s.wheels))
   seats_lead =
-      seats_led m [] m.slots s.wheels 1 refl (grind (arith, length-map)) (λ k n wheel e at. rw e (are_seated.allowed k wheel at))
+      seats_led m [] m.slots s.wheels 1 refl (grind (arith, length-map))
+      (λ k n wheel e at. rw e (are_seated.allowed k wheel at))
       (λ k d lt. refl) (λ i j d before lt same. places_differ i j d before lt (ap (place_in_box m.model) same))
 
   -- RING: the day's wheel that is this wheel of the box, if there is one; and the rings, in the order of the box

@@ -100,7 +100,8 @@ cables_by_kind m s rows columns row col machine legal are same first second =
     let thirteen : length (columns_in_order s.pairs) ≡ 13 = length-map (columns_of s.pairs) pair_in_order
     ∙ thirteen_columns s.pairs legal.pairs.few in
     made_by_kind cable_format pair_format (Rotor m) (OfRotors s) (Cables rows columns)
-    (CableKinds (record { items = row }) (record { items = col })) m.cables (columns_in_order s.pairs) row col same tt refl
+    (CableKinds (record { items = row }) (record { items = col })) m.cables (columns_in_order s.pairs) row col
+    same tt refl
     (are_kinds_for cable_format m.cables (None, None) (StandAlike (Rotor m)) (cables_told m machine)
     (cables_are_in_form m machine) 13 machine.legal.cables.count rows are.0.count are.0.reach row first)
     (are_kinds_for pair_format (columns_in_order s.pairs) None (ReadAlike (OfRotors s)) (columns_told s legal)

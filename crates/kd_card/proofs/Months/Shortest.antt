@@ -254,7 +254,8 @@ module _ {A B : Type 0} (a : A) (b : B) (cost : A → B → ℕ) (rows : List A)
     (loose lines : ℕ) (rows_count : length rows ≡ table_rows prices)
     (columns_count : length columns ≡ table_rows prices)
     (row_count : length (row_prices prices) ≡ table_rows prices)
-    (column_count : length (column_prices prices) ≡ table_rows prices) (fits : PricesFit (map (λ row. map (cost row) columns) rows) prices)
+    (column_count : length (column_prices prices) ≡ table_rows prices)
+    (fits : PricesFit (map (λ row. map (cost row) columns) rows) prices)
     (beside : List (B × ℤ))
     (order : IsPermutation (zip columns (column_prices prices)) beside)
     (enough : loose + pairing_cost cost rows beside ≤ lines) where
@@ -304,7 +305,8 @@ module _ {A B : Type 0} (a : A) (b : B) (cost : A → B → ℕ) (rows : List A)
         let all = sum_of (row_prices prices) +ℤ prices_with beside in
         let due : pos (pairing_cost cost rows beside) ≤ℤ all = omega (arith, ints, sums) in
         let tight =
-        tight_at cost a rows (row_prices prices) beside i (b, pos 0) (rows_count ∙ sym size) (rows_count ∙ sym row_count)
+        tight_at cost a rows (row_prices prices) beside i (b, pos 0) (rows_count ∙ sym size)
+        (rows_count ∙ sym row_count)
         fit due (omega arith) in
         rw (at i j lt lt') (rw (e ∙ column j lt') at tight)
 
@@ -342,7 +344,8 @@ AreBounds-prices (Rotor m) (Rotor n) (OfRotors s) (Cables row column) settings m
     let falling = list_lowers pairing.beside [] (OfRotors s) legal (Rotor m) (Rotor n) settings same leads in
     bounded (None, None) None cable_cost m.cables (columns_of s.pairs) (Cables row column)
     (loose_count (Rotor m) (OfRotors s)) (length settings) at_first.count (thirteen_columns s.pairs legal.pairs.few)
-    are.0.count are.1.count fits pairing.beside pairing.order (omega (arith, falling, pairing.free, nothing_loose (Rotor n) (OfRotors s) reads))
+    are.0.count are.1.count fits pairing.beside pairing.order
+    (omega (arith, falling, pairing.free, nothing_loose (Rotor n) (OfRotors s) reads))
 AreBounds-prices (Pin m) (Pin n) (OfPins s) (Bars row column) settings machine legal are kind fits leads reads =
     let at_first = machines_have_all (Pin m) machine.legal in
     let at_last = list_keeps (Pin m) (Pin n) settings leads at_first in

@@ -136,4 +136,6 @@ pub all_read : {K X : Type 0} {format : KindFormat K X} {room line : ℕ} {text 
     {number at : ℕ} {kept : List K}
     → (read : HasRead format room line text rest last number at kept) → HasNoNext format last rest
     → BeginsWithKinds format None text read.read rest
-all_read {format} {text} {rest} read none = rw (← append-nil read.read) (read.goes_on [] rest (record { lines = refl; in_order = tt; none_more = none }))
+all_read {format} {text} {rest} read none =
+    rw (← append-nil read.read)
+    (read.goes_on [] rest (record { lines = refl; in_order = tt; none_more = none }))

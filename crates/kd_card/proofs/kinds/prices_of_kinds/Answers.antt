@@ -1,4 +1,5 @@
-use Rattle.kd_card.proofs.OneCard.{KindOf, arith, ap, take, length, counted_within, kind_price_list, refl, length_of_kinds}
+use Rattle.kd_card.proofs.OneCard.{KindOf, arith, ap, take, length, counted_within, kind_price_list, refl}
+use Rattle.kd_card.proofs.OneCard.{length_of_kinds}
 use Rattle.kd_card.proofs.kinds.prices_of_kinds.Goals as goal
 
 pub push_prices-requires : goal.push_prices-requires

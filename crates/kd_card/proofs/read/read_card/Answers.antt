@@ -30,7 +30,8 @@ returns-in_err-rest-2 c =
     MatchResult-err _ _ _ _ c.from_residual-in_err-rest-2.ensures.1
     (up_to_settings c.in-Some.ensures c.in-Some-split_settings.ensures c.len-count.ensures.value
     (GoesOn _ (rw c.format.ensures.text at c.in_ok-rest.ensures)
-    (GoesOn _ c.in_ok-prices.ensures (HasFault _ (rw (c.format-2.ensures.text, sum, c.line_count.ensures.value) at c.in_err-rest-2.ensures)
+    (GoesOn _ c.in_ok-prices.ensures (HasFault _
+    (rw (c.format-2.ensures.text, sum, c.line_count.ensures.value) at c.in_err-rest-2.ensures)
     refl))))
 
 pub returns-then-not-is_empty : goal.returns-then-not-is_empty
@@ -38,7 +39,8 @@ returns-then-not-is_empty c =
     let sum = to_z-of_z w32 c.sum.result (search rules) ∙ c.sum.ensures in
     up_to_settings c.in-Some.ensures c.in-Some-split_settings.ensures c.len-count.ensures.value
     (GoesOn _ (rw c.format.ensures.text at c.in_ok-rest.ensures) (GoesOn _ c.in_ok-prices.ensures
-    (GoesOn c.in_ok-rest-2.rest.now (rw (c.format-2.ensures.text, sum, c.line_count.ensures.value) at c.in_ok-rest-2.ensures)
+    (GoesOn c.in_ok-rest-2.rest.now
+    (rw (c.format-2.ensures.text, sum, c.line_count.ensures.value) at c.in_ok-rest-2.ensures)
     (HasFault Trailing ((λ same. nonempty-by_length c.is_empty.ensures c.if-not-is_empty.true), refl) refl))))
 
 pub returns : goal.returns
@@ -47,6 +49,7 @@ returns c =
     card_said (c.in-Some.day, c.in-Some-split_settings.settings.items, c.in_ok-prices.prices)
     (up_to_settings c.in-Some.ensures c.in-Some-split_settings.ensures c.len-count.ensures.value
     (GoesOn _ (rw c.format.ensures.text at c.in_ok-rest.ensures) (GoesOn _ c.in_ok-prices.ensures
-    (GoesOn c.in_ok-rest-2.rest.now (rw (c.format-2.ensures.text, sum, c.line_count.ensures.value) at c.in_ok-rest-2.ensures)
+    (GoesOn c.in_ok-rest-2.rest.now
+    (rw (c.format-2.ensures.text, sum, c.line_count.ensures.value) at c.in_ok-rest-2.ensures)
     (GoesOn tt (nil_from_length c.in_ok-rest-2.rest.now
     (eqb-true _ 0 (sym c.is_empty.ensures ∙ c.if-not-is_empty.false))) refl)))))

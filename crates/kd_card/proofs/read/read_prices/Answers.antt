@@ -13,7 +13,8 @@ pub returns-in_err-cables-in-ByKind-OfCables : goal.returns-in_err-cables-in-ByK
 returns-in_err-cables-in-ByKind-OfCables c =
     MatchResult-err _ _ _ _ c.from_residual-in_err-cables-in-ByKind-OfCables.ensures.1
     (GoesOn _ c.in_ok-table.ensures
-    (rw (c.in-ByKind-OfCables.is-0, c.in-ByKind-OfCables.is-1) (HasFault _ c.in_err-cables-in-ByKind-OfCables.ensures refl)))
+    (rw (c.in-ByKind-OfCables.is-0, c.in-ByKind-OfCables.is-1)
+    (HasFault _ c.in_err-cables-in-ByKind-OfCables.ensures refl)))
 
 pub of_parts-requires : goal.of_parts-requires
 of_parts-requires c =
