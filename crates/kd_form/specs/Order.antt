@@ -44,8 +44,8 @@ abbrev pub IsPatternFault : (List ℕ → Type 0) → List ℕ → PatternFault 
 IsPatternFault Is bytes Incomplete = (more : List ℕ) × (more ≢ []) × Is (bytes ++ more)
 IsPatternFault Is bytes Mismatch = (more : List ℕ) → ¬ (Is (bytes ++ more))
 
--- The bytes before `position` can be completed to a head, but not with the byte that is at `position`. If the order
--- ends within its head, `position` is one past the order's last byte.
+-- Some head begins with the bytes before `position`, but no head begins with these bytes and the byte at `position`.
+-- If the order ends within its head, `position` is one past the order's last byte.
 pub record IsOrderHeadFault (s : Day) (order : List ℕ) (position : ℕ) : Type 0 where
   pub before : List ℕ
   pub rest : List ℕ
