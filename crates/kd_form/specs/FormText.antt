@@ -107,7 +107,7 @@ IsPartFaultAtEnd s fault p (part ∷ next ∷ others) = ⊥
 abbrev pub IsRefusedAtEnd : Day → List ℕ → List ℕ → FormFault → Type 0
 IsRefusedAtEnd s form text fault = IsFormReadTo s (IsPartFaultAtEnd s fault) form text
 
--- The form has `fault`, either whatever bytes follow, or if the form ends here.
+-- The form has `fault`: any longer form has this fault too, or the fault comes because the form ends here.
 abbrev pub IsReceiveFault : Day → List ℕ → FormFault → Type 0
 IsReceiveFault s form fault = (text : List ℕ) × (IsRefusedForGood s form text fault ⊎ IsRefusedAtEnd s form text fault)
 
@@ -132,7 +132,7 @@ form_message s = record {
 
 -- ---- The text that an order's form has to give back.
 
--- what is enciphered for the letters of a text: the letters; on the Converter M-209, X fills the last group of five
+-- the letters that are enciphered for a text: its own; on the Converter M-209, X is added to fill the last group
 abbrev pub sent_letters : Day → List ℕ → List ℕ
 sent_letters (OfRotors s) letters = letters
 sent_letters (OfPins s) letters = fill_last_group letters

@@ -45,7 +45,7 @@ pub record IsFirstBadByteAt (text : List ℕ) (place : ℕ) : Type 0 where
   pub allowed : All (λ b. IsTrue (is_text_byte b)) before
   pub bad : IsFalse (is_text_byte byte)
 
--- how many parts `letters` letters need
+-- the number of parts for a text with this number of letters
 abbrev pub parts_needed : Day → ℕ → ℕ
 parts_needed s letters = div_ceil letters (part_size s)
 

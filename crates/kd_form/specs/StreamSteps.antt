@@ -10,8 +10,8 @@ use Rattle.kd_form.specs.declared.stream.interruption.Interruption.{Interruption
 use Rattle.kd_form.specs.declared.stream.interruption.Interruption.TheVariants.{Device, Refused}
 use Rattle.kd_form.specs.Streams.{Message, IsOpen, IsRefused, IsMessageAnswer, FallsShort}
 
--- The reader has read `bytes` and output `text`; this is what `holds` says of its state. The bytes have no fault so
--- far.
+-- The reader has read `bytes` and output `text`. So far the bytes have no fault, and the reader's state satisfies
+-- `holds`.
 pub record HasReadSoFar (m : Message) (holds : List ℕ → List ℕ → Type 0) (bytes text : List ℕ) : Type 0 where
   pub is : holds bytes text
   pub open_yet : IsOpen m bytes text
@@ -48,7 +48,7 @@ is_device_interruption _ = false
 
 -- ---- bytes, one after another
 
--- Some text had to be written after a prefix of `bytes`; `text` is a proper prefix of this text.
+-- After some of `bytes` were read, a text was due, and `text` is an incomplete copy of it: a proper prefix.
 pub record IsPrefixOfDue (m : Message) (bytes text : List ℕ) : Type 0 where
   pub front : List ℕ
   pub due : List ℕ

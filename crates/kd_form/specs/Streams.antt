@@ -10,9 +10,9 @@ use Rattle.kd_form.specs.declared.fault.FormFault.{FormFault}
 use Rattle.kd_form.specs.declared.fault.FormFault.TheVariants.{NotReady, Device, NotOnKey, ReadTooLong}
 use Rattle.kd_form.specs.OnTheKey.{IsReadyOnKey, IsKeyFault}
 
--- A kind of message, such as orders. `stands`: the fault that bytes have whatever bytes follow. `refused`: the fault of
--- a whole message. `becomes`: the result of a whole message. `before`: what is written before the fault or, without a
--- fault, before more bytes are read.
+-- A kind of message, such as orders. `stands`: the first bytes of a message have this fault, and no further bytes can
+-- change it. `refused`: a whole message has this fault. `becomes`: a whole message has this result. `before`: this text
+-- is written before the fault or, without a fault, before more bytes are read.
 pub record Message : Type 1 where
   pub stands : List ℕ → FormFault → Type 0
   pub refused : List ℕ → FormFault → Type 0
@@ -33,7 +33,7 @@ IsMessageAnswer m bytes text answer =
 -- Code: `stream_message` reads a message chunk by chunk; the readers of orders and forms take it byte by byte.
 -- Test: orders_are_sent, forms_are_received
 
--- `text` has to be written when a prefix of `read` was read, or when the source has ended after `read`.
+-- `text` has to be written at some time: while the bytes `read` come in, or once the source has ended after them.
 pub data IsDue (m : Message) (source : Port) (read text : List ℕ) : Type 0 where
   ByThen : (front : List ℕ) → StartsWith read front → IsOpen m front text → IsDue m source read text
   ByTheEnd : (answer : Result (Unit {0}) FormFault) → IsAtEnd source.has → IsMessageAnswer m read text answer

@@ -98,7 +98,7 @@ impl PartWriter {
         Ok(())
     }
 
-    /// Writes to `output` the next part, which gets the letters collected.
+    /// Writes the next part to `output`. Its text is the letters collected so far.
     fn write_part(&mut self, day: &SheetDay, keys: &[Keys], output: &mut PartText)
         requires keys { AreSuitedKeys day.now keys.now }
         requires another { self.old.written < length keys.now }
