@@ -50,7 +50,8 @@ pub record HasLineWords (bytes : List ℕ) (words : List (List ℕ)) (rest : Lis
   pub parts : words_of line ≡ words
 
 -- The result of reading a line such as `SUM 12`, which has `front` and then a number: the bytes after the line, or a
--- fault. If the line has another form or no LF, the fault is `BadLine`. If the number isn't `due`, it is `CountWrong`.
+-- fault. If the line has another form or no LF, the fault is `BadLine`. If its number isn't `due`, the fault is
+-- `CountWrong`.
 abbrev pub IsValueAnswer : Bool → List ℕ → List ℕ → ℕ → List ℕ → AnswerRule CardFault (List ℕ)
 IsValueAnswer signed front due line bytes = do
   found ← Finds
@@ -170,9 +171,9 @@ pub record BeginsWithKinds {K X : Type 0} (format : KindFormat K X) (last : Opti
   pub none_more : HasNoNext format (last_of last kinds) rest
 
 -- The result of reading a group of kinds: the kinds and the bytes after them, or a fault. The fault is `BadLine` if a
--- line has the group's first word, but no valid next kind, or if a line has no LF. It is `PriceMissing` if the kinds'
--- counts don't add up to `number`.
--- Code: the reader keeps at most `number` kinds, and stops adding counts at `number + 1`.
+-- line has no LF, or if it has the group's first word but isn't the line of a valid kind in its place. It is
+-- `PriceMissing` if the kinds' counts don't add up to `number`. Code: the reader keeps at most `number` kinds, and
+-- stops adding counts at `number + 1`.
 abbrev pub IsGroupAnswer : {K X : Type 0} → KindFormat K X → ℕ → ℕ → List ℕ → AnswerRule CardFault (List K × List ℕ)
 IsGroupAnswer {K} format number line bytes = do
   group ← FindsAlways (λ (group : List K × List ℕ). BeginsWithKinds format None bytes group.0 group.1)

@@ -1,5 +1,5 @@
--- The settings for loose things, in a fixed order. A loose thing, such as a ring or a pin, isn't as the day says;
--- cables and bars are never loose.
+-- The settings for loose things, in a fixed order. A loose thing is a slot, reflector, ring, pin or letter that isn't
+-- as the day says. Cables and bars don't count as loose things.
 use Rattle.std.specs.Prelude.{ℕ, nat_eq, Bool, false, not, List, [], ◌∷◌, ◌++◌, ◌+◌, flat_map, find, zip, Option}
 use Rattle.std.specs.Prelude.{if◌then◌else◌}
 use Rattle.std.specs.Option.{option_map_or}

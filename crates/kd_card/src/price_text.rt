@@ -113,7 +113,9 @@ fn table_of_word(word: &[u8], version: Version) -> Option<CostTable>
     }
 }
 
-/// Parses `number` prices from `behind`: line `line` without its first word, or `None` if the line has only one word.
+/// Parses `number` prices from `behind`, which is a price line without its first word.
+///
+/// It is line `line` of the card. `behind` is `None` if the line has only one word.
 pub(crate) fn prices_behind(
     behind: Option<&[u8]>,
     number: usize,

@@ -86,7 +86,9 @@ fn read_count(text: &[u8], count: usize) -> Result<&[u8], CardFault>
     read_value(text, "SETTINGS ", buffer.format(count), false, count + 2)
 }
 
-/// Checks that line `line`, the first of `text`, is `SUM` and the number `sum`. Returns the text after this line.
+/// Checks the first line of `text`: it has to be `SUM` and the number `sum`. Returns the text after this line.
+///
+/// It is line `line` of the card.
 fn read_sum(text: &[u8], sum: i32, line: usize) -> Result<&[u8], CardFault>
     ensures { MatchResult result
         (λ rest. IsSumAnswer sum line text.now (Ok rest.now))
@@ -96,9 +98,9 @@ fn read_sum(text: &[u8], sum: i32, line: usize) -> Result<&[u8], CardFault>
     read_value(text, "SUM ", buffer.format(sum), true, line)
 }
 
-/// Checks that line `line`, the first of `text`, is `front` and the number `due`. Returns the text after this line.
+/// Checks the first line of `text`: it has to be `front` and then the number `due`. Returns the text after this line.
 ///
-/// If `signed`, the number may be negative.
+/// It is line `line` of the card. If `signed`, the number may be negative.
 fn read_value<'a>(
     text: &'a [u8],
     front: &str,

@@ -21,7 +21,7 @@ use Rattle.kd_desk.specs.RunCard.{Prints}
 use Rattle.kd_desk.specs.RunSteps.{LacksMemory}
 use Rattle.kd_desk.specs.Settings.{AreSettings}
 
--- What is written for a day: a card, and the machine file after the card's settings.
+-- What is written for a day: a card, and the file of the machine that the card's settings lead to.
 pub record Papers : Type 0 where
   pub card : List ℕ
   pub file : List ℕ
@@ -66,7 +66,7 @@ pub record SetTheMachine (file sheet : List ℕ) (number : ℕ) (papers : Papers
   pub of_next : machine_of papers.file ≡ Ok n
   pub sheets : IsSheetsMachine n s
 
--- The card and the machine file of each day set the machine to this day.
+-- For each day in turn, the day's card and machine file set the machine to the day, as `SetTheMachine` says.
 abbrev pub SetTheMachineInTurn : List ℕ → List ℕ → List ℕ → List Papers → Type 0
 SetTheMachineInTurn file sheet [] [] = Unit {0}
 SetTheMachineInTurn file sheet (number ∷ numbers) (papers ∷ more) =

@@ -1,4 +1,4 @@
--- How the machine of a machine file and a day of a key sheet are found, and what is done with them.
+-- How a machine is found in a machine file, and a day in a key sheet, and what is done with both.
 -- Test: refuses_the_sheet_next
 use Rattle.std.specs.Prelude.{◌≡◌, ℕ, List, Option, Some, None, Result, Ok, Err, MatchResult}
 use Rattle.kd_state.specs.declared.machine.parts.Parts.{Parts}
@@ -11,8 +11,9 @@ use Rattle.kd_sheet.specs.SheetFile.{sheet_of}
 use Rattle.kd_desk.specs.declared.fault.DeskFault.{DeskFault}
 use Rattle.kd_desk.specs.declared.fault.DeskFault.TheVariants.{File, NoSuchDay}
 
--- `found` is the machine of the machine file and day `number` of the sheet. Or it is the first fault: a fault of the
--- machine file, a fault of the sheet, or `NoSuchDay`. Or memory ran out while the files were read.
+-- `found` is a pair: the machine in the machine file, and day `number` of the sheet. If there is a fault, `found` is
+-- the first: of the machine file, of the sheet, or `NoSuchDay`. If memory ran out while the files were read, it is
+-- that.
 pub data FindsDay (machine sheet : List ℕ) (number : ℕ) (found : Result (Parts × Day) DeskFault) : Type 0 where
   LackedMemory : found ≡ Err (File NoMemory) → FindsDay machine sheet number found
   NoMachine : (fault : SheetFault) → machine_of machine ≡ Err fault → found ≡ Err (File fault)

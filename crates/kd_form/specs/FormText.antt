@@ -25,7 +25,7 @@ pub record PartStart : Type 0 where
 abbrev pub first_part_start : PartStart
 first_part_start = record { number = 1; expected = None; bytes_before = 0 }
 
--- the start of the part after `part`, if `part` begins at `p`, and its heading says that there are `count` parts
+-- where the next part starts, if `part` starts at `p`, and the heading of `part` says that there are `count` parts
 abbrev pub next_part_start : PartStart → ℕ → List ℕ → PartStart
 next_part_start p count part = record
     { number = p.number + 1; expected = Some count; bytes_before = p.bytes_before + length part }
@@ -79,8 +79,9 @@ pub record IsTextOf (s : Day) (form text : List ℕ) : Type 0 where
 -- ---- Why a form has no text: its first fault, for good or at the form's end, and the text before this fault.
 -- Test: forms_are_received, parts_are_missing_or_exchanged
 
--- The first part left, which begins at `p`, has `fault` whatever bytes follow. If another part follows, any fault of
--- the part counts. Otherwise the part's heading line has ended, and only an early fault (`IsEarlyFault`) counts.
+-- The first part not yet read, which begins at `p`, has `fault`, and no further bytes can change that. If another part
+-- follows it, any fault counts. If none follows, its heading line has ended, and only an early fault (`IsEarlyFault`)
+-- counts.
 abbrev pub IsPartFaultForGood : Day → FormFault → PartsProperty
 IsPartFaultForGood s fault p [] = ⊥
 IsPartFaultForGood s fault p (part ∷ []) =
@@ -95,8 +96,8 @@ pub data IsRefusedForGood (s : Day) (form text : List ℕ) (fault : FormFault) :
       → IsRefusedForGood s form text fault
   AtPart : IsFormReadTo s (IsPartFaultForGood s fault) form text → IsRefusedForGood s form text fault
 
--- The form ends with the parts left, and has `fault`. Either one part is left, and it has the fault; or none is left,
--- but the headings say that there are more.
+-- `fault` is the fault of a form that ends after the parts not yet read. If one part is left, it has the fault. If none
+-- is left, the fault is that the headings say that there are more parts.
 abbrev pub IsPartFaultAtEnd : Day → FormFault → PartsProperty
 IsPartFaultAtEnd s fault p [] = (fault ≡ PartOrder) × (count : ℕ) × (p.expected ≡ Some count) × (p.number ≤ count)
 IsPartFaultAtEnd s fault p (part ∷ []) = IsPartFault s p.number p.expected p.bytes_before part fault

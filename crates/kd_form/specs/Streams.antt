@@ -99,8 +99,8 @@ pub record IsUntouched (p : Port) : Type 0 where
   pub has : p.has ≡ p.had
   pub well : HasNotFailed p
 
--- If a fault comes before anything is read, the answer is this fault, and both ports are left as they were.
--- Otherwise `may` holds, the message is read, and its result is written.
+-- If a fault comes before anything is read, the answer is this fault, and both ports are left as they were. If there is
+-- no such fault, the condition `may` holds, the message is read, and its result is written.
 pub data StreamsUnlessFault (is_fault : FormFault → Type 0) (may : Type 0) (message : Message) (source sink : Port)
     (answer : Result (Unit {0}) FormFault) : Type 0 where
   FaultBefore : (fault : FormFault) → is_fault fault → answer ≡ Err fault → IsUntouched source → IsUntouched sink

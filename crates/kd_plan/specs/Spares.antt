@@ -16,7 +16,8 @@ is_spare cable = is_none cable.0 && is_none cable.1
 abbrev pub spares_needed : List (Option ℕ × Option ℕ) → List (ℕ × ℕ) → ℕ
 spares_needed cables pairs = length pairs - count_by (λ cable. not (is_spare cable)) cables
 
--- The settings put letters only into cables in use and into the first `spares_needed` spare cables, counted from 1.
+-- The settings put letters only into cables in use, and into the first `spares_needed` of the spare cables. The first
+-- is the one with the lowest number.
 abbrev pub SparesStayFree : Parts → Day → List Setting → Type 0
 SparesStayFree (Rotor m) (OfRotors s) settings =
     (cable letter : ℕ) → Contains settings (Put cable letter) → IsTrue (is_spare (cable_at m cable))

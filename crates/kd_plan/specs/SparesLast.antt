@@ -7,7 +7,8 @@ use Rattle.kd_plan.specs.Spares.{is_spare}
 abbrev pub is_spare_at : List (Option ℕ × Option ℕ) → ℕ → Bool
 is_spare_at cables place = is_spare (slice_index_or cables place (None, None))
 
--- whether the cable at `place` gets a pair before the spare cable at `spare`: it is in use, or `place` is lower
+-- Whether the cable at `place` gets a pair before the spare cable at `spare` does. This is so if the cable at `place`
+-- is in use, or if `place` is lower than `spare`.
 abbrev pub comes_before : List (Option ℕ × Option ℕ) → ℕ → ℕ → Bool
 comes_before cables place spare = nat_lt place spare || not (is_spare_at cables place)
 

@@ -1,5 +1,5 @@
--- Why a card doesn't prove itself: the first doubt, in a fixed order. In a doubt, settings, rows and columns are
--- counted from 1.
+-- Why a card doesn't prove itself: the first doubt, in a fixed order. A doubt counts from 1: settings, rows and
+-- columns.
 use Rattle.std.specs.Prelude.{◌≡◌, ◌⊎◌, ℕ, ◌+◌, ◌<◌, List, ◌∷◌, ◌++◌, length, ℤ, pos, Ok, Err}
 use Rattle.kd_state.specs.declared.machine.parts.Parts.{Parts}
 use Rattle.kd_state.specs.declared.setting.Setting.{Setting}
@@ -42,16 +42,16 @@ pub record AreNumbered (m : Parts) (s : Day) (prices : PriceParts) : Type 0 wher
 abbrev pub ComesBefore : ℕ → ℕ → ℕ → ℕ → Type 0
 ComesBefore i j row column = (i < row) ⊎ ((i ≡ row) × (j < column))
 
--- Row by row, the first cell where `Holds` is false is in row `row` and column `column`. The table has `number` rows
--- and `number` columns, counted from 0.
+-- The cells of a table are ordered row by row. The first cell where `Holds` is false is in row `row` and column
+-- `column`, counted from 0. The table has `number` rows and `number` columns.
 pub record IsFirstWithout (Holds : ℕ → ℕ → Type 0) (number row column : ℕ) : Type 0 where
   pub row_within : row < number
   pub column_within : column < number
   pub here : ¬ (Holds row column)
   pub before : (i j : ℕ) → j < number → ComesBefore i j row column → Holds i j
 
--- Row by row, the first cell whose prices add up to more than its cost is in row `row` and column `column`, counted
--- from 0.
+-- Cells are ordered row by row. The first cell where the prices of row and column add up to more than the cost is in
+-- row `row` and column `column`, counted from 0.
 abbrev pub IsFirstTooHigh : List (List ℕ) → PriceParts → ℕ → ℕ → Type 0
 IsFirstTooHigh costs prices row column = IsFirstWithout (PricesFitAt costs prices) (table_rows prices) row column
 
@@ -111,8 +111,8 @@ IsDoubt m s settings prices doubt = IsCheckedAnswer m s settings prices (Err dou
 
 -- ---- The steps of finding the first doubt. No public contract cites these definitions.
 
--- The result of checking settings by two lists of prices, of the `number` rows and the `number` columns of the table of
--- costs: success if the settings lead to the day and are proved shortest; otherwise the first doubt.
+-- The result of checking settings by the prices `rows` and `columns` of a table of costs, `number` of each: success if
+-- the settings lead to the day and are proved shortest; otherwise the first doubt.
 abbrev pub IsByPricesAnswer : Parts → Day → List Setting → ℕ → List ℤ → List ℤ → AnswerRule Doubt (Unit {0})
 IsByPricesAnswer m s settings number rows columns answer =
     (prices : PriceParts) → row_prices prices ≡ rows → column_prices prices ≡ columns → table_rows prices ≡ number

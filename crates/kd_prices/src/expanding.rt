@@ -10,7 +10,7 @@ use kd_card::{Kind, KindOf};
 
 /// Finds the price of each cable, column, bar or row by its key in `keys`: the price of the kind with this key.
 ///
-/// `None` unless `kinds` count exactly the keys in `keys`.
+/// `None` if some kind's count isn't the number of its keys in `keys`, or if a key has no kind.
 pub(crate) fn prices_of<K: Kind, const N: usize>(
     keys: &[K::Key],
     kinds: ArrayVec<K, N>,

@@ -25,7 +25,8 @@ bars_in table = value_at keys.Bars table >>= read_array keys.Bars (nat_eq 27) (o
 abbrev pub is_reading_digit : ℕ → Bool
 is_reading_digit byte = nat_le 48 byte && nat_le byte 54
 
--- the reading, smaller number first, of a text such as `3-0`: the digits are from 0 to 6, and differ or are both 0
+-- The reading of a text such as `3-0`: here 0 and 3, since the smaller number comes first. The text has two digits from
+-- 0 to 6, which differ or are both 0.
 unfoldable pub row_of_text : List ℕ → Option (ℕ × ℕ)
 row_of_text (one ∷ dash ∷ other ∷ []) =
     if ((is_reading_digit one && dash == 45) && is_reading_digit other) && (not (one == other) || one == 48)

@@ -1,6 +1,6 @@
 -- The cipher of a Converter M-209, defined by its pins, the letters that it shows, and its lugs. Wheels are
 -- counted from 1. Letters of a text, and places on a wheel, are counted from 0.
--- Source: War Department TM 11-380
+-- Source: War Department TM 11-380.
 -- Code: the bars that move are counted by their readings, not by their lugs.
 -- Test: kd_trials/src/state/engine.rt
 use Rattle.std.specs.Prelude.{ℕ, ◌+◌, ◌-◌, ◌%◌, ◌||◌, List, map}
@@ -11,8 +11,8 @@ use Rattle.kd_pins.specs.PinWheels.{pins_of}
 use Rattle.kd_drum.specs.Converter.{is_acting_after}
 use Rattle.kd_state.specs.declared.machine.pin_parts.PinParts.{PinParts}
 
--- how many bars are moved after this many letters; a bar is moved if one or both of its lugs are at the place of a
--- wheel with an effective acting pin
+-- The number of bars that move when a letter is enciphered after `count` other letters. A bar moves if one or both of
+-- its lugs are at the place of a wheel with an effective acting pin.
 abbrev pub bars_moved : PinParts → ℕ → ℕ
 bars_moved m count =
     let acts = λ (place : Place). is_acting_after (pins_of m.pins) m.letters count (place_number place) in

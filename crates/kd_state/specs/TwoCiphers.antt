@@ -60,7 +60,7 @@ window_of (Rotor m) = filter_map (letter_at m) (seated_wheels m)
 window_of (Pin m) = m.letters
 
 -- ---- The cipher of a machine, by its slots, cables and lugs, and of a day, by its wheels, pairs and rows.
--- Source: the published accounts of the current's path; War Department TM 11-380
+-- Source: the published accounts of the current's path; War Department TM 11-380.
 
 -- The key to which a machine is set. A rotor machine's key has the wheels in the slots with their rings and window
 -- letters, the reflector, and the cables with two letters. A Converter's key has the pins, the shown letters and the

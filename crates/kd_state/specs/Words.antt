@@ -25,7 +25,7 @@ pub record IsWord (word : List ℕ) : Type 0 where
 abbrev pub letter_text : ℕ → List ℕ
 letter_text letter = (letter + 65) ∷ []
 
--- `part` is the text before its first `byte`, and `rest` is the text after this byte.
+-- `text` has the byte `byte`. `part` is the text before the first such byte, and `rest` is the text after it.
 pub record IsFirstPart (byte : ℕ) (text part rest : List ℕ) : Type 0 where
   pub joined : text ≡ part ++ byte ∷ rest
   pub without : IsWithout byte part
@@ -56,7 +56,7 @@ TextsTellFirstParts =
     (byte : ℕ) (first other rest more : List ℕ) → IsWithout byte first → IsWithout byte other
     → first ++ byte ∷ rest ≡ other ++ byte ∷ more → (first ≡ other) × (rest ≡ more)
 
--- A number below 2^64 in decimal is a word.
+-- The decimal text of a number below 2^64 has no space and no line end, so it is one word of a line.
 abbrev pub NumbersAreWords : Type 0
 NumbersAreWords = (number : ℕ) → number < 2 ^ 64 → IsWord (decimal number)
 

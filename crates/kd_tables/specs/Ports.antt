@@ -53,7 +53,8 @@ pub record Port : Type 0 where
   pub had_failed : Bool
   pub has_failed : Bool
 
--- the `Port` of a source or a sink: its value is `old` before a call, and `new` after the call
+-- The `Port` of a source or a sink, made from the value `old` that it has before a call and its value `new` after the
+-- call.
 abbrev pub port : {P : Type 0} → (P → Option (List ℕ)) → (P → Bool) → P → P → Port
 port bytes failed old new =
     record { had = bytes old; has = bytes new; had_failed = failed old; has_failed = failed new }

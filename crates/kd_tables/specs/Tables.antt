@@ -1,5 +1,5 @@
 -- Wheels: their names, their wirings and their notches.
--- Source: the published wirings and notches of the Wehrmacht's and the Kriegsmarine's machines
+-- Source: the published wirings and notches of the Wehrmacht's and the Kriegsmarine's machines.
 -- Code: each call of `wiring` makes the table from the published text; `notched` searches a short text.
 -- Test: wheels_are_as_published
 use Rattle.std.specs.Prelude.{codes, ℕ, ◌-◌, ◌==◌, nat_le, Bool, ◌&&◌, if◌then◌else◌, List, [], ◌∷◌, ◌++◌, map}
@@ -43,7 +43,7 @@ abbrev pub is_notch : Wheel → ℕ → Bool
 is_notch wheel letter = list_any (λ notch. notch == letter) (letters_of (wheel_table wheel).2)
 
 -- ---- Reflectors: their names and their wirings.
--- Source: the published wirings
+-- Source: the published wirings.
 -- Test: reflectors_are_as_published
 
 -- the name of a reflector
@@ -63,7 +63,7 @@ reflector_of reflectors.ThinB = letters_of (codes "ENKQAUYWJICOPBLMDXZVFTHRGS")
 reflector_of reflectors.ThinC = letters_of (codes "RDOBJNTKVEHMLFCWZAXGYIPSUQ")
 
 -- ---- Models: their names, their slots, and the wheels and reflectors of their boxes.
--- Source: the published accounts of the models
+-- Source: the published accounts of the models.
 -- Code: the box of each model is a prefix of one array.
 -- Test: models_have_names_and_parts
 

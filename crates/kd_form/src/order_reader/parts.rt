@@ -55,7 +55,7 @@ impl PartWriter {
 
     /// Takes the next letter of the text. If the letters collected fill a part, first writes this part to `output`.
     ///
-    /// The last part is written only by `end`. Once it is full, further letters are only counted.
+    /// The part of the last line of keys is written only by `end`. Once this part is full, letters are only counted.
     fn take_letter(&mut self, day: &SheetDay, keys: &[Keys], letter: Letter, output: &mut PartText)
         requires taken { (letters sent : List ℕ) × AreLettersTaken day.now keys.now self.old letters sent
             × (length letters < 2 ^ 63) }

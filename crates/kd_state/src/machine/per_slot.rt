@@ -120,7 +120,7 @@ impl PerSlot<SheetWheel> {
     }
 }
 
-/// The contents of a slot after `wheel` is taken out: nothing if `seated`, the old contents, is `wheel`, else `seated`.
+/// Takes `wheel` out of a slot that holds `seated`. Returns what the slot holds then.
 fn seat_without(seated: Option<Wheel>, wheel: Wheel) -> Option<Wheel>
     ensures { result ≡ seat_without wheel seated }
 {
