@@ -26,9 +26,9 @@ pub record IsNearest (n : ℕ) (prices : List ℤ) (reached : List Bool) (ceilin
   pub outside : has_column reached end ≡ false
   pub least : (j : ℕ) → j < n → has_column reached j ≡ false → room_at ceilings prices end ≤ℤ room_at ceilings prices j
 
--- One column is compared with `row`, which offers the price `offer` for it. Before, its nearest row `near` offers
--- `ceiling`; after, its nearest row `near'` offers `ceiling'`. If the column is outside the tree, the row with the
--- lower price is now the nearest. If it is in the tree (`reached`), nothing changes.
+-- One column is compared with `row`, which offers the price `offer` for the column. Before, the column's nearest row
+-- `near` offers `ceiling`; after, its nearest row `near'` offers `ceiling'`. If the column is outside the tree, the row
+-- with the lower price is now the nearest. If the column is in the tree (`reached`), nothing changes.
 pub record IsCompared (reached : Bool) (row : ℕ) (offer : ℤ) (near : ℕ) (ceiling : ℤ)
     (near' : ℕ) (ceiling' : ℤ) : Type 0 where
   pub one : ((near' ≡ near) × (ceiling' ≡ ceiling)) ⊎ ((reached ≡ false) × (near' ≡ row) × (ceiling' ≡ offer))

@@ -14,7 +14,7 @@ pub struct Nearest<const N: usize> {
     /// The ceiling of each column: the lowest price that a row of the tree offers for it.
     ///
     /// A column's room is its ceiling minus its price; the nearest column has the least room. When a free column ends
-    /// the tree, let `r` be its room: each column whose ceiling minus `r` is below its price gets this lower price.
+    /// the tree, let `r` be its room. A price above its column's ceiling minus `r` is then lowered to this difference.
     pub ceiling: [i16; N],
 }
 

@@ -171,9 +171,9 @@ pub record BeginsWithKinds {K X : Type 0} (format : KindFormat K X) (last : Opti
   pub none_more : HasNoNext format (last_of last kinds) rest
 
 -- The result of reading a group of kinds: the kinds and the bytes after them, or a fault. The fault is `BadLine` if a
--- line has no LF, or if it has the group's first word but isn't the line of a valid kind in its place. It is
--- `PriceMissing` if the kinds' counts don't add up to `number`. Code: the reader keeps at most `number` kinds, and
--- stops adding counts at `number + 1`.
+-- line has no LF, or begins with the group's word but isn't a valid kind's line in its place. The fault is
+-- `PriceMissing` if the kinds' counts don't add up to `number`.
+-- Code: the reader keeps at most `number` kinds, and stops adding counts at `number + 1`.
 abbrev pub IsGroupAnswer : {K X : Type 0} → KindFormat K X → ℕ → ℕ → List ℕ → AnswerRule CardFault (List K × List ℕ)
 IsGroupAnswer {K} format number line bytes = do
   group ← FindsAlways (λ (group : List K × List ℕ). BeginsWithKinds format None bytes group.0 group.1)
@@ -181,8 +181,8 @@ IsGroupAnswer {K} format number line bytes = do
   _ ← Demands (counted format group.0 ≡ number) PriceMissing
   Yields group
 
--- The result of reading two groups of kinds, first for the rows of the table of costs, then for its columns: both
--- groups and the bytes after them, or a fault.
+-- The result of reading two groups of kinds: both groups and the bytes after them, or a fault. The first group is for
+-- the rows of the table of costs, and the second group for its columns.
 abbrev pub IsGroupsAnswer : {R X C Y : Type 0} → KindFormat R X → KindFormat C Y → ℕ → ℕ → List ℕ
     → AnswerRule CardFault (List R × List C × List ℕ)
 IsGroupsAnswer row_format column_format number line bytes = do

@@ -38,8 +38,8 @@ IsPairInOrder (Some pair) = (pair.0 < pair.1) × (pair.1 < 26)
 -- The format of the lines of kinds: of cables, columns, bars or rows. `word` is the first word of a line, such as
 -- `CABLE`. `kind` splits a kind into its key (letters, standing or reading), its count and its price. `text` is the
 -- text of a key, such as `AB`. On a card, each key satisfies `InForm`. `order` turns a key into a list of numbers; the
--- lines on a card are in the dictionary order of these lists. In the list of a cable without letters, and of an empty
--- column, the first number is higher than in all others, so they come last.
+-- lines on a card are in the dictionary order of these lists. A cable without letters and an empty column come
+-- last: their lists begin with 1, the lists of other cables and columns with 0.
 pub record KindFormat (K X : Type 0) : Type 1 where
   pub word : List ℕ
   pub kind : K → KindOf X

@@ -28,7 +28,7 @@ DayAfterDay Sets m days lists = ⊥
 abbrev pub total_length : List (List Setting) → ℕ
 total_length lists = sum (map length lists)
 
--- On a rotor machine, cards that prove themselves also have the fewest settings in total over several days: no lists
+-- On a rotor machine, cards that prove themselves also have the fewest settings in total over several days. No lists
 -- that reach the same days in turn, from the same first machine, have fewer.
 abbrev pub CardsAreFewestInAll : Type 0
 CardsAreFewestInAll =

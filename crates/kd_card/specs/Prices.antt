@@ -1,6 +1,6 @@
--- The prices of a card, and what it means that they fit a table of costs. By number, each cable and each column (a pair
--- or an empty column), or each bar and each row of the sheet, has its own price. By kind, equal ones share one price.
--- Rows and columns of the table are counted from 0.
+-- The prices of a card, and what it means that they fit a table of costs. By number, each cable and each column, or
+-- each bar and each row of the sheet, has its own price. By kind, equal ones share one price. A column is a pair or
+-- empty. Rows and columns of the table are counted from 0.
 use Rattle.std.specs.Prelude.{◌≡◌, ℕ, ◌<◌, ◌≤◌, List, [], ◌++◌, length, All, fold, slice_index, slice_index_or, ℤ}
 use Rattle.std.specs.Prelude.{None, pos, unsigned_abs, ◌+ℤ◌, ◌≤ℤ◌}
 use Rattle.kd_card.specs.declared.prices.PriceParts.{PriceParts}
@@ -15,15 +15,16 @@ version_of (CableKinds row col) = ByKind
 version_of (BarKinds row col) = ByKind
 version_of _ = ByNumber
 
--- a price for each row of the table of costs (each cable, or each bar); a kind's price is repeated as its count says
+-- A price for each row of the table of costs, that is, for each cable or each bar. Prices by kind come kind after kind,
+-- each as often as the kind's count says.
 abbrev pub row_prices : PriceParts → List ℤ
 row_prices (Cables row col) = row
 row_prices (Bars row col) = row
 row_prices (CableKinds row col) = prices_of_kinds cable_format row.items
 row_prices (BarKinds row col) = prices_of_kinds bar_format row.items
 
--- a price for each column of the table of costs (a pair or an empty column; or a row of the sheet); a kind's price is
--- repeated as its count says
+-- A price for each column of the table of costs: each pair and empty column, or each row of the sheet. Prices by kind
+-- come kind after kind, each as often as the kind's count says.
 abbrev pub column_prices : PriceParts → List ℤ
 column_prices (Cables row col) = col
 column_prices (Bars row col) = col

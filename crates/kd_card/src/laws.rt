@@ -56,8 +56,7 @@ pub fn proving_cards_are_shortest()
 
 /// If a card with prices by number proves itself, no single price can be raised: the prices would no longer fit.
 ///
-/// The reason: each row and each column of the table of costs has a cell where the prices of row and column add up to
-/// the cost.
+/// The reason: each row and each column of the table of costs has a cell where the two prices add up to the cost.
 #[tactic(auto, using(crate::proofs::Shortest::proving_prices_are_tight))]
 pub fn proving_prices_are_tight()
     ensures { ProvingPricesAreTight }

@@ -98,7 +98,7 @@ pub(crate) fn table_of_line(
     }
 }
 
-/// Whether price lines that begin with `word` are for cables or for bars. `None` if they are for neither.
+/// Whether a card whose first price line begins with `word` has prices of cables or of bars. `None` for other words.
 fn table_of_word(word: &[u8], version: Version) -> Option<CostTable>
     ensures { MatchOption result
         ((table : _) → word.now ≢ first_text version table)
@@ -115,7 +115,7 @@ fn table_of_word(word: &[u8], version: Version) -> Option<CostTable>
 
 /// Parses `number` prices from `behind`, which is a price line without its first word.
 ///
-/// It is line `line` of the card. `behind` is `None` if the line has only one word.
+/// The price line is line `line` of the card. `behind` is `None` if the line has only one word.
 pub(crate) fn prices_behind(
     behind: Option<&[u8]>,
     number: usize,

@@ -127,7 +127,7 @@ impl Prices {
         Some(Prices::of_parts(parts))
     }
 
-    /// Makes prices by number, for cables or for bars as `group` says, from the prices of rows and columns.
+    /// Makes prices by number, for cables or for bars as `table` says, from the prices of rows and columns.
     pub(crate) fn numbered(table: CostTable, rows: &[i16], columns: &[i16]) -> Self
         requires rows { length rows.now ≡ price_count table }
         requires columns { length columns.now ≡ price_count table }

@@ -88,7 +88,7 @@ fn read_count(text: &[u8], count: usize) -> Result<&[u8], CardFault>
 
 /// Checks the first line of `text`: it has to be `SUM` and the number `sum`. Returns the text after this line.
 ///
-/// It is line `line` of the card.
+/// This first line is line `line` of the card.
 fn read_sum(text: &[u8], sum: i32, line: usize) -> Result<&[u8], CardFault>
     ensures { MatchResult result
         (λ rest. IsSumAnswer sum line text.now (Ok rest.now))
@@ -100,7 +100,7 @@ fn read_sum(text: &[u8], sum: i32, line: usize) -> Result<&[u8], CardFault>
 
 /// Checks the first line of `text`: it has to be `front` and then the number `due`. Returns the text after this line.
 ///
-/// It is line `line` of the card. If `signed`, the number may be negative.
+/// This first line is line `line` of the card. If `signed`, the number may be negative.
 fn read_value<'a>(
     text: &'a [u8],
     front: &str,

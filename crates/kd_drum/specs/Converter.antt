@@ -1,5 +1,5 @@
--- The cipher of the Converter M-209: it reverses each letter (A becomes Z), and moves it on by the number of bars that
--- the wheels meet. Wheels are numbered from 1 to 6. Letters of a text and places of a wheel are counted from 0.
+-- The cipher of the Converter M-209 reverses each letter (A becomes Z), and moves it on by the number of bars that the
+-- wheels meet. Wheels are numbered from 1 to 6. Letters of a text and places of a wheel are counted from 0.
 -- Source: War Department TM 11-380.
 -- Code: `Converter` turns its wheels at each letter. It reads the number of bars met from a table, which has an entry
 -- for each of the 64 sets of wheels.
@@ -12,7 +12,7 @@ use Rattle.kd_pins.specs.PinWheel.{is_effective}
 use Rattle.kd_pins.specs.PinWheels.{pin_wheels, pins_on, acting_offset, pin_wheel_size}
 
 -- A key of the Converter. `pins`: the effective pins of its six wheels. `letters`: the letters that the wheels show.
--- `rows`: for each bar, the numbers of the wheels at its two lugs.
+-- `rows`: for each bar, the numbers of the wheels at its two lugs, the smaller first; 0 where there is no wheel.
 pub record PinKey : Type 0 where
   pub pins : List (List Bool)
   pub letters : List ℕ

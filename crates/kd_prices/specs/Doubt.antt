@@ -50,8 +50,8 @@ pub record IsFirstWithout (Holds : ℕ → ℕ → Type 0) (number row column : 
   pub here : ¬ (Holds row column)
   pub before : (i j : ℕ) → j < number → ComesBefore i j row column → Holds i j
 
--- Cells are ordered row by row. The first cell where the prices of row and column add up to more than the cost is in
--- row `row` and column `column`, counted from 0.
+-- Cells are ordered row by row; rows and columns are counted from 0. The first cell where the prices of row and column
+-- add up to more than the cost is in row `row` and column `column`.
 abbrev pub IsFirstTooHigh : List (List ℕ) → PriceParts → ℕ → ℕ → Type 0
 IsFirstTooHigh costs prices row column = IsFirstWithout (PricesFitAt costs prices) (table_rows prices) row column
 
@@ -86,9 +86,9 @@ IsNeededAnswer m s settings (Ok all) = AreSettingsNeeded m s settings
 IsNeededAnswer m s settings (Err (NeedlessLine line)) = IsFirstNeedless m s settings line
 IsNeededAnswer m s settings (Err doubt) = ⊥
 
--- The result of checking a card by number: success if its settings lead to the day and its prices prove that no shorter
--- list does; otherwise the first doubt. By number means that each cable and column, or each bar and row, has its own
--- price.
+-- The result of checking a card by number: success, or the first doubt. Success means that its settings lead to the
+-- day, and that its prices prove that no shorter list does. By number means that each cable and column, or each bar and
+-- row, has its own price.
 abbrev pub IsByNumberAnswer : Parts → Day → List Setting → PriceParts → AnswerRule Doubt (Unit {0})
 IsByNumberAnswer m s settings prices = do
   n ← IsCarriedAnswer m settings
@@ -111,8 +111,8 @@ IsDoubt m s settings prices doubt = IsCheckedAnswer m s settings prices (Err dou
 
 -- ---- The steps of finding the first doubt. No public contract cites these definitions.
 
--- The result of checking settings by the prices `rows` and `columns` of a table of costs, `number` of each: success if
--- the settings lead to the day and are proved shortest; otherwise the first doubt.
+-- The result of checking settings by the prices `rows` and `columns` of a table of costs, `number` of each. It is
+-- success if the settings lead to the day and are proved shortest; otherwise it is the first doubt.
 abbrev pub IsByPricesAnswer : Parts → Day → List Setting → ℕ → List ℤ → List ℤ → AnswerRule Doubt (Unit {0})
 IsByPricesAnswer m s settings number rows columns answer =
     (prices : PriceParts) → row_prices prices ≡ rows → column_prices prices ≡ columns → table_rows prices ≡ number

@@ -26,7 +26,7 @@ pub(crate) fn prices_of<K: Kind, const N: usize>(
     take_prices(keys, kinds.as_mut_slice(), &mut prices).then_some(prices)
 }
 
-/// For each key in `keys`, lowers the count of its kind by one, and writes the kind's price to `prices`.
+/// For each key in `keys`, lowers its kind's count by one, and writes the kind's price to the same place in `prices`.
 ///
 /// The result is `false` if a key's kind isn't among `kinds`, or its count is too low.
 fn take_prices<K: Kind>(keys: &[K::Key], kinds: &mut [K], prices: &mut [i16]) -> bool

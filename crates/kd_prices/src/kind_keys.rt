@@ -1,4 +1,4 @@
-//! Converts cables and columns to `Ends` and `Column`, which are sorted like a card's lines.
+//! Converts cables and columns to `Ends` and `Column`, whose order is the order of a card's lines.
 ghost use Rattle.std.specs.Prelude.{◌≡◌, ◌+◌, ◌++◌, ◌≤◌, length, zip};
 ghost use Rattle.kd_card.specs.Proving.{columns_in_order, pair_in_order};
 

@@ -75,7 +75,7 @@ cable_costs cables pairs = map (λ cable. map (cable_cost cable) (columns_of pai
 abbrev pub bar_costs : List (Place × Place) → List (ℕ × ℕ) → List (List ℕ)
 bar_costs bars rows = map (λ bar. map (bar_cost bar) rows) bars
 
--- the cost table of a machine and a day of the same model: a cost for each cable and column, or for each bar and row
+-- the cost table of a machine and a day of the same model: a cost for each cable and column, or each bar and row
 abbrev pub cost_table : Parts → Day → List (List ℕ)
 cost_table (Rotor m) (OfRotors s) = cable_costs m.cables s.pairs
 cost_table (Pin m) (OfPins s) = bar_costs m.bars s.rows

@@ -18,7 +18,7 @@ bars_moved m count =
     let acts = λ (place : Place). is_acting_after (pins_of m.pins) m.letters count (place_number place) in
     count_by (λ bar. acts bar.0 || acts bar.1) m.bars
 
--- The ciphertext of a text: each letter is mirrored in the alphabet (A becomes Z), and then moved on by the number of
+-- The ciphertext of a text. Each letter is reversed (A becomes Z, B becomes Y), and then moved on by the number of
 -- moved bars, with A after Z.
 abbrev pub lugs_cipher : PinParts → List ℕ → List ℕ
 lugs_cipher m text = map (λ numbered. (25 + bars_moved m numbered.0 - numbered.1) % 26) (enumerate_from 0 text)

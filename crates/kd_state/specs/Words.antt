@@ -56,7 +56,7 @@ TextsTellFirstParts =
     (byte : ℕ) (first other rest more : List ℕ) → IsWithout byte first → IsWithout byte other
     → first ++ byte ∷ rest ≡ other ++ byte ∷ more → (first ≡ other) × (rest ≡ more)
 
--- The decimal text of a number below 2^64 has no space and no line end, so it is one word of a line.
+-- The decimal text of a number below 2^64 is a word: it isn't empty, and has no space and no LF.
 abbrev pub NumbersAreWords : Type 0
 NumbersAreWords = (number : ℕ) → number < 2 ^ 64 → IsWord (decimal number)
 

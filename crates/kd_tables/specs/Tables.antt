@@ -81,7 +81,7 @@ slots_of M3 = 3
 slots_of M4 = 4
 slots_of M209 = 0
 
--- the wheels that a slot of a model may hold, by the slot's number (1 is the left slot); none if there is no such slot
+-- the wheels that a slot of a model may hold, by the slot's number (1 is the left slot); none if no such slot exists
 abbrev pub wheels_for : Model → ℕ → List Wheel
 wheels_for EnigmaI slot = if nat_le 1 slot && nat_le slot 3 then I ∷ II ∷ III ∷ IV ∷ V ∷ [] else []
 wheels_for M3 slot = if nat_le 1 slot && nat_le slot 3 then I ∷ II ∷ III ∷ IV ∷ V ∷ VI ∷ VII ∷ VIII ∷ [] else []

@@ -66,7 +66,7 @@ pub enum Refusal {
     DayTwice,
     /// Memory ran out.
     NoMemory,
-    /// The machine is of another model than the day, or isn't set as the day says. Window letters don't matter.
+    /// The machine is of another model than the day, or isn't set as the day says. The shown letters don't matter.
     NotOnKey,
     /// A byte isn't allowed at its place, or is missing.
     BadByte,

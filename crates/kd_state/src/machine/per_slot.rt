@@ -120,7 +120,7 @@ impl PerSlot<SheetWheel> {
     }
 }
 
-/// Takes `wheel` out of a slot that holds `seated`. Returns what the slot holds then.
+/// What a slot with `seated` holds after `wheel` is taken out: nothing if `seated` is `wheel`, else `seated`.
 fn seat_without(seated: Option<Wheel>, wheel: Wheel) -> Option<Wheel>
     ensures { result ≡ seat_without wheel seated }
 {
