@@ -47,7 +47,7 @@ Sends m s order sink answer = IsStreamedOn m s (order_message s) order sink answ
 
 -- How forms and orders agree on the day `s`. If a form is made from an order, the form's text is the text that
 -- `IsPlaintextOf` says. A form with a fault isn't made from any order. If no further bytes can change its fault, no
--- form that begins with these bytes is made from an order.
+-- form that begins with its bytes is made from an order either.
 pub record TellOfOrders (s : Day) : Type 0 where
   pub back : (form text order given : List ℕ) → IsTextOf s form text → IsFormOf s order form
       → IsPlaintextOf s order given → text ≡ given

@@ -48,8 +48,8 @@ AreWrittenInTurn file sheet (number ∷ numbers) (papers ∷ more) =
 AreWrittenInTurn file sheet numbers papers = ⊥
 
 -- The card's settings lead from the machine of `file` to the machine of the next file. This machine is set as day
--- `number` says, and enciphers as the day's own machine does. The card's prices prove that no fewer settings lead to
--- the day, and spare cables stay free.
+-- `number` says, shows the day's letters, and enciphers as the day's own machine does. The card's prices prove that no
+-- fewer settings lead to the day, and spare cables stay free.
 pub record SetTheMachine (file sheet : List ℕ) (number : ℕ) (papers : Papers) : Type 0 where
   pub m : Parts
   pub of_file : machine_of file ≡ Ok m
@@ -77,7 +77,7 @@ SetTheMachineInTurn file sheet numbers papers = ⊥
 abbrev pub AreDaysOf : List (Option Day) → List ℕ → List Day → Type 0
 AreDaysOf month numbers days = AllZip (λ number s. day_of month number ≡ Some s) numbers days
 
--- `cards` has the settings of each paper's card, in the order of `papers`.
+-- `cards` has the settings of each card in `papers`, in the same order.
 abbrev pub AreCardsOf : List Papers → List (List Setting) → Type 0
 AreCardsOf papers cards = AllZip (λ paper settings. AreSettings paper.card settings) papers cards
 

@@ -11,9 +11,8 @@ use Rattle.kd_sheet.specs.SheetFile.{sheet_of}
 use Rattle.kd_desk.specs.declared.fault.DeskFault.{DeskFault}
 use Rattle.kd_desk.specs.declared.fault.DeskFault.TheVariants.{File, NoSuchDay}
 
--- `found` is a pair: the machine in the machine file, and day `number` of the sheet. If there is a fault, `found` is
--- the first: of the machine file, of the sheet, or `NoSuchDay`. If memory ran out while the files were read, it is
--- that.
+-- `found` is a pair: the machine in the machine file, and day `number` of the sheet. Or it is the first fault: of the
+-- machine file, of the sheet, or `NoSuchDay`. Or it is `NoMemory`, because memory ran out while the files were read.
 pub data FindsDay (machine sheet : List ℕ) (number : ℕ) (found : Result (Parts × Day) DeskFault) : Type 0 where
   LackedMemory : found ≡ Err (File NoMemory) → FindsDay machine sheet number found
   NoMachine : (fault : SheetFault) → machine_of machine ≡ Err fault → found ≡ Err (File fault)
@@ -25,7 +24,7 @@ pub data FindsDay (machine sheet : List ℕ) (number : ℕ) (found : Result (Par
   Found : (m : Parts) (days : List (Option Day)) (s : Day) → machine_of machine ≡ Ok m → sheet_of sheet ≡ Ok days
       → day_of days number ≡ Some s → found ≡ Ok (m, s) → FindsDay machine sheet number found
 
--- The machine and the day that were found satisfy `does`; or one wasn't found, and the answer is the first fault.
+-- The machine and the day in `found` satisfy `does`; or `found` is a fault, and this fault is the answer.
 pub record IsAnswerOnDay (machine sheet : List ℕ) (number : ℕ) (does : Parts → Day → Type 0)
     (answer : Result (Unit {0}) DeskFault) : Type 0 where
   pub found : Result (Parts × Day) DeskFault

@@ -168,8 +168,9 @@ abbrev pub CarriesOutKnown : Option (List ℕ → Option (List ℕ)) → NamedCo
 CarriesOutKnown known command source sink answer =
     IfSome known (λ held. CarriesOut (known_command held command) source sink answer)
 
--- What holds of the program's answer to a command line: what is done, if the files' bytes are known; which files are
--- asked for; when the answer is `Usage`; what happens to the ports.
+-- What holds of the program's answer to a command line. `carried`: what is done, if the files' bytes are known. `asks`,
+-- `none_asked`: which files are asked for. `usage`, `other_words`: when the answer is `Usage`. `untouched`, `failed`:
+-- what happens to the ports.
 pub record IsRun (words : List (List ℕ)) (known : Option (List ℕ → Option (List ℕ))) (asked : List AskedName)
     (source sink : Port) (Untouched : Type 0) (answer : Result (Unit {0}) Stop) : Type 0 where
   pub carried : (command : NamedCommand) → IsCommandLineOf words command

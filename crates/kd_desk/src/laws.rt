@@ -22,16 +22,16 @@ pub fn bytes_say_settings_or_have_a_fault()
     ensures one_fault { SettingsHaveOneFault }
 {}
 
-/// If settings lead from one machine to another, the first machine refuses none of the settings.
+/// If settings lead from one machine to another, none of them is refused on the way.
 pub fn settings_lead_or_are_refused()
     ensures { LeadsOrRefuses }
 {}
 
-/// Cards and machine files that are written day after day, for the days of a sheet, set the machine to each of these
-/// days.
+/// Cards and machine files, written for days of a sheet in turn, set the machine to each of these days.
 ///
 /// Each card's settings lead from the machine of one file to the machine of the next file. The machine of the next file
-/// is set as the day says, and enciphers as the day's own machine does. No fewer settings lead to the day.
+/// is set as the day says, shows the day's letters, and enciphers as the day's own machine does. No fewer settings lead
+/// to the day.
 pub fn months_set_the_machine()
     ensures { MonthsSetTheMachine }
 {}

@@ -25,7 +25,7 @@ pub record PartStart : Type 0 where
 abbrev pub first_part_start : PartStart
 first_part_start = record { number = 1; expected = None; bytes_before = 0 }
 
--- where the next part starts, if `part` starts at `p`, and the heading of `part` says that there are `count` parts
+-- the start of the next part, if `part` starts at `p`, and the heading of `part` says that there are `count` parts
 abbrev pub next_part_start : PartStart → ℕ → List ℕ → PartStart
 next_part_start p count part = record
     { number = p.number + 1; expected = Some count; bytes_before = p.bytes_before + length part }
@@ -96,8 +96,8 @@ pub data IsRefusedForGood (s : Day) (form text : List ℕ) (fault : FormFault) :
       → IsRefusedForGood s form text fault
   AtPart : IsFormReadTo s (IsPartFaultForGood s fault) form text → IsRefusedForGood s form text fault
 
--- `fault` is the fault of a form that ends after the parts not yet read. If one part is left, it has the fault. If none
--- is left, the fault is that the headings say that there are more parts.
+-- The form ends after the parts not yet read, at most one, and has `fault`. If one part is left, it has the fault. If
+-- none is left, the fault is `PartOrder`: the headings say that there are more parts.
 abbrev pub IsPartFaultAtEnd : Day → FormFault → PartsProperty
 IsPartFaultAtEnd s fault p [] = (fault ≡ PartOrder) × (count : ℕ) × (p.expected ≡ Some count) × (p.number ≤ count)
 IsPartFaultAtEnd s fault p (part ∷ []) = IsPartFault s p.number p.expected p.bytes_before part fault
@@ -108,7 +108,7 @@ IsPartFaultAtEnd s fault p (part ∷ next ∷ others) = ⊥
 abbrev pub IsRefusedAtEnd : Day → List ℕ → List ℕ → FormFault → Type 0
 IsRefusedAtEnd s form text fault = IsFormReadTo s (IsPartFaultAtEnd s fault) form text
 
--- The form has `fault`: any longer form has this fault too, or the fault comes because the form ends here.
+-- The form has `fault`: whatever bytes follow, or because the form ends here.
 abbrev pub IsReceiveFault : Day → List ℕ → FormFault → Type 0
 IsReceiveFault s form fault = (text : List ℕ) × (IsRefusedForGood s form text fault ⊎ IsRefusedAtEnd s form text fault)
 
@@ -133,7 +133,8 @@ form_message s = record {
 
 -- ---- The text that an order's form has to give back.
 
--- the letters that are enciphered for a text: its own; on the Converter M-209, X is added to fill the last group
+-- The letters that are enciphered for a text: its own letters. On the Converter M-209, X is appended until the last
+-- group of five is full.
 abbrev pub sent_letters : Day → List ℕ → List ℕ
 sent_letters (OfRotors s) letters = letters
 sent_letters (OfPins s) letters = fill_last_group letters

@@ -44,7 +44,7 @@ abbrev pub IsPatternFault : (List ℕ → Type 0) → List ℕ → PatternFault 
 IsPatternFault Is bytes Incomplete = (more : List ℕ) × (more ≢ []) × Is (bytes ++ more)
 IsPatternFault Is bytes Mismatch = (more : List ℕ) → ¬ (Is (bytes ++ more))
 
--- Some head begins with the bytes before `position`, but no head begins with these bytes and the byte at `position`.
+-- The bytes before `position` are an incomplete head. With the byte at `position`, they can't be completed to a head.
 -- If the order ends within its head, `position` is one past the order's last byte.
 pub record IsOrderHeadFault (s : Day) (order : List ℕ) (position : ℕ) : Type 0 where
   pub before : List ℕ

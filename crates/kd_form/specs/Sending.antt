@@ -88,8 +88,8 @@ pub data IsOrderFaultForGood (s : Day) (order : List ℕ) (fault : FormFault) : 
       → All (KeysSuitDay s) keys
       → IsFirstBadByteAt text place → fault ≡ BadByte (length head + place + 1) → IsOrderFaultForGood s order fault
 
--- The fault that an order has if it ends here. Either it ends within its head; or its text has no letter; or its text
--- needs more or fewer parts than the order has lines of keys.
+-- The fault that an order has if it ends here. Either it ends within its head; or its text has no letter, or needs more
+-- or fewer parts than there are lines of keys.
 pub data IsOrderFaultAtEnd (s : Day) (order : List ℕ) (fault : FormFault) : Type 0 where
   HeadCutShort : IsOrderHeadFault s order (length order + 1) → fault ≡ BadByte (length order + 1)
       → IsOrderFaultAtEnd s order fault

@@ -23,7 +23,8 @@ pub record HasRoom (m : Message) (holds : List ℕ → List ℕ → Type 0) (roo
   pub held : HasReadSoFar m holds bytes text
   pub within : length bytes + room < 2 ^ 63
 
--- The reader reads `byte`, and outputs `made`. Its state changes from `old` to `new`, unless the bytes have a fault.
+-- The reader reads `byte`. Unless the bytes have a fault, it outputs `made`, and its state changes from `old` to
+-- `new`.
 abbrev pub IsFeedAnswer : Message → (List ℕ → List ℕ → Type 0) → (List ℕ → List ℕ → Type 0) → ℕ → List ℕ
     → Result (Unit {0}) FormFault → Type 0
 IsFeedAnswer m old new byte made answer =
@@ -31,7 +32,7 @@ IsFeedAnswer m old new byte made answer =
     → MatchResult answer (λ _. HasReadSoFar m new (bytes ++ byte ∷ []) (text ++ made))
     (IsRefused m (bytes ++ byte ∷ []) text)
 
--- At the end of the message, the reader outputs `made`: the rest of the result, or what is written before the fault.
+-- At the end of the message, the reader outputs `made`: the rest of the result, or of the text before the fault.
 abbrev pub IsEndAnswer : Message → (List ℕ → List ℕ → Type 0) → List ℕ → Result (Unit {0}) FormFault → Type 0
 IsEndAnswer m old made answer = (bytes text : List ℕ) → HasReadSoFar m old bytes text
     → IsMessageAnswer m bytes (text ++ made) answer
@@ -48,7 +49,7 @@ is_device_interruption _ = false
 
 -- ---- bytes, one after another
 
--- After some of `bytes` were read, a text was due, and `text` is an incomplete copy of it: a proper prefix.
+-- After some or all of `bytes` were read, a text was due. `text` is a proper prefix of the text that was due.
 pub record IsPrefixOfDue (m : Message) (bytes text : List ℕ) : Type 0 where
   pub front : List ℕ
   pub due : List ℕ

@@ -14,8 +14,7 @@ use toml::{Table, Value};
 ///
 /// `Given` is what an item's reading needs besides the items: for a wheel, the key and the model.
 pub trait FromItem<Given> {
-    /// The rule for an item: from `Given`, from the values of the items before, and from the item, it makes a value or
-    /// a fault.
+    /// The rule that makes a value or a fault from `Given`, the values of the items before, and the item.
     ghost reading: { Given → List Self → Data → Result Self SheetFault };
 
     /// Reads `item`. `before` has the values of the items before it.
