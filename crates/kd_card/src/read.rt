@@ -153,9 +153,10 @@ fn read_numbered(text: &[u8], line: usize) -> Result<(Prices, &[u8]), CardFault>
     Ok((prices, rest))
 }
 
-/// Reads the price lines of a card by kind, one line for each kind. The first is line `line` of the card.
+/// Reads the price lines of a card that has prices by kind: one line for each kind.
 ///
-/// Kinds of cables or bars come first, then kinds of pairs or rows. Returns the prices, and the text after them.
+/// The first is line `line` of the card. Kinds of cables or bars come first, then kinds of pairs or rows. Returns the
+/// prices, and the text after them.
 fn read_kinded(text: &[u8], line: usize) -> Result<(Prices, &[u8]), CardFault>
     requires { line < 200 }
     ensures { MatchResult result

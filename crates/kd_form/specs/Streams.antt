@@ -19,7 +19,7 @@ pub record Message : Type 1 where
   pub becomes : List ℕ → List ℕ → Type 0
   pub before : Option FormFault → List ℕ → List ℕ → Type 0
 
--- The bytes have no fault so far, and `text` is what is written before more bytes are read.
+-- The bytes have no fault so far. `text` is all that is written before any further byte is read.
 pub record IsOpen (m : Message) (bytes text : List ℕ) : Type 0 where
   pub unrefused : (fault : FormFault) → ¬ (m.stands bytes fault)
   pub written : m.before None bytes text

@@ -119,7 +119,7 @@ IsByPricesAnswer m s settings number rows columns answer =
     → IsByNumberAnswer m s settings prices answer
 
 -- The result of finding a price for each row and each column of the table of costs: both lists of prices, or the first
--- doubt. `make` turns the lists into prices by number.
+-- doubt. `make` makes the prices of a card from the two lists.
 abbrev pub ArePricesFound : Parts → Day → PriceParts → (List ℤ → List ℤ → PriceParts)
     → AnswerRule Doubt (List ℤ × List ℤ)
 ArePricesFound m s prices make = do

@@ -28,9 +28,9 @@ pub record CanBeKinds {K X : Type 0} (format : KindFormat K X) (cmp : X → X �
   pub one_price : HaveOnePriceEach pairs
   pub fine : All (IsFine format) pairs
 
--- `new` is `old` with added kinds, which count the keys of `kind` and of `pairs`, with their prices. If these keys can
--- be kinds, the added kinds are valid and strictly ascending. If the key of `kind` comes after the key of a kind
--- `last`, the added kinds come after `last`.
+-- `new` is `old` with added kinds. These count the keys of `kind` and of `pairs`, and have the prices that go with
+-- them. If these keys can be kinds, the added kinds are valid and strictly ascending. If the key of `kind` comes after
+-- the key of a kind `last`, the added kinds come after `last`.
 pub record AppendsKinds {K X : Type 0} (format : KindFormat K X) (cmp : X → X → Ordering) (kind : KindOf X)
     (pairs : List (X × ℤ)) (old new : List K) : Type 0 where
   pub made : List K

@@ -176,7 +176,7 @@ impl Refusal {
         text
     }
 
-    /// The text of a refusal with `word` at its end: the name of a file's key, or of a reason.
+    /// The refusal's number and name, and then `word`: the name of a key of a file, or the name of a reason.
     pub fn text_with_word(self, word: &str) -> Text
         requires { length word.now ≤ 22 }
         ensures { result.bytes ≡ refusal_name self ++ word_after_space word.now }
