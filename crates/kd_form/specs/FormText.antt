@@ -79,9 +79,9 @@ pub record IsTextOf (s : Day) (form text : List ℕ) : Type 0 where
 -- ---- Why a form has no text: its first fault, for good or at the form's end, and the text before this fault.
 -- Test: forms_are_received, parts_are_missing_or_exchanged
 
--- The first part not yet read, which begins at `p`, has `fault`, and no further bytes can change that. If another part
--- follows it, any fault counts. If none follows, its heading line has ended, and only an early fault (`IsEarlyFault`)
--- counts.
+-- The first part not yet read, which begins at `p`, has `fault`, and no further bytes can change that. Any fault counts
+-- if another part follows. Otherwise, only an early fault (`IsEarlyFault`) counts, and the part's heading line must
+-- have ended.
 abbrev pub IsPartFaultForGood : Day → FormFault → PartsProperty
 IsPartFaultForGood s fault p [] = ⊥
 IsPartFaultForGood s fault p (part ∷ []) =
@@ -96,8 +96,8 @@ pub data IsRefusedForGood (s : Day) (form text : List ℕ) (fault : FormFault) :
       → IsRefusedForGood s form text fault
   AtPart : IsFormReadTo s (IsPartFaultForGood s fault) form text → IsRefusedForGood s form text fault
 
--- The form ends after the parts not yet read, at most one, and has `fault`. If one part is left, it has the fault. If
--- none is left, the fault is `PartOrder`: the headings say that there are more parts.
+-- The form ends, and has `fault`. Of its parts, at most one isn't read yet. If one is left, it has the fault. If none
+-- is left, the fault is `PartOrder`: the headings say that there are more parts.
 abbrev pub IsPartFaultAtEnd : Day → FormFault → PartsProperty
 IsPartFaultAtEnd s fault p [] = (fault ≡ PartOrder) × (count : ℕ) × (p.expected ≡ Some count) × (p.number ≤ count)
 IsPartFaultAtEnd s fault p (part ∷ []) = IsPartFault s p.number p.expected p.bytes_before part fault

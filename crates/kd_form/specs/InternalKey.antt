@@ -26,7 +26,7 @@ pub record ArePicked (letters places picked : List ℕ) : Type 0 where
   pub taken : picked ≡ map (λ place. slice_index letters place) places
   pub on_wheels : AreOnWheels picked
 
--- `key` has the letters at six places: of all lists of places that `ArePicked` allows, the lexicographically first. So
+-- `key` has the letters at six places, which are the lexicographically first list of places that `ArePicked` allows. So
 -- each wheel in turn takes the next of `letters` that is on the wheel.
 pub record IsInternalKey (letters key : List ℕ) : Type 0 where
   pub places : List ℕ

@@ -106,7 +106,7 @@ IsSendFault s order fault = IsOrderFaultForGood s order fault ⊎ IsOrderFaultAt
 -- ---- The form that an order becomes.
 -- Test: long_texts_are_sent_and_received
 
--- The bytes are the parts of a form from part `part` on, of `parts` parts in all. Each part is made from its
+-- The bytes are the last parts of a form that has `parts` parts, from part number `part` on. Each part is made from its
 -- own piece of the text, with its own keys.
 abbrev pub ArePartTextsMade : Day → ℕ → ℕ → List Keys → List (List ℕ) → List ℕ → Type 0
 ArePartTextsMade s part parts [] [] bytes = bytes ≡ []

@@ -55,7 +55,8 @@ impl PartWriter {
 
     /// Takes the next letter of the text. If the letters collected fill a part, first writes this part to `output`.
     ///
-    /// The part of the last line of keys is written only by `end`. Once this part is full, letters are only counted.
+    /// But the last part, for which the last line of keys is used, is written by `end`. Once the last part is full,
+    /// letters are only counted.
     fn take_letter(&mut self, day: &SheetDay, keys: &[Keys], letter: Letter, output: &mut PartText)
         requires taken { (letters sent : List ℕ) × AreLettersTaken day.now keys.now self.old letters sent
             × (length letters < 2 ^ 63) }
