@@ -1,6 +1,6 @@
 -- Prices of the rows and columns of a table of costs. Prices fit if a row's price and a column's price always add
 -- up to at most the cost where row and column meet. Rows and columns are counted from 0.
--- Source: the assignment problem and its dual
+-- Source: the assignment problem and its dual.
 -- Code: `assign` lowers the columns' prices once for each tree, and computes the rows' prices last.
 -- Test: answers_three_rows
 use Rattle.std.specs.Prelude.{ℕ, ◌<◌, ◌≤◌, All, List, [], ◌∷◌, length, slice_index, slice_index_or, ℤ, pos, ◌+ℤ◌, ◌≤ℤ◌}

@@ -30,7 +30,7 @@ pub record IsSolvedTo (n : ℕ) (cost : List (List ℕ)) (prices : List ℤ)
   pub seated : (i : ℕ) → i < next → IsRowAssigned holders i
   pub count : count_by is_some holders ≡ next
   pub cheapest : (i j : ℕ) → IsColumnTakenBy holders j i → IsCheapestColumn n cost prices i j
-  -- each free column has price 0, and at least one column has price 0
+  -- each free column has price 0; some column has price 0, even if no column is free
   pub free : (j : ℕ) → j < n → IsColumnFree holders j → price_at prices j ≡ pos 0
   pub zero : (j : ℕ) × (j < n) × (price_at prices j ≡ pos 0)
   -- no price is above 0; no price is below -4 times the number of rows that have columns

@@ -26,16 +26,16 @@ pub record IsNearest (n : ℕ) (prices : List ℤ) (reached : List Bool) (ceilin
   pub outside : has_column reached end ≡ false
   pub least : (j : ℕ) → j < n → has_column reached j ≡ false → room_at ceilings prices end ≤ℤ room_at ceilings prices j
 
--- One column is compared with `row`, which offers the price `offer` for it. Before, its nearest row `near` offers
--- `ceiling`; after, its nearest row `near'` offers `ceiling'`. If the column is outside the tree, the row with the
--- lower price is now the nearest. If it is in the tree (`reached`), nothing changes.
+-- One column is compared with `row`, which offers the price `offer` for the column. Before, the column's nearest row
+-- `near` offers `ceiling`; after, its nearest row `near'` offers `ceiling'`. If the column is outside the tree, the row
+-- with the lower price is now the nearest. If the column is in the tree (`reached`), nothing changes.
 pub record IsCompared (reached : Bool) (row : ℕ) (offer : ℤ) (near : ℕ) (ceiling : ℤ)
     (near' : ℕ) (ceiling' : ℤ) : Type 0 where
   pub one : ((near' ≡ near) × (ceiling' ≡ ceiling)) ⊎ ((reached ≡ false) × (near' ≡ row) × (ceiling' ≡ offer))
   pub least : ceiling' ≤ℤ ceiling
   pub here : reached ≡ false → ceiling' ≤ℤ offer
 
--- Each column is compared with `row`. The price that `row` offers for a column is `level` plus the cost where they
+-- For each column, its ceiling is compared with the price that `row` offers for it: `level` plus the cost where they
 -- meet.
 pub record AreCompared (n : ℕ) (cost : List (List ℕ)) (reached : List Bool) (row : ℕ) (level : ℤ) (near : List ℕ)
     (ceilings : List ℤ) (near' : List ℕ) (ceilings' : List ℤ) : Type 0 where
@@ -46,8 +46,8 @@ pub record AreCompared (n : ℕ) (cost : List (List ℕ)) (reached : List Bool) 
 module _ (n : ℕ) (cost : List (List ℕ)) (prices : List ℤ) (holders : List (Option ℕ)) (root : ℕ) (reached : List Bool)
     (ceilings : List ℤ) where
   -- `plan` gives a column to each row from 0 to `root`, except row `out`. It uses the same columns as `holders`, and
-  -- agrees with `holders` outside the tree. With the ceilings as prices, a column of the tree is the cheapest column
-  -- for its row in `plan`.
+  -- agrees with `holders` outside the tree. Let the ceilings be the prices: if `plan` gives a row a column of the tree,
+  -- no other column is cheaper for this row.
   pub record IsAssignmentWithout (plan : List (Option ℕ)) (out : ℕ) : Type 0 where
     pub places : length plan ≡ n
     pub out_in_range : out < n
@@ -59,8 +59,8 @@ module _ (n : ℕ) (cost : List (List ℕ)) (prices : List ℤ) (holders : List 
     pub taken : (j : ℕ) → is_some (slice_index_or plan j None) ≡ is_some (slice_index_or holders j None)
 
   -- Each column of the tree has a row. No column of the tree has more room (ceiling minus price) than a column outside.
-  -- With the ceilings as prices, a column outside the tree is the cheapest column for its nearest row. For each such
-  -- nearest row, `plans` has an assignment of columns to all other rows from 0 to `root`.
+  -- Let the ceilings be the prices: if a column is outside the tree, no other column is cheaper for its nearest row.
+  -- For the nearest row of each such column, `plans` has an assignment of columns to all other rows from 0 to `root`.
   pub record IsGrownTree (near : List ℕ) (plans : List (List (Option ℕ))) : Type 0 where
     pub places : length reached ≡ n
     pub plan_places : length plans ≡ n

@@ -14,7 +14,7 @@ pub struct Nearest<const N: usize> {
     /// The ceiling of each column: the lowest price that a row of the tree offers for it.
     ///
     /// A column's room is its ceiling minus its price; the nearest column has the least room. When a free column ends
-    /// the tree, each column's price becomes at most the column's ceiling minus the room of the free column.
+    /// the tree, let `r` be its room. A price above its column's ceiling minus `r` is then lowered to this difference.
     pub ceiling: [i16; N],
 }
 
@@ -85,9 +85,9 @@ impl<const N: usize> Nearest<N> {
         self.ceiling[column] - prices[column]
     }
 
-    /// The level of `row`, which holds `column`: the column's ceiling minus the cost where row and column meet.
+    /// The level of `row`: the ceiling of `column`, which the row holds, minus the cost where row and column meet.
     ///
-    /// The price that a row of the tree offers for any column is the row's level plus the cost where they meet.
+    /// For any column, a row of the tree offers a price: the row's level plus the cost where row and column meet.
     pub fn level(&self, cost: &[[u8; N]; N], row: usize, column: usize) -> i16
         requires row { row < N }
         requires column { column < N }

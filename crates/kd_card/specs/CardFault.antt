@@ -45,7 +45,8 @@ pub record HasLineWords (bytes : List ℕ) (words : List (List ℕ)) (rest : Lis
   pub parts : words_of line ≡ words
 
 -- The result of reading a line such as `SUM 12`, which has `front` and then a number: the bytes after the line, or a
--- fault. If the line has another form or no LF, the fault is `BadLine`. If the number isn't `due`, it is `CountWrong`.
+-- fault. If the line has another form or no LF, the fault is `BadLine`. If its number isn't `due`, the fault is
+-- `CountWrong`.
 abbrev pub IsValueAnswer : Bool → List ℕ → List ℕ → ℕ → List ℕ → AnswerRule CardFault (List ℕ)
 IsValueAnswer signed front due line bytes = do
   found ← Finds
@@ -153,8 +154,8 @@ pub record BeginsWithKinds {K X : Type 0} (format : KindFormat K X) (last : Opti
   pub none_more : HasNoNext format (last_of last kinds) rest
 
 -- The result of reading a group of kinds: the kinds and the bytes after them, or a fault. The fault is `BadLine` if a
--- line has the group's first word, but no valid next kind, or if a line has no LF. It is `PriceMissing` if the kinds'
--- counts don't add up to `number`.
+-- line has no LF, or begins with the group's word but isn't a valid kind's line in its place. The fault is
+-- `PriceMissing` if the kinds' counts don't add up to `number`.
 -- Code: the reader keeps at most `number` kinds, and stops adding counts at `number + 1`.
 abbrev pub IsGroupAnswer : {K X : Type 0} → KindFormat K X → ℕ → ℕ → List ℕ → AnswerRule CardFault (List K × List ℕ)
 IsGroupAnswer {K} format number line bytes = do
@@ -163,8 +164,8 @@ IsGroupAnswer {K} format number line bytes = do
   _ ← Demands (counted format group.0 ≡ number) PriceMissing
   Yields group
 
--- The result of reading two groups of kinds, first for the rows of the table of costs, then for its columns: both
--- groups and the bytes after them, or a fault.
+-- The result of reading two groups of kinds: both groups and the bytes after them, or a fault. The first group is for
+-- the rows of the table of costs, and the second group for its columns.
 abbrev pub IsGroupsAnswer : {R X C Y : Type 0} → KindFormat R X → KindFormat C Y → ℕ → ℕ → List ℕ
     → AnswerRule CardFault (List R × List C × List ℕ)
 IsGroupsAnswer row_format column_format number line bytes = do

@@ -9,7 +9,7 @@ use Rattle.kd_state.specs.SheetDay.{IsDayNumber}
 use Rattle.std.specs.Prelude.{codes, decimal, ◌≡◌, ℕ, ◌≤◌, List, [], ◌∷◌, ◌++◌, length, map, All}
 use Rattle.std.specs.{Fmt.signed_decimal, List.flat_map}
 
--- the first word of the second price line on a card of version 1, where each pair, nothing or row has its own price
+-- on a card with prices by number, the first word of the second price line, which has the prices of the columns
 abbrev pub column_word : CostTable → List ℕ
 column_word OfCables = codes "PAIRS"
 column_word OfBars = codes "ROWS"
@@ -28,7 +28,7 @@ head_words ByKind day = codes "CARD" ∷ codes "2" ∷ codes "DAY" ∷ decimal d
 abbrev pub lines_text : List (List (List ℕ)) → List ℕ
 lines_text lines = flat_map (λ words. line_of words ++ 10 ∷ []) lines
 
--- the price lines, each as a list of words: one line for each kind if kinds have the prices, otherwise two lines
+-- the price lines, each as a list of words: two lines of prices by number, or one line for each kind
 abbrev pub price_lines : PriceParts → List (List (List ℕ))
 price_lines (Cables row col) = (codes "CABLES" ∷ map signed_decimal row) ∷ (codes "PAIRS" ∷ map signed_decimal col) ∷ []
 price_lines (Bars row col) = (codes "BARS" ∷ map signed_decimal row) ∷ (codes "ROWS" ∷ map signed_decimal col) ∷ []

@@ -17,8 +17,8 @@ abbrev pub letters_text : List ℕ → List ℕ
 letters_text [] = codes "-"
 letters_text (letter ∷ letters) = tables.letters_text (letter ∷ letters)
 
--- A kind of cables has no letter, a single letter in the first place, or two letters in alphabetical order.
--- `IsPairInOrder`: a kind of columns has no pair, or a pair with its letters in alphabetical order.
+-- A kind of cables has two letters in alphabetical order, one letter (at the first end), or none. `IsPairInOrder`: a
+-- kind of columns has a pair with its letters in alphabetical order, or no pair.
 abbrev pub AreEnds : Option ℕ → Option ℕ → Type 0
 AreEnds None None = Unit {0}
 AreEnds None (Some other) = ⊥
@@ -33,9 +33,9 @@ IsPairInOrder (Some pair) = (pair.0 < pair.1) × (pair.1 < 26)
 
 -- The format of the lines of kinds: of cables, columns, bars or rows. `word` is the first word of a line, such as
 -- `CABLE`. `kind` splits a kind into its key (letters, standing or reading), its count and its price. `text` is the
--- text of a key, such as `AB`. On a card, each key satisfies `InForm`. `order` turns a key into numbers; lines
--- are in the dictionary order of these numbers. So a cable without a first letter, and a column without a pair, come
--- last.
+-- text of a key, such as `AB`. On a card, each key satisfies `InForm`. `order` turns a key into a list of numbers; the
+-- lines on a card are in the dictionary order of these lists. A cable without letters and an empty column come
+-- last: their lists begin with 1, the lists of other cables and columns with 0.
 pub record KindFormat (K X : Type 0) : Type 1 where
   pub word : List ℕ
   pub kind : K → KindOf X
@@ -84,7 +84,7 @@ row_format = record {
 abbrev pub KeyComesBefore : {K X : Type 0} → KindFormat K X → X → X → Type 0
 KeyComesBefore format x y = slice_cmp nat_cmp (format.order x) (format.order y) ≡ Less
 
--- A card may have a kind with this key (letters, a standing or a reading), and writes the key as `text`.
+-- `key` (letters, a standing or a reading) is valid on a card, and `text` is how a card writes it.
 pub record HasText {K X : Type 0} (format : KindFormat K X) (text : List ℕ) (key : X) : Type 0 where
   pub form : format.InForm key
   pub written : format.text key ≡ text
@@ -133,10 +133,9 @@ prices_of_kinds format kinds = flat_map (λ k. replicate (format.kind k).count (
 abbrev pub expansion : {X : Type 0} → List (KindOf X) → List (X × ℤ)
 expansion kinds = flat_map (λ kind. replicate kind.count (kind.key, kind.price)) kinds
 
--- Repeating each of `kinds` as often as its count says gives exactly these keys (letters, standings or readings) with
--- these prices, in some order.
+-- The `keys` (letters, standings or readings), each with its price, are exactly what the kinds count, in some order.
 -- Code: `kinds_of` sorts keys with their prices, and counts equal ones. For each key, `prices_of` lowers the count of
--- the key's kind by one. Neither makes the `expansion`.
+-- the key's kind by one. Neither function lists the `expansion`.
 pub record AreKindsOf {K X : Type 0} (format : KindFormat K X) (keys : List X) (prices : List ℤ) (kinds : List K)
     : Type 0 where
   pub number : length prices ≡ length keys

@@ -16,7 +16,7 @@ LooseThingsAreCounted =
     (m : Parts) (s : Day) → IsMachine m → IsLegalDay s → model_of m ≡ day_model s
     → length (loose_lines m s) ≡ loose_count m s
 
--- If prices fit, they bound the length of each list that reaches the day: the length is at least the number of loose
+-- If prices fit, they bound the length of each list that reaches the day. The length is at least the number of loose
 -- things plus the sum of the prices.
 abbrev pub FittingPricesBoundLists : Type 0
 FittingPricesBoundLists =
@@ -47,7 +47,7 @@ ProvingCardsAreShortest =
     → ArePrices prices → Proves m s settings prices
     → IsShortest m s settings
 
--- If a card by number proves itself, none of its prices can be raised alone: each row and each column of the table of
+-- If a card by number proves itself, none of its prices can be raised alone. Each row and each column of the table of
 -- costs has a cell where the prices of row and column add up to the cost. By number means that each cable and column,
 -- or each bar and row, has its own price.
 abbrev pub ProvingPricesAreTight : Type 0

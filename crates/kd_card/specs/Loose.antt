@@ -1,5 +1,5 @@
--- The settings for loose things, in a fixed order. A loose thing, such as a ring or a pin, isn't as the day says;
--- cables and bars are never loose.
+-- The settings for loose things, in a fixed order. A loose thing is a slot, reflector, ring, pin or letter that isn't
+-- as the day says. Cables and bars don't count as loose things.
 use Rattle.kd_pins.specs.PinWheels.{pins_of}
 use Rattle.kd_state.specs.declared.setting.Setting.TheVariants.{Seat, SeatReflector, RingTo, Turn, PinTo}
 use Rattle.kd_state.specs.{declared.machine.parts.Parts.TheVariants.{Rotor, Pin}, declared.machine.parts.Parts.Parts}

@@ -17,8 +17,8 @@ pub record IsProvedCard (m : Parts) (s : Day) (settings : List Setting) (n : Par
   pub are_prices : ArePrices prices
   pub proves : Proves m s settings prices
 
--- Each day has one list of settings, and `Sets` holds for each day and its list. The first list begins with machine
--- `m`. Each later list begins with the machine that the list before it reaches.
+-- Each day has one list of settings, and `Sets` holds for each day and its list. The first list is carried out on
+-- machine `m`, each later list on the machine that the list before it reaches.
 abbrev pub DayAfterDay : (Parts → Day → List Setting → Parts → Type 0) → Parts → List Day → List (List Setting) → Type 0
 DayAfterDay Sets m [] [] = Unit {0}
 DayAfterDay Sets m (s ∷ days) (settings ∷ lists) = (n : Parts) × Sets m s settings n × DayAfterDay Sets n days lists
@@ -28,7 +28,7 @@ DayAfterDay Sets m days lists = ⊥
 abbrev pub total_length : List (List Setting) → ℕ
 total_length lists = sum (map length lists)
 
--- On a rotor machine, cards that prove themselves also have the fewest settings in total over several days: no lists
+-- On a rotor machine, cards that prove themselves also have the fewest settings in total over several days. No lists
 -- that reach the same days in turn, from the same first machine, have fewer.
 abbrev pub CardsAreFewestInAll : Type 0
 CardsAreFewestInAll =

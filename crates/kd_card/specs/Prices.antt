@@ -1,6 +1,6 @@
--- The prices of a card, and what it means that they fit a table of costs. If prices are by number, each cable, pair,
--- nothing, bar or row of the sheet has its own price. If they are by kind, equal cables (or pairs, nothings, bars,
--- rows) share one price. Rows and columns of the table are counted from 0.
+-- The prices of a card, and what it means that they fit a table of costs. By number, each cable and each column, or
+-- each bar and each row of the sheet, has its own price. By kind, equal ones share one price. A column is a pair or
+-- empty. Rows and columns of the table are counted from 0.
 use Rattle.kd_card.specs.Kinds.{cable_format, pair_format, bar_format, row_format, prices_of_kinds, IsGroup}
 use Rattle.kd_card.specs.declared.prices.PriceParts.TheVariants.{Cables, Bars, CableKinds, BarKinds}
 use Rattle.kd_card.specs.{declared.prices.Version.TheVariants.{ByNumber, ByKind}, declared.prices.PriceParts.PriceParts}
@@ -8,21 +8,22 @@ use Rattle.kd_card.specs.declared.prices.Version.{Version}
 use Rattle.std.specs.Prelude.{◌≡◌, ℕ, ◌<◌, ◌≤◌, List, [], ◌++◌, length, All, fold, slice_index, slice_index_or, ℤ}
 use Rattle.std.specs.Prelude.{pos, unsigned_abs, ◌+ℤ◌, ◌≤ℤ◌}
 
--- whether prices are by number (one for each cable, pair, nothing, bar or row) or by kind (one for each kind)
+-- whether prices are by number (one for each cable and column, or bar and row) or by kind (one for each kind)
 abbrev pub version_of : PriceParts → Version
 version_of (CableKinds row col) = ByKind
 version_of (BarKinds row col) = ByKind
 version_of _ = ByNumber
 
--- a price for each row of the table of costs (each cable, or each bar); a kind's price is repeated as its count says
+-- A price for each row of the table of costs, that is, for each cable or each bar. Prices by kind come kind after kind,
+-- each as often as the kind's count says.
 abbrev pub row_prices : PriceParts → List ℤ
 row_prices (Cables row col) = row
 row_prices (Bars row col) = row
 row_prices (CableKinds row col) = prices_of_kinds cable_format row.items
 row_prices (BarKinds row col) = prices_of_kinds bar_format row.items
 
--- a price for each column of the table of costs (each pair and nothing, or each row of the sheet); a kind's price is
--- repeated as its count says
+-- A price for each column of the table of costs: each pair and empty column, or each row of the sheet. Prices by kind
+-- come kind after kind, each as often as the kind's count says.
 abbrev pub column_prices : PriceParts → List ℤ
 column_prices (Cables row col) = col
 column_prices (Bars row col) = col

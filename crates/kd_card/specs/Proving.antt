@@ -51,8 +51,8 @@ pair_in_order column = option_map (λ pair. smaller_first pair.0 pair.1) column
 abbrev pub columns_in_order : List (ℕ × ℕ) → List (Option (ℕ × ℕ))
 columns_in_order pairs = map pair_in_order (columns_of pairs)
 
--- The first prices are by kind: for the kinds of the machine's cables and the day's columns, or of the machine's bars
--- and the day's rows. The second prices give each cable, column, bar or row the price of its kind.
+-- The first prices are for the kinds of the machine's cables and the day's columns, or of the machine's bars and the
+-- day's rows. The second prices give each cable, column, bar or row the price of its kind.
 abbrev pub AreExpanded : Parts → Day → PriceParts → PriceParts → Type 0
 AreExpanded (Rotor m) (OfRotors s) (CableKinds row col) (Cables rows columns) =
     AreKindsOf cable_format m.cables rows row.items

@@ -1,5 +1,5 @@
--- What the private functions that read a card find, and the text of a card before the day's number. No contract of a
--- public function cites these definitions.
+-- What the steps of reading a card find. Also, the text with which a card begins, up to the day's number. No contract
+-- of a public function cites these definitions.
 use Rattle.kd_card.specs.{declared.prices.Version.TheVariants.{ByNumber, ByKind}, CardFault.{EndsGroup, HasNoNext}}
 use Rattle.kd_card.specs.{Kinds.{KindFormat, IsKind, HasKindWords}, declared.prices.Version.Version}
 use Rattle.kd_state.specs.Words.{words_of}
@@ -20,8 +20,8 @@ abbrev pub head_prefix : Version → List ℕ
 head_prefix ByNumber = codes "CARD 1 DAY "
 head_prefix ByKind = codes "CARD 2 DAY "
 
--- The group of kinds ends before `bytes`. `IsBadKindAt`: the group goes on, but with a bad line. The line has no LF, or
--- no valid kind that comes after the kind `last`.
+-- The group of kinds ends before `bytes`. `IsBadKindAt`: the group goes on with a bad line. The line has no LF, or no
+-- valid kind, or a kind that isn't after `last` in the order of kinds.
 pub record EndsKindsAt {K X : Type 0} (format : KindFormat K X) (last : Option K) (bytes : List ℕ) : Type 0 where
   pub ends : EndsGroup format.word bytes
   pub none_more : HasNoNext format last bytes

@@ -7,9 +7,9 @@ use super::prices::Version;
 /// What a card's prices are for: the rows and the columns of a table of costs.
 #[derive(Clone, Copy)]
 pub(crate) enum CostTable {
-    /// Cables are the rows of the table; pairs and nothings are its columns.
+    /// Cables are the rows of the table; its columns are the day's pairs, and empty columns.
     OfCables,
-    /// Bars are the rows of the table; the rows of the key sheet are its columns.
+    /// Bars are the rows of the table; its columns are the rows of the key sheet.
     OfBars,
 }
 

@@ -65,9 +65,9 @@ impl Ends {
     }
 }
 
-/// A column of the table of costs: a pair, or a nothing, which is a column without a pair.
+/// A column of the table of costs: a pair, or an empty column, which has no pair.
 ///
-/// `Ord` is the dictionary order of pairs; a nothing comes after all pairs.
+/// `Ord` is the dictionary order of pairs; an empty column comes after all pairs.
 #[derive(Clone, Copy, PartialEq, Eq, PartialOrd, Ord)]
 pub struct Column {
     is_last: bool,

@@ -13,9 +13,10 @@ use arrayvec::{ArrayString, ArrayVec};
 use itoa::Buffer;
 use kd_state::{is_word, number_of_text, push_number, split_words};
 
-/// Parses a kind from `behind`: its line without the first word, or `None` if the line has only one word.
+/// Parses a kind from its line without the first word.
 ///
-/// For the line `CABLE AB 1 0`, `behind` is `AB 1 0`. The result is `None` if the words don't make a valid kind.
+/// For the line `CABLE AB 1 0`, `behind` is `AB 1 0`; if a line has only one word, `behind` is `None`. The result is
+/// `None` if the words don't make a valid kind.
 #[tactic(auto, using(crate::proofs::OneCard::words_in_place, crate::proofs::OneCard::no_count))]
 fn kind_behind<K: Kind>(behind: Option<&[u8]>) -> Option<K>
     ensures { let words = K.format.word ∷ words_after_first (option_copied behind.entry) in
@@ -35,8 +36,9 @@ fn kind_behind<K: Kind>(behind: Option<&[u8]>) -> Option<K>
 
 /// Reads the next kind of a group from the first line of `text`. Returns this kind, and the text after the line.
 ///
-/// `None` if the group ends here: `text` is empty, or its first line has LF and another first word than `K::word()`.
-/// Otherwise, line `line` of the card is bad if it has no LF, or no valid kind that comes after the kind `last`.
+/// `None` if the group ends here: `text` is empty, or its first line begins with another word than `K::word()` and ends
+/// with LF. If the group doesn't end here, the line has to end with LF, and to have a valid kind that comes after the
+/// kind `last`. If it doesn't, line `line` of the card is bad.
 fn next_kind<K: Kind>(
     text: &[u8],
     last: Option<K>,

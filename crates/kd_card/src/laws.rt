@@ -33,16 +33,16 @@ pub fn fitting_prices_bound_lists()
 
 /// If a list reaches the day with at most as many unpriced settings as loose things, each of its settings is needed.
 ///
-/// A setting is unpriced if it changes no cable and no bar. It is needed if it lowers the number of loose things by
-/// one. All other settings count as needed.
+/// A setting is priced if it changes a cable or a bar, and priced settings always count as needed. An unpriced setting
+/// is needed if it lowers the number of loose things by one.
 #[tactic(auto, using(crate::proofs::Months::as_few_are_needed))]
 pub fn as_few_are_needed()
     ensures { AsFewAreNeeded }
 {}
 
-/// If a card by number proves itself, its length is the number of loose things plus the sum of its prices.
+/// If a card with prices by number proves itself, it has as many settings as loose things plus the sum of its prices.
 ///
-/// The length is the number of settings. By number, each cable and column, or each bar and row, has its own price.
+/// By number means that each cable and column, or each bar and row, has its own price.
 #[tactic(auto, using(crate::proofs::Months::proving_cards_are_as_long))]
 pub fn proving_cards_are_as_long()
     ensures { ProvingCardsAreAsLong }
@@ -53,10 +53,9 @@ pub fn proving_cards_are_shortest()
     ensures { ProvingCardsAreShortest }
 {}
 
-/// If a card by number proves itself, none of its prices can be raised alone.
+/// If a card with prices by number proves itself, no single price can be raised: the prices would no longer fit.
 ///
-/// By number, each cable and column, or each bar and row, has its own price. Each row and each column of the table of
-/// costs has a cell where the prices of row and column add up to the cost.
+/// The reason: each row and each column of the table of costs has a cell where the two prices add up to the cost.
 #[tactic(auto, using(crate::proofs::Months::proving_prices_are_tight))]
 pub fn proving_prices_are_tight()
     ensures { ProvingPricesAreTight }

@@ -12,9 +12,9 @@ use std::marker::Model;
 /// Whether each cable, pair, bar or row of a card has its own price, or each kind of them has one price.
 #[derive(Clone, Copy)]
 pub enum Version {
-    /// Each cable, pair, nothing, bar or row has its own price.
+    /// Each cable and each column of a rotor machine's card, or each bar and each row, has its own price.
     ByNumber,
-    /// Each kind of cables, pairs, nothings, bars or rows has one price.
+    /// Each kind of cables and of columns, or of bars and of rows, has one price.
     ByKind,
 }
 
@@ -34,11 +34,11 @@ impl Version {
 /// The prices of a card: a list for the rows of the table of costs, and a list for its columns.
 #[derive(Drop)]
 pub enum PriceParts {
-    /// A price for each cable, and for each pair or nothing.
+    /// A price for each cable, and a price for each column (a pair or an empty column).
     Cables([i16; 13], [i16; 13]),
     /// A price for each bar, and for each row of the sheet.
     Bars([i16; 27], [i16; 27]),
-    /// A price for each kind of cables, and for each kind of pairs or nothings.
+    /// A price for each kind of cables, and a price for each kind of columns.
     CableKinds(ArrayVec<CableKind, 13>, ArrayVec<PairKind, 13>),
     /// A price for each kind of bars, and for each kind of rows of the sheet.
     BarKinds(ArrayVec<BarKind, 27>, ArrayVec<RowKind, 27>),
@@ -65,7 +65,7 @@ impl Model for Prices {
 }
 
 impl Prices {
-    /// Makes prices by number: one for each cable, and one for each pair or nothing.
+    /// Makes prices by number: one for each cable, and one for each column (a pair or an empty column).
     ///
     /// `None` if a price is below -9999 or above 9999.
     pub fn cables(cables: [i16; 13], pairs: [i16; 13]) -> Option<Self>
@@ -95,7 +95,7 @@ impl Prices {
         }
     }
 
-    /// Makes prices by kind: one for each kind of cables, and one for each kind of pairs or nothings.
+    /// Makes prices by kind: one for each kind of cables, and one for each kind of columns.
     ///
     /// `None` if `cables` or `pairs` aren't strictly ascending, or the counts of either don't add up to 13. Also `None`
     /// if a kind has letters out of order, the count 0, or a price below -9999 or above 9999.
@@ -121,7 +121,7 @@ impl Prices {
         Some(Prices::of_parts(parts))
     }
 
-    /// Makes prices by number, for cables or for bars as `group` says, from the prices of rows and columns.
+    /// Makes prices by number, for cables or for bars as `table` says, from the prices of rows and columns.
     pub(crate) fn numbered(table: CostTable, rows: &[i16], columns: &[i16]) -> Self
         requires rows { length rows.now ≡ price_count table }
         requires columns { length columns.now ≡ price_count table }

@@ -78,7 +78,7 @@ fn read_day(text: &[u8], version: Version) -> Option<(u8, &[u8])>
 
 /// Checks that line `line`, the first of `text`, is `front` and the number `due`. Returns the text after this line.
 ///
-/// If `signed`, the number may be negative.
+/// This first line is line `line` of the card. If `signed`, the number may be negative.
 fn read_value<'a>(
     text: &'a [u8],
     front: &str,

@@ -31,7 +31,7 @@ pub fn rotor_settings(machine: &Machine, parts: &RotorParts, entry: &RotorEntry)
     settings
 }
 
-/// Appends the setting SEAT for each slot whose wheel in `slots` isn't the day's wheel in `wheels`.
+/// Appends the setting SEAT for each of `slots` that is empty, or holds another wheel than the day's in `wheels`.
 ///
 /// `number` is the number of the first of these slots. Slots are counted from 1.
 fn push_seats(settings: &mut Settings, number: u8, slots: &[Option<Wheel>], wheels: &[SheetWheel])

@@ -45,7 +45,8 @@ pub record IsMadeOf (grammar : Grammar) (name : List ℕ) (words : List (Bor (Li
 abbrev pub day_words : List (List ℕ)
 day_words = codes "MACHINE" ∷ codes "SHEET" ∷ codes "DAY" ∷ []
 
--- the name of the command, `send` or `receive`; the next definition is the name of its last argument, ORDER or FORM
+-- The name of the command, `send` or `receive`. `direction_word`: the name of the command's last argument, `ORDER` or
+-- `FORM`.
 abbrev pub direction_name : Direction → List ℕ
 direction_name Send = codes "send"
 direction_name Receive = codes "receive"

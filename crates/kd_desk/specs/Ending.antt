@@ -1,5 +1,5 @@
 -- How the program ends: the line that it writes to standard error, and its exit status.
--- Source: the table of the command line in docs/FORMATS.md
+-- Source: the table of the command line in docs/FORMATS.md.
 -- Test: ends_with_a_status_and_a_line
 use Rattle.std.specs.Prelude.{codes, ◌≡◌, ℕ, ◌||◌, List, [], ◌∷◌, ◌++◌, Result, Ok, Err, is_err}
 use Rattle.kd_tables.specs.declared.writing.Device.{Device}

@@ -31,8 +31,8 @@ pub record KeepsToFirst (number : ℕ) (papers : Papers) : Type 0 where
   pub card : CardNamesNoneAbove number papers.card
   pub file : FileUsesNoneAbove number papers.file
 
--- If the first machine file uses only the first `number` cables, and each day has at most `number` pairs, the whole
--- month uses only these cables. So with at most ten pairs a day, cables 1 to 10 are enough.
+-- If the first machine file uses only the first `number` cables, and each day has at most `number` pairs, the month
+-- uses only these cables. So a machine that uses only cables 1 to 10 needs no other cable for at most ten pairs a day.
 abbrev pub FewCablesServeAMonth : Type 0
 FewCablesServeAMonth =
     (number : ℕ) (file sheet days : List ℕ) (papers : List Papers) → AreWrittenInTurn file sheet days papers

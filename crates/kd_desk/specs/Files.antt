@@ -36,7 +36,7 @@ bytes_in_files files name = option_map (λ file. file.1.now) (find (λ file. byt
 abbrev pub AgreesOrNoMemory : {X : Type 0} → Result X FileFault → Result X FileFault → Type 0
 AgreesOrNoMemory meant answer = (answer ≡ meant) ⊎ (answer ≡ Err NoMemory)
 
--- `answer`, with `known` applied to its opened file, is `meant`.
+-- `answer` and `meant` are the same fault; or `answer` is an opened file, and `known` of this file is `meant`.
 abbrev pub IsOpenAnswer : {O : Type 0} → Result KnownFile FileFault → (O → KnownFile) → Result O FileFault → Type 0
 IsOpenAnswer meant known answer = result_map_both known (λ fault. fault) answer ≡ meant
 
@@ -44,7 +44,7 @@ abbrev pub IsReadAnswer : {X Y : Type 0} → Result Y FileFault → (X → Y) �
 IsReadAnswer meant known answer = AgreesOrNoMemory meant (result_map_both known (λ fault. fault) answer)
 
 -- What was read from a source. `Ok`: all bytes that the source had. `ReadTooLong`: one byte more than a file may have.
--- `Device`, `NoMemory`: the bytes before a read failed or memory ran out.
+-- `Device`, `NoMemory`: all bytes that came before the failed read, or before memory ran out.
 abbrev pub IsReadWholeAs : Port → List ℕ → Result (List ℕ) FileFault → Type 0
 IsReadWholeAs source read (Ok bytes) = (bytes ≡ read) × (length read ≤ read_limit) × IsAtEnd source.has
     × HasNotFailed source

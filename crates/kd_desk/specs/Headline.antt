@@ -16,7 +16,8 @@ pub record IsSheetsMachine (n : Parts) (s : Day) : Type 0 where
   pub ready : IsReady n
   pub enciphers : (text : List ℕ) → physical_cipher n text ≡ sheet_cipher s text
 
--- The settings, each legal after the settings before it, lead to the sheet's machine.
+-- Each setting is legal after the settings before it. Together they lead to a machine that is set as the day says, and
+-- shows the day's letters. It is ready, and enciphers as the day's own machine does.
 abbrev pub LeavesTheSheetsMachine : Parts → Day → List Setting → Type 0
 LeavesTheSheetsMachine m s settings = (n : Parts) × Leads m settings n × IsSheetsMachine n s
 

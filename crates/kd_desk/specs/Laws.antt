@@ -22,19 +22,18 @@ abbrev pub SettingsHaveNoFault : Type 0
 SettingsHaveNoFault =
     (bytes : List ℕ) (xs : List Setting) (fault : DeskFault) → AreSettings bytes xs → ¬ (IsSettingsFault bytes fault)
 
--- Bytes have at most one fault.
+-- Bytes that are read as a list or a card have at most one fault.
 abbrev pub SettingsHaveOneFault : Type 0
 SettingsHaveOneFault =
     (bytes : List ℕ) (fault other : DeskFault) → IsSettingsFault bytes fault → IsSettingsFault bytes other
     → fault ≡ other
 
--- If settings lead from one machine to another, the first machine refuses none of the settings.
+-- If settings lead from one machine to another, none of them is refused on the way.
 abbrev pub LeadsOrRefuses : Type 0
 LeadsOrRefuses =
     (m n : Parts) (xs : List Setting) (line : ℕ) (why : Why) → Leads m xs n → ¬ (IsFirstIllegal m xs line why)
 
--- ---- The laws of a month: its cards set the machine to each day, by the fewest settings in all on a rotor
--- machine.
+-- ---- The laws of a month: its cards set the machine to each day, on an Enigma by the fewest settings in all.
 
 -- If cards and machine files are written for one day after another, they set the machine to these days in turn.
 abbrev pub MonthsSetTheMachine : Type 0

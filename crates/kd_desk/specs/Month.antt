@@ -21,7 +21,7 @@ use Rattle.kd_desk.specs.RunCard.{Prints}
 use Rattle.kd_desk.specs.RunSteps.{LacksMemory}
 use Rattle.kd_desk.specs.Settings.{AreSettings}
 
--- What is written for a day: a card, and the machine file after the card's settings.
+-- What is written for a day: a card, and the file of the machine that the card's settings lead to.
 pub record Papers : Type 0 where
   pub card : List ℕ
   pub file : List ℕ
@@ -48,8 +48,8 @@ AreWrittenInTurn file sheet (number ∷ numbers) (papers ∷ more) =
 AreWrittenInTurn file sheet numbers papers = ⊥
 
 -- The card's settings lead from the machine of `file` to the machine of the next file. This machine is set as day
--- `number` says, and enciphers as the day's own machine does. The card's prices prove that no fewer settings lead to
--- the day, and spare cables stay free.
+-- `number` says, shows the day's letters, and enciphers as the day's own machine does. The card's prices prove that no
+-- fewer settings lead to the day, and spare cables stay free.
 pub record SetTheMachine (file sheet : List ℕ) (number : ℕ) (papers : Papers) : Type 0 where
   pub m : Parts
   pub s : Day
@@ -63,7 +63,7 @@ pub record SetTheMachine (file sheet : List ℕ) (number : ℕ) (papers : Papers
   pub of_next : machine_of papers.file ≡ Ok n
   pub sheets : IsSheetsMachine n s
 
--- The card and the machine file of each day set the machine to this day.
+-- For each day in turn, the day's card and machine file set the machine to the day, as `SetTheMachine` says.
 abbrev pub SetTheMachineInTurn : List ℕ → List ℕ → List ℕ → List Papers → Type 0
 SetTheMachineInTurn file sheet [] [] = Unit {0}
 SetTheMachineInTurn file sheet (number ∷ numbers) (papers ∷ more) =
@@ -74,7 +74,7 @@ SetTheMachineInTurn file sheet numbers papers = ⊥
 abbrev pub AreDaysOf : List (Option Day) → List ℕ → List Day → Type 0
 AreDaysOf month numbers days = AllZip (λ number s. day_of month number ≡ Some s) numbers days
 
--- `cards` has the settings of each paper's card, in the order of `papers`.
+-- `cards` has the settings of each card in `papers`, in the same order.
 abbrev pub AreCardsOf : List Papers → List (List Setting) → Type 0
 AreCardsOf papers cards = AllZip (λ paper settings. AreSettings paper.card settings) papers cards
 

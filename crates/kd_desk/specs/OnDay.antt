@@ -1,4 +1,4 @@
--- How the machine of a machine file and a day of a key sheet are found, and what is done with them.
+-- How a machine is found in a machine file, and a day in a key sheet, and what is done with both.
 -- Test: refuses_the_sheet_next
 use Rattle.std.specs.Prelude.{◌≡◌, ◌⊎◌, ℕ, List, Result, Ok, Err, MatchResult, ok_or}
 use Rattle.std.specs.Result.{result_map_both}

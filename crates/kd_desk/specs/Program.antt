@@ -104,7 +104,7 @@ DoesCommand command source sink answer = DoesAction command.machine command.acti
 abbrev pub file_port : KnownFile → KnownFile → Port
 file_port left file = record { had = file.bytes; has = left.bytes; had_failed = file.failed; has_failed = left.failed }
 
--- whether a command opened a file, and a read of this file failed; `left` is what is known of the file after the call
+-- Whether a command opened a file whose reading failed. `left` is what is known of the file after the call.
 abbrev pub has_file_failed : Option KnownFile → KnownFile → Bool
 has_file_failed None left = false
 has_file_failed (Some file) left = left.failed
@@ -125,7 +125,7 @@ pub record IsCommandDone (command : KnownCommand) (source sink : Port) (answer :
   pub does : DoesCommand (with_command_opened (file_port left) command) source sink told
   pub answers : answer ≡ stop_after (has_file_failed (command_opened command) left) told
 
--- `IsCommandDone` for a task, on the machine of a machine file and a day of a sheet.
+-- `IsCommandDone` for a task. The task has a machine, from the machine file, and a day, from the sheet.
 pub record IsTaskDone (machine sheet : List ℕ) (number : ℕ) (task : KnownTask) (sink : Port)
     (answer : Result (Unit {0}) Stop) : Type 0 where
   pub left : KnownFile
@@ -168,8 +168,9 @@ abbrev pub CarriesOutKnown : Option (List ℕ → Option (List ℕ)) → NamedCo
 CarriesOutKnown known command source sink answer =
     IfSome known (λ held. CarriesOut (known_command held command) source sink answer)
 
--- What holds of the program's answer to a command line: what is done, if the files' bytes are known; which files are
--- asked for; when it is `Usage`; what happens to the ports.
+-- What holds of the program's answer to a command line. `carried`: what is done, if the files' bytes are known. `asks`,
+-- `none_asked`: which files are asked for. `usage`, `other_words`: when the answer is `Usage`. `untouched`, `failed`:
+-- what happens to the ports.
 pub record IsRun (words : List (List ℕ)) (known : Option (List ℕ → Option (List ℕ))) (asked : List AskedName)
     (source sink : Port) (Untouched : Type 0) (answer : Result (Unit {0}) Stop) : Type 0 where
   pub carried : (command : NamedCommand) → IsCommandLineOf words command

@@ -22,15 +22,16 @@ pub fn bytes_say_settings_or_have_a_fault()
     ensures one_fault { SettingsHaveOneFault }
 {}
 
-/// If settings lead from one machine to another, the first machine refuses none of the settings.
+/// If settings lead from one machine to another, none of them is refused on the way.
 pub fn settings_lead_or_are_refused()
     ensures { LeadsOrRefuses }
 {}
 
-/// Cards and machine files, written for one day of a sheet after another, set the machine to each day.
+/// Cards and machine files, written for days of a sheet in turn, set the machine to each of these days.
 ///
 /// Each card's settings lead from the machine of one file to the machine of the next file. The machine of the next file
-/// is set as the day says, and enciphers as the day's own machine does. No fewer settings lead to the day.
+/// is set as the day says, shows the day's letters, and enciphers as the day's own machine does. No fewer settings lead
+/// to the day.
 pub fn months_set_the_machine()
     ensures { MonthsSetTheMachine }
 {}
@@ -43,7 +44,7 @@ pub fn months_are_fewest()
     ensures { MonthsAreFewest }
 {}
 
-/// If a machine uses only its first cables, and no day has more pairs, no other cable is needed.
+/// If a machine uses only its first `number` cables, and no day has more than `number` pairs, no other cable is needed.
 ///
 /// For example, a machine uses only its first ten cables, and no day of the month has more than ten pairs. Then no card
 /// of the month names another cable, and the machine never uses one.

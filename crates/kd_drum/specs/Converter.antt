@@ -1,6 +1,6 @@
--- The cipher of the Converter M-209: it reverses each letter (A becomes Z), and moves it on by the number of bars that
--- the wheels meet. Wheels are numbered from 1 to 6. Letters of a text and places of a wheel are counted from 0.
--- Source: War Department TM 11-380
+-- The cipher of the Converter M-209 reverses each letter (A becomes Z), and moves it on by the number of bars that the
+-- wheels meet. Wheels are numbered from 1 to 6. Letters of a text and places of a wheel are counted from 0.
+-- Source: War Department TM 11-380.
 -- Code: `Converter` turns its wheels at each letter. It reads the number of bars met from a table, which has an entry
 -- for each of the 64 sets of wheels.
 -- Test: bars_are_met, files_are_refused
@@ -12,7 +12,7 @@ use Rattle.kd_pins.specs.PinWheel.{is_effective}
 use Rattle.kd_pins.specs.PinWheels.{pin_wheels, pins_on, acting_offset}
 
 -- A key of the Converter. `pins`: the effective pins of its six wheels. `letters`: the letters that the wheels show.
--- `rows`: for each bar, the numbers of the wheels at its two lugs.
+-- `rows`: for each bar, the numbers of the wheels at its two lugs; 0 where there is no wheel.
 pub record PinKey : Type 0 where
   pub pins : List (List Bool)
   pub letters : List ℕ
@@ -31,7 +31,8 @@ IsEachOnItsWheel letters = (wheel : ℕ) → 1 ≤ wheel → wheel ≤ 6
 abbrev pub shown_place : List ℕ → ℕ → ℕ
 shown_place letters wheel = unwrap_or (place_on (ring_of wheel) (slice_index letters (wheel - 1))) 0
 
--- whether the acting pin of wheel `wheel` is effective, `count` letters after the wheels show `letters`
+-- Whether the acting pin of wheel `wheel` is effective once the wheels, which first show `letters`, have moved on
+-- `count` times. False if there is no wheel with this number.
 abbrev pub is_acting_after : List (List Bool) → List ℕ → ℕ → ℕ → Bool
 is_acting_after pins letters count wheel =
     (nat_le 1 wheel && nat_le wheel 6) && is_effective (pins_on pins wheel)

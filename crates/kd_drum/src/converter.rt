@@ -148,7 +148,7 @@ impl Converter {
 
     /// The set of wheels with an effective acting pin.
     ///
-    /// The set is a number: the sum of 1 for wheel 1, 2 for wheel 2, and so on up to 32 for wheel 6.
+    /// The set is a sum of powers of two: 1 for wheel 1, 2 for wheel 2, and so on to 32 for wheel 6.
     fn acting_wheels(&self) -> usize
         ensures set { result < 64 }
         ensures each { (wheel : _) → is_in_set result wheel

@@ -6,7 +6,7 @@ use kd_tables::Reading;
 
 /// Counts, for each set of wheels, the bars that are met if exactly these wheels have an effective acting pin.
 ///
-/// A set is a number: the sum of 1 for wheel 1, 2 for wheel 2, and so on up to 32 for wheel 6.
+/// A set is a sum of powers of two: 1 for wheel 1, 2 for wheel 2, and so on to 32 for wheel 6.
 pub(crate) fn count_bars_met(rows: &[Reading; 27]) -> [u8; 64]
     ensures { AreCounts rows.now result }
 {

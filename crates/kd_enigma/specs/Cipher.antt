@@ -32,7 +32,7 @@ abbrev pub key_after : RotorKey → ℕ → RotorKey
 key_after key n = key_turned key (window_after key.wheels key.window n)
 
 -- ---- The current's path as a product of permutations, and the cipher that steps the wheels before each letter.
--- Source: the published accounts of the current's path
+-- Source: the published accounts of the current's path.
 -- Code: `Enigma` keeps the path for the current window as one table, and makes this table anew after each step.
 -- Test: machines_encipher
 

@@ -1,5 +1,5 @@
 -- The laws of plugboards.
--- Source: the published accounts of the plugboard
+-- Source: the published accounts of the plugboard.
 -- Test: machines_encipher
 use Rattle.std.specs.Prelude.{◌≡◌, ◌↔◌, ◌⊎◌, ◌+◌, ◌<◌, ◌++◌, List, ℕ, length, All, Contains}
 use Rattle.kd_tables.specs.Permutation.{exchanged, exchange, IsOwnInverse, MovesEachLetter}
@@ -25,7 +25,7 @@ SamePairsExchangeAlike =
     → exchange ps ≡ exchange qs
 
 -- ---- The laws of the path and of the cipher.
--- Source: the published accounts of the current's path
+-- Source: the published accounts of the current's path.
 
 -- The current's path is its own inverse. `PathsMoveEachLetter`, below, says that the path takes no letter to itself.
 abbrev pub PathsLeadBack : Type 0

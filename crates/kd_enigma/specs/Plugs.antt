@@ -1,5 +1,5 @@
 -- The cables of a plugboard: each cable exchanges the two letters of a pair.
--- Source: the published accounts of the plugboard
+-- Source: the published accounts of the plugboard.
 -- Code: `Plugs` has a table of the 26 letters; `from_pairs` refuses a letter that the table already exchanges.
 -- Test: no_letter_is_plugged_twice
 use Rattle.std.specs.Prelude.{◌≡◌, ◌⊎◌, ℕ, nat_eq, List, [], ◌∷◌, slice_index, Contains}

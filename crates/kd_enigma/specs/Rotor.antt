@@ -1,5 +1,5 @@
 -- The permutation of one wheel in the machine.
--- Source: the published accounts of rings and windows
+-- Source: the published accounts of rings and windows.
 -- Code: `Rotor::new` makes the permutations of a wheel for all 26 window letters, once.
 -- Test: machines_encipher
 use Rattle.std.specs.Prelude.{ℕ, ◌+◌, ◌-◌, ◌%◌, List}

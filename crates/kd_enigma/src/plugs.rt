@@ -24,7 +24,7 @@ impl LetterTwice {
     }
 }
 
-/// A plugboard: for each letter, its partner, or the letter itself if it has no cable.
+/// A plugboard: for each letter, the letter that it is exchanged for, or the letter itself if it has no cable.
 #[derive(Clone, Copy)]
 pub struct Plugs {
     table: [Letter; 26],
@@ -79,7 +79,7 @@ impl Plugs {
     }
 }
 
-/// Plugs `one` and `other` together. Returns `false` if the two are equal, or if one is plugged already.
+/// Plugs `one` and `other` together. Returns `false` if the two are equal, or if either is plugged already.
 fn plug(table: &mut [Letter; 26], one: Letter, other: Letter) -> bool
     ensures can { IsTrue result ↔ (one ≢ other) × IsFixedLetter table.old one × IsFixedLetter table.old other }
     ensures after { IsTrue result → table.new ≡ slice_set (slice_set table.old one other) other one }

@@ -98,7 +98,7 @@ pub record IsExpectedHeading (number : ℕ) (expected : Option ℕ) (found : Opt
   pub numbered : h.part ≡ number
   pub due : IsExpectedCount expected h.parts
 
--- Why `found` is refused: there is no heading; or its part number or its number of parts is wrong.
+-- Why `found` is refused: it is `None`; or the heading in it has a wrong part number or number of parts.
 pub data IsHeadingFault (number : ℕ) (expected : Option ℕ) (found : Option Heading) (fault : FormFault) : Type 0 where
   HeadingMissing : found ≡ None → fault ≡ BadHeading number → IsHeadingFault number expected found fault
   HeadingOfOther : (h : Heading) → found ≡ Some h → (h.part ≢ number) ⊎ (¬ (IsExpectedCount expected h.parts))

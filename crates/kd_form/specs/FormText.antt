@@ -25,7 +25,7 @@ pub record PartStart : Type 0 where
 abbrev pub first_part_start : PartStart
 first_part_start = record { number = 1; expected = None; bytes_before = 0 }
 
--- the start of the part after `part`, if `part` begins at `p`, and its heading says that there are `count` parts
+-- the start of the next part, if `part` starts at `p`, and the heading of `part` says that there are `count` parts
 abbrev pub next_part_start : PartStart → ℕ → List ℕ → PartStart
 next_part_start p count part = record
     { number = p.number + 1; expected = Some count; bytes_before = p.bytes_before + length part }
@@ -79,8 +79,9 @@ pub record IsTextOf (s : Day) (form text : List ℕ) : Type 0 where
 -- ---- Why a form has no text: its first fault, for good or at the form's end, and the text before this fault.
 -- Test: forms_are_received, parts_are_missing_or_exchanged
 
--- The first part left, which begins at `p`, has `fault` whatever bytes follow. If another part follows, any fault of
--- the part counts. Otherwise the part's heading line has ended, and only an early fault (`IsEarlyFault`) counts.
+-- The first part not yet read, which begins at `p`, has `fault`, and no further bytes can change that. Any fault counts
+-- if another part follows. Otherwise, only an early fault (`IsEarlyFault`) counts, and the part's heading line must
+-- have ended.
 abbrev pub IsPartFaultForGood : Day → FormFault → PartsProperty
 IsPartFaultForGood s fault p [] = ⊥
 IsPartFaultForGood s fault p (part ∷ []) =
@@ -95,8 +96,8 @@ pub data IsRefusedForGood (s : Day) (form text : List ℕ) (fault : FormFault) :
       → IsRefusedForGood s form text fault
   AtPart : IsFormReadTo s (IsPartFaultForGood s fault) form text → IsRefusedForGood s form text fault
 
--- The form ends with the parts left, and has `fault`. Either one part is left, and it has the fault; or none is left,
--- but the headings say that there are more.
+-- The form ends, and has `fault`. Of its parts, at most one isn't read yet. If one is left, it has the fault. If none
+-- is left, the fault is `PartOrder`: the headings say that there are more parts.
 abbrev pub IsPartFaultAtEnd : Day → FormFault → PartsProperty
 IsPartFaultAtEnd s fault p [] = (fault ≡ PartOrder) × (count : ℕ) × (p.expected ≡ Some count) × (p.number ≤ count)
 IsPartFaultAtEnd s fault p (part ∷ []) = IsPartFault s p.number p.expected p.bytes_before part fault
@@ -107,7 +108,7 @@ IsPartFaultAtEnd s fault p (part ∷ next ∷ others) = ⊥
 abbrev pub IsRefusedAtEnd : Day → List ℕ → List ℕ → FormFault → Type 0
 IsRefusedAtEnd s form text fault = IsFormReadTo s (IsPartFaultAtEnd s fault) form text
 
--- The form has `fault`, either whatever bytes follow, or if the form ends here.
+-- The form has `fault`: whatever bytes follow, or because the form ends here.
 abbrev pub IsReceiveFault : Day → List ℕ → FormFault → Type 0
 IsReceiveFault s form fault = (text : List ℕ) × (IsRefusedForGood s form text fault ⊎ IsRefusedAtEnd s form text fault)
 
@@ -132,7 +133,8 @@ form_message s = record {
 
 -- ---- The text that an order's form has to give back.
 
--- what is enciphered for the letters of a text: the letters; on the Converter M-209, X fills the last group of five
+-- The letters that are enciphered for a text: its own letters. On the Converter M-209, X is appended until the last
+-- group of five is full.
 abbrev pub sent_letters : Day → List ℕ → List ℕ
 sent_letters (OfRotors s) letters = letters
 sent_letters (OfPins s) letters = fill_last_group letters

@@ -1,6 +1,6 @@
 -- The internal key of the Converter M-209: a letter for each of its six wheels, picked from twelve enciphered
 -- letters.
--- Source: War Department TM 11-380
+-- Source: War Department TM 11-380.
 -- Code: `pick_internal_key` goes over the enciphered letters once.
 -- Test: orders_are_sent
 use Rattle.std.specs.Prelude.{◌≡◌, ◌++◌, Contains, ◌⊎◌, ℕ, ◌+◌, ◌<◌, ◌≤◌, List, [], ◌∷◌, length, map, slice_index}
@@ -26,8 +26,8 @@ pub record ArePicked (letters places picked : List ℕ) : Type 0 where
   pub taken : picked ≡ map (λ place. slice_index letters place) places
   pub on_wheels : AreOnWheels picked
 
--- `key` has the letters at the lexicographically first places that `ArePicked` allows. So each wheel in turn takes the
--- next of `letters` that is on the wheel.
+-- `key` has the letters at six places, which are the lexicographically first list of places that `ArePicked` allows. So
+-- each wheel in turn takes the next of `letters` that is on the wheel.
 pub record IsInternalKey (letters key : List ℕ) : Type 0 where
   pub places : List ℕ
   pub picked : ArePicked letters places key

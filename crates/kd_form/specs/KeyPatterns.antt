@@ -11,8 +11,8 @@ use Rattle.kd_form.specs.Order.{IsKeyLine}
 abbrev pub blank_places : ℕ → List ℕ
 blank_places number = replicate number 95
 
--- the pattern of a line of keys for a rotor machine with `slots` slots; next come the patterns for the Converter M-209
--- and for the day's model
+-- The pattern of a line of keys for a rotor machine with `slots` slots. `pin_pattern`: the pattern for the Converter
+-- M-209. `key_pattern`: the pattern for the day's model.
 abbrev pub rotor_pattern : ℕ → List ℕ
 rotor_pattern slots = line_of (codes "PART" ∷ blank_places slots ∷ blank_places slots ∷ blank_places 2
     ∷ blank_places 3 ∷ [])

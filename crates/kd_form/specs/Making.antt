@@ -38,7 +38,7 @@ part_of part parts indicator letters = record {
 }
 
 -- ---- A part's letters on a rotor machine: fillers, group and enciphered text.
--- Source: the singly enciphered message key of the Wehrmacht
+-- Source: the singly enciphered message key of the Wehrmacht.
 -- Test: orders_are_sent
 
 -- the ground setting, and the message key enciphered with the ground setting in the windows
@@ -50,7 +50,7 @@ abbrev pub rotor_letters : Day → RotorKeys → List ℕ → List ℕ
 rotor_letters s k text = k.fillers ++ k.group ++ cipher_from s k.message_key text
 
 -- ---- A part's letters on the Converter M-209: indicators, enciphered text, and the indicators again.
--- Source: War Department TM 11-380
+-- Source: War Department TM 11-380.
 -- Test: orders_are_sent
 
 -- the chosen letter twelve times, enciphered with the external letters in the windows at the start
@@ -65,8 +65,8 @@ pin_indicators s k = k.chosen ∷ k.chosen ∷ k.external ++ list_letters s
 abbrev pub fill_last_group : List ℕ → List ℕ
 fill_last_group text = text ++ replicate ((5 - length text % 5) % 5) 23
 
--- the indicators, the filled text enciphered with the internal key in the windows at the start, and the indicators
--- again
+-- the body of a part: the indicators; the filled text, enciphered with the internal key in the windows at the start;
+-- the indicators again
 abbrev pub pin_letters : Day → PinKeys → List ℕ → List ℕ → List ℕ
 pin_letters s k internal text = pin_indicators s k ++ cipher_from s internal (fill_last_group text)
     ++ pin_indicators s k

@@ -14,9 +14,8 @@ use Rattle.kd_form.specs.declared.heading.Indicator.{Indicator}
 use Rattle.kd_form.specs.InternalKey.{IsInternalKey}
 use Rattle.kd_form.specs.Making.{cipher_from, list_letters, enciphered_choice}
 
--- ---- The letters of a body on a rotor machine: two fillers, the group, and the text enciphered with the message
--- key.
--- Source: the singly enciphered message key of the Wehrmacht
+-- ---- The letters of a body on a rotor machine: two fillers, the group, and the enciphered text.
+-- Source: the singly enciphered message key of the Wehrmacht.
 -- Test: a_message_of_1941
 
 -- the group in a body: the three letters after the two fillers
@@ -35,7 +34,7 @@ IsRotorAnswer s part indicator letters = do
   Yields (cipher_from s (deciphered_key s indicator) (drop 5 letters))
 
 -- ---- The letters of a body on the Converter M-209: the indicators, the text, and the indicators again.
--- Source: War Department TM 11-380
+-- Source: War Department TM 11-380.
 -- Test: forms_are_received
 
 -- The last ten letters repeat the first ten, and the first two letters are equal.

@@ -45,7 +45,7 @@ pub record IsFirstBadByteAt (text : List ℕ) (place : ℕ) : Type 0 where
   pub allowed : All (λ b. IsTrue (is_text_byte b)) before
   pub bad : IsFalse (is_text_byte byte)
 
--- how many parts `letters` letters need
+-- the number of parts for a text with this number of letters
 abbrev pub parts_needed : Day → ℕ → ℕ
 parts_needed s letters = div_ceil letters (part_size s)
 
@@ -88,8 +88,8 @@ pub data IsOrderFaultForGood (s : Day) (order : List ℕ) (fault : FormFault) : 
       → All (KeysSuitDay s) keys
       → IsFirstBadByteAt text place → fault ≡ BadByte (length head + place + 1) → IsOrderFaultForGood s order fault
 
--- The fault that an order has if it ends here. Either it ends within its head; or its text has no letter; or its text
--- needs more or fewer parts than the order has lines of keys.
+-- The fault that an order has if it ends here. Either it ends within its head; or its text has no letter, or needs more
+-- or fewer parts than there are lines of keys.
 pub data IsOrderFaultAtEnd (s : Day) (order : List ℕ) (fault : FormFault) : Type 0 where
   HeadCutShort : IsOrderHeadFault s order (length order + 1) → fault ≡ BadByte (length order + 1)
       → IsOrderFaultAtEnd s order fault
@@ -106,7 +106,7 @@ IsSendFault s order fault = IsOrderFaultForGood s order fault ⊎ IsOrderFaultAt
 -- ---- The form that an order becomes.
 -- Test: long_texts_are_sent_and_received
 
--- The bytes are the parts of a form from part `part` on, of `parts` parts in all. Each part is made from its
+-- The bytes are the last parts of a form that has `parts` parts, from part number `part` on. Each part is made from its
 -- own piece of the text, with its own keys.
 abbrev pub ArePartTextsMade : Day → ℕ → ℕ → List Keys → List (List ℕ) → List ℕ → Type 0
 ArePartTextsMade s part parts [] [] bytes = bytes ≡ []

@@ -10,8 +10,8 @@ use Rattle.kd_form.specs.declared.stream.interruption.Interruption.{Interruption
 use Rattle.kd_form.specs.declared.stream.interruption.Interruption.TheVariants.{Device, Refused}
 use Rattle.kd_form.specs.Streams.{Message, IsOpen, IsRefused, IsMessageAnswer, FallsShort}
 
--- The reader has read `bytes` and output `text`; this is what `holds` says of its state. The bytes have no fault so
--- far.
+-- The reader has read `bytes` and output `text`. So far the bytes have no fault, and the reader's state satisfies
+-- `holds`.
 pub record HasReadSoFar (m : Message) (holds : List ℕ → List ℕ → Type 0) (bytes text : List ℕ) : Type 0 where
   pub is : holds bytes text
   pub open_yet : IsOpen m bytes text
@@ -23,7 +23,8 @@ pub record HasRoom (m : Message) (holds : List ℕ → List ℕ → Type 0) (roo
   pub held : HasReadSoFar m holds bytes text
   pub within : length bytes + room < 2 ^ 63
 
--- The reader reads `byte`, and outputs `made`. Its state changes from `old` to `new`, unless the bytes have a fault.
+-- The reader reads `byte`. Unless the bytes have a fault, it outputs `made`, and its state changes from `old` to
+-- `new`.
 abbrev pub IsFeedAnswer : Message → (List ℕ → List ℕ → Type 0) → (List ℕ → List ℕ → Type 0) → ℕ → List ℕ
     → Result (Unit {0}) FormFault → Type 0
 IsFeedAnswer m old new byte made answer =
@@ -31,7 +32,8 @@ IsFeedAnswer m old new byte made answer =
     → MatchResult answer (λ _. HasReadSoFar m new (bytes ++ byte ∷ []) (text ++ made))
     (IsRefused m (bytes ++ byte ∷ []) text)
 
--- At the end of the message, the reader outputs `made`: the rest of the result, or what is written before the fault.
+-- At the end of the message, the reader outputs `made`. It is the rest of the result or, if there is a fault, the rest
+-- of the text before the fault.
 abbrev pub IsEndAnswer : Message → (List ℕ → List ℕ → Type 0) → List ℕ → Result (Unit {0}) FormFault → Type 0
 IsEndAnswer m old made answer = (bytes text : List ℕ) → HasReadSoFar m old bytes text
     → IsMessageAnswer m bytes (text ++ made) answer
@@ -48,7 +50,7 @@ is_device_interruption _ = false
 
 -- ---- bytes, one after another
 
--- Some text had to be written after a prefix of `bytes`; `text` is a proper prefix of this text.
+-- After some or all of `bytes` were read, a text was due. `text` is a proper prefix of the text that was due.
 pub record IsPrefixOfDue (m : Message) (bytes text : List ℕ) : Type 0 where
   pub front : List ℕ
   pub due : List ℕ

@@ -10,16 +10,16 @@ use Rattle.kd_form.specs.declared.fault.FormFault.{FormFault}
 use Rattle.kd_form.specs.declared.fault.FormFault.TheVariants.{NotReady, Device, NotOnKey, ReadTooLong}
 use Rattle.kd_form.specs.OnTheKey.{IsReadyOnKey, IsKeyFault}
 
--- A kind of message, such as orders. `stands`: the fault that bytes have whatever bytes follow. `refused`: the fault of
--- a whole message. `becomes`: the result of a whole message. `before`: what is written before the fault or, without a
--- fault, before more bytes are read.
+-- A kind of message, such as orders. `stands`: the first bytes of a message have this fault, and no further bytes can
+-- change it. `refused`: a whole message has this fault. `becomes`: a whole message has this result. `before`: this text
+-- is written before the fault or, without a fault, before more bytes are read.
 pub record Message : Type 1 where
   pub stands : List ℕ → FormFault → Type 0
   pub refused : List ℕ → FormFault → Type 0
   pub becomes : List ℕ → List ℕ → Type 0
   pub before : Option FormFault → List ℕ → List ℕ → Type 0
 
--- The bytes have no fault so far, and `text` is what is written before more bytes are read.
+-- The bytes have no fault so far. `text` is all that is written before any further byte is read.
 pub record IsOpen (m : Message) (bytes text : List ℕ) : Type 0 where
   pub unrefused : (fault : FormFault) → ¬ (m.stands bytes fault)
   pub written : m.before None bytes text
@@ -33,7 +33,8 @@ IsMessageAnswer m bytes text answer =
 -- Code: `stream_message` reads a message chunk by chunk; the readers of orders and forms take it byte by byte.
 -- Test: orders_are_sent, forms_are_received
 
--- `text` has to be written when a prefix of `read` was read, or when the source has ended after `read`.
+-- The bytes `read` come in, and then the source may end. `text` has to be written at some time: before all bytes have
+-- come, right after them, or at the source's end.
 pub data IsDue (m : Message) (source : Port) (read text : List ℕ) : Type 0 where
   ByThen : (front : List ℕ) → StartsWith read front → IsOpen m front text → IsDue m source read text
   ByTheEnd : (answer : Result (Unit {0}) FormFault) → IsAtEnd source.has → IsMessageAnswer m read text answer
@@ -50,9 +51,9 @@ pub record FallsShort (due text : List ℕ) : Type 0 where
   pub joined : due ≡ text ++ missing
 
 -- What a call has read and written when it returns. `MessageComplete`: the message has ended without a fault.
--- `FaultForGood`: the bytes have a fault whatever bytes follow. `FaultAtEnd`: only the whole message has a fault.
--- `TooLong`: one byte more than the limit was read. `SourceFails`: all text that was due for the bytes read is written.
--- `SinkFails`: only a proper prefix of the text that was due is written.
+-- `FaultForGood`: the bytes have a fault, and no further bytes can change it. `FaultAtEnd`: the bytes have a fault
+-- because the message ends there. `TooLong`: one byte more than the limit was read. `SourceFails`: all text that was
+-- due for the bytes read is written. `SinkFails`: only a proper prefix of the text that was due is written.
 pub data IsStreamAnswer (m : Message) (source sink : Port) (read text : List ℕ)
     (answer : Result (Unit {0}) FormFault) : Type 0 where
   MessageComplete : length read ≤ read_limit → IsAtEnd source.has → m.becomes read text → HaveNotFailed source sink
@@ -99,8 +100,8 @@ pub record IsUntouched (p : Port) : Type 0 where
   pub has : p.has ≡ p.had
   pub well : HasNotFailed p
 
--- If a fault comes before anything is read, the answer is this fault, and both ports are left as they were.
--- Otherwise `may` holds, the message is read, and its result is written.
+-- If a fault comes before anything is read, the answer is this fault, and both ports are left as they were. If there is
+-- no such fault, the message is read, and its result is written; then the condition `may` holds, too.
 pub data StreamsUnlessFault (is_fault : FormFault → Type 0) (may : Type 0) (message : Message) (source sink : Port)
     (answer : Result (Unit {0}) FormFault) : Type 0 where
   FaultBefore : (fault : FormFault) → is_fault fault → answer ≡ Err fault → IsUntouched source → IsUntouched sink

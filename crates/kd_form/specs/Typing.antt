@@ -27,7 +27,7 @@ cipher_text enciphers bytes = letters_text (enciphers (typed_letters bytes))
 abbrev pub IsTextFault : List ℕ → FormFault → Type 0
 IsTextFault bytes fault = (place : ℕ) × IsFirstBadByteAt bytes place × (fault ≡ BadByte (place + 1))
 
--- texts, as a kind of message: the letters before the first byte that isn't allowed are enciphered
+-- typed texts, as a kind of message; all letters before the first byte that isn't allowed are enciphered
 abbrev pub text_message : (List ℕ → List ℕ) → Message
 text_message enciphers = record {
   stands = IsTextFault;
@@ -44,8 +44,8 @@ TypesIfReady m source sink answer =
 
 -- ---- What the code holds. No public contract cites these definitions.
 
--- `lamps` is the ciphertext of the letters in `bytes`, and `left` is the key after a key press for each of
--- these letters.
+-- `lamps` is the ciphertext of the letters in `bytes`. `left` is the machine's key after it has enciphered these
+-- letters.
 pub record IsTypedChunk (key left : EngineKey) (bytes lamps : List ℕ) : Type 0 where
   pub cipher : lamps ≡ cipher_text (cipher key) bytes
   pub after : left ≡ engine_key_after key (length (typed_letters bytes))

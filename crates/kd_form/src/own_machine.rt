@@ -55,7 +55,7 @@ impl<'day> OwnMachine<'day> {
         turned
     }
 
-    /// Whether `window` has one letter for each slot or pin wheel, each on its wheel.
+    /// Whether `window` has one letter for each slot or each pin wheel, and each letter is on its wheel.
     pub(crate) fn can_show(&mut self, window: &[Letter]) -> bool
         ensures day { self.new ≡ self.old }
         ensures window { IsTrue result ↔ IsWindow (sheet_key self.old) window.now }

@@ -74,9 +74,10 @@ impl PartBody {
         keep_byte(&mut self.line, byte);
     }
 
-    /// Deciphers the body into `output`, without the last `others` letters, which are part of the next heading.
+    /// Deciphers the body, and appends its text to `output`. The body's last `others` letters are left out.
     ///
-    /// Not inlined: otherwise every byte read would pay for this function's stack frame.
+    /// They belong to the next heading. Not inlined: otherwise every byte read would pay for this function's stack
+    /// frame.
     #[inline(never)]
     pub(crate) fn decipher_into(
         &self,

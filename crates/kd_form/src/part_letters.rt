@@ -98,7 +98,8 @@ fn read_pin_letters(
 
 /// Deciphers `letters`, the body of the part with the heading `heading`.
 ///
-/// A body that is too long for any heading may be cut, if it stays too long: the fault is `CountWrong` either way.
+/// If a body is too long for any heading, a prefix of it may be given in its place, if the prefix is too long as well.
+/// The fault is `CountWrong` in any case.
 pub(crate) fn read_body(
     day: &SheetDay,
     heading: &Heading,

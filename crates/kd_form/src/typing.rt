@@ -18,9 +18,9 @@ use kd_tables::{Letter, Sink, Source, put_all};
 /// Types the text from `source` on `machine`, and writes the lamps as capital letters, then LF.
 ///
 /// `NotReady` is returned before anything is read or written. The first byte that isn't allowed is refused once it is
-/// found, even if the source is too long or would fail later. The lamps of the letters before this byte are written
-/// first; if the sink fails then, the fault is `Device`. At most 1,048,576 bytes are read, and one byte more to see
-/// whether the source ends.
+/// found, even if the source is too long or would fail later. Before the refusal, the lamps of all letters before this
+/// byte are written; if the sink fails to take them, the fault is `Device`. At most 1,048,576 bytes are read, and one
+/// byte more to see whether the source ends.
 pub fn type_stream<R: Source, W: Sink>(
     machine: &Machine,
     source: &mut R,

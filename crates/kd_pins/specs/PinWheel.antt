@@ -1,6 +1,6 @@
 -- One pin wheel: the letter that it shows, and the acting pin, which acts on the drum while this letter shows.
 -- Places are counted from 0, in the wheel's own order.
--- Source: War Department TM 11-380
+-- Source: War Department TM 11-380.
 -- Code: `PinWheel` keeps the place of the acting pin, and counts back from this place to find the shown letter.
 -- Test: the_acting_pin_is_counted_in_the_wheels_own_order
 use Rattle.std.specs.Prelude.{◌≡◌, ℕ, ◌+◌, ◌-◌, ◌%◌, ◌<◌, Bool, false, List, slice_index, slice_index_or, unwrap_or}

@@ -1,5 +1,5 @@
 -- The six pin wheels of the Converter M-209, numbered from 1 to 6.
--- Source: War Department TM 11-380
+-- Source: War Department TM 11-380.
 -- Test: bars_are_met
 use Rattle.std.specs.Prelude.{ℕ, ◌-◌, Bool, List, [], ◌∷◌, slice_index, slice_index_or}
 use Rattle.std.specs.List.{range_with_len}

@@ -21,8 +21,9 @@ NamesNoneAbove number (Pull cable letter) = cable ≤ number
 NamesNoneAbove number (Put cable letter) = cable ≤ number
 NamesNoneAbove number _ = Unit {0}
 
--- Suppose that only the first `number` cables are in use, and that the day has at most `number` pairs. Then settings
--- that leave spare cables free name no other cable, and afterwards no other cable is in use.
+-- Suppose that only the first `number` cables are in use, and that the day has at most `number` pairs. Take settings
+-- that the machine carries out and that leave spare cables free. Then they name only the first `number` cables, and at
+-- the end only these cables are in use.
 abbrev pub FewCablesServe : Type 0
 FewCablesServe =
     (number : ℕ) (m n : Parts) (s : Day) (settings : List Setting) → UsesNoneAbove number m → HasPairsUpTo number s

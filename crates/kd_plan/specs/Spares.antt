@@ -9,7 +9,8 @@ use Rattle.kd_state.specs.Setting.{cable_at}
 abbrev pub is_spare : Option ℕ × Option ℕ → Bool
 is_spare cable = is_none cable.0 && is_none cable.1
 
--- Letters are put only into cables in use and into the first spare cables, as many of them as the pairs still need.
+-- Letters are put only into cables in use, and into the first spare cables. The pairs need so many of these as there
+-- are more pairs than cables in use.
 abbrev pub SparesStayFree : Parts → Day → List Setting → Type 0
 SparesStayFree (Rotor m) (OfRotors s) settings =
     (cable letter : ℕ) → Contains settings (Put cable letter) → IsTrue (is_spare (cable_at m cable))

@@ -11,8 +11,8 @@ StandAlike (Rotor m) place other =
     (cable_letters (slice_index_or m.cables other (None, None)))
 StandAlike (Pin m) place other = slice_get m.bars place ≡ slice_get m.bars other
 
--- Columns `place` and `other`, counted from 0, are both nothings; or rows `place` and `other` of the sheet have the
--- same reading.
+-- Columns `place` and `other`, counted from 0, are both empty; or rows `place` and `other` of the sheet have the same
+-- reading.
 abbrev pub ReadAlike : Day → ℕ → ℕ → Type 0
 ReadAlike (OfRotors s) place other = (length s.pairs ≤ place) × (length s.pairs ≤ other)
 ReadAlike (OfPins s) place other = slice_get s.rows place ≡ slice_get s.rows other

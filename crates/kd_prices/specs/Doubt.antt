@@ -1,5 +1,5 @@
--- Why a card doesn't prove itself: the first doubt, in a fixed order. In a doubt, settings, rows and columns are
--- counted from 1.
+-- Why a card doesn't prove itself: the first doubt, in a fixed order. A doubt counts from 1: settings, rows and
+-- columns.
 use Rattle.std.specs.Prelude.{◌≡◌, ◌⊎◌, ℕ, ◌+◌, ◌<◌, List, ◌∷◌, ◌++◌, length, ℤ, pos, Ok, Err}
 use Rattle.kd_state.specs.{FirstFaults.{AnswerRule, Demands, Finds, ◌>>=◌}, Setting.{IsFirstIllegal, Leads}}
 use Rattle.kd_state.specs.declared.{machine.parts.Parts.{Parts, TheVariants.{Pin, Rotor}}, setting.Setting.Setting}
@@ -23,8 +23,8 @@ BelongTo _ _ = ⊥
 abbrev pub ComesBefore : ℕ → ℕ → ℕ → ℕ → Type 0
 ComesBefore i j row column = (i < row) ⊎ ((i ≡ row) × (j < column))
 
--- Row by row, the first cell where `Holds` is false is in row `row` and column `column`. The table has `number` rows
--- and `number` columns, counted from 0.
+-- The cells of a table are ordered row by row. The first cell where `Holds` is false is in row `row` and column
+-- `column`, counted from 0. The table has `number` rows and `number` columns.
 pub record IsFirstWithout (Holds : ℕ → ℕ → Type 0) (number row column : ℕ) : Type 0 where
   pub row_within : row < number
   pub column_within : column < number
@@ -63,9 +63,9 @@ IsNeededAnswer m s settings (Ok all) = AreSettingsNeeded m s settings
 IsNeededAnswer m s settings (Err (NeedlessLine line)) = IsFirstNeedless m s settings line
 IsNeededAnswer m s settings (Err doubt) = ⊥
 
--- The result of checking a card by number: success if its settings lead to the day and its prices prove that no shorter
--- list does; otherwise the first doubt. By number means that each cable and column, or each bar and row, has its own
--- price.
+-- The result of checking a card by number: success, or the first doubt. Success means that its settings lead to the
+-- day, and that its prices prove that no shorter list does. By number means that each cable and column, or each bar and
+-- row, has its own price.
 abbrev pub IsByNumberAnswer : Parts → Day → List Setting → PriceParts → AnswerRule Doubt (Unit {0})
 IsByNumberAnswer m s settings prices = do
   n ← IsCarriedAnswer m settings
@@ -89,15 +89,15 @@ IsDoubt m s settings prices doubt = IsCheckedAnswer m s settings prices (Err dou
 
 -- ---- The steps of finding the first doubt. No public contract cites these definitions.
 
--- The result of checking settings by two lists of prices, of the `number` rows and the `number` columns of the table of
--- costs: success if the settings lead to the day and are proved shortest; otherwise the first doubt.
+-- The result of checking settings by the prices `rows` and `columns` of a table of costs, `number` of each. It is
+-- success if the settings lead to the day and are proved shortest; otherwise it is the first doubt.
 abbrev pub IsByPricesAnswer : Parts → Day → List Setting → ℕ → List ℤ → List ℤ → AnswerRule Doubt (Unit {0})
 IsByPricesAnswer m s settings number rows columns answer =
     (prices : PriceParts) → row_prices prices ≡ rows → column_prices prices ≡ columns → table_rows prices ≡ number
     → IsByNumberAnswer m s settings prices answer
 
 -- The result of finding a price for each row and each column of the table of costs: both lists of prices, or the first
--- doubt. `make` turns the lists into prices by number.
+-- doubt. `make` makes the prices of a card from the two lists.
 abbrev pub ArePricesFound : Parts → Day → PriceParts → (List ℤ → List ℤ → PriceParts)
     → AnswerRule Doubt (List ℤ × List ℤ)
 ArePricesFound m s prices make = do

@@ -1,5 +1,5 @@
--- Grouping keys with prices into kinds, and finding the price of a key in the kinds. Keys are the letters of cables or
--- columns, standings or readings. No contract of a public function cites these definitions.
+-- Grouping keys with prices into kinds, and finding the price of a key in the kinds. A key is the letters of a cable,
+-- the pair of a column, a standing or a reading. No contract of a public function cites these definitions.
 use Rattle.std.specs.Prelude.{Bool, IsPermutation, List, Option, count_by, false, replicate, true, unsigned_abs, ◌++◌}
 use Rattle.std.specs.{List.{Contains, zip, Sorted.IsSorted}, Prelude.{All, map, ℤ, ◌∷◌, ◌≡◌, ◌≤◌}}
 use Rattle.std.specs.{Ordering.{int_cmp, ordering_then}, declared.cmp.Ordering.Ordering}
@@ -26,8 +26,9 @@ pub record CanBeKinds {K X : Type 0} (format : KindFormat K X) (cmp : X → X �
   pub one_price : HaveOnePriceEach pairs
   pub fine : All (IsFine format) pairs
 
--- `new` is `old`, and then kinds that count the keys of `kind` and of `pairs`, with their prices. If these keys can be
--- kinds, the added kinds are valid and strictly ascending. They come after a kind `last` if the key of `kind` does.
+-- `new` is `old` with added kinds. These count the keys of `kind` and of `pairs`, and have the prices that go with
+-- them. If these keys can be kinds, the added kinds are valid and strictly ascending. If the key of `kind` comes after
+-- the key of a kind `last`, the added kinds come after `last`.
 pub record AppendsKinds {K X : Type 0} (format : KindFormat K X) (cmp : X → X → Ordering) (kind : KindOf X)
     (pairs : List (X × ℤ)) (old new : List K) : Type 0 where
   pub made : List K
@@ -43,7 +44,8 @@ pub record AppendsKinds {K X : Type 0} (format : KindFormat K X) (cmp : X → X 
 abbrev pub HasNoneLeft : {X : Type 0} → (X → X → Bool) → List (KindOf X) → X → Type 0
 HasNoneLeft eq kinds key = count_by (λ other. eq other.0 key) (expansion kinds) ≡ 0
 
--- Taking one key (letters, a standing or a reading) with this price out of `kinds` leaves the kinds `left`.
+-- The kinds `left` are `kinds`, but count the key `key` (letters, a standing or a reading), with this price, one time
+-- less.
 abbrev pub TakesOne : {X : Type 0} → List (KindOf X) → X → ℤ → List (KindOf X) → Type 0
 TakesOne kinds key price left = IsPermutation (expansion kinds) ((key, price) ∷ expansion left)
 
@@ -54,7 +56,7 @@ HaveKeys {X} eq kinds keys =
     → count_by (λ other. eq other key) keys ≤ count_by (λ other. eq other.0 key) (expansion kinds)
 
 -- If the Bool is true, taking the listed keys with these prices out of `kinds` leaves the kinds `left`. If it is false,
--- `kinds` count some key less often than the key is in the list.
+-- the list has some key more often than `kinds` count it.
 abbrev pub TakesAll : {X : Type 0} → (X → X → Bool) → List (KindOf X) → List X → List ℤ → List (KindOf X) → Bool
     → Type 0
 TakesAll eq kinds keys prices left true = IsPermutation (expansion kinds) (zip keys prices ++ expansion left)

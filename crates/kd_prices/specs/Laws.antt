@@ -45,8 +45,8 @@ pub record AreEqualWhereAlike (m : Parts) (s : Day) (prices : PriceParts) : Type
       (place other : ℕ) → place < table_rows prices → other < table_rows prices → ReadAlike s place other
       → price_at (column_prices prices) place ≡ price_at (column_prices prices) other
 
--- On a card by number that proves itself, equal cables, nothings, bars or rows have equal prices. By number means that
--- each cable and column, or each bar and row, has its own price.
+-- If a card with prices by number proves itself, equal cables, columns, bars or rows have equal prices. By number
+-- means that each cable and column, or each bar and row, has its own price.
 abbrev pub AlikePricesAreEqual : Type 0
 AlikePricesAreEqual =
     (m : Parts) (s : Day) (settings : List Setting) (prices : PriceParts) → IsMachine m → IsLegalDay s

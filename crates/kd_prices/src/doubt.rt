@@ -18,12 +18,12 @@ pub enum Doubt {
     PriceMissing,
     /// The machine refuses this line, for this reason, after the lines before it are carried out.
     IllegalAt(usize, Why),
-    /// After the last line the machine doesn't read as the day.
+    /// After all settings of the card, the machine isn't set as the day says, or shows other letters.
     NotTheSheet,
     /// The prices of this row and this column add up to more than the cost where row and column meet.
     ///
-    /// Row and column are the first where this is so, row by row, counted from 1. Rows of the table of costs are
-    /// cables or bars; its columns are pairs and nothings, or the sheet's rows.
+    /// Of all such places of the table of costs, this is the first, row by row. Rows and columns are counted from 1.
+    /// The table's rows are cables or bars. Its columns are pairs and empty columns, or the sheet's rows.
     PriceTooHigh(u8, u8),
     /// The sum of the prices isn't the number of lines that change a cable or a bar.
     SumDiffers,
@@ -33,7 +33,7 @@ pub enum Doubt {
 }
 
 impl Doubt {
-    /// The text of the refusal, such as `17 NeedlessLine 2`: number, name, and a line, a reason, or a row and a column.
+    /// The text of the refusal, such as `17 NeedlessLine 2`: number and name, and then the details that the doubt has.
     pub fn text(&self) -> Text
         ensures { result.bytes ≡ doubt_text self.now }
     {

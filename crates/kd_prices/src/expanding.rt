@@ -8,7 +8,7 @@ use kd_card::{Kind, KindOf};
 
 /// Finds the price of each cable, column, bar or row by its key in `keys`: the price of the kind with this key.
 ///
-/// `None` unless `kinds` count exactly the keys in `keys`.
+/// `None` if some kind's count isn't the number of its keys in `keys`, or if a key has no kind.
 pub(crate) fn prices_of<K: Kind, const N: usize>(
     keys: &[K::Key],
     kinds: ArrayVec<K, N>,
@@ -24,7 +24,9 @@ pub(crate) fn prices_of<K: Kind, const N: usize>(
     take_prices(keys, kinds.as_mut_slice(), &mut prices).then_some(prices)
 }
 
-/// For each key in `keys`, lowers the count of its kind by one, and writes the kind's price to `prices`.
+/// For each key in `keys`, lowers its kind's count by one, and writes the kind's price to the same place in `prices`.
+///
+/// The result is `false` if a key's kind isn't among `kinds`, or its count is too low.
 fn take_prices<K: Kind>(keys: &[K::Key], kinds: &mut [K], prices: &mut [i16]) -> bool
     requires prices { length prices.old ≡ length keys.now }
     ensures len { length prices.new ≡ length prices.old }

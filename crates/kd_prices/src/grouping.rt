@@ -38,7 +38,7 @@ fn kind_of_one<T: KindKey>(pair: &(T, i16)) -> KindOf<T>
 
 /// Appends `kind`, and then the kinds of `pairs`, which are sorted.
 ///
-/// The first of `pairs` are counted in `kind`, as long as they have its key and its price.
+/// If `pairs` begins with the key and the price of `kind`, `kind` counts these pairs, too.
 fn push_kinds<K: Kind, const N: usize>(
     kind: KindOf<K::Key>,
     pairs: &[(K::Key, i16)],

@@ -1,4 +1,4 @@
-//! Converts cables and columns to `Ends` and `Column`, which are sorted like a card's lines.
+//! Converts cables and columns to `Ends` and `Column`, whose order is the order of a card's lines.
 ghost use Rattle.std.specs.Prelude.{◌≡◌, ◌+◌, ◌++◌, ◌≤◌, length, zip};
 ghost use Rattle.kd_card.specs.Proving.{columns_in_order};
 
@@ -19,7 +19,7 @@ pub(crate) fn ends_of(cables: &[(Option<Letter>, Option<Letter>); 13]) -> ArrayV
     ends
 }
 
-/// The 13 columns of a day: its pairs, each with its letters in alphabetical order, and then nothings.
+/// The 13 columns of a day: its pairs, each with its letters in alphabetical order, and then empty columns.
 pub(crate) fn columns_of(pairs: &[(Letter, Letter)]) -> ArrayVec<Column, 13>
     requires { length pairs.now ≤ 13 }
     ensures value { result.items ≡ columns_in_order pairs.now }

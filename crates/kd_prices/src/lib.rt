@@ -1,5 +1,5 @@
-//! Checks whether a card proves itself. Converts a card where each cable, pair, bar or row has its own price to a
-//! card where each kind of them has one price.
+//! Checks whether a card proves itself. Converts cards: one price for each cable, pair, bar or row becomes one price
+//! for each kind of them.
 #![tactic(auto)]
 
 mod checking;

@@ -1,6 +1,6 @@
 -- How the values in a TOML document are read. Each step gives a value or a fault. The steps of a `do` run in order,
 -- and the first fault is the result of the whole `do`.
--- Source: TOML 1.1, toml.io
+-- Source: TOML 1.1, toml.io.
 -- Code: the library `toml` parses the document, and `?` returns the first fault.
 -- Test: kd_trials/src/sheet/files.rt, kd_trials/src/sheet/faults.rt
 use Rattle.std.specs.Prelude.{◌≡◌, ℕ, Bool, List, [], ◌∷◌, length, Option, Result, Ok, Err, ok_or, option_map, ⊤}

@@ -26,7 +26,8 @@ wheel_for key model slots item = do
   demand (not (list_any (λ seat. option_map_or (same_wheel wheel) seat false) slots)) WheelTwice
   Ok wheel
 
--- the wheel that `item` names, for the next slot after `slots`; at the key `slots`, `""` means an empty slot
+-- What the next slot after `slots` holds: the wheel that `item` names. At the key `slots` of a machine file, `""` means
+-- an empty slot.
 unfoldable pub seat_for : Key → Model → List (Option Wheel) → Data → Result (Option Wheel) SheetFault
 seat_for keys.Slots model slots (string []) = Ok None
 seat_for key model slots item = wheel_for key model slots item >>= (λ wheel. Ok (Some wheel))

@@ -68,7 +68,7 @@ columns_of pairs = map Some pairs ++ replicate (13 - length pairs) None
 abbrev pub costs_by : {X Y : Type 0} → (X → Y → ℕ) → List X → List Y → List (List ℕ)
 costs_by cost rows columns = map (λ row. map (cost row) columns) rows
 
--- the cost table of a machine and a day of the same model: a cost for each cable and column, or for each bar and row
+-- the cost table of a machine and a day of the same model: a cost for each cable and column, or each bar and row
 abbrev pub cost_table : Parts → Day → List (List ℕ)
 cost_table (Rotor m) (OfRotors s) = costs_by cable_cost m.cables (columns_of s.pairs)
 cost_table (Pin m) (OfPins s) = costs_by bar_cost m.bars s.rows

@@ -27,11 +27,11 @@ abbrev pub Finds : {F X : Type 0} → (X → Type 0) → F → AnswerRule F X
 Finds Holds due (Ok x) = Holds x
 Finds {X} Holds due (Err fault) = ((x : X) → ¬ (Holds x)) × (fault ≡ due)
 
--- the rule that success is right if this statement holds, and that this fault is right if it doesn't
+-- The rule for a test: success is right if the statement holds, and the fault is right if the statement doesn't hold.
 abbrev pub Demands : {F : Type 0} → Type 0 → F → AnswerRule F (Unit {0})
 Demands Holds due = Finds (λ _. Holds) due
 
--- the rule that a value is right if it has this property, and that no fault is right
+-- The rule for a step that always finds a value: a value is right if it has the property, and a fault is never right.
 abbrev pub FindsAlways : {F X : Type 0} → (X → Type 0) → AnswerRule F X
 FindsAlways Holds (Ok x) = Holds x
 FindsAlways Holds (Err fault) = ⊥

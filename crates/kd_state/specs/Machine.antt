@@ -57,7 +57,7 @@ HasAllPins pins = (wheel : ℕ) → length (wheel_pins pins wheel) ≡ length (r
 
 -- ---- Which parts make a machine.
 -- Source: the published accounts of the models; War Department TM 11-380; how a bar may stand is this desk's
--- own rule
+-- own rule.
 -- Code: `Machine` has these rules as its invariant.
 
 pub record IsLegalRotor (m : RotorParts) : Type 0 where

@@ -1,4 +1,4 @@
--- Wheels and reflectors compared by their names, and items found by their numbers.
+-- How definitions compare wheels and reflectors (by their names) and find items (by their numbers).
 -- Code: wheels and reflectors are compared by `==`; a wheel's place in the box is found by a search.
 use Rattle.std.specs.Prelude.{ℕ, zero, suc, Bool, List, slice_get, Option, None}
 use Rattle.std.specs.List.{position_or_len}

@@ -57,7 +57,7 @@ window_of (Rotor m) = filter_map (letter_at m) (seated_wheels m)
 window_of (Pin m) = m.letters
 
 -- ---- The cipher of a machine, by its slots, cables and lugs, and of a day, by its wheels, pairs and rows.
--- Source: the published accounts of the current's path; War Department TM 11-380
+-- Source: the published accounts of the current's path; War Department TM 11-380.
 -- Code: bars are counted by their readings, not by their lugs.
 
 -- the key to which a machine is set; of the cables, only those with two letters count

@@ -22,7 +22,7 @@ pub record IsWord (word : List ℕ) : Type 0 where
   pub spaceless : IsWithout 32 word
   pub unbroken : IsWithout 10 word
 
--- `part` is the text before its first `byte`, and `rest` is the text after this byte.
+-- `text` has the byte `byte`. `part` is the text before the first such byte, and `rest` is the text after it.
 pub record IsFirstPart (byte : ℕ) (text part rest : List ℕ) : Type 0 where
   pub joined : text ≡ part ++ byte ∷ rest
   pub without : IsWithout byte part
@@ -53,7 +53,7 @@ TextsTellFirstParts =
     (byte : ℕ) (first other rest more : List ℕ) → IsWithout byte first → IsWithout byte other
     → first ++ byte ∷ rest ≡ other ++ byte ∷ more → (first ≡ other) × (rest ≡ more)
 
--- A number below 2^64 in decimal is a word.
+-- The decimal text of a number below 2^64 is a word: it isn't empty, and has no space and no LF.
 abbrev pub NumbersAreWords : Type 0
 NumbersAreWords = (number : ℕ) → number < 2 ^ 64 → IsWord (decimal number)
 

@@ -122,7 +122,8 @@ pub fn reading_as_the_day_is_its_cipher()
     ensures cipher { ReadingIsItsCipher }
 {}
 
-/// A machine on the day's key is ready, and enciphers as the day asks, beginning with the letters shown.
+/// A machine on the day's key is ready, and enciphers as the day asks, with its own letters in the windows when the
+/// text begins.
 #[tactic(auto, using(crate::proofs::Keys::on_key_ready, crate::proofs::Keys::on_key_cipher))]
 pub fn being_on_the_key_is_its_cipher()
     ensures ready { OnKeyIsReady }

@@ -1,6 +1,6 @@
 -- One step of the wheels, by the letters in their windows. Wheels are counted from the right, from 0: the right
 -- wheel, the middle wheel, the left wheel, and on the M4 the Greek wheel, which never moves.
--- Source: the published accounts of the stepping, with its double step
+-- Source: the published accounts of the stepping, with its double step.
 -- Code: `Stepper` has a table for the middle wheel, and one for the right wheel: whether the wheel is at a notch,
 -- for each letter in its window.
 -- Test: wheels_step

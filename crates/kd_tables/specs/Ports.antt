@@ -53,22 +53,22 @@ pub record Port : Type 0 where
   pub had_failed : Bool
   pub has_failed : Bool
 
--- the `Port` of a source or a sink: its value is `old` before a call, and `new` after the call
+-- The `Port` of a source or a sink, made from its value `old` before a call and its value `new` after the call.
 abbrev pub port : {P : Type 0} → (P → Option (List ℕ)) → (P → Bool) → P → P → Port
 port bytes failed old new =
     record { had = bytes old; has = bytes new; had_failed = failed old; has_failed = failed new }
 
--- The port didn't fail during the call: `has_failed` equals `had_failed`.
+-- The call doesn't change whether the port has failed: `has_failed` equals `had_failed`.
 abbrev pub HasNotFailed : Port → Type 0
 HasNotFailed p = p.has_failed ≡ p.had_failed
 
--- After the call, port `p` has failed. Port `other` didn't fail during the call.
+-- After the call, port `p` has failed. The call doesn't change whether port `other` has failed.
 pub record FailsAlone (p other : Port) : Type 0 where
   pub failed : IsTrue p.has_failed
   pub well : HasNotFailed other
 
 -- The flag tells whether a call returned the error `Device`. With `true`, the source or the sink has failed, and the
--- other one didn't fail during this call. With `false`, neither of them failed during this call.
+-- call doesn't change whether the other one has. With `false`, the call doesn't change whether either one has.
 abbrev pub FailureAgrees : Port → Port → Bool → Type 0
 FailureAgrees source sink false = HasNotFailed source × HasNotFailed sink
 FailureAgrees source sink true = FailsAlone source sink ⊎ FailsAlone sink source

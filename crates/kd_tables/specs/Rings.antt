@@ -1,5 +1,5 @@
 -- The letters of the Converter M-209's six pin wheels.
--- Source: War Department TM 11-380
+-- Source: War Department TM 11-380.
 -- Code: each wheel has a function of its own, from `ring1` to `ring6`.
 -- Test: pin_wheels_have_their_own_letters
 use Rattle.std.specs.Prelude.{codes, ◌≡◌, ℕ, ◌<◌, ◌==◌, nat_eq, List, [], ◌∷◌, length, slice_index_or, All, Option}

@@ -1,5 +1,5 @@
 -- Wheels: their names, their wirings and their notches.
--- Source: the published wirings and notches of the Wehrmacht's and the Kriegsmarine's machines
+-- Source: the published wirings and notches of the Wehrmacht's and the Kriegsmarine's machines.
 -- Code: each call of `wiring` makes the table from the published text; `notched` searches a short text.
 -- Test: wheels_are_as_published
 use Rattle.std.specs.Prelude.{codes, ℕ, ◌-◌, ◌==◌, nat_le, Bool, ◌&&◌, if◌then◌else◌, List, [], ◌∷◌, ◌++◌, map}
@@ -40,7 +40,7 @@ abbrev pub is_notch : Wheel → ℕ → Bool
 is_notch wheel letter = list_any (λ notch. notch == letter) (letters_of (wheel_table wheel).2)
 
 -- ---- Reflectors: their names and their wirings.
--- Source: the published wirings
+-- Source: the published wirings.
 -- Test: reflectors_are_as_published
 
 -- The name and the wiring of each reflector. The wiring: the letters into which the reflector turns A to Z.
@@ -58,7 +58,7 @@ unfoldable pub reflector_of : Reflector → List ℕ
 reflector_of reflector = letters_of (reflector_table reflector).1
 
 -- ---- Models: their names, their slots, and the wheels and reflectors of their boxes.
--- Source: the published accounts of the models
+-- Source: the published accounts of the models.
 -- Code: the box of each model is a prefix of one array.
 -- Test: models_have_names_and_parts
 
@@ -78,7 +78,7 @@ slots_of model = (model_table model).1
 abbrev pub reflectors_of : Model → List Reflector
 reflectors_of model = (model_table model).2
 
--- the wheels that a slot of a model may hold, by the slot's number (1 is the left slot); none if there is no such slot
+-- the wheels that a slot of a model may hold, by the slot's number (1 is the left slot); none if no such slot exists
 abbrev pub wheels_for : Model → ℕ → List Wheel
 wheels_for EnigmaI slot = if nat_le 1 slot && nat_le slot 3 then I ∷ II ∷ III ∷ IV ∷ V ∷ [] else []
 wheels_for M3 slot = if nat_le 1 slot && nat_le slot 3 then I ∷ II ∷ III ∷ IV ∷ V ∷ VI ∷ VII ∷ VIII ∷ [] else []

@@ -91,7 +91,7 @@ impl Letter {
         }
     }
 
-    /// The letter `by.index()` places further on in the alphabet, with A after Z.
+    /// Moves this letter forward in the alphabet by `by.index()` places, with A after Z.
     pub const fn forward(self, by: Letter) -> Letter
         ensures value { result ≡ (self + by) % 26 }
         ensures within { result < 26 }
@@ -101,7 +101,7 @@ impl Letter {
         }
     }
 
-    /// The letter `by.index()` places further back in the alphabet, with Z before A.
+    /// Moves this letter back in the alphabet by `by.index()` places, with Z before A.
     pub const fn back(self, by: Letter) -> Letter
         ensures value { result ≡ (self + (26 - by)) % 26 }
         ensures within { result < 26 }

@@ -66,7 +66,7 @@ pub enum Refusal {
     DayTwice,
     /// Memory ran out.
     NoMemory,
-    /// The machine is of another model than the day, or isn't set as the day says, window letters apart.
+    /// The machine is of another model than the day, or isn't set as the day says. The shown letters don't matter.
     NotOnKey,
     /// A byte isn't allowed at its place, or is missing.
     BadByte,
@@ -146,7 +146,7 @@ impl Refusal {
         }
     }
 
-    /// The text of a refusal without details: its number and name.
+    /// The number and the name of the refusal. Details, such as a line, aren't part of this text.
     pub fn text(self) -> Text
         ensures bytes { result.bytes ≡ refusal_name self }
         ensures short { array_string_len result ≤ 20 }
@@ -176,7 +176,7 @@ impl Refusal {
         text
     }
 
-    /// The text of a refusal with `word` at its end: the name of a file's key, or of a reason.
+    /// The refusal's number and name, and then `word`: the name of a key of a file, or the name of a reason.
     pub fn text_with_word(self, word: &str) -> Text
         requires { length word.now ≤ 22 }
         ensures { result.bytes ≡ refusal_name self ++ word_after_space word.now }

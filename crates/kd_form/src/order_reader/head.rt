@@ -22,7 +22,7 @@ pub(crate) struct HeadReader {
     line: ArrayVec<u8, LINE>,
 }
 
-/// What a `HeadReader` has found after its last byte.
+/// What a `HeadReader` says once it has read another byte.
 #[derive(Clone, Copy)]
 pub(crate) enum HeadStep {
     /// The head isn't complete yet.

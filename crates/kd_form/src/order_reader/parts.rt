@@ -55,7 +55,8 @@ impl PartWriter {
 
     /// Takes the next letter of the text. If the letters collected fill a part, first writes this part to `output`.
     ///
-    /// The last part is written only by `end`. Once it is full, further letters are only counted.
+    /// But the last part, for which the last line of keys is used, is written by `end`. Once the last part is full,
+    /// letters are only counted.
     fn take_letter(&mut self, day: &SheetDay, keys: &[Keys], letter: Letter, output: &mut PartText)
         requires taken { (letters sent : List ℕ) × AreLettersTaken day.now keys.now self.old letters sent
             × (length letters < 2 ^ 63) }
@@ -98,7 +99,7 @@ impl PartWriter {
         Ok(())
     }
 
-    /// Writes to `output` the next part, which gets the letters collected.
+    /// Writes the next part to `output`. Its text is the letters collected so far.
     fn write_part(&mut self, day: &SheetDay, keys: &[Keys], output: &mut PartText)
         requires keys { AreSuitedKeys day.now keys.now }
         requires another { self.old.written < length keys.now }

@@ -39,7 +39,7 @@ pub(crate) trait ChunkReader<Context> {
             bytes.now (port W.taken W.has_failed sink.old sink.new) result }
         ensures failed { W.has_failed sink.new ≡ (W.has_failed sink.old || is_device_interruption result) };
 
-    /// Ends the message, and writes the rest of the result to `sink`.
+    /// Ends the message, and writes to `sink` what is still to be written, even if a fault is returned.
     fn finish<W: Sink>(&mut self, context: &Context, sink: &mut W) -> Result<(), Interruption>
         requires { HasRoom (message context.now) (holds context.now self.old) 0 }
         ensures ended { IsFinishAnswer (message context.now) (holds context.now self.old)

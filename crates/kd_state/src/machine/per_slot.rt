@@ -120,7 +120,7 @@ impl PerSlot<SheetWheel> {
     }
 }
 
-/// The contents of a slot after `wheel` is taken out: nothing if `seated`, the old contents, is `wheel`, else `seated`.
+/// What a slot with `seated` holds after `wheel` is taken out: nothing if `seated` is `wheel`, else `seated`.
 fn seat_without(seated: Option<Wheel>, wheel: Wheel) -> Option<Wheel>
     ensures { result ≡ seat_without wheel seated }
 {

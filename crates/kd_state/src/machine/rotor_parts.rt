@@ -20,7 +20,7 @@ pub struct RotorParts {
     pub reflector: Reflector,
     /// The ring of each wheel that the model has, in a slot or in the box, in box order. Ring 01 is A.
     pub rings: PerWheel<Letter>,
-    /// The window letter of each wheel that the model has, in a slot or in the box, in box order.
+    /// The window letter of each of the model's wheels, in a slot or not. The order is the box order.
     pub letters: PerWheel<Letter>,
     /// The letters in each cable, from cable 1 to cable 13.
     pub cables: [Cable; 13],
