@@ -26,9 +26,9 @@ pub record IsNearest (n : ℕ) (prices : List ℤ) (reached : List Bool) (ceilin
   pub outside : has_column reached end ≡ false
   pub least : (j : ℕ) → j < n → has_column reached j ≡ false → room_at ceilings prices end ≤ℤ room_at ceilings prices j
 
--- One column is compared with `row`, which offers the price `offer` for the column. Before, the column's nearest row
--- `near` offers `ceiling`; after, its nearest row `near'` offers `ceiling'`. If the column is outside the tree, the row
--- with the lower price is now the nearest. If the column is in the tree (`reached`), nothing changes.
+-- One column is compared with `row`, which offers the price `offer` for it. Before, the column's nearest row is `near`,
+-- which offers `ceiling`; after, it is `near'`, which offers `ceiling'`. If the column is outside the tree, its nearest
+-- row is now that of `row` and `near` which offers less. If the column is in the tree (`reached`), nothing changes.
 pub record IsCompared (reached : Bool) (row : ℕ) (offer : ℤ) (near : ℕ) (ceiling : ℤ)
     (near' : ℕ) (ceiling' : ℤ) : Type 0 where
   pub one : ((near' ≡ near) × (ceiling' ≡ ceiling)) ⊎ ((reached ≡ false) × (near' ≡ row) × (ceiling' ≡ offer))
@@ -46,8 +46,8 @@ pub record AreCompared (n : ℕ) (cost : List (List ℕ)) (reached : List Bool) 
 module _ (n : ℕ) (cost : List (List ℕ)) (prices : List ℤ) (holders : List (Option ℕ)) (root : ℕ) (reached : List Bool)
     (ceilings : List ℤ) where
   -- `plan` gives a column to each row from 0 to `root`, except row `out`. It uses the same columns as `holders`, and
-  -- agrees with `holders` outside the tree. Let the ceilings be the prices: if `plan` gives a row a column of the tree,
-  -- no other column is cheaper for this row.
+  -- agrees with `holders` outside the tree. In `plan`, each row that has a column of the tree has its cheapest column,
+  -- if the ceilings are taken as prices.
   pub record IsAssignmentWithout (plan : List (Option ℕ)) (out : ℕ) : Type 0 where
     pub places : length plan ≡ n
     pub out_in_range : out < n
@@ -59,8 +59,8 @@ module _ (n : ℕ) (cost : List (List ℕ)) (prices : List ℤ) (holders : List 
     pub taken : (j : ℕ) → is_some (slice_index_or plan j None) ≡ is_some (slice_index_or holders j None)
 
   -- Each column of the tree has a row. No column of the tree has more room (ceiling minus price) than a column outside.
-  -- Let the ceilings be the prices: if a column is outside the tree, no other column is cheaper for its nearest row.
-  -- For the nearest row of each such column, `plans` has an assignment of columns to all other rows from 0 to `root`.
+  -- If the ceilings are taken as prices, each column outside the tree is the cheapest column of its nearest row. For
+  -- each of these nearest rows, `plans` has an assignment of columns to all other rows from 0 to `root`.
   pub record IsGrownTree (near : List ℕ) (plans : List (List (Option ℕ))) : Type 0 where
     pub places : length reached ≡ n
     pub plan_places : length plans ≡ n

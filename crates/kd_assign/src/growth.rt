@@ -12,7 +12,8 @@ use crate::scans::Scans;
 ///
 /// A tree of rows and columns grows from `root`. In each round the nearest column joins the tree, and then the row that
 /// holds this column. The growth ends at a free column, which no row holds. For each row of the tree, `plans` gets an
-/// assignment of columns to all other rows from 0 to `root`. The old contents of `plans` are never read.
+/// assignment without this row: it gives columns to all rows from 0 to `root`, except this one. The old contents of
+/// `plans` are never read.
 pub fn assign_row<const N: usize>(
     cost: &[[u8; N]; N],
     prices: &mut [i16; N],

@@ -14,7 +14,8 @@ pub struct Nearest<const N: usize> {
     /// The ceiling of each column: the lowest price that a row of the tree offers for it.
     ///
     /// A column's room is its ceiling minus its price; the nearest column has the least room. When a free column ends
-    /// the tree, let `r` be its room. A price above its column's ceiling minus `r` is then lowered to this difference.
+    /// the tree, let `r` be the room of this free column. If another column has less room than `r`, its price is
+    /// lowered until its room is `r`.
     pub ceiling: [i16; N],
 }
 

@@ -44,7 +44,7 @@ pub record HasLineWords (bytes : List ℕ) (words : List (List ℕ)) (rest : Lis
   pub first : IsFirstPart 10 bytes line rest
   pub parts : words_of line ≡ words
 
--- The result of reading a line such as `SUM 12`, which has `front` and then a number: the bytes after the line, or a
+-- Reading a line such as `SUM 12`, which has `front` and then a number. The result is the bytes after the line, or a
 -- fault. If the line has another form or no LF, the fault is `BadLine`. If its number isn't `due`, the fault is
 -- `CountWrong`.
 abbrev pub IsValueAnswer : Bool → List ℕ → List ℕ → ℕ → List ℕ → AnswerRule CardFault (List ℕ)
@@ -128,8 +128,8 @@ pub data EndsGroup (word bytes : List ℕ) : Type 0 where
   AtNothing : bytes ≡ [] → EndsGroup word bytes
   AtOther : (other : List ℕ) → BeginsWithWord other bytes → other ≢ word → EndsGroup word bytes
 
--- `bytes` begin with the line of `kind`, a valid kind, and then comes `rest`. If there is a kind `last`, `kind` comes
--- after it in the order of a card's lines.
+-- `bytes` are the line of `kind`, and then `rest`. The kind is valid. If there is a kind `last`, `kind` comes after it
+-- in the order of a card's lines.
 pub record IsNextKind {K X : Type 0} (format : KindFormat K X) (last : Option K) (bytes : List ℕ) (kind : K)
     (rest : List ℕ) : Type 0 where
   pub good : IsKind format kind
@@ -154,9 +154,9 @@ pub record BeginsWithKinds {K X : Type 0} (format : KindFormat K X) (last : Opti
   pub none_more : HasNoNext format (last_of last kinds) rest
 
 -- The result of reading a group of kinds: the kinds and the bytes after them, or a fault. The fault is `BadLine` if a
--- line has no LF, or begins with the group's word but isn't a valid kind's line in its place. The fault is
--- `PriceMissing` if the kinds' counts don't add up to `number`.
--- Code: the reader keeps at most `number` kinds, and stops adding counts at `number + 1`.
+-- line has no LF. It is `BadLine`, too, if a line begins with the group's word, but has no valid kind, or not the kind
+-- that comes next. The fault is `PriceMissing` if the kinds' counts don't add up to `number`. Code: the reader keeps at
+-- most `number` kinds, and stops adding counts at `number + 1`.
 abbrev pub IsGroupAnswer : {K X : Type 0} → KindFormat K X → ℕ → ℕ → List ℕ → AnswerRule CardFault (List K × List ℕ)
 IsGroupAnswer {K} format number line bytes = do
   group ← FindsAlways (λ (group : List K × List ℕ). BeginsWithKinds format None bytes group.0 group.1)

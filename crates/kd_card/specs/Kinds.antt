@@ -135,7 +135,7 @@ expansion kinds = flat_map (λ kind. replicate kind.count (kind.key, kind.price)
 
 -- The `keys` (letters, standings or readings), each with its price, are exactly what the kinds count, in some order.
 -- Code: `kinds_of` sorts keys with their prices, and counts equal ones. For each key, `prices_of` lowers the count of
--- the key's kind by one. Neither function lists the `expansion`.
+-- the key's kind by one.
 pub record AreKindsOf {K X : Type 0} (format : KindFormat K X) (keys : List X) (prices : List ℤ) (kinds : List K)
     : Type 0 where
   pub number : length prices ≡ length keys

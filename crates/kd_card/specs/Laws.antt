@@ -9,8 +9,8 @@ use Rattle.kd_state.specs.{declared.setting.Setting.Setting, Costs.{cost_table, 
 use Rattle.kd_state.specs.Machine.{IsMachine, model_of}
 use Rattle.std.specs.Prelude.{◌≡◌, ℕ, ◌+◌, ◌≤◌, List, [], ◌++◌, length, pos, ◌+ℤ◌, ◌≤ℤ◌, ◌↔◌, Ok}
 
--- The number of settings for loose things is the number of loose things. A loose thing, such as a ring or a pin, isn't
--- as the day says; cables and bars are never loose.
+-- There are as many settings for loose things as there are loose things. A thing such as a ring or a pin is loose if it
+-- isn't as the day says. Cables and bars are never loose.
 abbrev pub LooseThingsAreCounted : Type 0
 LooseThingsAreCounted =
     (m : Parts) (s : Day) → IsMachine m → IsLegalDay s → model_of m ≡ day_model s
@@ -47,9 +47,8 @@ ProvingCardsAreShortest =
     → ArePrices prices → Proves m s settings prices
     → IsShortest m s settings
 
--- If a card by number proves itself, none of its prices can be raised alone. Each row and each column of the table of
--- costs has a cell where the prices of row and column add up to the cost. By number means that each cable and column,
--- or each bar and row, has its own price.
+-- If a card with prices by number proves itself, none of its prices can be raised alone. Each row and each column of
+-- the table of costs has a cell where the prices of row and column add up to the cost.
 abbrev pub ProvingPricesAreTight : Type 0
 ProvingPricesAreTight =
     (m : Parts) (s : Day) (settings : List Setting) (prices : PriceParts) → IsMachine m → IsLegalDay s

@@ -18,7 +18,7 @@ pub record IsProvedCard (m : Parts) (s : Day) (settings : List Setting) (n : Par
   pub proves : Proves m s settings prices
 
 -- Each day has one list of settings, and `Sets` holds for each day and its list. The first list is carried out on
--- machine `m`, each later list on the machine that the list before it reaches.
+-- machine `m`. Each later list is carried out on the machine that the previous list has reached.
 abbrev pub DayAfterDay : (Parts → Day → List Setting → Parts → Type 0) → Parts → List Day → List (List Setting) → Type 0
 DayAfterDay Sets m [] [] = Unit {0}
 DayAfterDay Sets m (s ∷ days) (settings ∷ lists) = (n : Parts) × Sets m s settings n × DayAfterDay Sets n days lists

@@ -1,6 +1,7 @@
--- The prices of a card, and what it means that they fit a table of costs. By number, each cable and each column, or
--- each bar and each row of the sheet, has its own price. By kind, equal ones share one price. A column is a pair or
--- empty. Rows and columns of the table are counted from 0.
+-- The prices of a card, and what it means that they fit a table of costs. With prices *by number*, each cable and each
+-- column, or each bar and each row of the sheet, has its own price. With prices *by kind*, equal cables share one
+-- price, and so do equal columns, bars or rows. A column is a pair or empty. Rows and columns of the table are counted
+-- from 0.
 use Rattle.kd_card.specs.Kinds.{cable_format, pair_format, bar_format, row_format, prices_of_kinds, IsGroup}
 use Rattle.kd_card.specs.declared.prices.PriceParts.TheVariants.{Cables, Bars, CableKinds, BarKinds}
 use Rattle.kd_card.specs.{declared.prices.Version.TheVariants.{ByNumber, ByKind}, declared.prices.PriceParts.PriceParts}
@@ -14,16 +15,16 @@ version_of (CableKinds row col) = ByKind
 version_of (BarKinds row col) = ByKind
 version_of _ = ByNumber
 
--- A price for each row of the table of costs, that is, for each cable or each bar. Prices by kind come kind after kind,
--- each as often as the kind's count says.
+-- A price for each row of the table of costs. If prices are by kind, the kinds come one after another, and each kind's
+-- price stands as often as its count says.
 abbrev pub row_prices : PriceParts → List ℤ
 row_prices (Cables row col) = row
 row_prices (Bars row col) = row
 row_prices (CableKinds row col) = prices_of_kinds cable_format row.items
 row_prices (BarKinds row col) = prices_of_kinds bar_format row.items
 
--- A price for each column of the table of costs: each pair and empty column, or each row of the sheet. Prices by kind
--- come kind after kind, each as often as the kind's count says.
+-- A price for each column of the table of costs. If prices are by kind, the kinds come one after another, and each
+-- kind's price stands as often as its count says.
 abbrev pub column_prices : PriceParts → List ℤ
 column_prices (Cables row col) = col
 column_prices (Bars row col) = col
@@ -56,7 +57,7 @@ ArePrices (BarKinds row col) = IsGroup bar_format 27 row.items × IsGroup row_fo
 abbrev pub cost_at : List (List ℕ) → ℕ → ℕ → ℕ
 cost_at costs i j = slice_index (slice_index_or costs i []) j
 
--- the price at place `i` of a list, counted from 0: of row `i`, or of column `i`, of the table of costs
+-- the price of row `i` or of column `i`, counted from 0, if `prices` are those of the rows or those of the columns
 abbrev pub price_at : List ℤ → ℕ → ℤ
 price_at prices i = slice_index_or prices i (pos 0)
 

@@ -33,7 +33,7 @@ priced_count settings = count_by is_priced_setting settings
 abbrev pub IsSettingNeeded : Parts → Day → Setting → Type 0
 IsSettingNeeded m s x = IsFalse (is_priced_setting x) → loose_count m s ≡ loose_count (machine_after m x) s + 1
 
--- If the settings are carried out in turn, each of them is needed.
+-- When the settings are carried out in turn, each of them is needed at its time.
 abbrev pub AreSettingsNeeded : Parts → Day → List Setting → Type 0
 AreSettingsNeeded m s [] = Unit {0}
 AreSettingsNeeded m s (x ∷ xs) = IsSettingNeeded m s x × AreSettingsNeeded (machine_after m x) s xs

@@ -20,8 +20,8 @@ abbrev pub head_prefix : Version → List ℕ
 head_prefix ByNumber = codes "CARD 1 DAY "
 head_prefix ByKind = codes "CARD 2 DAY "
 
--- The group of kinds ends before `bytes`. `IsBadKindAt`: the group goes on with a bad line. The line has no LF, or no
--- valid kind, or a kind that isn't after `last` in the order of kinds.
+-- The group of kinds ends before `bytes`. `IsBadKindAt`: the group doesn't end there, but goes on with a bad line: a
+-- line without LF, without a valid kind, or with a kind that isn't after `last` in the order of kinds.
 pub record EndsKindsAt {K X : Type 0} (format : KindFormat K X) (last : Option K) (bytes : List ℕ) : Type 0 where
   pub ends : EndsGroup format.word bytes
   pub none_more : HasNoNext format last bytes
@@ -30,7 +30,7 @@ pub record IsBadKindAt {K X : Type 0} (format : KindFormat K X) (last : Option K
   pub goes_on : ¬ (EndsGroup format.word bytes)
   pub none_more : HasNoNext format last bytes
 
--- `words` are the words of the line of `kind`, and of no kind with another key.
+-- `words` are the words of the line of `kind`. Lines of kinds with another key have other words.
 pub record IsKindOfWords {K X : Type 0} (format : KindFormat K X) (words : List (List ℕ)) (kind : K) : Type 0 where
   pub has : HasKindWords format words kind
   pub only : (other : K) → HasKindWords format words other → (format.kind other).key ≡ (format.kind kind).key

@@ -37,8 +37,8 @@ fn kind_behind<K: Kind>(behind: Option<&[u8]>) -> Option<K>
 /// Reads the next kind of a group from the first line of `text`. Returns this kind, and the text after the line.
 ///
 /// `None` if the group ends here: `text` is empty, or its first line begins with another word than `K::word()` and ends
-/// with LF. If the group doesn't end here, the line has to end with LF, and to have a valid kind that comes after the
-/// kind `last`. If it doesn't, line `line` of the card is bad.
+/// with LF. A group that goes on needs a line with LF and with a valid kind, which comes after the kind `last`. For any
+/// other line, line `line` of the card is bad.
 fn next_kind<K: Kind>(
     text: &[u8],
     last: Option<K>,

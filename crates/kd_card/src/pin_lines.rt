@@ -39,9 +39,10 @@ fn push_pins(settings: &mut Settings, present: &PinSet, wanted: &PinSet)
     push_wheel_pins(settings, 6, &ring6().letters(), &present.w6, &wanted.w6);
 }
 
-/// Appends the setting TURN for each pin wheel whose letter in `letters` isn't the day's letter in `window`.
+/// Appends the setting TURN for each pin wheel that shows another letter than the day's.
 ///
-/// `number` is the number of the first of these wheels. Wheels are counted from 1.
+/// The wheels show `letters`, and the day asks for the letters `window`. The first of these letters are those of wheel
+/// `number`. Wheels are counted from 1.
 fn push_pin_turns(settings: &mut Settings, number: u8, letters: &[Letter], window: &[Letter])
     requires few { number + length letters.now < 256 }
     requires room { array_vec_len settings.old + length letters.now ≤ 192 }

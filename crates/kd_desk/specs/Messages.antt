@@ -25,8 +25,8 @@ fault_of_message fault = faults.Message fault
 abbrev pub answer_to_message : Result (Unit {0}) FormFault → Result (Unit {0}) DeskFault
 answer_to_message answer = result_map_both (λ done. done) fault_of_message answer
 
--- `told` is the answer of a call that types, sends or receives a message. This answer satisfies `is_so`, and `answer`
--- is the desk's answer made from it.
+-- `told` is the answer of a call that types, sends or receives a message, and satisfies `is_so`. The desk's answer
+-- `answer` is made from `told`.
 pub record IsAnswered (is_so : Result (Unit {0}) FormFault → Type 0) (answer : Result (Unit {0}) DeskFault)
     : Type 0 where
   pub told : Result (Unit {0}) FormFault
@@ -45,9 +45,9 @@ IsStreamedOn m s message source sink answer = IsAnswered (StreamsOnKey m s messa
 abbrev pub Sends : Parts → Day → Port → Port → Result (Unit {0}) DeskFault → Type 0
 Sends m s order sink answer = IsStreamedOn m s (order_message s) order sink answer
 
--- How forms and orders agree on the day `s`. If a form is made from an order, the form's text is the text that
--- `IsPlaintextOf` says. A form with a fault isn't made from any order. If no further bytes can change its fault, no
--- form that begins with its bytes is made from an order either.
+-- How the forms and the orders of day `s` agree. If a form is made from an order, the form's text is the text that
+-- `IsPlaintextOf` says. A form with a fault isn't made from any order. If no further bytes can change the fault, a
+-- longer form that begins with these bytes isn't, either.
 pub record TellOfOrders (s : Day) : Type 0 where
   pub back : (form text order given : List ℕ) → IsTextOf s form text → IsFormOf s order form
       → IsPlaintextOf s order given → text ≡ given

@@ -1,4 +1,5 @@
--- A month on one machine: for each day a card and the machine file after it, and what they promise.
+-- A month on one machine. Each day has a card, and a machine file for the machine after the card's settings. What cards
+-- and files promise.
 -- Test: tests/guide
 use Rattle.std.specs.Prelude.{◌≡◌, ◌⊎◌, ℕ, List, [], ◌∷◌, false, Option, Some, Result, Ok, IfOk}
 use Rattle.std.specs.List.{AllZip}

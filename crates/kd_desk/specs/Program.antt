@@ -33,8 +33,8 @@ use Rattle.kd_desk.specs.RunCard.{Prints}
 use Rattle.kd_desk.specs.RunCheck.{Checks}
 use Rattle.kd_desk.specs.RunSteps.{LacksMemory, AnswersFault, is_refused_before, is_device}
 
--- A task with what is known of its files: the bytes of a file that is read whole, and a `KnownFile` for an opened
--- file. The next two definitions are the same for actions and commands.
+-- A task with what is known of its files: the bytes of a file that is read whole, and a `KnownFile` for an opened file.
+-- `KnownAction`, `KnownCommand`: the same for an action and for a command.
 abbrev pub KnownTask : Type 0
 KnownTask = Task (List ℕ) KnownFile
 
@@ -154,8 +154,9 @@ abbrev pub is_stopped_by_port : Result (Unit {0}) Stop → Bool
 is_stopped_by_port (Err (Refused fault)) = is_device (Err fault)
 is_stopped_by_port _ = false
 
--- Which file names were asked for. `Usage`: none. `Unread`: the names up to the first file that couldn't be read or
--- opened. Otherwise all names, or none if memory ran out while the command line was read.
+-- Which file names were asked for. If the answer is `Usage`: none. If it is `Unread`: the names up to the first file
+-- that couldn't be read or opened. If it is another: all names, or none if memory ran out while the command line was
+-- read.
 abbrev pub AsksFor : List (List ℕ) → List AskedName → Result (Unit {0}) Stop → Type 0
 AsksFor names asked (Err Usage) = asked ≡ []
 AsksFor names asked (Err (Unread fault)) = AreAskedFor names [] asked false

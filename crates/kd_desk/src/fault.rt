@@ -37,7 +37,7 @@ pub enum DeskFault {
     OtherDay,
     /// The card doesn't prove itself shortest, for this reason.
     Doubtful(Doubt),
-    /// A text can't be typed, an order sent, or a form received, for this reason.
+    /// Why a text can't be typed, why an order can't be sent, or why a form can't be received.
     Message(FormFault),
 }
 

@@ -6,7 +6,8 @@ use Rattle.kd_tables.specs.Permutation.{alphabet, followed_by, inverse}
 use Rattle.kd_tables.specs.declared.wheel.Wheel.{Wheel}
 use Rattle.kd_enigma.specs.Rotor.{rotor}
 
--- A wheel, its ring, and the board to its right: the plugboard, or a permutation that changes nothing.
+-- A wheel, its ring, and the board that the current passes before the wheel: the plugboard, or a permutation that
+-- changes nothing.
 pub record SeatedWheel : Type 0 where
   pub wheel : Wheel
   pub ring : ℕ
@@ -17,8 +18,8 @@ abbrev pub around_wheel : List ℕ → List ℕ → List ℕ → List ℕ
 around_wheel board core wheel = followed_by (followed_by (followed_by board wheel) core)
     (followed_by (inverse wheel) board)
 
--- The current's path in through these wheels, through `core`, and back, while the window shows these letters. The first
--- wheel is next to `core`.
+-- The current's path in through these wheels, then through `core`, then back, while the windows show these letters. The
+-- wheels are listed from the one next to `core`.
 abbrev pub around_wheels : List ℕ → List SeatedWheel → List ℕ → List ℕ
 around_wheels core (s ∷ seated) (letter ∷ window) = around_wheels
     (around_wheel s.board core (rotor s.wheel s.ring letter)) seated window

@@ -40,8 +40,8 @@ EnigmaTwiceGivesBack =
     (key : RotorKey) (text : List ℕ) → IsPlugboard key.plugs → All (λ letter. letter < 26) text
     → enigma_cipher key (enigma_cipher key text) ≡ text
 
--- The text `first ++ rest` can be enciphered in two chunks. The key for `rest` is the key after the key presses for
--- `first`.
+-- The text `first ++ rest` can be enciphered in two chunks. The chunk `rest` is enciphered with the key that the
+-- machine has after it enciphered `first`.
 abbrev pub EnigmaCipherInTurn : Type 0
 EnigmaCipherInTurn =
     (key : RotorKey) (first rest : List ℕ)

@@ -56,7 +56,8 @@ impl Rotor {
         }
     }
 
-    /// The current's path in through board and wheel, through `core`, and back, while `window` shows.
+    /// The current's path in through the board and the wheel, then through `core`, then back, while the wheel shows
+    /// `window`.
     ///
     /// `core` is the path further left: in to the reflector, and back.
     pub(crate) fn enclose(&self, core: Map, window: Letter) -> Map

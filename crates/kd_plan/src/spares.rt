@@ -7,7 +7,7 @@ ghost use Rattle.kd_state.specs.Costs.{cable_cost, columns_of, costs_by};
 use kd_state::Cable;
 use kd_tables::Letter;
 
-/// Moves pairs in `to` from spare cables to cables in use, or to spare cables with lower numbers.
+/// Changes the assignment `to`: a spare cable's pair goes to a cable in use, or to a spare cable with a lower number.
 ///
 /// In each move, a spare cable and a cable without a pair swap their columns. The spare cable's cost falls from 2 to 0,
 /// and the other cable's cost grows by at most 2. So the total cost doesn't grow.

@@ -1,5 +1,5 @@
--- Why a card doesn't prove itself: the first doubt, in a fixed order. A doubt counts from 1: settings, rows and
--- columns.
+-- Why a card doesn't prove itself: the first doubt, in a fixed order. The numbers of settings, rows and columns in a
+-- doubt count from 1.
 use Rattle.std.specs.Prelude.{◌≡◌, ◌⊎◌, ℕ, ◌+◌, ◌<◌, List, ◌∷◌, ◌++◌, length, ℤ, pos, Ok, Err}
 use Rattle.kd_state.specs.{FirstFaults.{AnswerRule, Demands, Finds, ◌>>=◌}, Setting.{IsFirstIllegal, Leads}}
 use Rattle.kd_state.specs.declared.{machine.parts.Parts.{Parts, TheVariants.{Pin, Rotor}}, setting.Setting.Setting}
@@ -63,9 +63,8 @@ IsNeededAnswer m s settings (Ok all) = AreSettingsNeeded m s settings
 IsNeededAnswer m s settings (Err (NeedlessLine line)) = IsFirstNeedless m s settings line
 IsNeededAnswer m s settings (Err doubt) = ⊥
 
--- The result of checking a card by number: success, or the first doubt. Success means that its settings lead to the
--- day, and that its prices prove that no shorter list does. By number means that each cable and column, or each bar and
--- row, has its own price.
+-- The result of checking a card with prices by number: success, or the first doubt. Success means that its settings
+-- lead to the day, and that its prices prove that no shorter list does.
 abbrev pub IsByNumberAnswer : Parts → Day → List Setting → PriceParts → AnswerRule Doubt (Unit {0})
 IsByNumberAnswer m s settings prices = do
   n ← IsCarriedAnswer m settings

@@ -36,9 +36,9 @@ fn kind_of_one<T: KindKey>(pair: &(T, i16)) -> KindOf<T>
     }
 }
 
-/// Appends `kind`, and then the kinds of `pairs`, which are sorted.
+/// Appends `kind`, and then the kinds of `pairs`, which are keys with their prices, in ascending order.
 ///
-/// If `pairs` begins with the key and the price of `kind`, `kind` counts these pairs, too.
+/// As long as `pairs` begin with the key and the price of `kind`, `kind` counts them, too.
 fn push_kinds<K: Kind, const N: usize>(
     kind: KindOf<K::Key>,
     pairs: &[(K::Key, i16)],

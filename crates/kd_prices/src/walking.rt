@@ -15,9 +15,10 @@ pub(crate) struct Carried {
     pub needed: Result<(), Doubt>,
 }
 
-/// Carries out `settings` in turn, and compares the number of loose things before and after each setting.
+/// Carries out `settings` in turn. Returns the machine reached, and whether each setting was needed.
 ///
-/// The error is the doubt about the first setting that the machine refuses.
+/// A setting is needed if it changes a cable or a bar, or lowers the number of loose things by one. The error is the
+/// doubt about the first setting that the machine refuses.
 #[tactic(auto, using(kd_state::proofs::Telling::Refusing::stops_at))]
 pub(crate) fn carry_settings(
     machine: &Machine,

@@ -18,9 +18,9 @@ pub enum SheetFault {
     Missing(Key),
     /// A key's value is wrong.
     ///
-    /// The value or one of its items has the wrong type, form or length, or is a number out of range. Or it names no
-    /// wheel, or no reflector of the model, where it should. Or a letter isn't on its pin wheel, or a pin is named
-    /// twice.
+    /// The value or one of its items has the wrong type, form or length, or is a number out of range. Or its text is no
+    /// wheel's name, or no name of a reflector that the model has. Or a letter isn't on its pin wheel, or a pin is
+    /// named twice.
     BadValue(Key),
     /// A letter occurs twice among the cables, or among the pairs.
     LetterTwice,

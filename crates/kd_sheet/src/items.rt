@@ -12,9 +12,9 @@ use toml::{Table, Value};
 
 /// A type whose values can be read from the items of an array.
 ///
-/// `Given` is what an item's reading needs besides the items: for a wheel, the key and the model.
+/// `Given` is what is needed to read an item, besides the items: for a wheel, the key and the model.
 pub trait FromItem<Given> {
-    /// The rule that makes a value or a fault from `Given`, the values of the items before, and the item.
+    /// The rule that makes a value or a fault. It takes `Given`, the values of the earlier items, and the item.
     ghost parse: { Given → List Self → Data → Result Self SheetFault };
 
     /// Reads `item`. `before` has the values of the items before it.

@@ -160,13 +160,13 @@ ReadingIsItsCipher =
 abbrev pub OnKeyIsReady : Type 0
 OnKeyIsReady = (m : Parts) (s : Day) → IsMachine m → IsLegalDay s → OnKey m s → IsReady m
 
--- A machine on the day's key enciphers as the day asks, with its own letters in the windows when the text begins.
+-- A machine on the day's key enciphers as the day asks, beginning with the letters that it shows, not with the day's.
 abbrev pub OnKeyIsItsCipher : Type 0
 OnKeyIsItsCipher = (m : Parts) (s : Day) (text : List ℕ) → IsMachine m → IsLegalDay s → OnKey m s
     → physical_cipher m text ≡ cipher (key_with_window (sheet_key s) (window_of m)) text
 
--- Suppose that a machine on the day's key is turned to other letters. Then it enciphers as the day asks, with these
--- letters in the windows when the text begins.
+-- Suppose that a machine on the day's key is turned to other letters. If a text begins with these letters in the
+-- windows, the machine enciphers it as the day asks.
 abbrev pub TurnedHasTheDaysCipher : Type 0
 TurnedHasTheDaysCipher =
     (m n : Parts) (s : Day) (window text : List ℕ) → IsMachine m → IsLegalDay s → OnKey m s → IsTurnedTo m window n

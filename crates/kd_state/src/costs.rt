@@ -39,7 +39,7 @@ pub fn lies_in_column(column: Option<(Letter, Letter)>, letter: Letter) -> bool
     }
 }
 
-/// The cost of making a bar at `standing` read as `row`: the least number of lugs to move.
+/// The cost of turning a bar at `standing` into a bar that reads as `row`: the least number of lugs to move.
 pub fn bar_cost(standing: Standing, row: Reading) -> u8
     ensures cost { result ≡ costs.bar_cost standing row }
     ensures bound { result ≤ 2 }

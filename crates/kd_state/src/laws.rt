@@ -122,8 +122,8 @@ pub fn reading_as_the_day_is_its_cipher()
     ensures cipher { ReadingIsItsCipher }
 {}
 
-/// A machine on the day's key is ready, and enciphers as the day asks, with its own letters in the windows when the
-/// text begins.
+/// A machine on the day's key is ready. It enciphers as the day asks, beginning with the letters that it shows, not
+/// with the day's.
 #[tactic(auto, using(crate::proofs::Keys::on_key_ready, crate::proofs::Keys::on_key_cipher))]
 pub fn being_on_the_key_is_its_cipher()
     ensures ready { OnKeyIsReady }
@@ -132,8 +132,8 @@ pub fn being_on_the_key_is_its_cipher()
 
 /// If a machine is turned to other letters, the rest of its key stays the same.
 ///
-/// A machine on the day's key stays on the key when it is turned. From the new letters on, it enciphers as the day
-/// asks.
+/// A machine on the day's key stays on the key when it is turned. If a text begins with the new letters in the windows,
+/// the machine enciphers it as the day asks.
 #[tactic(auto, using(crate::proofs::Keys::turned_key, crate::proofs::Keys::turned_on_key, crate::proofs::Keys::turned_cipher))]
 pub fn turning_keeps_the_key()
     ensures key { TurnedHasItsKey }

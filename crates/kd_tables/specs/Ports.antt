@@ -67,8 +67,8 @@ pub record FailsAlone (p other : Port) : Type 0 where
   pub failed : IsTrue p.has_failed
   pub well : HasNotFailed other
 
--- The flag tells whether a call returned the error `Device`. With `true`, the source or the sink has failed, and the
--- call doesn't change whether the other one has. With `false`, the call doesn't change whether either one has.
+-- The flag tells whether a call returned the error `Device`. If it is true, the source or the sink has failed, and the
+-- call didn't make the other one fail. If it is false, the call made neither of them fail.
 abbrev pub FailureAgrees : Port → Port → Bool → Type 0
 FailureAgrees source sink false = HasNotFailed source × HasNotFailed sink
 FailureAgrees source sink true = FailsAlone source sink ⊎ FailsAlone sink source

@@ -170,7 +170,7 @@ fn has_letters_of_pair(cable: Cable, pair: (Letter, Letter)) -> bool
         && is_loose_or_of(cable.1, &pair)
 }
 
-/// Whether `end`, one end of a cable, has no letter or a letter of `pair`.
+/// Whether `end`, one end of a cable, is empty or has a letter of `pair`.
 fn is_loose_or_of(end: Option<Letter>, pair: &(Letter, Letter)) -> bool
     ensures { result ≡ option_map_or (has_letter (pair.now.0 ∷ pair.now.1 ∷ [])) end true }
 {

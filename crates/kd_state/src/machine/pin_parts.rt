@@ -30,7 +30,8 @@ impl PinParts {
     }
 }
 
-/// Whether each of the six pin wheels has its letter: the first letter is for wheel 1.
+/// Whether there is one of `letters` for each of the six pin wheels, and each letter is on its wheel: the first on
+/// wheel 1, and so on.
 #[tactic(auto, using(crate::proofs::Slots::is_numbered, crate::proofs::Slots::numbered_at))]
 pub(crate) fn are_on_wheels(letters: &[Letter; 6]) -> bool
     ensures { IsTrue result ↔ AreOnWheels letters.now }
