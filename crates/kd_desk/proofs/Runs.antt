@@ -6,8 +6,8 @@ use Rattle.kd_sheet.specs.declared.fault.SheetFault.TheVariants.{NoMemory}
 use Rattle.kd_desk.{proofs.Failing.err_is, proofs.SaidCommands.same_command, specs.CommandLine.desk_grammar}
 use Rattle.{kd_desk.specs.declared.files.fault.FileFault.FileFault, std.proofs.Common.arith}
 use Rattle.kd_desk.proofs.Prelude.{◌≡◌, ℕ, Bool, true, false, List, [], ◌∷◌, ◌++◌, Option, Some, None, IfSome}
-use Rattle.kd_desk.proofs.Prelude.{IsErr, IsSomeAnd, Result, Ok, Err, IsErrAnd, IsTrue, refl, sym, ap, ◌∙◌, subst, inl, inr}
-use Rattle.kd_desk.proofs.Prelude.{append_assoc, Row, subcommand_of, Stop, Unread, NamedCommand, IsCommandOf}
+use Rattle.kd_desk.proofs.Prelude.{IsErr, IsSomeAnd, Result, Ok, Err, IsErrAnd, IsTrue, refl, sym, ap, ◌∙◌, subst}
+use Rattle.kd_desk.proofs.Prelude.{inl, inr, append_assoc, Row, subcommand_of, Stop, Unread, NamedCommand, IsCommandOf}
 use Rattle.kd_desk.proofs.Prelude.{IsCommandLineOf, KnownCommand, known_command, AreAskedFor, AsksFor, AskedName}
 use Rattle.kd_desk.proofs.Prelude.{MissesOne, asked_and_had, asked_and_missed, is_ok, CarriesOut, IsCommandDone}
 use Rattle.kd_desk.proofs.Prelude.{AgreesOrNoMemory, KnownFile, Port, map, ◌≢◌, Usage}

@@ -5,8 +5,8 @@ ghost use Rattle.kd_desk.specs.CommandLine.{action_files, task_files, with_comma
 ghost use Rattle.kd_desk.specs.CommandLine.{with_task_opened, command_opened, action_opened, task_opened};
 ghost use Rattle.kd_desk.specs.CommandLine.{IsCommandLineOf, IsNoCommandLine};
 ghost use Rattle.kd_desk.specs.Program.{known_command, known_action, known_task, AsksFor, CarriesOut, CarriesOutKnown};
-ghost use Rattle.kd_desk.specs.Program.{DoesTask, IsCommandDone, HasEnded, IsRun, IsTaskDone, StopsForMemory, IsUnfailed};
-ghost use Rattle.kd_desk.specs.Program.{is_stopped_before, is_stopped_by_port};
+ghost use Rattle.kd_desk.specs.Program.{DoesTask, IsCommandDone, HasEnded, IsRun, IsTaskDone, StopsForMemory};
+ghost use Rattle.kd_desk.specs.Program.{IsUnfailed, is_stopped_before, is_stopped_by_port};
 ghost use Rattle.kd_desk.specs.Files.{AreAskedFor, AgreesOrNoMemory, IsReadAnswer, known_file};
 ghost use Rattle.kd_desk.specs.OnDay.{IsAnswerOnDay};
 ghost use Rattle.kd_tables.specs.Ports.{FailureAgrees, port};

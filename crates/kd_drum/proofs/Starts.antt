@@ -72,7 +72,8 @@ alike_on_wheels : (wheel : ℕ) (x y : Bool) → (1 ≤ wheel → wheel ≤ 6 �
 alike_on_wheels wheel x y same = grind (arith, nat_tests, same)
 
 acts_after_sum : (key : PinKey) (m i wheel : ℕ)
-    → is_acting_after key.pins (pin_key_after key m).letters i wheel ≡ is_acting_after key.pins key.letters (m + i) wheel
+    → is_acting_after key.pins (pin_key_after key m).letters i wheel
+    ≡ is_acting_after key.pins key.letters (m + i) wheel
 acts_after_sum key m i wheel = alike_on_wheels wheel _ _ (λ low high.
     ap (λ start. is_effective (pins_on key.pins wheel) ((start + i + acting_offset wheel) % ring_size wheel))
     (start_after key m wheel low high)

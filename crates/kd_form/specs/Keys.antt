@@ -12,8 +12,8 @@ use Rattle.kd_form.specs.declared.keys.PinKeys.{PinKeys}
 -- the words of the line with the keys
 abbrev pub key_words : Keys → List (List ℕ)
 key_words (Rotor k) =
-    codes "PART" ∷ letters_text k.ground_setting ∷ letters_text k.message_key ∷ letters_text k.fillers ∷ letters_text k.group
-    ∷ []
+    codes "PART" ∷ letters_text k.ground_setting ∷ letters_text k.message_key ∷ letters_text k.fillers
+    ∷ letters_text k.group ∷ []
 key_words (Pin k) = codes "PART" ∷ letters_text (k.chosen ∷ []) ∷ letters_text k.external ∷ []
 
 -- The ground setting and the message key have a letter for each slot. There are two fillers, and a group of three

@@ -43,7 +43,8 @@ part_of part parts indicator letters = record {
 
 -- the ground setting, and the message key enciphered with the ground setting in the windows
 abbrev pub indicator_of : Day → RotorKeys → Indicator
-indicator_of s k = record { ground_setting = k.ground_setting; enciphered_key = cipher_from s k.ground_setting k.message_key }
+indicator_of s k =
+    record { ground_setting = k.ground_setting; enciphered_key = cipher_from s k.ground_setting k.message_key }
 
 -- the two fillers, the group, and the text enciphered with the message key in the windows
 abbrev pub rotor_letters : Day → RotorKeys → List ℕ → List ℕ

@@ -47,7 +47,8 @@ window_again key table window there are =
 
 -- ---- reflector and wheels
 
-pub reflector_again : (model : Model) (reflector : Reflector) → list_any (same_reflector reflector) (reflectors_of model) ≡ true
+pub reflector_again : (model : Model) (reflector : Reflector)
+    → list_any (same_reflector reflector) (reflectors_of model) ≡ true
     → find_by_text reflector_text (reflectors_of model) (reflector_text reflector) ≡ Some reflector
 unfolding find_by_text
 reflector_again model reflector e = grind arith
@@ -493,7 +494,8 @@ pin_read m legal =
 bars_again : (m : PinParts) → IsLegalPin m → bars_in (pin_table m) ≡ Ok m.bars
 unfolding bars_in
 bars_again m legal =
-    array_again keys.Bars (nat_eq 27) standing_text m.bars (or_bad_row (find_by_text standing_text standings)) (λ k bar at.
+    array_again keys.Bars (nat_eq 27) standing_text m.bars (or_bad_row (find_by_text standing_text standings))
+    (λ k bar at.
     rw (standing_again bar (All-slice_get (λ bar. IsBefore bar.0 bar.1) m.bars k bar legal.apart at)) refl)
     (eq-eqb _ _ (sym legal.bars))
 

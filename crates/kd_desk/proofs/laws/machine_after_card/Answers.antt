@@ -1,4 +1,5 @@
-use Rattle.{kd_card.proofs.Months.Shortest.model_of-list, kd_desk.proofs.{Months.papers_for, Prelude.Leads, Prelude.rules}}
+use Rattle.kd_card.proofs.Months.Shortest.{model_of-list}
+use Rattle.kd_desk.proofs.{Months.papers_for, Prelude.Leads, Prelude.rules}
 use Rattle.kd_plan.specs.Planned.{IsProvedPlannedCard}
 use Rattle.kd_desk.proofs.laws.machine_after_card.Goals as goal
 

@@ -62,7 +62,8 @@ cost_is cables pairs i j lt within = grind (arith, common_steps, length-append, 
 pub costs_no_more : (cables : List Cable) (pairs : List (ℕ × ℕ)) (xs ys : List ℕ) (spare place : ℕ)
     → length cables ≡ 13 → length xs ≡ 13 → IsOneToOne xs → SwappedAt xs ys spare place → spare < 13 → place < 13
     → is_spare_at cables spare ≡ true → get_or xs spare 0 < length pairs → length pairs ≤ get_or xs place 0
-    → assignment_cost (costs_by cable_cost cables (columns_of pairs)) ys ≤ assignment_cost (costs_by cable_cost cables (columns_of pairs)) xs
+    → assignment_cost (costs_by cable_cost cables (columns_of pairs)) ys
+    ≤ assignment_cost (costs_by cable_cost cables (columns_of pairs)) xs
 costs_no_more cables pairs xs ys spare place many size once swapped a b empty taken none =
     let costs = costs_by cable_cost cables (columns_of pairs) in
     let u = get_or xs spare 0 in

@@ -98,7 +98,8 @@ list_of-items_of (first ∷ rest) = ap (λ more. first ∷ more) (list_of-items_
 -- the library's call for an array gives the items
 pub items_found : (key : Key) (value : Data) (found : Option (Bor (Vec Value Global)))
     → option_map (λ v. array_view v.now) found ≡ as_array value
-    → result_map (λ items. map view items.now.items) (ok_or found (BadValue key)) ≡ ok_or (as_items value) (BadValue key)
+    → result_map (λ items. map view items.now.items) (ok_or found (BadValue key))
+    ≡ ok_or (as_items value) (BadValue key)
 items_found key value found e = grind (arith, option_map, list_of-items_of)
 
 -- ---- steps
