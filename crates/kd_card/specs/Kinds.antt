@@ -31,11 +31,10 @@ IsPairInOrder (Some pair) = (pair.0 < pair.1) × (pair.1 < 26)
 
 -- ---- the four sorts of kinds
 
--- The format of the lines of kinds: of cables, columns, bars or rows. `word` is the first word of a line, such as
--- `CABLE`. `kind` splits a kind into its key (letters, standing or reading), its count and its price. `text` is the
--- text of a key, such as `AB`. On a card, each key satisfies `InForm`. `order` turns a key into a list of numbers; the
--- lines on a card are in the dictionary order of these lists. A cable without letters and an empty column come
--- last: their lists begin with 1, the lists of other cables and columns with 0.
+-- How a card writes kinds of cables, columns, bars or rows. `word` begins each line. `kind` splits a kind into its key
+-- (letters, standing or reading), count and price. `text` is the text of a key, such as `AB`; a card only has keys that
+-- satisfy `InForm`. Lines are in the dictionary order of the lists `order`, so a cable without letters and an empty
+-- column come last.
 pub record KindFormat (K X : Type 0) : Type 1 where
   pub word : List ℕ
   pub kind : K → KindOf X
@@ -101,8 +100,7 @@ abbrev pub ComesAfter : {K X : Type 0} → KindFormat K X → Option K → K →
 ComesAfter format None next = Unit {0}
 ComesAfter format (Some last) next = KeyComesBefore format (format.kind last).key (format.kind next).key
 
--- The kind is valid: its key is in the form that a card writes (two letters, for example, are in alphabetical order).
--- Its count is from 1 to 255, and its price from -9999 to 9999.
+-- The kind is valid: its key is in the form that a card writes, its count from 1 to 255, its price from -9999 to 9999.
 pub record IsKind {K X : Type 0} (format : KindFormat K X) (kind : K) : Type 0 where
   pub form : format.InForm (format.kind kind).key
   pub some : 1 ≤ (format.kind kind).count
@@ -115,7 +113,6 @@ AreKinds format last [] = Unit {0}
 AreKinds format last (kind ∷ kinds) =
     IsKind format kind × ComesAfter format last kind × AreKinds format (Some kind) kinds
 
--- the sum of the kinds' counts
 abbrev pub counted : {K X : Type 0} → KindFormat K X → List K → ℕ
 counted format [] = 0
 counted format (kind ∷ kinds) = (format.kind kind).count + counted format kinds
@@ -134,8 +131,7 @@ abbrev pub expansion : {X : Type 0} → List (KindOf X) → List (X × ℤ)
 expansion kinds = flat_map (λ kind. replicate kind.count (kind.key, kind.price)) kinds
 
 -- The `keys` (letters, standings or readings), each with its price, are exactly what the kinds count, in some order.
--- Code: `kinds_of` sorts keys with their prices, and counts equal ones. For each key, `prices_of` lowers the count of
--- the key's kind by one.
+-- Code: `kinds_of` sorts keys with their prices, and counts equal ones; `prices_of` takes keys out of kinds.
 pub record AreKindsOf {K X : Type 0} (format : KindFormat K X) (keys : List X) (prices : List ℤ) (kinds : List K)
     : Type 0 where
   pub number : length prices ≡ length keys

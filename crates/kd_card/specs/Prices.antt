@@ -15,16 +15,14 @@ version_of (CableKinds row col) = ByKind
 version_of (BarKinds row col) = ByKind
 version_of _ = ByNumber
 
--- A price for each row of the table of costs. If prices are by kind, the kinds come one after another, and each kind's
--- price stands as often as its count says.
+-- a price for each row of the table of costs; the price of a kind is repeated as often as its count says
 abbrev pub row_prices : PriceParts → List ℤ
 row_prices (Cables row col) = row
 row_prices (Bars row col) = row
 row_prices (CableKinds row col) = prices_of_kinds cable_format row.items
 row_prices (BarKinds row col) = prices_of_kinds bar_format row.items
 
--- A price for each column of the table of costs. If prices are by kind, the kinds come one after another, and each
--- kind's price stands as often as its count says.
+-- a price for each column of the table of costs; the price of a kind is repeated as often as its count says
 abbrev pub column_prices : PriceParts → List ℤ
 column_prices (Cables row col) = col
 column_prices (Bars row col) = col
@@ -37,7 +35,6 @@ table_rows (Cables row col) = 13
 table_rows (CableKinds row col) = 13
 table_rows _ = 27
 
--- All prices are from -9999 to 9999.
 abbrev pub ArePricesInRange : List ℤ → Type 0
 ArePricesInRange prices = All (λ price. unsigned_abs price ≤ 9999) prices
 
@@ -53,7 +50,6 @@ ArePrices (Bars row col) = IsPriceList 27 row × IsPriceList 27 col
 ArePrices (CableKinds row col) = IsGroup cable_format 13 row.items × IsGroup pair_format 13 col.items
 ArePrices (BarKinds row col) = IsGroup bar_format 27 row.items × IsGroup row_format 27 col.items
 
--- the cost in row `i` and column `j` of the table
 abbrev pub cost_at : List (List ℕ) → ℕ → ℕ → ℕ
 cost_at costs i j = slice_index (slice_index_or costs i []) j
 
@@ -61,8 +57,8 @@ cost_at costs i j = slice_index (slice_index_or costs i []) j
 abbrev pub price_at : List ℤ → ℕ → ℤ
 price_at prices i = slice_index_or prices i (pos 0)
 
--- The prices of row `i` and column `j` add up to at most the cost in their cell. `PricesFit`: this holds for all rows
--- and columns.
+-- The prices of row `i` and column `j` add up to at most the cost there. `PricesFit`: this is so for all rows and
+-- columns.
 abbrev pub PricesFitAt : List (List ℕ) → PriceParts → ℕ → ℕ → Type 0
 PricesFitAt costs prices i j =
     (price_at (row_prices prices) i +ℤ price_at (column_prices prices) j) ≤ℤ pos (cost_at costs i j)
@@ -70,7 +66,6 @@ PricesFitAt costs prices i j =
 abbrev pub PricesFit : List (List ℕ) → PriceParts → Type 0
 PricesFit costs prices = (i j : ℕ) → i < table_rows prices → j < table_rows prices → PricesFitAt costs prices i j
 
--- the sum of the prices of all rows and columns of the table of costs
 abbrev pub price_sum : PriceParts → ℤ
 price_sum prices = fold (λ sum price. sum +ℤ price) (pos 0) (row_prices prices ++ column_prices prices)
 

@@ -25,7 +25,6 @@ is_priced_setting (Put cable letter) = true
 is_priced_setting (LugTo bar lug place) = true
 is_priced_setting _ = false
 
--- the number of settings that change a cable or a bar
 abbrev pub priced_count : List Setting → ℕ
 priced_count settings = count_by is_priced_setting settings
 
@@ -61,9 +60,8 @@ AreExpanded (Pin m) (OfPins s) (BarKinds row col) (Bars rows columns) =
     AreKindsOf bar_format m.bars rows row.items × AreKindsOf row_format s.rows columns col.items
 AreExpanded _ _ _ _ = ⊥
 
--- `numbered` has a price for each cable and column, or each bar and row. If `prices` has these too, `numbered` is
--- `prices`. If `prices` has a price for each kind, `numbered` gives each cable, column, bar or row the price of its
--- kind.
+-- `numbered` has a price for each cable and column, or each bar and row. If `prices` has these, too, both are equal. If
+-- `prices` is by kind, `numbered` gives each cable, column, bar or row the price of its kind.
 pub data Expands (m : Parts) (s : Day) (prices numbered : PriceParts) : Type 0 where
   Same : version_of prices ≡ ByNumber → prices ≡ numbered → Expands m s prices numbered
   Expanded : ArePrices prices → ArePrices numbered → AreExpanded m s prices numbered → Expands m s prices numbered

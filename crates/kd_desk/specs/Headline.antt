@@ -8,16 +8,14 @@ use Rattle.kd_state.specs.SheetDay.{Day}
 use Rattle.kd_state.specs.OnKey.{OnKey, ReadsAs}
 use Rattle.kd_state.specs.TwoCiphers.{IsReady, window_of, physical_cipher, sheet_cipher}
 
--- The machine is set as the day says and shows the day's letters. It is ready, and enciphers each text as the day's own
--- machine does.
+-- The machine is ready, set as the day says, shows the day's letters, and enciphers as the day's own machine does.
 pub record IsSheetsMachine (n : Parts) (s : Day) : Type 0 where
   pub machine : IsMachine n
   pub reads : ReadsAs n s
   pub ready : IsReady n
   pub enciphers : (text : List ℕ) → physical_cipher n text ≡ sheet_cipher s text
 
--- Each setting is legal after the settings before it. Together they lead to a machine that is set as the day says, and
--- shows the day's letters. It is ready, and enciphers as the day's own machine does.
+-- Each setting is legal after the settings before it. Together they lead to the machine that the day asks for.
 abbrev pub LeavesTheSheetsMachine : Parts → Day → List Setting → Type 0
 LeavesTheSheetsMachine m s settings = (n : Parts) × Leads m settings n × IsSheetsMachine n s
 

@@ -20,10 +20,9 @@ use Rattle.kd_desk.specs.Headline.{LeavesTheSheetsMachine, EquallySetDecipherOn}
 use Rattle.kd_tables.specs.Ports.{Port}
 use Rattle.kd_desk.specs.Ports.{WritesText}
 
--- The card for day `number` was written, or only a prefix of it if the device failed. Its prices are by kind: all equal
--- cables, columns, bars or rows have one price. The prices prove that no fewer settings reach the day. Spare cables
--- stay free. The settings lead to a machine that is ready and enciphers as the day's own machine does. A machine on the
--- day's key deciphers what an equally set machine enciphers.
+-- The card for day `number` was written, or only a prefix of it if the device failed. Equal cables, columns, bars or
+-- rows have one price, and the prices prove that no fewer settings reach the day. The settings lead to the machine that
+-- the day asks for, and leave spare cables free. What one machine enciphers, an equally set machine deciphers.
 pub record WritesCard (m : Parts) (s : Day) (number : ℕ) (sink : Port)
     (answer : Result (Unit {0}) DeskFault) : Type 0 where
   pub settings : List Setting

@@ -22,7 +22,6 @@ is_refused_before (Err ReadTooLong) = false
 is_refused_before (Err (Message fault)) = is_off_key (Err fault)
 is_refused_before (Err _) = true
 
--- whether the answer is that a device failed
 abbrev pub is_device : Result (Unit {0}) DeskFault → Bool
 is_device (Err Device) = true
 is_device _ = false

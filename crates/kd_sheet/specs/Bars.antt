@@ -21,8 +21,7 @@ unfoldable pub bars_in : Members → Result (List (Place × Place)) SheetFault
 bars_in table =
     value_at keys.Bars table >>= read_array keys.Bars (nat_eq 27) (or_bad_row (find_by_text standing_text standings))
 
--- The reading of a text such as `3-0`: here 0 and 3, since the smaller number comes first. The text must have two
--- digits from 0 to 6, which differ or are both 0.
+-- the reading of a text such as `3-0` (here 0 and 3): two digits from 0 to 6, which differ or are both 0
 unfoldable pub row_of_text : List ℕ → Option (ℕ × ℕ)
 row_of_text (one ∷ dash ∷ other ∷ []) =
     if list_all (λ x. nat_le 48 x && nat_le x 54) (one ∷ other ∷ []) && dash == 45 && (not (one == other) || one == 48)

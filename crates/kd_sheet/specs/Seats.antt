@@ -26,8 +26,7 @@ wheel_for key model slots item = do
   demand (not (list_any (λ seat. option_map_or (same_wheel wheel) seat false) slots)) WheelTwice
   Ok wheel
 
--- What a slot holds if the slots to its left hold `slots`: the wheel that `item` names. In a machine file, `""` stands
--- for an empty slot.
+-- what the next slot after `slots` holds: the wheel that `item` names; in a machine file, `""` is an empty slot
 unfoldable pub seat_for : Key → Model → List (Option Wheel) → Data → Result (Option Wheel) SheetFault
 seat_for keys.Slots model slots (string []) = Ok None
 seat_for key model slots item = wheel_for key model slots item >>= (λ wheel. Ok (Some wheel))

@@ -23,7 +23,6 @@ exactly_one a b = if a then not b else b
 abbrev pub one_unless : Bool → ℕ
 one_unless same = if same then 0 else 1
 
--- the letters of a column's pair; none if the column has no pair
 abbrev pub column_letters : Option (ℕ × ℕ) → List ℕ
 column_letters column = option_map_or (λ pair. pair.0 ∷ pair.1 ∷ []) column []
 
@@ -32,7 +31,6 @@ abbrev pub cable_cost : Option ℕ × Option ℕ → Option (ℕ × ℕ) → ℕ
 cable_cost cable column =
     count_by (λ l. exactly_one (has_letter (cable_letters cable) l) (has_letter (column_letters column) l)) alphabet
 
--- how many lugs have to move to change one standing into the other
 abbrev pub lugs_moved : Place × Place → Place × Place → ℕ
 lugs_moved bar other = one_unless (is_same_place bar.0 other.0) + one_unless (is_same_place bar.1 other.1)
 

@@ -13,7 +13,6 @@ use Rattle.kd_state.specs.declared.setting.Setting.TheVariants.{LugTo}
 use Rattle.kd_state.specs.declared.setting.list.ListFault.{ListFault}
 use Rattle.kd_state.specs.declared.setting.list.ListFault.TheVariants.{BadLine, TooMany}
 
--- `ON` for an effective pin, `OFF` for a pin that isn't effective
 abbrev pub on_off_text : Bool → List ℕ
 on_off_text effective = if effective then codes "ON" else codes "OFF"
 

@@ -118,12 +118,10 @@ abbrev pub machine_reflector : Parts → Option Reflector
 machine_reflector (Rotor m) = Some m.reflector
 machine_reflector (Pin m) = None
 
--- the ring of a wheel, if the wheel is in the machine's box
 abbrev pub machine_ring : Parts → Wheel → Option ℕ
 machine_ring (Rotor m) wheel = ring_at m wheel
 machine_ring (Pin m) wheel = None
 
--- the window letter of a wheel, if the wheel is in the machine's box
 abbrev pub machine_letter : Parts → Wheel → Option ℕ
 machine_letter (Rotor m) wheel = letter_at m wheel
 machine_letter (Pin m) wheel = None

@@ -10,7 +10,6 @@ use Rattle.kd_state.specs.declared.machine.parts.Parts.TheVariants.{Rotor, Pin}
 use Rattle.kd_state.specs.Machine.{cable_letters, ring_at, letter_at}
 use Rattle.kd_state.specs.SheetDay.{RotorDay, Day, OfRotors, OfPins, seats_of_wheels}
 
--- The two lists have the same letters.
 abbrev pub HaveSameLetters : List ℕ → List ℕ → Type 0
 HaveSameLetters xs ys = (letter : ℕ) → Contains xs letter ↔ Contains ys letter
 
@@ -18,7 +17,6 @@ HaveSameLetters xs ys = (letter : ℕ) → Contains xs letter ↔ Contains ys le
 abbrev pub AreLettersOfPair : ℕ → ℕ → ℕ × ℕ → Type 0
 AreLettersOfPair one other pair = ((one ≡ pair.0) × (other ≡ pair.1)) ⊎ ((other ≡ pair.0) × (one ≡ pair.1))
 
--- The cable's letters are the two letters of the pair.
 pub record HasPairLetters (cable : Option ℕ × Option ℕ) (pair : ℕ × ℕ) : Type 0 where
   pub letters : HaveSameLetters (cable_letters cable) (pair.0 ∷ pair.1 ∷ [])
 

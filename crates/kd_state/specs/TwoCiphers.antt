@@ -47,7 +47,6 @@ abbrev pub IsReady : Parts → Type 0
 IsReady (Rotor m) = All (λ seated. IsSome seated) m.slots × All (λ cable. length (cable_letters cable) ≢ 1) m.cables
 IsReady (Pin m) = Unit {0}
 
--- the wheels in the slots, from the left
 abbrev pub seated_wheels : RotorParts → List Wheel
 seated_wheels m = filter_map (λ seated. seated) m.slots
 
@@ -89,7 +88,6 @@ physical_cipher (Pin m) text =
     let rows = map (λ bar. (place_number bar.0, place_number bar.1)) m.bars in
     converter_cipher (record { pins = pins_of m.pins; letters = m.letters; rows = rows }) text
 
--- the ciphertext that an engine makes of a text with the key that the day asks for
 abbrev pub sheet_cipher : Day → List ℕ → List ℕ
 sheet_cipher s = cipher (sheet_key s)
 

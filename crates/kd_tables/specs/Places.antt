@@ -47,7 +47,6 @@ lug_text lugs.Right = codes "R"
 abbrev pub standings : List (Place × Place)
 standings = flat_map (λ l. map (λ r. (l, r)) (filter (λ r. nat_lt (place_rank l) (place_rank r)) places)) places
 
--- a standing as text: the name of the left lug's place, `-`, and the name of the right lug's place
 abbrev pub standing_text : Place × Place → List ℕ
 standing_text standing = place_text standing.0 ++ codes "-" ++ place_text standing.1
 
@@ -70,10 +69,8 @@ pub record IsReading (numbers : ℕ × ℕ) : Type 0 where
 abbrev pub reading_of : Place × Place → ℕ × ℕ
 reading_of standing = smaller_first (place_number standing.0) (place_number standing.1)
 
--- the digit for a number from 0 to 9
 abbrev pub digit_text : ℕ → List ℕ
 digit_text number = (number + 48) ∷ []
 
--- a reading as text: the smaller number, `-`, and the larger number
 abbrev pub reading_text : ℕ × ℕ → List ℕ
 reading_text numbers = digit_text numbers.0 ++ codes "-" ++ digit_text numbers.1
