@@ -27,16 +27,16 @@ pub record IsNearest (n : ℕ) (prices : List ℤ) (reached : List Bool) (ceilin
   pub least : (j : ℕ) → j < n → has_column reached j ≡ false → room_at ceilings prices end ≤ℤ room_at ceilings prices j
 
 -- One column is compared with `row`, which offers the price `offer` for it. Before, the column's nearest row is `near`,
--- which offers `ceiling`; after, it is `near'`, which offers `ceiling'`. If the column is outside the tree, its nearest
--- row is now that of `row` and `near` which offers less. If the column is in the tree (`reached`), nothing changes.
+-- which offers `ceiling`; after, it is `near'`, which offers `ceiling'`. If the column is outside the tree, `near'` is
+-- whichever of `near` and `row` offers less. If the column is in the tree (`reached`), nothing changes.
 pub record IsCompared (reached : Bool) (row : ℕ) (offer : ℤ) (near : ℕ) (ceiling : ℤ)
     (near' : ℕ) (ceiling' : ℤ) : Type 0 where
   pub one : ((near' ≡ near) × (ceiling' ≡ ceiling)) ⊎ ((reached ≡ false) × (near' ≡ row) × (ceiling' ≡ offer))
   pub least : ceiling' ≤ℤ ceiling
   pub here : reached ≡ false → ceiling' ≤ℤ offer
 
--- For each column, its ceiling is compared with the price that `row` offers for it: `level` plus the cost where they
--- meet.
+-- For each column `j`, the ceiling is compared with the price that `row` offers for `j`. This price is `level` plus the
+-- cost in row `row` and column `j`.
 pub record AreCompared (n : ℕ) (cost : List (List ℕ)) (reached : List Bool) (row : ℕ) (level : ℤ) (near : List ℕ)
     (ceilings : List ℤ) (near' : List ℕ) (ceilings' : List ℤ) : Type 0 where
   pub at : (j : ℕ) → j < n
@@ -46,8 +46,8 @@ pub record AreCompared (n : ℕ) (cost : List (List ℕ)) (reached : List Bool) 
 module _ (n : ℕ) (cost : List (List ℕ)) (prices : List ℤ) (holders : List (Option ℕ)) (root : ℕ) (reached : List Bool)
     (ceilings : List ℤ) where
   -- `plan` gives a column to each row from 0 to `root`, except row `out`. It uses the same columns as `holders`, and
-  -- agrees with `holders` outside the tree. In `plan`, each row that has a column of the tree has its cheapest column,
-  -- if the ceilings are taken as prices.
+  -- agrees with `holders` outside the tree. Let the ceilings be the prices: if `plan` gives column `j` of the tree to
+  -- row `i`, then `j` is the cheapest column for `i`.
   pub record IsAssignmentWithout (plan : List (Option ℕ)) (out : ℕ) : Type 0 where
     pub places : length plan ≡ n
     pub out_in_range : out < n

@@ -102,7 +102,7 @@ impl<const N: usize> Nearest<N> {
         self.ceiling[column] - i16::from(cost[row][column])
     }
 
-    /// The nearest column: the column outside the tree that has the least room (its ceiling minus its price).
+    /// The nearest column: of all columns outside the tree, the one with the least room (its ceiling minus its price).
     pub fn column(
         &self,
         reached: &[bool; N],

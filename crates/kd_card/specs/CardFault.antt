@@ -154,8 +154,8 @@ pub record BeginsWithKinds {K X : Type 0} (format : KindFormat K X) (last : Opti
   pub none_more : HasNoNext format (last_of last kinds) rest
 
 -- The result of reading a group of kinds: the kinds and the bytes after them, or a fault. The fault is `BadLine` if a
--- line has no LF. It is `BadLine`, too, if a line begins with the group's word, but has no valid kind, or not the kind
--- that comes next. The fault is `PriceMissing` if the kinds' counts don't add up to `number`. Code: the reader keeps at
+-- line has no LF. It is `BadLine`, too, if a line begins with the group's word, but isn't the line of a valid kind that
+-- may come next. The fault is `PriceMissing` if the kinds' counts don't add up to `number`. Code: the reader keeps at
 -- most `number` kinds, and stops adding counts at `number + 1`.
 abbrev pub IsGroupAnswer : {K X : Type 0} → KindFormat K X → ℕ → ℕ → List ℕ → AnswerRule CardFault (List K × List ℕ)
 IsGroupAnswer {K} format number line bytes = do

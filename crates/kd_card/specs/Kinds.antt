@@ -33,8 +33,8 @@ IsPairInOrder (Some pair) = (pair.0 < pair.1) × (pair.1 < 26)
 
 -- How a card writes kinds of cables, columns, bars or rows. `word` begins each line. `kind` splits a kind into its key
 -- (letters, standing or reading), count and price. `text` is the text of a key, such as `AB`; a card only has keys that
--- satisfy `InForm`. Lines are in the dictionary order of the lists `order`, so a cable without letters and an empty
--- column come last.
+-- satisfy `InForm`. `order` turns a key into numbers, and lines are in the dictionary order of these: a cable without
+-- letters and an empty column come last.
 pub record KindFormat (K X : Type 0) : Type 1 where
   pub word : List ℕ
   pub kind : K → KindOf X

@@ -1,7 +1,7 @@
--- The prices of a card, and what it means that they fit a table of costs. With prices *by number*, each cable and each
--- column, or each bar and each row of the sheet, has its own price. With prices *by kind*, equal cables share one
--- price, and so do equal columns, bars or rows. A column is a pair or empty. Rows and columns of the table are counted
--- from 0.
+-- The prices of a card, and what it means that they fit a table of costs. The table of a rotor machine has a row for
+-- each cable, and a column for each pair or empty column. The table of a Converter has a row for each bar, and a column
+-- for each row of the sheet. Rows and columns are counted from 0. With prices *by number*, each row and each column has
+-- its own price. With prices *by kind*, equal ones share one price.
 use Rattle.kd_card.specs.Kinds.{cable_format, pair_format, bar_format, row_format, prices_of_kinds, IsGroup}
 use Rattle.kd_card.specs.declared.prices.PriceParts.TheVariants.{Cables, Bars, CableKinds, BarKinds}
 use Rattle.kd_card.specs.{declared.prices.Version.TheVariants.{ByNumber, ByKind}, declared.prices.PriceParts.PriceParts}
@@ -43,7 +43,7 @@ pub record IsPriceList (number : ℕ) (prices : List ℤ) : Type 0 where
   pub count : length prices ≡ number
   pub reach : ArePricesInRange prices
 
--- The prices are valid: a list of prices, or a group of kinds, for the rows of the table of costs and for its columns.
+-- All prices are from -9999 to 9999, and there are as many as the table of costs has rows and columns. Kinds are valid.
 abbrev pub ArePrices : PriceParts → Type 0
 ArePrices (Cables row col) = IsPriceList 13 row × IsPriceList 13 col
 ArePrices (Bars row col) = IsPriceList 27 row × IsPriceList 27 col
@@ -53,7 +53,7 @@ ArePrices (BarKinds row col) = IsGroup bar_format 27 row.items × IsGroup row_fo
 abbrev pub cost_at : List (List ℕ) → ℕ → ℕ → ℕ
 cost_at costs i j = slice_index (slice_index_or costs i []) j
 
--- the price of row `i` or of column `i`, counted from 0, if `prices` are those of the rows or those of the columns
+-- the price of row `i` (if `prices` are those of rows) or of column `i` (if they are those of columns), counted from 0
 abbrev pub price_at : List ℤ → ℕ → ℤ
 price_at prices i = slice_index_or prices i (pos 0)
 

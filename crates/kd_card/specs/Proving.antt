@@ -60,8 +60,8 @@ AreExpanded (Pin m) (OfPins s) (BarKinds row col) (Bars rows columns) =
     AreKindsOf bar_format m.bars rows row.items × AreKindsOf row_format s.rows columns col.items
 AreExpanded _ _ _ _ = ⊥
 
--- `numbered` has a price for each cable and column, or each bar and row. If `prices` has these, too, both are equal. If
--- `prices` is by kind, `numbered` gives each cable, column, bar or row the price of its kind.
+-- `numbered` are prices by number, which `prices` mean. If `prices` are by number, both are equal. If `prices` are by
+-- kind, `numbered` gives each cable, column, bar or row the price of its kind.
 pub data Expands (m : Parts) (s : Day) (prices numbered : PriceParts) : Type 0 where
   Same : version_of prices ≡ ByNumber → prices ≡ numbered → Expands m s prices numbered
   Expanded : ArePrices prices → ArePrices numbered → AreExpanded m s prices numbered → Expands m s prices numbered

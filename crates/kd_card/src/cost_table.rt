@@ -7,9 +7,9 @@ use super::prices::Version;
 /// What a card's prices are for: the rows and the columns of a table of costs.
 #[derive(Clone, Copy)]
 pub(crate) enum CostTable {
-    /// Cables are the rows of the table; its columns are the day's pairs, and empty columns.
+    /// The table has a row for each cable, and a column for each of the day's pairs or empty columns.
     OfCables,
-    /// Bars are the rows of the table; its columns are the rows of the key sheet.
+    /// The table has a row for each bar, and a column for each row of the key sheet.
     OfBars,
 }
 

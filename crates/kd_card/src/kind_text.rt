@@ -37,8 +37,8 @@ fn kind_behind<K: Kind>(behind: Option<&[u8]>) -> Option<K>
 /// Reads the next kind of a group from the first line of `text`. Returns this kind, and the text after the line.
 ///
 /// `None` if the group ends here: `text` is empty, or its first line begins with another word than `K::word()` and ends
-/// with LF. A group that goes on needs a line with LF and with a valid kind, which comes after the kind `last`. For any
-/// other line, line `line` of the card is bad.
+/// with LF. Otherwise, the line is bad unless it ends with LF, and has a valid kind that comes after the kind `last`.
+/// It is line `line` of the card.
 fn next_kind<K: Kind>(
     text: &[u8],
     last: Option<K>,

@@ -15,9 +15,9 @@ pub fn no_two_cards_have_one_text()
     ensures one_fault { OneCardFault }
 {}
 
-/// The number of settings for loose things is the number of loose things.
+/// There are as many settings for loose things as there are loose things.
 ///
-/// A loose thing, such as a ring or a pin, isn't as the day says; cables and bars are never loose.
+/// A thing such as a ring or a pin is loose if it isn't as the day says. Cables and bars are never loose.
 #[tactic(auto, using(crate::proofs::Leading::loose_things_are_counted))]
 pub fn loose_things_are_counted()
     ensures { LooseThingsAreCounted }

@@ -1,5 +1,5 @@
-//! Cards. A card has settings that set a machine to a day, and prices that can prove that no shorter list does. Reads
-//! and writes the text of a card.
+//! Cards. A card has settings that set a machine to a day. Its prices can prove that no shorter list of settings does
+//! so. Reads and writes the text of a card.
 #![tactic(auto)]
 
 mod card;

@@ -12,9 +12,9 @@ use std::marker::Model;
 /// Whether each cable, pair, bar or row of a card has its own price, or each kind of them has one price.
 #[derive(Clone, Copy)]
 pub enum Version {
-    /// Each cable and each column of a rotor machine's card, or each bar and each row, has its own price.
+    /// Each cable has its own price, and so has each column; or each bar, and each row of the sheet.
     ByNumber,
-    /// Each kind of cables and of columns, or of bars and of rows, has one price.
+    /// Each kind of cables has one price, and so has each kind of columns; or each kind of bars, and each kind of rows.
     ByKind,
 }
 
@@ -121,7 +121,9 @@ impl Prices {
         Some(Prices::of_parts(parts))
     }
 
-    /// Makes prices by number, for cables or for bars as `table` says, from the prices of rows and columns.
+    /// Makes prices by number from the prices of rows and columns.
+    ///
+    /// `table` says whether the rows are cables or bars.
     pub(crate) fn numbered(table: CostTable, rows: &[i16], columns: &[i16]) -> Self
         requires rows { length rows.now ≡ price_count table }
         requires columns { length columns.now ≡ price_count table }

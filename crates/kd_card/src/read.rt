@@ -76,7 +76,7 @@ fn read_day(text: &[u8], version: Version) -> Option<(u8, &[u8])>
     Some((day_of_text(day)?, rest))
 }
 
-/// Checks that line `line`, the first of `text`, is `front` and the number `due`. Returns the text after this line.
+/// Checks the first line of `text`: it has to be `front` and then the number `due`. Returns the text after this line.
 ///
 /// This first line is line `line` of the card. If `signed`, the number may be negative.
 fn read_value<'a>(
@@ -123,9 +123,9 @@ fn read_prices(text: &[u8], version: Version, line: usize) -> Result<(Prices, &[
     }
 }
 
-/// Reads the two price lines of a card by number. The first is line `line` of the card.
+/// Reads the two price lines of a card that has a price for each cable and column, or for each bar and row.
 ///
-/// By number, each cable, pair, bar or row has its own price. Returns the prices, and the text after the lines.
+/// The first is line `line` of the card. Returns the prices, and the text after the lines.
 fn read_numbered(text: &[u8], table: CostTable, line: usize) -> Result<(Prices, &[u8]), CardFault>
     requires { line < 200 }
     ensures { let says = IsTablePricesAnswer ByNumber table line text.now in

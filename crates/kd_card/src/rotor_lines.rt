@@ -10,9 +10,10 @@ use arrayvec::ArrayVec;
 use kd_state::{Machine, RotorEntry, RotorParts, Setting, Settings, SheetWheel};
 use kd_tables::Wheel;
 
-/// Lists the settings for the slots, reflector, rings and letters of a rotor machine that aren't as the day says.
+/// Lists the settings that set the slots, reflector, rings and letters of a rotor machine as the day says.
 ///
-/// Slots come first, then the reflector, rings and letters. `parts` are the parts of `machine`.
+/// What is already so needs no setting. Slots come first, then the reflector, rings and letters. `parts` are the parts
+/// of `machine`.
 #[tactic(auto, using(crate::proofs::Leading::few_in_box))]
 pub fn rotor_settings(machine: &Machine, parts: &RotorParts, entry: &RotorEntry) -> Settings
     requires { machine.now ≡ Rotor parts.now }
@@ -33,7 +34,7 @@ pub fn rotor_settings(machine: &Machine, parts: &RotorParts, entry: &RotorEntry)
 
 /// Appends the setting SEAT for each of `slots` that is empty, or holds another wheel than the day's in `wheels`.
 ///
-/// `number` is the number of the first of these slots. Slots are counted from 1.
+/// The first of `slots` has the number `number`. Slots are counted from 1.
 fn push_seats(settings: &mut Settings, number: u8, slots: &[Option<Wheel>], wheels: &[SheetWheel])
     requires few { number + length slots.now < 256 }
     requires room { array_vec_len settings.old + length slots.now ≤ 192 }

@@ -171,7 +171,7 @@ pub record HaveSheetAndDay (rows : List Row) (sheet : List ℕ) (day : ℕ) : Ty
   pub day_word : first_of (codes "DAY") rows ≡ Some (decimal day)
   pub of_month : IsDayNumber day
 
--- The arguments in `rows` give the file of the task itself, such as CARD for `check`, if the task has one.
+-- The arguments in `rows` give the third file that some tasks need, such as CARD for `check`.
 abbrev pub HasTaskFile : List Row → NamedTask → Type 0
 HasTaskFile rows tasks.Card = Unit {0}
 HasTaskFile rows (tasks.Check card) = first_of (codes "CARD") rows ≡ Some card

@@ -46,8 +46,8 @@ abbrev pub Sends : Parts → Day → Port → Port → Result (Unit {0}) DeskFau
 Sends m s order sink answer = IsStreamedOn m s (order_message s) order sink answer
 
 -- How the forms and the orders of day `s` agree. If a form is made from an order, the form's text is the text that
--- `IsPlaintextOf` says. A form with a fault isn't made from any order. If no further bytes can change the fault, a
--- longer form that begins with these bytes isn't, either.
+-- `IsPlaintextOf` says. A form with a fault isn't made from any order. If no further bytes can change the fault, no
+-- longer form that begins with the form's bytes is made from an order.
 pub record TellOfOrders (s : Day) : Type 0 where
   pub back : (form text order given : List ℕ) → IsTextOf s form text → IsFormOf s order form
       → IsPlaintextOf s order given → text ≡ given

@@ -49,8 +49,8 @@ AreWrittenInTurn file sheet (number ∷ numbers) (papers ∷ more) =
 AreWrittenInTurn file sheet numbers papers = ⊥
 
 -- The card's settings lead from the machine of `file` to the machine of the next file. This machine is set as day
--- `number` says, shows the day's letters, and enciphers as the day's own machine does. The card's prices prove that no
--- fewer settings lead to the day, and spare cables stay free.
+-- `number` says, shows the day's letters, and enciphers as the day's own machine does. Spare cables stay free, and the
+-- card's prices prove that no fewer settings lead to the day.
 pub record SetTheMachine (file sheet : List ℕ) (number : ℕ) (papers : Papers) : Type 0 where
   pub m : Parts
   pub s : Day

@@ -20,8 +20,8 @@ use Rattle.kd_desk.specs.Ports.{WritesText}
 abbrev pub verdict_text : ℕ → List ℕ
 verdict_text number = codes "SHORTEST " ++ decimal number ++ 10 ∷ []
 
--- The card proves itself, so no fewer settings reach the day. The line `verdict_text` was written, or only a prefix
--- of the line if the device failed.
+-- The card proves itself, so no shorter list of settings reaches the day. The line `verdict_text` was written, or only
+-- a prefix of the line if the device failed.
 pub record IsVerdictWritten (m : Parts) (s : Day) (settings : List Setting) (prices : PriceParts) (sink : Port)
     (answer : Result (Unit {0}) DeskFault)
     : Type 0 where

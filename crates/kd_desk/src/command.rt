@@ -49,7 +49,7 @@ pub enum Action<F, O> {
 pub enum Task<F, O> {
     /// Prints the shortest card from the machine to the day.
     Card,
-    /// Checks whether the card's prices prove the card shortest, from the machine to the day.
+    /// Checks whether the card's prices prove that no shorter list sets the machine to the day.
     Check(F),
     /// Sends the order in the file, or receives the form in the file, part by part.
     Message(Direction, O),

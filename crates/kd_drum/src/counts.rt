@@ -1,4 +1,4 @@
-//! How many bars are met, as a table with an entry for each set of wheels.
+//! A table of the numbers of bars that are met. It has an entry for each set of wheels whose acting pins are effective.
 ghost use Rattle.std.specs.Prelude.{◌≡◌, ◌≤◌, ◌||◌};
 ghost use Rattle.kd_drum.specs.Counts.{AreCounts, is_in_set, bars_met_by};
 

@@ -34,7 +34,7 @@ pub fn enciphering_twice_gives_back()
     ensures { EnigmaTwiceGivesBack }
 {}
 
-/// A text can be enciphered in chunks. Each chunk starts with the window that shows after the chunk before.
+/// A text can be enciphered in chunks. Each chunk starts with the window that the previous chunk has left.
 #[tactic(auto, using(crate::proofs::Ciphers::cipher_in_turn, crate::proofs::Ciphers::key_in_turn))]
 pub fn pieces_are_enciphered_in_turn()
     ensures cipher { EnigmaCipherInTurn }

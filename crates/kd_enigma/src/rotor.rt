@@ -56,10 +56,10 @@ impl Rotor {
         }
     }
 
-    /// The current's path in through the board and the wheel, then through `core`, then back, while the wheel shows
-    /// `window`.
+    /// The path of the current at the window letter `window`: through board and wheel to `core`, through `core`, and
+    /// back.
     ///
-    /// `core` is the path further left: in to the reflector, and back.
+    /// `core` is the path further left: to the reflector, and back.
     pub(crate) fn enclose(&self, core: Map, window: Letter) -> Map
         ensures { result ≡ around_wheel self.now.board core (rotor self.now.wheel self.now.ring window) }
     {

@@ -72,7 +72,8 @@ abbrev pub IsBodyPlaintext : Day → Heading → List ℕ → List ℕ → Type 
 IsBodyPlaintext s h letters made = (text : List ℕ) × IsBodyAnswer s h.part h letters (Ok text)
     × (made ≡ plaintext_bytes s text)
 
--- The letters that `b` holds, without the last `others` letters, are deciphered to `output`, or refused.
+-- The letters that `b` holds are deciphered to `output`, or refused. The last of these letters, `others` in number,
+-- don't count.
 abbrev pub IsDecipherAnswer : Day → PartBody → ℕ → List ℕ → Result (Unit {0}) FormFault → Type 0
 IsDecipherAnswer s b others output answer =
     (letters more : List ℕ) → length more ≡ others → b.letters.items ≡ take 525 (letters ++ more)
@@ -80,7 +81,8 @@ IsDecipherAnswer s b others output answer =
     (λ _. IsBodyPlaintext s b.heading letters output)
     (λ fault. IsBodyAnswer s b.heading.part b.heading letters (Err fault))
 
--- `part` ends within its heading line. `found` is the heading in it, or `None` if there is no heading.
+-- `part` has no LF, so it ends within its heading line. `found` is the heading that these bytes are, if they are a
+-- heading, and else `None`.
 abbrev pub IsOpenHeading : Day → List ℕ → Option Heading → Type 0
 IsOpenHeading s part found =
     MatchOption found ((h : Heading) (body : List ℕ) → ¬ (HasHeading s part h body)) (λ h. HasHeading s part h [])

@@ -30,12 +30,13 @@ abbrev pub next_part_start : PartStart → ℕ → List ℕ → PartStart
 next_part_start p count part = record
     { number = p.number + 1; expected = Some count; bytes_before = p.bytes_before + length part }
 
--- A property of a part's start and the list of parts from there on, such as `AreAllPartsRead`.
+-- A property such as `AreAllPartsRead`. It speaks of where a part starts, and of the list of this part and all later
+-- parts.
 abbrev pub PartsProperty : Type 1
 PartsProperty = PartStart → List (List ℕ) → Type 0
 
--- The parts are read in order, from the start `p` on, until the parts left satisfy `Holds`. `letters` are the
--- deciphered letters of the parts read.
+-- The parts are read in order, from the start `p` on. Reading stops when the remaining parts satisfy `Holds`. `letters`
+-- are the deciphered letters of the parts read.
 abbrev pub ReadsPartsTo : Day → PartsProperty → PartStart → List (List ℕ) → List ℕ → Type 0
 ReadsPartsTo s Holds p [] letters = Holds p [] × (letters ≡ [])
 ReadsPartsTo s Holds p (part ∷ parts) letters =
@@ -108,7 +109,7 @@ IsPartFaultAtEnd s fault p (part ∷ next ∷ others) = ⊥
 abbrev pub IsRefusedAtEnd : Day → List ℕ → List ℕ → FormFault → Type 0
 IsRefusedAtEnd s form text fault = IsFormReadTo s (IsPartFaultAtEnd s fault) form text
 
--- The form has `fault`: whatever bytes follow, or because the form ends here.
+-- The form has `fault`. Either no further bytes can change this, or the form has it because the form ends here.
 abbrev pub IsReceiveFault : Day → List ℕ → FormFault → Type 0
 IsReceiveFault s form fault = (text : List ℕ) × (IsRefusedForGood s form text fault ⊎ IsRefusedAtEnd s form text fault)
 

@@ -46,7 +46,7 @@ abbrev pub indicator_of : Day → RotorKeys → Indicator
 indicator_of s k =
     record { ground_setting = k.ground_setting; enciphered_key = cipher_from s k.ground_setting k.message_key }
 
--- the two fillers, the group, and the text enciphered with the message key in the windows
+-- the two fillers and the group, which aren't enciphered, and the text, enciphered with the message key
 abbrev pub rotor_letters : Day → RotorKeys → List ℕ → List ℕ
 rotor_letters s k text = k.fillers ++ k.group ++ cipher_from s k.message_key text
 

@@ -77,8 +77,7 @@ pub record IsSendable (s : Day) (order : List ℕ) (keys : List Keys) (head text
   pub suited : All (KeysSuitDay s) keys
   pub allowed : All (λ b. IsTrue (is_text_byte b)) text
 
--- The fault that an order has and keeps, whatever bytes follow: in its head, in its keys, or in a byte of its
--- text.
+-- A fault of an order's head, of its keys, or of a byte of its text. No further bytes can change such a fault.
 pub data IsOrderFaultForGood (s : Day) (order : List ℕ) (fault : FormFault) : Type 0 where
   InHead : (position : ℕ) → IsOrderHeadFault s order position → position ≤ length order → fault ≡ BadByte position
       → IsOrderFaultForGood s order fault

@@ -32,8 +32,8 @@ IsFeedAnswer m old new byte made answer =
     → MatchResult answer (λ _. HasReadSoFar m new (bytes ++ byte ∷ []) (text ++ made))
     (IsRefused m (bytes ++ byte ∷ []) text)
 
--- At the end of the message, the reader outputs `made`. It is the rest of the result or, if there is a fault, the rest
--- of the text before the fault.
+-- At the end of the message, the reader outputs `made`. If there is no fault, it is what is left of the result. If
+-- there is a fault, it is what is left of the text that comes before the fault.
 abbrev pub IsEndAnswer : Message → (List ℕ → List ℕ → Type 0) → List ℕ → Result (Unit {0}) FormFault → Type 0
 IsEndAnswer m old made answer = (bytes text : List ℕ) → HasReadSoFar m old bytes text
     → IsMessageAnswer m bytes (text ++ made) answer
@@ -50,7 +50,7 @@ is_device_interruption _ = false
 
 -- ---- bytes, one after another
 
--- After some or all of `bytes` were read, a text was due. `text` is a proper prefix of the text that was due.
+-- At some time while `bytes` were read, a certain text had to be written. `text` is a proper prefix of it.
 pub record IsPrefixOfDue (m : Message) (bytes text : List ℕ) : Type 0 where
   pub front : List ℕ
   pub due : List ℕ

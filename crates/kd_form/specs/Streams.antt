@@ -11,8 +11,8 @@ use Rattle.kd_form.specs.declared.fault.FormFault.TheVariants.{NotReady, Device,
 use Rattle.kd_form.specs.OnTheKey.{IsReadyOnKey, IsKeyFault}
 
 -- A kind of message, such as orders. `stands`: the first bytes of a message have this fault, and no further bytes can
--- change it. `refused`: a whole message has this fault. `becomes`: a whole message has this result. `before`: this text
--- is written before the fault or, without a fault, before more bytes are read.
+-- change it. `refused`: a whole message has this fault. `becomes`: a whole message has this result. `before`: if there
+-- is a fault, this text is written before the fault; if not, before further bytes are read.
 pub record Message : Type 1 where
   pub stands : List ℕ → FormFault → Type 0
   pub refused : List ℕ → FormFault → Type 0
@@ -33,8 +33,8 @@ IsMessageAnswer m bytes text answer =
 -- Code: `stream_message` reads a message chunk by chunk; the readers of orders and forms take it byte by byte.
 -- Test: orders_are_sent, forms_are_received
 
--- The bytes `read` come in, and then the source may end. `text` has to be written at some time: before all bytes have
--- come, right after them, or at the source's end.
+-- While the bytes `read` come in, or when the source ends after them, texts have to be written. `text` is one of these
+-- texts: all that is due by then.
 pub data IsDue (m : Message) (source : Port) (read text : List ℕ) : Type 0 where
   ByThen : (front : List ℕ) → StartsWith read front → IsOpen m front text → IsDue m source read text
   ByTheEnd : (answer : Result (Unit {0}) FormFault) → IsAtEnd source.has → IsMessageAnswer m read text answer
@@ -101,7 +101,7 @@ pub record IsUntouched (p : Port) : Type 0 where
   pub well : HasNotFailed p
 
 -- If a fault comes before anything is read, the answer is this fault, and both ports are left as they were. If there is
--- no such fault, the message is read, and its result is written; then the condition `may` holds, too.
+-- no such fault, the condition `may` holds; the message is read, and its result is written.
 pub data StreamsUnlessFault (is_fault : FormFault → Type 0) (may : Type 0) (message : Message) (source sink : Port)
     (answer : Result (Unit {0}) FormFault) : Type 0 where
   FaultBefore : (fault : FormFault) → is_fault fault → answer ≡ Err fault → IsUntouched source → IsUntouched sink

@@ -26,7 +26,7 @@ pub(crate) struct FormReader {
     pub(crate) position: usize,
     /// The number of the current part, counted from 1.
     pub(crate) number: u8,
-    /// The number of all parts that the headings give; `None` until the first part has been read.
+    /// The number of parts of the whole form, as the headings say. `None` until the first part has been read.
     pub(crate) expected: Option<u8>,
     /// What is kept of the current part. The variant says whether the next byte belongs to the heading line or the
     /// body.

@@ -74,7 +74,8 @@ impl PartBody {
         keep_byte(&mut self.line, byte);
     }
 
-    /// Deciphers the body, and appends its text to `output`. The body's last `others` letters are left out.
+    /// Deciphers the body, and appends its text to `output`. The last letters of the body, `others` in number, are left
+    /// out.
     ///
     /// They belong to the next heading. Not inlined: otherwise every byte read would pay for this function's stack
     /// frame.

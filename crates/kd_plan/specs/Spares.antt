@@ -9,8 +9,8 @@ use Rattle.kd_state.specs.Setting.{cable_at}
 abbrev pub is_spare : Option ℕ × Option ℕ → Bool
 is_spare cable = is_none cable.0 && is_none cable.1
 
--- Letters are put only into cables in use, and into the first spare cables. The pairs need so many of these as there
--- are more pairs than cables in use.
+-- Letters are put only into cables in use, and into the first spare cables. If there are more pairs than cables in use,
+-- the difference is the number of these spare cables; otherwise it is 0.
 abbrev pub SparesStayFree : Parts → Day → List Setting → Type 0
 SparesStayFree (Rotor m) (OfRotors s) settings =
     (cable letter : ℕ) → Contains settings (Put cable letter) → IsTrue (is_spare (cable_at m cable))
@@ -24,7 +24,7 @@ SparesStayFree _ _ settings = ⊥
 abbrev pub is_spare_at : List (Option ℕ × Option ℕ) → ℕ → Bool
 is_spare_at cables place = is_spare (slice_index_or cables place (None, None))
 
--- whether the cable at `place` gets a pair before the spare cable at `spare`: it is in use, or `place` is lower
+-- whether the cable at `place` gets a pair before the spare cable at `spare`: if it isn't spare, or `place` is lower
 abbrev pub comes_before : List (Option ℕ × Option ℕ) → ℕ → ℕ → Bool
 comes_before cables place spare = nat_lt place spare || not (is_spare_at cables place)
 

@@ -7,7 +7,7 @@ ghost use Rattle.kd_state.specs.Costs.{cable_cost, columns_of, costs_by};
 use kd_state::Cable;
 use kd_tables::Letter;
 
-/// Changes the assignment `to`: a spare cable's pair goes to a cable in use, or to a spare cable with a lower number.
+/// In the assignment `to`, gives spare cables' pairs to cables in use, or to spare cables with lower numbers.
 ///
 /// In each move, a spare cable and a cable without a pair swap their columns. The spare cable's cost falls from 2 to 0,
 /// and the other cable's cost grows by at most 2. So the total cost doesn't grow.
@@ -28,10 +28,10 @@ pub(crate) fn keep_spares_free(cables: &[Cable; 13], pairs: &[(Letter, Letter)],
     }
 }
 
-/// Finds the first cable that comes before the spare cable `spare`, but is assigned no pair.
+/// Finds the first cable that should get a pair before the spare cable `spare` does, but is assigned none.
 ///
-/// A cable comes before a spare cable if it is in use or has a lower number. Cables are counted from 0. `pairs` is
-/// the number of pairs.
+/// Such a cable is in use, or has a lower number than `spare`. Cables are counted from 0. `pairs` is the number of
+/// pairs.
 fn find_left_out(spare: usize, cables: &[Cable; 13], pairs: usize, to: &[u8; 13]) -> Option<usize>
     ensures { MatchOption result
         ((place : ℕ) → place < 13 → IsTrue (comes_before cables.now place spare)

@@ -88,8 +88,9 @@ IsDoubt m s settings prices doubt = IsCheckedAnswer m s settings prices (Err dou
 
 -- ---- The steps of finding the first doubt. No public contract cites these definitions.
 
--- The result of checking settings by the prices `rows` and `columns` of a table of costs, `number` of each. It is
--- success if the settings lead to the day and are proved shortest; otherwise it is the first doubt.
+-- The result of checking settings by the prices of a table of costs: `rows` has the prices of its `number` rows, and
+-- `columns` those of its `number` columns. The result is success if the settings lead to the day and are proved
+-- shortest; otherwise it is the first doubt.
 abbrev pub IsByPricesAnswer : Parts → Day → List Setting → ℕ → List ℤ → List ℤ → AnswerRule Doubt (Unit {0})
 IsByPricesAnswer m s settings number rows columns answer =
     (prices : PriceParts) → row_prices prices ≡ rows → column_prices prices ≡ columns → table_rows prices ≡ number

@@ -26,9 +26,9 @@ pub record CanBeKinds {K X : Type 0} (format : KindFormat K X) (cmp : X → X �
   pub one_price : HaveOnePriceEach pairs
   pub fine : All (IsFine format) pairs
 
--- `new` is `old` with added kinds, which count all keys of `kind` and of `pairs`, with their prices. If these keys can
--- be kinds, the added kinds are valid and strictly ascending. If the key of `kind` comes after the key of some kind
--- `last`, all added kinds come after `last`.
+-- `new` is `old` with added kinds, which count the keys that `kind` counts and the keys of `pairs`, all with their
+-- prices. If all these can be grouped into kinds, the added kinds are valid and strictly ascending. If the key of
+-- `kind` comes after the key of some kind `last`, all added kinds come after `last`.
 pub record AppendsKinds {K X : Type 0} (format : KindFormat K X) (cmp : X → X → Ordering) (kind : KindOf X)
     (pairs : List (X × ℤ)) (old new : List K) : Type 0 where
   pub made : List K
@@ -44,7 +44,8 @@ pub record AppendsKinds {K X : Type 0} (format : KindFormat K X) (cmp : X → X 
 abbrev pub HasNoneLeft : {X : Type 0} → (X → X → Bool) → List (KindOf X) → X → Type 0
 HasNoneLeft eq kinds key = count_by (λ other. eq other.0 key) (expansion kinds) ≡ 0
 
--- The kinds `left` are `kinds` without one key: `key` (letters, a standing or a reading), which has the price `price`.
+-- In `left`, one kind of `kinds` counts one less: the kind with the key `key` (letters, a standing or a reading) and
+-- this price.
 abbrev pub TakesOne : {X : Type 0} → List (KindOf X) → X → ℤ → List (KindOf X) → Type 0
 TakesOne kinds key price left = IsPermutation (expansion kinds) ((key, price) ∷ expansion left)
 
@@ -54,8 +55,8 @@ HaveKeys {X} eq kinds keys =
     (key : X)
     → count_by (λ other. eq other key) keys ≤ count_by (λ other. eq other.0 key) (expansion kinds)
 
--- If the Bool is true, the kinds `left` are `kinds` without the listed keys, which have these prices. If the Bool is
--- false, the list has too many keys: some key is in the list more often than in `kinds`.
+-- If the Bool is true, `left` are the kinds that remain if each of `keys` is taken out of `kinds`, with its price in
+-- `prices`. If the Bool is false, this can't be: some key is in `keys` more often than in `kinds`.
 abbrev pub TakesAll : {X : Type 0} → (X → X → Bool) → List (KindOf X) → List X → List ℤ → List (KindOf X) → Bool
     → Type 0
 TakesAll eq kinds keys prices left true = IsPermutation (expansion kinds) (zip keys prices ++ expansion left)

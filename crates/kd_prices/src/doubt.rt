@@ -22,8 +22,8 @@ pub enum Doubt {
     NotTheSheet,
     /// The prices of this row and this column add up to more than the cost where row and column meet.
     ///
-    /// Of all such places of the table of costs, this is the first, row by row. Rows and columns are counted from 1.
-    /// The table's rows are cables or bars. Its columns are pairs and empty columns, or the sheet's rows.
+    /// Of all such places of the table of costs, this is the first, row by row. Rows and columns are counted from 1. A
+    /// row of the table stands for a cable or a bar, and a column for a pair (or no pair) or for a row of the sheet.
     PriceTooHigh(u8, u8),
     /// The sum of the prices isn't the number of lines that change a cable or a bar.
     SumDiffers,

@@ -24,7 +24,7 @@ pub(crate) fn first_too_high<const N: usize>(
     None
 }
 
-/// Finds the first column, counted from 0, where a row's `price` and the column's price exceed the cost in this row.
+/// Finds the first column, counted from 0, where the sum of the row's `price` and the column's price is above the cost.
 fn first_column_too_high(costs: &[u8], price: i16, columns: &[i16]) -> Option<usize>
     requires { length costs.now ≡ length columns.now }
     ensures { MatchOption result

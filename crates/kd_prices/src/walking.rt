@@ -44,7 +44,10 @@ pub(crate) fn carry_settings(
     Ok(Carried { reached, needed })
 }
 
-/// Checks that `setting`, on line `line`, is needed, from the numbers of loose things before and after it.
+/// Checks that `setting`, on line `line`, is needed: it changes a cable or a bar, or lowers the number of loose things
+/// by one.
+///
+/// The number of loose things is `before` before the setting, and `after` after it.
 fn check_need(setting: &Setting, line: usize, before: usize, after: usize) -> Result<(), Doubt>
     requires { after ≤ 137 }
     ensures { let is_needed = IsFalse (proving.is_priced_setting setting.now) → before ≡ after + 1 in

@@ -1,5 +1,5 @@
--- The bars' standings in a machine file (the places of the lugs), and their readings in a key sheet (the wheels'
--- numbers there, or 0).
+-- The standings of the bars, in a machine file, and the readings of the bars, in a key sheet. A standing has the places
+-- of a bar's two lugs, and a reading has the numbers of the wheels at these places, or 0.
 -- Test: kd_trials/src/sheet/files.rt
 use Rattle.std.specs.Prelude.{ℕ, nat_eq, ◌+◌, ◌-◌, ◌==◌, ◌&&◌, ◌||◌, nat_le, not, List, [], ◌∷◌, length, Option}
 use Rattle.std.specs.Prelude.{Some, None, Result, ok_or, if◌then◌else◌}

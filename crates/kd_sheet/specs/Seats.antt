@@ -17,8 +17,8 @@ use Rattle.kd_sheet.specs.declared.key.Key.TheVariants as keys
 use Rattle.kd_sheet.specs.declared.fault.SheetFault.{SheetFault}
 use Rattle.kd_sheet.specs.declared.fault.SheetFault.TheVariants.{BadValue, WheelTwice, WheelNotAllowed}
 
--- The wheel that `item` names, for the next slot after `slots`: the model must allow it there, and no slot of `slots`
--- may hold it. The names are those of all ten wheels, which are in the box of an M4.
+-- The wheel that `item` names, for the next slot after `slots`: the model must allow the wheel there, and no slot of
+-- `slots` may hold it. The text of any of the ten wheels names a wheel, also on models that lack the wheel.
 unfoldable pub wheel_for : Key → Model → List (Option Wheel) → Data → Result Wheel SheetFault
 wheel_for key model slots item = do
   wheel ← ok_or (from_text (find_by_text wheel_text (box_of M4)) item) (BadValue key)

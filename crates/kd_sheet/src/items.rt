@@ -14,7 +14,8 @@ use toml::{Table, Value};
 ///
 /// `Given` is what is needed to read an item, besides the items: for a wheel, the key and the model.
 pub trait FromItem<Given> {
-    /// The rule that makes a value or a fault. It takes `Given`, the values of the earlier items, and the item.
+    /// The rule that makes a value or a fault. It has three arguments: `Given`, the earlier items' values, and the
+    /// item.
     ghost parse: { Given → List Self → Data → Result Self SheetFault };
 
     /// Reads `item`. `before` has the values of the items before it.

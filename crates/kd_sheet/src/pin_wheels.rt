@@ -32,7 +32,7 @@ fn are_on_wheels(wheel: u8, letters: &[Letter]) -> bool
     }
 }
 
-/// Reads the letters that the six wheels show: at `key`, the first is on wheel 1, the second on wheel 2, and so on.
+/// Reads the text at `key`: the letters that the six wheels show, from wheel 1 to wheel 6.
 #[tactic(auto, unfolding(crate::specs::PinWheels::shown_letters_in))]
 pub fn shown_letters_in(table: &Table, key: Key) -> Result<[Letter; 6], SheetFault>
     ensures { result ≡ shown_letters_in key (table_view table.now) }

@@ -78,7 +78,7 @@ fn pin_texts(pins: &PinSet) -> [Item; 6]
     ]
 }
 
-/// The version of machine files in which a machine of `model` is written, as a digit.
+/// The digit for the version of the machine file that is written for a machine of `model`.
 fn file_version(model: Model) -> &'static str
     ensures value { result.now ≡ digit_text (file_version model) }
 {

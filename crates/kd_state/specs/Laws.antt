@@ -93,7 +93,7 @@ TellingIsMaking =
 abbrev pub RefusalsAreTold : Type 0
 RefusalsAreTold = (m : Parts) (x : Setting) → IsMachine m → (why_refused m x ≡ None) ↔ AllowsSetting m x
 
--- A rotor machine lets a wheel be seated exactly if the wheel is allowed in the slot.
+-- A wheel can be put into a slot of a rotor machine if it is allowed there, and only then.
 abbrev pub SeatsAreByTheTables : Type 0
 SeatsAreByTheTables =
     (m : RotorParts) (slot : ℕ) (wheel : Wheel)
@@ -105,7 +105,7 @@ ReflectorsAreByTheTables =
     (m : RotorParts) (reflector : Reflector)
     → (why_refused (Rotor m) (SeatReflector reflector) ≡ None) ↔ Contains (reflectors_of m.model) reflector
 
--- A rotor machine lets a wheel's ring be set exactly if the wheel is in the model's box.
+-- The ring of a wheel can be set on a rotor machine if the wheel is in the model's box, and only then.
 abbrev pub RingsAreByTheTables : Type 0
 RingsAreByTheTables =
     (m : RotorParts) (wheel : Wheel) (letter : ℕ)
@@ -165,8 +165,8 @@ abbrev pub OnKeyIsItsCipher : Type 0
 OnKeyIsItsCipher = (m : Parts) (s : Day) (text : List ℕ) → IsMachine m → IsLegalDay s → OnKey m s
     → physical_cipher m text ≡ cipher (key_with_window (sheet_key s) (window_of m)) text
 
--- Suppose that a machine on the day's key is turned to other letters. If a text begins with these letters in the
--- windows, the machine enciphers it as the day asks.
+-- Suppose that a machine on the day's key is turned to other letters. Starting with these letters in its windows, it
+-- enciphers as the day asks.
 abbrev pub TurnedHasTheDaysCipher : Type 0
 TurnedHasTheDaysCipher =
     (m n : Parts) (s : Day) (window text : List ℕ) → IsMachine m → IsLegalDay s → OnKey m s → IsTurnedTo m window n

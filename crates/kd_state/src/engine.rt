@@ -63,10 +63,10 @@ impl Engine {
         }
     }
 
-    /// Turns the wheels until they show `letters`: from the left, or from pin wheel 1 on.
+    /// Turns the wheels until they show `letters`, which are listed from the left, or from pin wheel 1 on.
     ///
-    /// There must be one letter for each slot or pin wheel, and each letter must be on its pin wheel. Otherwise
-    /// returns false, and turns no wheel.
+    /// There must be one letter for each slot or pin wheel, and each letter must be on its pin wheel. Otherwise returns
+    /// false, and turns no wheel.
     pub fn turn_to(&mut self, letters: &[Letter]) -> bool
         ensures window { IsTrue result ↔ IsWindow self.old letters.now }
         ensures turned { OnTrue result (self.new ≡ key_with_window self.old letters.now) }

@@ -31,7 +31,8 @@ impl<const S: usize> Model for Stepper<S> {
 }
 
 impl<const S: usize> Stepper<S> {
-    /// Creates a stepper of three or four `wheels` that show `window`, both in order from the left.
+    /// Creates a stepper of three or four wheels that show the letters `window`. Wheels and letters are listed from the
+    /// left.
     pub fn new(wheels: [Wheel; S], window: [Letter; S]) -> Self
         requires least { 3 ≤ S }
         requires most { S ≤ 4 }

@@ -74,7 +74,8 @@ fn collect_letters(bytes: &[u8], letters: &mut ArrayVec<Letter, CHUNK>) -> usize
 
 /// Sets the length of `items` to `count`.
 ///
-/// The chunk before usually had the same length, and then nothing is done.
+/// Nothing is done if `items` has this length already. This is so for most chunks, since chunks of a text usually have
+/// one length.
 fn set_length<T: Copy + Default>(items: &mut ArrayVec<T, CHUNK>, count: usize)
     requires { count ≤ CHUNK }
     ensures { array_vec_len items.new ≡ count }

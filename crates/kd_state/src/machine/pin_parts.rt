@@ -30,8 +30,7 @@ impl PinParts {
     }
 }
 
-/// Whether there is one of `letters` for each of the six pin wheels, and each letter is on its wheel: the first on
-/// wheel 1, and so on.
+/// Whether `letters` are six letters, the first on pin wheel 1, the second on pin wheel 2, and so on.
 #[tactic(auto, using(crate::proofs::Slots::is_numbered, crate::proofs::Slots::numbered_at))]
 pub(crate) fn are_on_wheels(letters: &[Letter; 6]) -> bool
     ensures { IsTrue result ↔ AreOnWheels letters.now }
