@@ -13,9 +13,9 @@ pub struct Nearest<const N: usize> {
     pub row: [usize; N],
     /// The ceiling of each column: the lowest price that a row of the tree offers for it.
     ///
-    /// A column's room is its ceiling minus its price; the nearest column has the least room. When a free column ends
-    /// the tree, let `r` be the room of this free column. If another column has less room than `r`, its price is
-    /// lowered until its room is `r`.
+    /// A column's room is its ceiling minus its price. The tree grows by the column with the least room, until this
+    /// column is free. Let `r` be the room of the free column. Each column of the tree that has less room gets a lower
+    /// price, so that its room is `r`.
     pub ceiling: [i16; N],
 }
 

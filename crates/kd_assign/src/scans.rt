@@ -5,7 +5,7 @@ use std::marker::Model;
 
 /// The number of comparisons made so far.
 ///
-/// The field is private to this module, so that other modules can only count comparisons, and can't set the number.
+/// The field is private to this module, so that other modules can only begin at 0 and count comparisons.
 #[derive(Clone, Copy)]
 pub struct Scans {
     count: u32,

@@ -155,8 +155,8 @@ pub record BeginsWithKinds {K X : Type 0} (format : KindFormat K X) (last : Opti
 
 -- The result of reading a group of kinds: the kinds and the bytes after them, or a fault. The fault is `BadLine` if a
 -- line has no LF. It is `BadLine`, too, if a line begins with the group's word, but isn't the line of a valid kind that
--- may come next. The fault is `PriceMissing` if the kinds' counts don't add up to `number`. Code: the reader keeps at
--- most `number` kinds, and stops adding counts at `number + 1`.
+-- may come next. The fault is `PriceMissing` if the kinds' counts don't add up to `number`.
+-- Code: the reader keeps at most `number` kinds, and stops adding counts at `number + 1`.
 abbrev pub IsGroupAnswer : {K X : Type 0} → KindFormat K X → ℕ → ℕ → List ℕ → AnswerRule CardFault (List K × List ℕ)
 IsGroupAnswer {K} format number line bytes = do
   group ← FindsAlways (λ (group : List K × List ℕ). BeginsWithKinds format None bytes group.0 group.1)

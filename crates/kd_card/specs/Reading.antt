@@ -20,12 +20,13 @@ abbrev pub head_prefix : Version → List ℕ
 head_prefix ByNumber = codes "CARD 1 DAY "
 head_prefix ByKind = codes "CARD 2 DAY "
 
--- The group of kinds ends before `bytes`. `IsBadKindAt`: the group doesn't end there, but goes on with a bad line: a
--- line without LF, without a valid kind, or with a kind that isn't after `last` in the order of kinds.
+-- the group of kinds ends before `bytes`
 pub record EndsKindsAt {K X : Type 0} (format : KindFormat K X) (last : Option K) (bytes : List ℕ) : Type 0 where
   pub ends : EndsGroup format.word bytes
   pub none_more : HasNoNext format last bytes
 
+-- The group of kinds doesn't end before `bytes`, but goes on with a bad line. A line is bad if it has no LF, or isn't
+-- the line of a valid kind, or if its kind isn't after `last` in the order of kinds.
 pub record IsBadKindAt {K X : Type 0} (format : KindFormat K X) (last : Option K) (bytes : List ℕ) : Type 0 where
   pub goes_on : ¬ (EndsGroup format.word bytes)
   pub none_more : HasNoNext format last bytes

@@ -6,7 +6,8 @@ ghost use Rattle.kd_card.specs.Months.{CardsAreFewestInAll};
 
 /// Different cards have different texts, and no card's text is a proper prefix of another's.
 ///
-/// The text of a card has no fault. Bytes that aren't a card have one first fault, which `read_card` returns.
+/// The text of a card has no fault. Bytes that aren't a card have at most one first fault, the one that `read_card`
+/// returns.
 pub fn no_two_cards_have_one_text()
     ensures card { TextsTellCards }
     ensures front { NoCardBeginsAnother }

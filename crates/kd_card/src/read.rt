@@ -76,9 +76,10 @@ fn read_day(text: &[u8], version: Version) -> Option<(u8, &[u8])>
     Some((day_of_text(day)?, rest))
 }
 
-/// Checks the first line of `text`: it has to be `front` and then the number `due`. Returns the text after this line.
+/// Checks the first line of `text`, which is line `line` of the card.
 ///
-/// This first line is line `line` of the card. If `signed`, the number may be negative.
+/// The line has to be `front` and then the number `due`, which may be negative if `signed`. Returns the text after this
+/// line.
 fn read_value<'a>(
     text: &'a [u8],
     front: &str,

@@ -1,7 +1,8 @@
 -- The cipher of the Converter M-209 reverses each letter (A becomes Z), and moves it on by the number of bars that the
--- wheels meet. Wheels are numbered from 1 to 6. Letters of a text and places of a wheel are counted from 0. Source: War
--- Department TM 11-380. Code: `Converter` turns its wheels at each letter. A table with an entry for each of the 64
--- sets of wheels tells how many bars are met.
+-- wheels meet. Wheels are numbered from 1 to 6. Letters of a text and places of a wheel are counted from 0.
+-- Source: War Department TM 11-380
+-- Code: `Converter` turns its wheels at each letter. A table with an entry for each of the 64 sets of wheels tells how
+-- many bars are met.
 -- Test: bars_are_met, files_are_refused
 use Rattle.std.specs.Prelude.{ℕ, ◌+◌, ◌-◌, ◌%◌, ◌≤◌, nat_le, Bool, ◌&&◌, ◌||◌, List, length, map, slice_index}
 use Rattle.std.specs.Prelude.{Contains, unwrap_or}

@@ -23,8 +23,8 @@ pub record HasRoom (m : Message) (holds : List ℕ → List ℕ → Type 0) (roo
   pub held : HasReadSoFar m holds bytes text
   pub within : length bytes + room < 2 ^ 63
 
--- The reader reads `byte`. Unless the bytes have a fault, it outputs `made`, and its state changes from `old` to
--- `new`.
+-- The reader reads `byte`. If the bytes read so far have no fault, it outputs `made`, and its state changes from `old`
+-- to `new`.
 abbrev pub IsFeedAnswer : Message → (List ℕ → List ℕ → Type 0) → (List ℕ → List ℕ → Type 0) → ℕ → List ℕ
     → Result (Unit {0}) FormFault → Type 0
 IsFeedAnswer m old new byte made answer =

@@ -74,11 +74,10 @@ impl PartBody {
         keep_byte(&mut self.line, byte);
     }
 
-    /// Deciphers the body, and appends its text to `output`. The last letters of the body, `others` in number, are left
-    /// out.
+    /// Deciphers the body into `output`, except the last letters of the body, `others` in number.
     ///
-    /// They belong to the next heading. Not inlined: otherwise every byte read would pay for this function's stack
-    /// frame.
+    /// These letters belong to the next heading. Not inlined: otherwise every byte read would pay for this function's
+    /// stack frame.
     #[inline(never)]
     pub(crate) fn decipher_into(
         &self,

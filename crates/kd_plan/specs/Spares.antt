@@ -10,7 +10,7 @@ abbrev pub is_spare : Option ℕ × Option ℕ → Bool
 is_spare cable = is_none cable.0 && is_none cable.1
 
 -- Letters are put only into cables in use, and into the first spare cables. If there are more pairs than cables in use,
--- the difference is the number of these spare cables; otherwise it is 0.
+-- the difference is the number of spare cables that may get letters; otherwise none may.
 abbrev pub SparesStayFree : Parts → Day → List Setting → Type 0
 SparesStayFree (Rotor m) (OfRotors s) settings =
     (cable letter : ℕ) → Contains settings (Put cable letter) → IsTrue (is_spare (cable_at m cable))

@@ -46,6 +46,8 @@ fn take_prices<K: Kind>(keys: &[K::Key], kinds: &mut [K], prices: &mut [i16]) ->
 }
 
 /// Lowers the count of the kind with the key `key` by one, and returns the price of this kind.
+///
+/// Returns `None` if no kind has this key, or if the count of this kind is 0.
 fn take_one<K: Kind>(key: &K::Key, kinds: &mut [K]) -> Option<i16>
     ensures { MatchOption result
         (HasNoneLeft K.Key.eq (map K.format.kind kinds.old) key.now)

@@ -36,9 +36,10 @@ fn kind_of_one<T: KindKey>(pair: &(T, i16)) -> KindOf<T>
     }
 }
 
-/// Appends `kind`, and then the kinds of `pairs`, which are keys with their prices, in ascending order.
+/// Appends `kind` to `kinds`, and then the kinds of `pairs`. Each of the `pairs` is a key with its price, and the pairs
+/// are in ascending order.
 ///
-/// As long as `pairs` begin with the key and the price of `kind`, `kind` counts them, too.
+/// If the first of the `pairs` have the key and the price of `kind`, they are counted in `kind`.
 fn push_kinds<K: Kind, const N: usize>(
     kind: KindOf<K::Key>,
     pairs: &[(K::Key, i16)],

@@ -23,7 +23,8 @@ WrittenFilesAreReadBack = (m : Parts) → IsMachine m → machine_of (machine_te
 abbrev pub LegalDaysAreDescribed : Type 0
 LegalDaysAreDescribed = (day : Day) → IsLegalDay day ↔ ((entry : Data) × (day_for [] entry ≡ Ok day))
 
--- In a key sheet without a fault, day `number` is the day that the entry with this number describes.
+-- The entries of a key sheet without a fault describe `days`, and the sheet's month is `month_of days`. Day `number` of
+-- the month is the day that the entry with this number describes.
 abbrev pub DaysAreTheEntries : Type 0
 DaysAreTheEntries = (entries : List Data) (days : List Day) (number : ℕ) (day : Day)
     → read_items day_for entries ≡ Ok days

@@ -39,5 +39,4 @@ abbrev pub pins_of_items : List Data → Result PinSet SheetFault
 pins_of_items items = read_items pins_for items >>= (λ pins. Ok (pin_set pins))
 
 unfoldable pub pins_in : Members → Result PinSet SheetFault
-pins_in table =
-    value_at keys.Pins table >>= read_array keys.Pins (nat_eq 6) pins_for >>= (λ pins. Ok (pin_set pins))
+pins_in table = value_at keys.Pins table >>= read_array keys.Pins (nat_eq 6) pins_for >>= (λ pins. Ok (pin_set pins))

@@ -165,8 +165,8 @@ abbrev pub OnKeyIsItsCipher : Type 0
 OnKeyIsItsCipher = (m : Parts) (s : Day) (text : List ℕ) → IsMachine m → IsLegalDay s → OnKey m s
     → physical_cipher m text ≡ cipher (key_with_window (sheet_key s) (window_of m)) text
 
--- Suppose that a machine on the day's key is turned to other letters. Starting with these letters in its windows, it
--- enciphers as the day asks.
+-- Turn a machine on the day's key until it shows some letters. It then enciphers by the day's key, beginning with these
+-- letters.
 abbrev pub TurnedHasTheDaysCipher : Type 0
 TurnedHasTheDaysCipher =
     (m n : Parts) (s : Day) (window text : List ℕ) → IsMachine m → IsLegalDay s → OnKey m s → IsTurnedTo m window n
@@ -228,7 +228,7 @@ ColumnsAreThePairs =
 abbrev pub CablesCostFour : Type 0
 CablesCostFour = (cable : Option ℕ × Option ℕ) (column : Option (ℕ × ℕ)) → cable_cost cable column ≤ 4
 
--- The cost tables are square: 13 by 13 for cables and columns, 27 by 27 for bars and rows.
+-- Each row of a cost table is as long as the table.
 abbrev pub CostTablesAreSquare : Type 0
 CostTablesAreSquare =
     (m : Parts) (s : Day) → IsMachine m → IsLegalDay s

@@ -1,6 +1,6 @@
--- What it means that a machine is on a day's key (set as the day says), and that it also shows the day's letters. Code:
--- `on_key` looks for the pair of each cable, and for the cable of each pair. It sorts readings and rows, and compares
--- them.
+-- What it means that a machine is on a day's key (set as the day says), and that it also shows the day's letters.
+-- Code: `on_key` looks for the pair of each cable, and for the cable of each pair. It sorts readings and rows, and
+-- compares them.
 -- Test: kd_trials/src/state/days.rt
 use Rattle.std.specs.Prelude.{◌≡◌, ◌≢◌, ◌⊎◌, ◌↔◌, ℕ, List, [], ◌∷◌, map, All, Any, Contains, IsPermutation, Option}
 use Rattle.std.specs.Prelude.{Some}

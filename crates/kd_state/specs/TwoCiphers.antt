@@ -1,15 +1,17 @@
 -- The key of an engine, for either kind of machine, and the cipher that the engine makes with this key.
 -- Code: one type, `Engine`, serves all models.
 -- Test: kd_trials/src/state/engine.rt
-use Rattle.std.specs.Prelude.{◌≡◌, ◌≢◌, ℕ, List, length, map, All, IsSome}
-use Rattle.std.specs.List.{filter_map}
+use Rattle.std.specs.Prelude.{◌≡◌, ◌≢◌, ℕ, ◌+◌, ◌-◌, ◌%◌, ◌||◌, List, length, map, All, IsSome}
+use Rattle.std.specs.List.{count_by, enumerate_from, filter_map}
 use Rattle.std.specs.Option.{option_zip}
+use Rattle.kd_tables.specs.declared.place.Place.{Place}
 use Rattle.kd_tables.specs.declared.wheel.Wheel.{Wheel}
 use Rattle.kd_tables.specs.Permutation.{exchange}
 use Rattle.kd_tables.specs.Places.{place_number, reading_of}
 use Rattle.kd_pins.specs.PinWheels.{pins_of}
 use Rattle.kd_enigma.specs.Cipher.{RotorKey, enigma_cipher, key_after, key_turned}
-use Rattle.kd_drum.specs.Converter.{PinKey, converter_cipher, pin_key_after, pin_key_turned}
+use Rattle.kd_drum.specs.Converter.{PinKey, converter_cipher, is_acting_after, pin_key_after, pin_key_turned}
+use Rattle.kd_state.specs.declared.machine.pin_parts.PinParts.{PinParts}
 use Rattle.kd_state.specs.declared.machine.rotor_parts.RotorParts.{RotorParts}
 use Rattle.kd_state.specs.declared.machine.parts.Parts.{Parts}
 use Rattle.kd_state.specs.declared.machine.parts.Parts.TheVariants.{Rotor, Pin}
@@ -81,12 +83,16 @@ sheet_key (OfRotors s) = OfWheels (record {
 })
 sheet_key (OfPins s) = OfDrum (record { pins = pins_of s.pins; letters = s.window; rows = s.rows })
 
+-- how many bars are moved, by one lug or by both, after `count` letters
+abbrev pub bars_moved : PinParts → ℕ → ℕ
+bars_moved m count =
+    let acts = λ (place : Place). is_acting_after (pins_of m.pins) m.letters count (place_number place) in
+    count_by (λ bar. acts bar.0 || acts bar.1) m.bars
+
 -- the ciphertext that a ready machine makes: a rotor machine by its key, a Converter by its pins, letters and lugs
 abbrev pub physical_cipher : Parts → List ℕ → List ℕ
 physical_cipher (Rotor m) text = cipher (physical_key (Rotor m)) text
-physical_cipher (Pin m) text =
-    let rows = map (λ bar. (place_number bar.0, place_number bar.1)) m.bars in
-    converter_cipher (record { pins = pins_of m.pins; letters = m.letters; rows = rows }) text
+physical_cipher (Pin m) text = map (λ item. (25 + bars_moved m item.0 - item.1) % 26) (enumerate_from 0 text)
 
 abbrev pub sheet_cipher : Day → List ℕ → List ℕ
 sheet_cipher s = cipher (sheet_key s)

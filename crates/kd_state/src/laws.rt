@@ -132,8 +132,8 @@ pub fn being_on_the_key_is_its_cipher()
 
 /// If a machine is turned to other letters, the rest of its key stays the same.
 ///
-/// A machine on the day's key stays on the key when it is turned. Starting with the new letters in its windows, it
-/// enciphers as the day asks.
+/// A machine on the day's key stays on the key when it is turned. It then enciphers by the day's key, beginning with
+/// the letters that it shows.
 #[tactic(auto, using(crate::proofs::Keys::turned_key, crate::proofs::Keys::turned_on_key, crate::proofs::Keys::turned_cipher))]
 pub fn turning_keeps_the_key()
     ensures key { TurnedHasItsKey }
