@@ -22,7 +22,7 @@ pub struct CableKind {
     pub price: i16,
 }
 
-/// A kind of columns of the table of costs: equal pairs, or the empty columns, which have no pair.
+/// A kind of columns of the table of costs: all columns with the same pair, or all empty columns, which have no pair.
 #[derive(Clone, Copy, Default)]
 pub struct PairKind {
     /// The letters of the pair in alphabetical order, or `None` for columns without a pair.

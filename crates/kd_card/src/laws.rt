@@ -62,10 +62,10 @@ pub fn proving_prices_are_tight()
     ensures { ProvingPricesAreTight }
 {}
 
-/// On a rotor machine, cards that prove themselves also have the fewest settings in total over several days.
+/// On a rotor machine, cards that prove themselves have the fewest settings in total over several days.
 ///
-/// Each card begins with the machine that the card before it reaches. Lists that reach the same days in turn, from the
-/// same first machine, have at least as many settings in total.
+/// Each card begins with the machine that the card before it reaches. No other lists that reach the same days in turn,
+/// from the same first machine, have fewer settings in total.
 #[tactic(auto, using(crate::proofs::Months::cards_are_fewest_in_all))]
 pub fn cards_are_fewest_in_all()
     ensures { CardsAreFewestInAll }

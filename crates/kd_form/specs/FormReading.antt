@@ -116,8 +116,8 @@ current_part_start r front = record { number = r.number; expected = r.expected; 
 abbrev pub IsAtPartStart : PartStart → PartsProperty
 IsAtPartStart q p parts = (p ≡ q) × (parts ≡ [])
 
--- The reader `r` has read `form`, and has output `text`, the texts of all parts but the last. It holds the last
--- part. Further bytes don't change the earlier parts.
+-- The reader `r` has read `form`. It has output `text` (the texts of all parts but the last), and holds the last part.
+-- Further bytes don't change the earlier parts.
 pub record HoldsForm (s : Day) (r : FormReader) (form text : List ℕ) : Type 0 where
   pub front : List ℕ
   pub last : List ℕ

@@ -44,8 +44,8 @@ abbrev pub IsPatternFault : (List ℕ → Type 0) → List ℕ → PatternFault 
 IsPatternFault Is bytes Incomplete = (more : List ℕ) × (more ≢ []) × Is (bytes ++ more)
 IsPatternFault Is bytes Mismatch = (more : List ℕ) → ¬ (Is (bytes ++ more))
 
--- The bytes before `position` are an incomplete head, and no head begins with these bytes followed by the byte at
--- `position`. Or the order ends within its head: then `position` is one past the order's last byte.
+-- `position` is counted from 1. The order's bytes before `position` can begin a head, but no head begins with these
+-- bytes and the byte at `position`. If the order ends within its head, `position` is one past the order's last byte.
 pub record IsOrderHeadFault (s : Day) (order : List ℕ) (position : ℕ) : Type 0 where
   pub before : List ℕ
   pub rest : List ℕ

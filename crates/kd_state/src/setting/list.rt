@@ -1,4 +1,4 @@
-//! Lists of settings, one on each line.
+//! Lists of settings: each line has one setting.
 ghost use Rattle.std.specs.Prelude.{◌≡◌, MatchOption, MatchResult, Some};
 ghost use Rattle.kd_state.specs.FaultText.{list_fault_text};
 ghost use Rattle.kd_state.specs.Line.{BeginsWithSettingLine, BeginsWithNoSetting, BeginsWithAllSettings, IsListText};
