@@ -146,7 +146,7 @@ last_of last [] = last
 last_of last (kind ∷ kinds) = last_of (Some kind) kinds
 
 -- `bytes` are the lines of `kinds`, and then `rest`. The kinds are valid and strictly ascending, and come after the
--- kind `last`, if there is one. No next kind follows in `rest`.
+-- kind `last`, if there is one. `rest` doesn't begin with the line of a further kind in this order.
 pub record BeginsWithKinds {K X : Type 0} (format : KindFormat K X) (last : Option K) (bytes : List ℕ) (kinds : List K)
     (rest : List ℕ) : Type 0 where
   pub lines : bytes ≡ kinds_text format kinds ++ rest

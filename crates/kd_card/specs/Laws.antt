@@ -25,8 +25,8 @@ FittingPricesBoundLists =
     → PricesFit (cost_table m s) prices → LeadsToTheDay m s settings
     → (pos (loose_count m s) +ℤ price_sum prices) ≤ℤ pos (length settings)
 
--- A setting is unpriced if it changes no cable and no bar. If a list reaches the day, and its unpriced settings are at
--- most as many as the loose things, all of these unpriced settings are needed.
+-- A setting is unpriced if it changes no cable and no bar. If a list that reaches the day has no more unpriced settings
+-- than there are loose things, then all its unpriced settings are needed.
 abbrev pub AsFewAreNeeded : Type 0
 AsFewAreNeeded =
     (m : Parts) (s : Day) (settings : List Setting) → IsLegalDay s → model_of m ≡ day_model s

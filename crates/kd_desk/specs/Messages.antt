@@ -47,7 +47,7 @@ Sends m s order sink answer = IsStreamedOn m s (order_message s) order sink answ
 
 -- How the forms and the orders of day `s` agree. If a form is made from an order, the form's text is the text that
 -- `IsPlaintextOf` says. A form with a fault isn't made from any order. If no further bytes can change the fault, no
--- longer form that begins with the form's bytes is made from an order.
+-- order makes a form that begins with the bytes of the faulty form.
 pub record TellOfOrders (s : Day) : Type 0 where
   pub back : (form text order given : List ℕ) → IsTextOf s form text → IsFormOf s order form
       → IsPlaintextOf s order given → text ≡ given

@@ -11,8 +11,8 @@ StandAlike (Rotor m) place other =
     (cable_letters (slice_index_or m.cables other (None, None)))
 StandAlike (Pin m) place other = slice_get m.bars place ≡ slice_get m.bars other
 
--- Columns `place` and `other`, counted from 0, are both empty; or rows `place` and `other` of the sheet have the same
--- reading.
+-- At `place` and `other`, counted from 0, the day of a rotor machine has two empty columns, or the day of a Converter
+-- has two equal rows.
 abbrev pub ReadAlike : Day → ℕ → ℕ → Type 0
 ReadAlike (OfRotors s) place other = (length s.pairs ≤ place) × (length s.pairs ≤ other)
 ReadAlike (OfPins s) place other = slice_get s.rows place ≡ slice_get s.rows other
