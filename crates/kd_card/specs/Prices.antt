@@ -57,8 +57,7 @@ cost_at costs i j = slice_index (slice_index_or costs i []) j
 abbrev pub price_at : List ℤ → ℕ → ℤ
 price_at prices i = slice_index_or prices i (pos 0)
 
--- The prices of row `i` and column `j` add up to at most the cost there. `PricesFit`: this is so for all rows and
--- columns.
+-- The prices of row `i` and column `j` add up to at most their cost. `PricesFit`: so do those of any row and column.
 abbrev pub PricesFitAt : List (List ℕ) → PriceParts → ℕ → ℕ → Type 0
 PricesFitAt costs prices i j =
     (price_at (row_prices prices) i +ℤ price_at (column_prices prices) j) ≤ℤ pos (cost_at costs i j)
