@@ -1,6 +1,6 @@
--- A tree of rows and columns, as in the Hungarian method, grown from a row that has no column yet. A column's
--- ceiling is the lowest price that a row of the tree offers for it; this row is the column's nearest row. No public
--- contract cites this file.
+-- A tree of rows and columns, as in the Hungarian method, grown from a row that has no column yet. A column's ceiling
+-- is the lowest price that a row of the tree offers for it; the row that offers this price is the column's nearest row.
+-- No public contract cites this file.
 use Rattle.std.specs.Prelude.{◌≡◌, ◌≢◌, ℕ, ◌<◌, ◌≤◌, Bool, false, true, List, [], length, slice_index, Option, None}
 use Rattle.std.specs.Prelude.{is_some, slice_index_or, ◌⊎◌, ℤ, pos, neg_ℤ, ◌+ℤ◌, ◌-ℤ◌, ◌≤ℤ◌}
 use Rattle.kd_assign.specs.Prices.{cost_at, price_at}
@@ -46,8 +46,8 @@ pub record AreCompared (n : ℕ) (cost : List (List ℕ)) (reached : List Bool) 
 module _ (n : ℕ) (cost : List (List ℕ)) (prices : List ℤ) (holders : List (Option ℕ)) (root : ℕ) (reached : List Bool)
     (ceilings : List ℤ) where
   -- `plan` gives a column to each row from 0 to `root`, except row `out`. It uses the same columns as `holders`, and
-  -- agrees with `holders` outside the tree. Let the ceilings be the prices: if `plan` gives column `j` of the tree to
-  -- row `i`, then `j` is the cheapest column for `i`.
+  -- agrees with `holders` outside the tree. If the ceilings are taken as prices, each column of the tree is the
+  -- cheapest column for the row to which `plan` gives it.
   pub record IsAssignmentWithout (plan : List (Option ℕ)) (out : ℕ) : Type 0 where
     pub places : length plan ≡ n
     pub out_in_range : out < n

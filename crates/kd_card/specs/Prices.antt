@@ -9,7 +9,7 @@ use Rattle.kd_card.specs.declared.prices.Version.{Version}
 use Rattle.std.specs.Prelude.{◌≡◌, ℕ, ◌<◌, ◌≤◌, List, [], ◌++◌, length, All, fold, slice_index, slice_index_or, ℤ}
 use Rattle.std.specs.Prelude.{pos, unsigned_abs, ◌+ℤ◌, ◌≤ℤ◌}
 
--- whether prices are by number (one for each cable and column, or bar and row) or by kind (one for each kind)
+-- whether there is a price for each cable and each column (or each bar and each row), or for each kind of them
 abbrev pub version_of : PriceParts → Version
 version_of (CableKinds row col) = ByKind
 version_of (BarKinds row col) = ByKind

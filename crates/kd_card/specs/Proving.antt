@@ -12,7 +12,7 @@ use Rattle.kd_tables.specs.Places.{smaller_first}
 use Rattle.std.specs.Prelude.{◌≡◌, ℕ, ◌+◌, ◌≤◌, Bool, true, false, List, [], ◌∷◌, length, map, option_map, pos, IsFalse}
 use Rattle.std.specs.Prelude.{count_by, Option}
 
--- The prices are by number: one for each cable and column (rotor machine), or one for each bar and row (Converter).
+-- The prices are by number: one for each cable and each column (rotor machine), or each bar and each row (Converter).
 abbrev pub AreModelPrices : Parts → PriceParts → Type 0
 AreModelPrices (Rotor m) (Cables row col) = Unit {0}
 AreModelPrices (Pin m) (Bars row col) = Unit {0}
@@ -78,7 +78,7 @@ pub record ProvesByNumber (m : Parts) (s : Day) (settings : List Setting) (price
   pub sum : price_sum prices ≡ pos (priced_count settings)
   pub needed : AreSettingsNeeded m s settings
 
--- A card proves itself. `numbered` are its prices, expanded to a price for each cable and column, or each bar and row.
+-- A card proves itself. `numbered` are its prices, one for each cable and each column, or for each bar and each row.
 pub record Proves (m : Parts) (s : Day) (settings : List Setting) (prices : PriceParts) : Type 0 where
   pub numbered : PriceParts
   pub expands : Expands m s prices numbered

@@ -43,7 +43,7 @@ pub fn as_few_are_needed()
 
 /// If a card with prices by number proves itself, it has as many settings as loose things plus the sum of its prices.
 ///
-/// By number means that each cable and column, or each bar and row, has its own price.
+/// By number means that each cable and each column, or each bar and each row, has its own price.
 #[tactic(auto, using(crate::proofs::Months::proving_cards_are_as_long))]
 pub fn proving_cards_are_as_long()
     ensures { ProvingCardsAreAsLong }

@@ -12,7 +12,7 @@ use std::marker::Model;
 /// Whether each cable, pair, bar or row of a card has its own price, or each kind of them has one price.
 #[derive(Clone, Copy)]
 pub enum Version {
-    /// Each cable has its own price, and so has each column; or each bar, and each row of the sheet.
+    /// Each cable and each column has its own price, or each bar and each row of the sheet has.
     ByNumber,
     /// Each kind of cables has one price, and so has each kind of columns; or each kind of bars, and each kind of rows.
     ByKind,

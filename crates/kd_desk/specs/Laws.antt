@@ -1,4 +1,4 @@
--- The laws of reading bytes as settings: no bytes give two lists of settings, two faults, or a list and a fault.
+-- The laws of reading bytes as settings: for all bytes, there is only one right answer, a list of settings or a fault.
 use Rattle.std.specs.Prelude.{◌≡◌, ◌≢◌, ◌≤◌, ℕ, List, Option, Ok}
 use Rattle.kd_tables.specs.declared.model.Model.TheVariants.{M209}
 use Rattle.kd_state.specs.declared.machine.parts.Parts.{Parts}

@@ -55,8 +55,8 @@ HaveKeys {X} eq kinds keys =
     (key : X)
     → count_by (λ other. eq other key) keys ≤ count_by (λ other. eq other.0 key) (expansion kinds)
 
--- If the Bool is true, `left` are the kinds that remain if each of `keys` is taken out of `kinds`, with its price in
--- `prices`. If the Bool is false, this can't be: some key is in `keys` more often than in `kinds`.
+-- If the Bool is true, the items of `keys`, with their prices in `prices`, were taken out of `kinds`, and `left` are
+-- the kinds that remain. The Bool is false if some key is in `keys` more often than in `kinds`.
 abbrev pub TakesAll : {X : Type 0} → (X → X → Bool) → List (KindOf X) → List X → List ℤ → List (KindOf X) → Bool
     → Type 0
 TakesAll eq kinds keys prices left true = IsPermutation (expansion kinds) (zip keys prices ++ expansion left)

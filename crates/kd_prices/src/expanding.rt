@@ -8,7 +8,7 @@ use kd_card::{Kind, KindOf};
 
 /// Finds the price of each cable, column, bar or row by its key in `keys`: the price of the kind with this key.
 ///
-/// `None` if a kind's count is too high or too low for the keys in `keys`, or if a key has no kind.
+/// `None` if a key has no kind, or if `keys` doesn't have each key as often as the count of its kind says.
 pub(crate) fn prices_of<K: Kind, const N: usize>(
     keys: &[K::Key],
     kinds: ArrayVec<K, N>,

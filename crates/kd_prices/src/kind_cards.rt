@@ -23,7 +23,8 @@ pub fn by_kind(machine: &Machine, day: &SheetDay, card: &Card) -> Option<Card>
     Some(Card { settings, prices })
 }
 
-/// Converts a price for each cable and column, or each bar and row, to a price for each kind, if possible.
+/// Converts prices by number (a price for each cable and each column, or each bar and each row) to prices by kind, if
+/// possible.
 fn prices_by_kind(machine: &Machine, day: &SheetDay, prices: &Prices) -> Option<Prices>
     ensures some { IsSome result ↔ CanBeByKind machine.now day.now prices.now }
     ensures kinds { IfSome result (λ kinds. (version_of kinds ≡ ByKind)

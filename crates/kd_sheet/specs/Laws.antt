@@ -19,7 +19,7 @@ LegalPartsAreReadBack = (m : Parts) → IsLegal m → machine_of (machine_text m
 abbrev pub WrittenFilesAreReadBack : Type 0
 WrittenFilesAreReadBack = (m : Parts) → IsMachine m → machine_of (machine_text m) ≡ Ok m
 
--- A day is legal exactly if some item, as the first entry of a key sheet, describes this day.
+-- A day is legal exactly if some item describes this day when it is read as the first entry of a key sheet.
 abbrev pub LegalDaysAreDescribed : Type 0
 LegalDaysAreDescribed = (day : Day) → IsLegalDay day ↔ ((entry : Data) × (day_for [] entry ≡ Ok day))
 

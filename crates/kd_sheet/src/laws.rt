@@ -11,7 +11,7 @@ pub fn written_files_are_read_back()
     ensures parts { LegalPartsAreReadBack }
 {}
 
-/// A day is legal exactly if some item, as the first entry of a key sheet, describes this day.
+/// A day is legal exactly if an entry of a key sheet can describe this day.
 ///
 /// Day `number` of a sheet is the day that the entry with this number describes.
 pub fn days_are_the_entries()
