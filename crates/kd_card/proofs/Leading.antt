@@ -38,8 +38,7 @@ pub led_none : {m n : Parts} → n ≡ m → Led m [] n
 led_none e = record { leads = e }
 
 pub led_cons : {m k n : Parts} {x : Setting} {xs : List Setting} → why_refused m x ≡ None → machine_after m x ≡ k
-    → Led k xs n
-    → Led m (x ∷ xs) n
+    → Led k xs n → Led m (x ∷ xs) n
 led_cons {k = k} allowed made rest = record { leads = (k, record { allowed = allowed; made = sym made }, rest.leads) }
 
 pub led_append : (xs ys : List Setting) {m k n : Parts} → Led m xs k → Led k ys n → Led m (xs ++ ys) n
@@ -47,8 +46,7 @@ led_append xs ys first second = record { leads = leads_join _ _ _ xs ys first.le
 
 -- The setting for a thing leads from `m` to `n`; it is left out if the thing is right already (`so`).
 pub led_unless : (so : Bool) (m n : Parts) (x : Setting) → (so ≡ true → n ≡ m) → (so ≡ false → machine_after m x ≡ n)
-    → (so ≡ false → why_refused m x ≡ None)
-    → Led m (setting_unless so x) n
+    → (so ≡ false → why_refused m x ≡ None) → Led m (setting_unless so x) n
 led_unless true m n x same made allowed = led_none (same refl)
 led_unless false m n x same made allowed = led_cons (allowed refl) (made refl) (led_none refl)
 
@@ -149,8 +147,7 @@ module _ (m : RotorParts) where
         absent (suc k) d (omega arith),
         apart zero (suc k) d (omega arith) (omega arith),
         same_wheel-Decides,
-      ))
-      (all_pairs_remove (λ (w v : SheetWheel). w.wheel ≢ v.wheel) (w ∷ wheels) zero (omega arith) apart) in
+      )) (all_pairs_remove (λ (w v : SheetWheel). w.wheel ≢ v.wheel) (w ∷ wheels) zero (omega arith) apart) in
       let here = seat_led front slots now w number e (allowed zero number w.wheel (omega arith) refl)
       (absent zero w (omega arith)) in
       led_append (slot_seat_line number (now, w)) (lines_from slot_seat_line (number + 1) (zip slots wheels)) here
@@ -201,8 +198,7 @@ module _ (m : RotorParts) (s : RotorDay) (machine : IsMachine (Rotor m)) (legal 
       let wheel = (get_or s.wheels k d).wheel in
       found_at (find (λ v. same_wheel wheel v.wheel)) (λ v. same_wheel wheel v.wheel) Some None refl
       (λ v vs. refl) s.wheels k d lt (λ i before. same_wheel_differs wheel (get_or s.wheels i d).wheel
-      (λ same. places_differ i k d before lt (ap (place_in_box m.model) (sym same))))
-      (same_wheel_self wheel)
+      (λ same. places_differ i k d before lt (ap (place_in_box m.model) (sym same)))) (same_wheel_self wheel)
 
   abbrev ring_now : Wheel → ℕ
   ring_now wheel = get_or m.rings (place_in_box m.model wheel) 0
@@ -346,8 +342,7 @@ module _ (m : PinParts) where
           seam_get front pins back,
           placed,
           set_at done now rest effective (length done) refl,
-        )
-        (ap pin_set (set_at front pins back (done ++ effective ∷ rest) _ (omega arith)))
+        ) (ap pin_set (set_at front pins back (done ++ effective ∷ rest) _ (omega arith)))
 
     one_pin : (done rest : List Bool) (w : Cell) → place_on (ring_of number) w.0 ≡ Some (length done)
         → Led (with_wheel (done ++ w.1.0 ∷ rest)) (pin_line number w) (with_wheel (done ++ w.1.1 ∷ rest))

@@ -190,8 +190,7 @@ module _ (s : RotorDay) (legal : IsLegalRotorDay s) (o : RotorParts) (reads : Re
   loose_for-needed m x same needed = grind arith
 
   loose_for-list : (m n : Parts) (xs : List Setting) → model_of m ≡ s.model → Leads m xs n
-      → AreSettingsNeeded m (OfRotors s) xs
-      → loose_for n + length xs ≤ loose_for m + priced_count xs
+      → AreSettingsNeeded m (OfRotors s) xs → loose_for n + length xs ≤ loose_for m + priced_count xs
   loose_for-list m n [] same leads needed = subst (λ n. loose_for n + 0 ≤ loose_for m + 0) (sym leads) (omega arith)
   loose_for-list m n (x ∷ xs) same leads needed =
       let after = subst (λ between. Leads between xs n) leads.1.made leads.2 in
@@ -212,8 +211,7 @@ record AgreeButForCables (g n : RotorParts) : Type 0 where
   cables : CostNoMore g.cables n.cables
 
 module _ (g n h o : RotorParts) (s : RotorDay) (card list : List Setting) (legal : IsLegalRotorDay s)
-    (near : AgreeButForCables g n)
-    (by_card : ReachesDay (Rotor g) (OfRotors s) card (Rotor h))
+    (near : AgreeButForCables g n) (by_card : ReachesDay (Rotor g) (OfRotors s) card (Rotor h))
     (by_list : ReachesDay (Rotor n) (OfRotors s) list (Rotor o)) where
   last : HasCables o.cables
   last = list_keeps (Rotor n) (Rotor o) list by_list.leads near.second
@@ -253,10 +251,8 @@ module _ (g n h o : RotorParts) (s : RotorDay) (card list : List Setting) (legal
       record { first = first; second = last; same = same; cables = cables }
 
 sum_by-fewest : (days : List Day) (g n : RotorParts) (cards lists : List (List Setting)) → g.model ≢ M209
-    → All IsLegalDay days
-    → AgreeButForCables g n → DayAfterDay IsProvedCard (Rotor g) days cards
-    → DayAfterDay ReachesDay (Rotor n) days lists
-    → sum_by length cards ≤ sum_by length lists + machine_gap g n
+    → All IsLegalDay days → AgreeButForCables g n → DayAfterDay IsProvedCard (Rotor g) days cards
+    → DayAfterDay ReachesDay (Rotor n) days lists → sum_by length cards ≤ sum_by length lists + machine_gap g n
 sum_by-fewest [] g n [] [] rotor legal near are lead = omega arith
 sum_by-fewest (OfRotors s ∷ days) g n (card ∷ cards) (list ∷ lists) rotor legal near (Rotor h, to, rest)
     (Rotor o, by, more) =

@@ -269,21 +269,18 @@ all_say (CableKinds row col) line rest are ends e =
     groups_say cables_are pairs_are (λ same. omega (arith, ap (λ t. get_or t 0 0) same)) 13 line row.items col.items
     rest (omega arith) are.0 are.1
     (ends pair_format.word (λ same. omega (arith, ap (λ t. get_or t 0 0) same))) e in
-    GoesOn OfCables (GoesOn _ (first_says say.0.has) refl)
-    (GoesOn (row.items, col.items, rest) say.1 refl)
+    GoesOn OfCables (GoesOn _ (first_says say.0.has) refl) (GoesOn (row.items, col.items, rest) say.1 refl)
 all_say (BarKinds row col) line rest are ends e =
     let say =
     groups_say bars_are rows_are (λ same. omega (arith, ap (λ t. get_or t 0 0) same)) 27 line row.items col.items
     rest (omega arith) are.0 are.1
     (ends row_format.word (λ same. omega (arith, ap (λ t. get_or t 0 0) same))) e in
-    GoesOn OfBars (GoesOn _ (first_says say.0.has) refl)
-    (GoesOn (row.items, col.items, rest) say.1 refl)
+    GoesOn OfBars (GoesOn _ (first_says say.0.has) refl) (GoesOn (row.items, col.items, rest) say.1 refl)
 
 -- ---- the head, and a name and a value
 
 same_day : {bytes : List ℕ} {version : Version} {day other : ℕ} {rest more : List ℕ}
-    → BeginsWithHead bytes version day rest
-    → BeginsWithHead bytes version other more → (day ≡ other) × (rest ≡ more)
+    → BeginsWithHead bytes version day rest → BeginsWithHead bytes version other more → (day ≡ other) × (rest ≡ more)
 same_day {version} {day} {other} {rest} {more} a b =
     let same = same_values (head_prefix version) (day_unbroken day a.of_month) (day_unbroken other b.of_month)
     (a.text ∙ sym (head_text version day rest refl)) (b.text ∙ sym (head_text version other more refl)) in
@@ -319,8 +316,7 @@ IsEndAnswer rest card = ThenNext (Demands (rest ≡ []) Trailing) (λ (end : Uni
 
 card_says : {text : List ℕ} {day : ℕ} {xs : List Setting} {prices : PriceParts}
     {answer : Result (ℕ × List Setting × PriceParts) CardFault}
-    (rest : List ℕ)
-    → IsCard text day xs prices
+    (rest : List ℕ) → IsCard text day xs prices
     → IsEndAnswer rest (day, xs, prices) answer → IsCardAnswer (text ++ rest) answer
 card_says {day} {xs} {prices} rest card end =
     let few = card.few in
@@ -330,13 +326,11 @@ card_says {day} {xs} {prices} rest card end =
     let number = line_then (settings_words (length xs)) behind in
     GoesOn (version_of prices, day, list_text xs ++ number)
     (record { text = ap (λ t. t ++ rest) card.text ∙ card_and_more day xs prices rest; of_month = card.of_month })
-    (GoesOn (xs, number)
-    (record {
+    (GoesOn (xs, number) (record {
       lines = record { lines = refl; in_range = card.in_range };
       few = few;
       none_more = λ x more r e. no_setting x more (sym (ap first_and_third e));
-    })
-    (GoesOn behind (value_says false (codes "SETTINGS ") _ _ (number_text (length xs) (omega arith)) refl)
+    }) (GoesOn behind (value_says false (codes "SETTINGS ") _ _ (number_text (length xs) (omega arith)) refl)
     (GoesOn (prices, sum) (all_say prices _ sum card.are_prices (sum_ends (price_sum prices) rest near) refl)
     (GoesOn rest (value_says true (codes "SUM ") _ _ (signed_text (price_sum prices) near) refl) end))))
 

@@ -94,8 +94,7 @@ module _ (cables rest : List (Option ℕ × Option ℕ)) (cable : Option ℕ × 
         λ letter. omega (
           arith,
           once_in_order letter,
-          times-append letter (cable_letters cable)
-              (letters_in_cables rest),
+          times-append letter (cable_letters cable) (letters_in_cables rest),
         );
     pairs_once =
         λ letter. omega (arith, h.pairs_once letter, times-append letter (pair_letters pair) (letters_in_pairs pairs));
@@ -211,8 +210,7 @@ free_rows (bar ∷ bars) (w ∷ ws) stand h =
 free_rows bars ws stand h = absurd h
 
 pub bars_paired : (bars : List (Place × Place)) (rows : List (ℕ × ℕ)) (prices : List ℤ) → HasBars bars
-    → length rows ≡ length prices → IsPermutation (map reading_of bars) rows
-    → FreePairing bar_cost bars rows prices
+    → length rows ≡ length prices → IsPermutation (map reading_of bars) rows → FreePairing bar_cost bars rows prices
 bars_paired bars rows prices has count h =
     let beside = reordered (λ row (w : (ℕ × ℕ) × ℤ). row ≡ w.0) rows (map reading_of bars) (zip rows prices)
     (IsPermutation-sym (map reading_of bars) rows h)
@@ -252,11 +250,9 @@ pub record AreBounds (costs : List (List ℕ)) (prices : PriceParts) (loose line
 
 module _ {A B : Type 0} (a : A) (b : B) (cost : A → B → ℕ) (rows : List A) (columns : List B) (prices : PriceParts)
     (loose lines : ℕ) (rows_count : length rows ≡ table_rows prices)
-    (columns_count : length columns ≡ table_rows prices)
-    (row_count : length (row_prices prices) ≡ table_rows prices)
+    (columns_count : length columns ≡ table_rows prices) (row_count : length (row_prices prices) ≡ table_rows prices)
     (column_count : length (column_prices prices) ≡ table_rows prices)
-    (fits : PricesFit (map (λ row. map (cost row) columns) rows) prices)
-    (beside : List (B × ℤ))
+    (fits : PricesFit (map (λ row. map (cost row) columns) rows) prices) (beside : List (B × ℤ))
     (order : IsPermutation (zip columns (column_prices prices)) beside)
     (enough : loose + pairing_cost cost rows beside ≤ lines) where
   abbrev costs : List (List ℕ)
@@ -332,8 +328,7 @@ pub no_rotors : (model : Model) (reflector : Reflector) → model ≡ M209 → C
 no_rotors model reflector e h = grind (arith, common_steps)
 
 AreBounds-prices : (m n : Parts) (s : Day) (prices : PriceParts) (settings : List Setting) → IsMachine m → IsLegalDay s
-    → ArePrices prices
-    → AreModelPrices m prices → PricesFit (cost_table m s) prices → Leads m settings n → ReadsAs n s
+    → ArePrices prices → AreModelPrices m prices → PricesFit (cost_table m s) prices → Leads m settings n → ReadsAs n s
     → AreBounds (cost_table m s) prices (loose_count m s) (length settings)
 AreBounds-prices (Rotor m) (Rotor n) (OfRotors s) (Cables row column) settings machine legal are kind fits leads reads =
     let at_first = machines_have_all (Rotor m) machine.legal in

@@ -229,8 +229,7 @@ module _ (columns : List (Option (ℕ × ℕ) × ℤ)) (rows : List ((ℕ × ℕ
   abbrev place : SheetWheel → ℕ
   place w = place_in_box m.model w.wheel
 
-  turned_lowers : (seated : Option Wheel) (letter : ℕ)
-      → loose_count (Rotor m) (OfRotors s)
+  turned_lowers : (seated : Option Wheel) (letter : ℕ) → loose_count (Rotor m) (OfRotors s)
       ≤ loose_count (Rotor (record m { letters = letters_with m seated letter })) (OfRotors s) + 1
   turned_lowers None letter = omega arith
   turned_lowers (Some wheel) letter =
@@ -239,8 +238,7 @@ module _ (columns : List (Option (ℕ × ℕ) × ℤ)) (rows : List ((ℕ × ℕ
         set_lowers place (λ (w : SheetWheel). w.letter) m.letters (place_in_box m.model wheel) letter s.wheels apart,
       )
 
-  rotor_lowers : (x : Setting) → why_refused (Rotor m) x ≡ None
-      → left_to_do columns rows (Rotor m) (OfRotors s)
+  rotor_lowers : (x : Setting) → why_refused (Rotor m) x ≡ None → left_to_do columns rows (Rotor m) (OfRotors s)
       ≤ left_to_do columns rows (machine_after (Rotor m) x) (OfRotors s) + 1
   rotor_lowers (Pull cable letter) e = omega
       (arith, cables_fall m cable letter _ columns (ChangesCable-pull m cable letter e))
@@ -260,8 +258,7 @@ module _ (columns : List (Option (ℕ × ℕ) × ℤ)) (rows : List ((ℕ × ℕ
 abbrev differing_pins : List Bool × List Bool → ℕ
 differing_pins wheel = count_by (λ (pin : Bool × Bool). exactly_one pin.0 pin.1) (zip wheel.0 wheel.1)
 
-wheel_set_lowers : (xss yss : List (List Bool)) (i p : ℕ) (effective : Bool)
-    → sum (map differing_pins (zip xss yss))
+wheel_set_lowers : (xss yss : List (List Bool)) (i p : ℕ) (effective : Bool) → sum (map differing_pins (zip xss yss))
     ≤ sum (map differing_pins (zip (set xss i (set (get_or xss i []) p effective)) yss)) + 1
 wheel_set_lowers xss yss i p effective =
     let was = get_or xss i [] in
@@ -296,9 +293,7 @@ pin_machine_lowers columns rows m s x e = grind (arith, zip_set_lowers, pin_lowe
 
 -- Each setting of any machine lowers what is left to do by at most one.
 pub left_to_do-lowered : (columns : List (Option (ℕ × ℕ) × ℤ)) (rows : List ((ℕ × ℕ) × ℤ)) (m : Parts) (s : Day)
-    (x : Setting)
-    → IsLegalDay s
-    → model_of m ≡ day_model s → why_refused m x ≡ None
+    (x : Setting) → IsLegalDay s → model_of m ≡ day_model s → why_refused m x ≡ None
     → left_to_do columns rows m s ≤ left_to_do columns rows (machine_after m x) s + 1
 left_to_do-lowered columns rows (Rotor m) (OfRotors s) x h same e =
     rotor_lowers columns rows m s (subst (λ model. HaveTheirPlaces model s.wheels) (sym same)

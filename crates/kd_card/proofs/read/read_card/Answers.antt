@@ -29,8 +29,7 @@ returns-in_err-rest-2 c =
     let sum = to_z-of_z w32 c.sum.result (search rules) ∙ c.sum.ensures in
     MatchResult-err _ _ _ _ c.from_residual-in_err-rest-2.ensures.1
     (up_to_settings c.in-Some.ensures c.in-Some-split_settings.ensures c.len-count.ensures.value
-    (GoesOn _ (rw c.format.ensures.text at c.in_ok-rest.ensures)
-    (GoesOn _ c.in_ok-prices.ensures (HasFault _
+    (GoesOn _ (rw c.format.ensures.text at c.in_ok-rest.ensures) (GoesOn _ c.in_ok-prices.ensures (HasFault _
     (rw (c.format-2.ensures.text, sum, c.line_count.ensures.value) at c.in_err-rest-2.ensures)
     refl))))
 

@@ -100,8 +100,7 @@ head_text version day rest e = rw e (grind arith)
 
 lines_text-card : (head count sum : List (List ℕ)) (settings lines : List (List (List ℕ)))
     → (((([] ++ line_then head []) ++ lines_text settings) ++ line_then count []) ++ lines_text lines)
-    ++ line_then sum []
-    ≡ lines_text (head ∷ settings ++ count ∷ lines ++ sum ∷ [])
+    ++ line_then sum [] ≡ lines_text (head ∷ settings ++ count ∷ lines ++ sum ∷ [])
 lines_text-card head count sum settings lines = simp (flat_map-append, append_assoc)
 
 pub card_text-joined : (version : Version) (day count : ℕ) (xs ys : List Setting) (prices : PriceParts) (sum : ℤ)
@@ -131,8 +130,7 @@ no_first_part {byte} {text} {part} {rest} first without =
 
 -- The bytes after `front`, split at the first LF: the value before it, and the bytes after it; or there is no LF.
 pub value_split : (text front behind : List ℕ) (r : Option (Bor (List ℕ) × Bor (List ℕ))) → text ≡ front ++ behind
-    → MatchOption r (IsWithout 10 behind) (λ parts. IsFirstPart 10 behind parts.0.now parts.1.now)
-    → MatchOption r
+    → MatchOption r (IsWithout 10 behind) (λ parts. IsFirstPart 10 behind parts.0.now parts.1.now) → MatchOption r
     ((value rest : List ℕ) → IsWithout 10 value → text ≢ front ++ value ++ 10 ∷ rest)
     (λ found. (text ≡ front ++ found.0.now ++ 10 ∷ found.1.now) × IsWithout 10 found.0.now)
 value_split text front behind None e none = λ value rest free d.
@@ -223,8 +221,7 @@ pub tells_price : (word : List ℕ) (r : Option ℤ) → IsPriceOf word r → Is
 tells_price word r e = grind arith
 
 pub not_at : (words : List (Bor (List ℕ))) (i : ℕ) (d : Bor (List ℕ)) → i < length words
-    → ¬ (IsPriceText (get_or words i d).now)
-    → ¬ (All IsPriceText (map (λ (word : Bor (List ℕ)). word.now) words))
+    → ¬ (IsPriceText (get_or words i d).now) → ¬ (All IsPriceText (map (λ (word : Bor (List ℕ)). word.now) words))
 not_at words i d inside none all =
     none
     (subst IsPriceText (get_or-map (λ (word : Bor (List ℕ)). word.now) words i d d.now inside)
@@ -244,8 +241,7 @@ AllByRecursion-prices (word ∷ words) (is, all) =
 
 module _ (number line : ℕ) {words : List (List ℕ)} where
   pub other_count : (prices : List ℤ) → words ≡ map signed_decimal prices → ArePricesInRange prices
-      → length prices ≢ number
-      → IsPricesAnswer number line words (Err PriceMissing)
+      → length prices ≢ number → IsPricesAnswer number line words (Err PriceMissing)
   other_count prices are reach differs =
       GoesOn prices (are, reach) (HasFault PriceMissing ((λ same count. differs count), refl) refl)
 
@@ -323,8 +319,7 @@ prices_are_words word prices w reach =
 -- ---- the keywords of numbers
 
 number_by_parts : (text : List ℕ) → 0 < length text → ((i : ℕ) → i < length text → IsDigit (get_or text i 0))
-    → (get_or text 0 0 ≡ 48 → length text ≡ 1)
-    → IsNumberText text
+    → (get_or text 0 0 ≡ 48 → length text ≡ 1) → IsNumberText text
 number_by_parts [] some digits lead = absurd (omega arith)
 number_by_parts (digit ∷ rest) some digits lead =
     let all = All-from_get_or IsDigit rest 0 (λ i inside. digits (suc i) (omega arith)) in
@@ -383,8 +378,7 @@ pub record HasPrices (bytes word : List ℕ) (number : ℕ) (prices : List ℤ) 
   pub list : IsPriceList number prices
 
 pub prices_said : {number line : ℕ} {words : List (List ℕ)} {prices : List ℤ}
-    → IsPricesAnswer number line words (Ok prices)
-    → (words ≡ map signed_decimal prices) × IsPriceList number prices
+    → IsPricesAnswer number line words (Ok prices) → (words ≡ map signed_decimal prices) × IsPriceList number prices
 prices_said {number} {words} {prices} says = grind (arith, ThenNext-Ok)
 
 pub line_said : {word : List ℕ} {number line : ℕ} {bytes : List ℕ} (x : List ℤ × List ℕ)

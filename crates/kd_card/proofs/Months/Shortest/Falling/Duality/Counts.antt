@@ -65,8 +65,7 @@ at_most_one b = grind arith
 
 -- Setting one item lowers a sum over pairs by at most one, if it lowers the term of this item by at most one.
 pub zip_set : {X Y : Type 0} (f : X × Y → ℕ) (xs : List X) (ys : List Y) (i : ℕ) (v d : X)
-    → ((y : Y) → f (get_or xs i d, y) ≤ f (v, y) + 1)
-    → sum_by f (zip xs ys) ≤ sum_by f (zip (set xs i v) ys) + 1
+    → ((y : Y) → f (get_or xs i d, y) ≤ f (v, y) + 1) → sum_by f (zip xs ys) ≤ sum_by f (zip (set xs i v) ys) + 1
 zip_set f (x ∷ xs) (y ∷ ys) zero v d h = grind (arith, common_steps, sum_by-cons)
 zip_set f (x ∷ xs) (y ∷ ys) (suc i) v d h = grind (arith, common_steps, sum_by-cons, zip_set f xs ys i v d h)
 zip_set f xs ys i v d h = omega arith
