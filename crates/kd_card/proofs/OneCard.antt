@@ -186,9 +186,8 @@ module _ {K X : Type 0} {format : KindFormat K X} (is : IsFormat format) where
 
   only_group : (number line : ℕ) (bytes : List ℕ) → HasOneAnswer (IsGroupAnswer format number line bytes)
   only_group number line bytes =
-      HasOneAnswer-ThenNext
-      (HasOneAnswer-FindsAlways (λ x y a b. let same = kinds_end None x.0 y.0 x.1 y.1 a b in same_pair x y same.0
-      same.1))
+      HasOneAnswer-ThenNext (HasOneAnswer-FindsAlways
+      (λ x y a b. let same = kinds_end None x.0 y.0 x.1 y.1 a b in same_pair x y same.0 same.1))
       (λ group takes. HasOneAnswer-ThenNext (HasOneAnswer-Demands _ _)
       (λ end ends. HasOneAnswer-ThenNext (HasOneAnswer-Demands _ _) (λ all count. HasOneAnswer-Yields group)))
 
@@ -223,9 +222,8 @@ groups_say {rows} {columns} row column differ number line xs ys rest some a b en
     ∙ append_assoc (kinds_text rows xs) (kinds_text columns ys) rest in
     let second = group_begins column ys rest some b refl in (
       group_begins row xs (kinds_text columns ys ++ rest) some a lines,
-      GoesOn (xs, kinds_text columns ys ++ rest)
-          (group_says row _ xs (kinds_text columns ys ++ rest) a lines (AtOther columns.word second differ))
-          (GoesOn (ys, rest) (group_says column _ ys rest b refl ends) refl),
+      GoesOn (xs, kinds_text columns ys ++ rest) (group_says row _ xs (kinds_text columns ys ++ rest) a lines
+          (AtOther columns.word second differ)) (GoesOn (ys, rest) (group_says column _ ys rest b refl ends) refl),
     )
 
 -- ---- the prices
@@ -267,14 +265,12 @@ all_say (Bars row col) line rest are ends e =
 all_say (CableKinds row col) line rest are ends e =
     let say =
     groups_say cables_are pairs_are (λ same. omega (arith, ap (λ t. get_or t 0 0) same)) 13 line row.items col.items
-    rest (omega arith) are.0 are.1
-    (ends pair_format.word (λ same. omega (arith, ap (λ t. get_or t 0 0) same))) e in
+    rest (omega arith) are.0 are.1 (ends pair_format.word (λ same. omega (arith, ap (λ t. get_or t 0 0) same))) e in
     GoesOn OfCables (GoesOn _ (first_says say.0.has) refl) (GoesOn (row.items, col.items, rest) say.1 refl)
 all_say (BarKinds row col) line rest are ends e =
     let say =
-    groups_say bars_are rows_are (λ same. omega (arith, ap (λ t. get_or t 0 0) same)) 27 line row.items col.items
-    rest (omega arith) are.0 are.1
-    (ends row_format.word (λ same. omega (arith, ap (λ t. get_or t 0 0) same))) e in
+    groups_say bars_are rows_are (λ same. omega (arith, ap (λ t. get_or t 0 0) same)) 27 line row.items col.items rest
+    (omega arith) are.0 are.1 (ends row_format.word (λ same. omega (arith, ap (λ t. get_or t 0 0) same))) e in
     GoesOn OfBars (GoesOn _ (first_says say.0.has) refl) (GoesOn (row.items, col.items, rest) say.1 refl)
 
 -- ---- the head, and a name and a value
@@ -315,9 +311,8 @@ abbrev IsEndAnswer : List ℕ → ℕ × List Setting × PriceParts → Result (
 IsEndAnswer rest card = ThenNext (Demands (rest ≡ []) Trailing) (λ (end : Unit {0}). Yields card)
 
 card_says : {text : List ℕ} {day : ℕ} {xs : List Setting} {prices : PriceParts}
-    {answer : Result (ℕ × List Setting × PriceParts) CardFault}
-    (rest : List ℕ) → IsCard text day xs prices
-    → IsEndAnswer rest (day, xs, prices) answer → IsCardAnswer (text ++ rest) answer
+    {answer : Result (ℕ × List Setting × PriceParts) CardFault} (rest : List ℕ)
+    → IsCard text day xs prices → IsEndAnswer rest (day, xs, prices) answer → IsCardAnswer (text ++ rest) answer
 card_says {day} {xs} {prices} rest card end =
     let few = card.few in
     let near = price_sum_is_small prices card.are_prices in

@@ -119,9 +119,8 @@ all_empty cables number e h = absurd (omega arith)
 
 -- The cables have an order in which each costs nothing at its column.
 pub cables-matched : (cables : List (Option ℕ × Option ℕ)) (pairs : List (ℕ × ℕ)) (nothings : ℕ)
-    → length cables ≡ length pairs + nothings → AreMatched cables pairs
-    → (others : List (Option ℕ × Option ℕ)) × IsPermutation cables others
-    × AllZip CostsNothing others (map Some pairs ++ replicate nothings None)
+    → length cables ≡ length pairs + nothings → AreMatched cables pairs → (others : List (Option ℕ × Option ℕ))
+    × IsPermutation cables others × AllZip CostsNothing others (map Some pairs ++ replicate nothings None)
 cables-matched cables [] nothings e h = (
   cables,
   IsPermutation-refl cables,
@@ -302,8 +301,7 @@ module _ {A B : Type 0} (a : A) (b : B) (cost : A → B → ℕ) (rows : List A)
         let due : pos (pairing_cost cost rows beside) ≤ℤ all = omega (arith, ints, sums) in
         let tight =
         tight_at cost a rows (row_prices prices) beside i (b, pos 0) (rows_count ∙ sym size)
-        (rows_count ∙ sym row_count)
-        fit due (omega arith) in
+        (rows_count ∙ sym row_count) fit due (omega arith) in
         rw (at i j lt lt') (rw (e ∙ column j lt') at tight)
 
     column_for : (i : ℕ) → i < table_rows prices → (j : ℕ) × (j < table_rows prices) × IsPriceTightAt costs prices i j
@@ -337,10 +335,9 @@ AreBounds-prices (Rotor m) (Rotor n) (OfRotors s) (Cables row column) settings m
     let pairing = cables_paired n.cables s.pairs column at_last once legal.pairs.few are.1.count reads.key.cables in
     let same = sym (model_of-list (Rotor m) (Rotor n) settings leads) ∙ reads.key.model in
     let falling = list_lowers pairing.beside [] (OfRotors s) legal (Rotor m) (Rotor n) settings same leads in
-    bounded (None, None) None cable_cost m.cables (columns_of s.pairs) (Cables row column)
-    (loose_count (Rotor m) (OfRotors s)) (length settings) at_first.count (thirteen_columns s.pairs legal.pairs.few)
-    are.0.count are.1.count fits pairing.beside pairing.order
-    (omega (arith, falling, pairing.free, nothing_loose (Rotor n) (OfRotors s) reads))
+    bounded (None, None) None cable_cost m.cables (columns_of s.pairs) (Cables row column) (loose_count (Rotor m)
+    (OfRotors s)) (length settings) at_first.count (thirteen_columns s.pairs legal.pairs.few) are.0.count are.1.count
+    fits pairing.beside pairing.order (omega (arith, falling, pairing.free, nothing_loose (Rotor n) (OfRotors s) reads))
 AreBounds-prices (Pin m) (Pin n) (OfPins s) (Bars row column) settings machine legal are kind fits leads reads =
     let at_first = machines_have_all (Pin m) machine.legal in
     let at_last = list_keeps (Pin m) (Pin n) settings leads at_first in

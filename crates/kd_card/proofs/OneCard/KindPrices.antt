@@ -117,9 +117,8 @@ reads_on {format} {text} {rest} {after} {kind} so_far next new keeps =
     let size = length-append (line_of (kind_words format kind)) (10 ∷ after) in
     record {
       read = read ++ kind ∷ [];
-      goes_on = λ more end begins.
-          subst (λ kinds. BeginsWithKinds format None text kinds end) (sym (append_assoc read (kind ∷ []) more))
-          (so_far.goes_on (kind ∷ more) end (first_kind next begins));
+      goes_on = λ more end begins. subst (λ kinds. BeginsWithKinds format None text kinds end)
+          (sym (append_assoc read (kind ∷ []) more)) (so_far.goes_on (kind ∷ more) end (first_kind next begins));
       some = omega (arith, so_far.some);
       number_is = omega (arith, so_far.number_is);
       at_is = omega (arith, so_far.at_is);

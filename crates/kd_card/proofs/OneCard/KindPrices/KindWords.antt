@@ -79,8 +79,7 @@ module _ {K X : Type 0} {format : KindFormat K X} (is : IsFormat format) where
       signed_decimal_injective a_kind.price b_kind.price (mag-small a_kind.price a.reach)
       (mag-small b_kind.price b.reach) (ap (λ w. get_or w 3 []) e) in
       let make : X → ℕ → ℤ → KindOf X = λ key count price. record { key = key; count = count; price = price } in
-      is.same kind other
-      (ap (λ key. make key a_kind.count a_kind.price) keys
+      is.same kind other (ap (λ key. make key a_kind.count a_kind.price) keys
       ∙ ap (λ count. make b_kind.key count a_kind.price) counts ∙ ap (make b_kind.key b_kind.count) prices)
 
 -- ---- reading a line of a group

@@ -1,9 +1,7 @@
-use Rattle.kd_card.proofs.OneCard.{◌∷◌, ◌∙◌, sym, refl, subst, nil_from_length, HasLineWords, AtOther, common_steps}
-use Rattle.kd_card.proofs.OneCard.{arith, ThenNext-Ok, not_from_false, nonempty-by_length, no_line, MatchResult-err}
-use Rattle.kd_card.proofs.OneCard.{ends_at, unended, no_kind, words_are, out_of_order}
-use Rattle.kd_card.specs.Reading.{words_after_first}
-use Rattle.std.proofs.lemmas.Bool.{eqb-true}
-use Rattle.std.specs.Option.{option_copied}
+use Rattle.kd_card.proofs.OneCard.{AtOther, common_steps, HasLineWords, nil_from_length, refl, subst, sym, ◌∙◌, ◌∷◌}
+use Rattle.kd_card.proofs.OneCard.{arith, MatchResult-err, no_line, nonempty-by_length, not_from_false, ThenNext-Ok}
+use Rattle.kd_card.proofs.OneCard.{ends_at, no_kind, out_of_order, unended, words_are}
+use Rattle.{kd_card.specs.Reading.words_after_first, std.{proofs.lemmas.Bool.eqb-true, specs.Option.option_copied}}
 use Rattle.kd_card.proofs.kind_text.next_kind.Goals as goal
 use Rattle.kd_card.proofs.kind_text.next_kind.Goals.{in_default-via-in-Some+else-comes_after, in_default-via-in_default}
 

@@ -1,6 +1,5 @@
 use Rattle.kd_state.specs.{declared.machine.parts.Parts.TheVariants.Rotor, Entry.{rotor_values, values_of}}
-use Rattle.kd_state.specs.SheetDay.{OfRotors}
-use Rattle.std.proofs.Common.{◌≡◌, ◌∙◌, ap, arith, sym}
+use Rattle.{kd_state.specs.SheetDay.OfRotors, std.proofs.Common.{ap, arith, sym, ◌∙◌, ◌≡◌}}
 use Rattle.kd_card.proofs.loose.loose_count.Goals as goal
 
 pub returns-in-Rotor-Rotor-clause-value : goal.returns-in-Rotor-Rotor-clause-value
