@@ -72,8 +72,7 @@ differing-triangle : (p q r : ℕ → Bool) (letters : List ℕ)
     × (count_differing letters q r ≤ count_differing letters p q + count_differing letters p r)
 differing-triangle p q r [] = (omega arith, omega arith)
 differing-triangle p q r (letter ∷ letters) =
-    let rest = differing-triangle p q r letters in
-    simp count_by-cons (grind (arith, rest.0), grind (arith, rest.1))
+    let rest = differing-triangle p q r letters in simp count_by-cons (grind (arith, rest.0), grind (arith, rest.1))
 
 -- The cost of cables `xs` at columns `us`: `f` tests whether a cable has a letter, and `g` whether a column has it.
 module _ {A W : Type 0} (letters : List ℕ) (f : A → ℕ → Bool) (g : W → ℕ → Bool) where

@@ -11,10 +11,7 @@ same_prices : (ps qs : List ℤ) → AllByRecursion (λ p. unsigned_abs p ≤ 99
     → AllByRecursion (λ p. unsigned_abs p ≤ 9999) qs → map signed_decimal ps ≡ map signed_decimal qs → ps ≡ qs
 same_prices [] [] a b e = refl
 same_prices (p ∷ ps) (q ∷ qs) a b e =
-    let first : p ≡ q = signed_decimal_injective p q (mag-small p a.0) (mag-small q b.0) (cc) in
-    let tails : map signed_decimal ps ≡ map signed_decimal qs = cc in
-    let others : ps ≡ qs = same_prices ps qs a.1 b.1 tails in
-    cc
+    cc (signed_decimal_injective p q (mag-small p a.0) (mag-small q b.0) (cc), same_prices ps qs a.1 b.1 (cc))
 same_prices ps qs a b e = absurd (omega (arith, ap length e))
 
 -- the first and the third letter, which distinguish the line after the settings from the line of a setting
@@ -52,25 +49,16 @@ of_table : (version : Version) (table : CostTable) (line : ℕ) {bytes : List �
 of_table ByNumber table line {bytes} x says =
     let rows = ThenNext-Ok says in
     let columns = ThenNext-Ok rows.next in
-    subst (λ (y : PriceParts × List ℕ). AreAllPriceLines ByNumber bytes y.0 y.1) (sym (Yields-Ok columns.next))
-    (by_number table rows.found.0 columns.found.0 (line_said rows.found rows.says)
+    rw (Yields-Ok columns.next) (by_number table rows.found.0 columns.found.0 (line_said rows.found rows.says)
     (line_said columns.found columns.says))
 of_table ByKind OfCables line {bytes} x says =
     let groups = ThenNext-Ok says in
     let said = groups_said cable_format pair_format 13 line groups.found groups.says in
-    subst (λ (y : PriceParts × List ℕ). AreAllPriceLines ByKind bytes y.0 y.1) (sym (Yields-Ok groups.next)) (record {
-      version = refl;
-      text = said.0;
-      are = (said.1, said.2);
-    })
+    rw (Yields-Ok groups.next) (record { version = refl; text = said.0; are = (said.1, said.2) })
 of_table ByKind OfBars line {bytes} x says =
     let groups = ThenNext-Ok says in
     let said = groups_said bar_format row_format 27 line groups.found groups.says in
-    subst (λ (y : PriceParts × List ℕ). AreAllPriceLines ByKind bytes y.0 y.1) (sym (Yields-Ok groups.next)) (record {
-      version = refl;
-      text = said.0;
-      are = (said.1, said.2);
-    })
+    rw (Yields-Ok groups.next) (record { version = refl; text = said.0; are = (said.1, said.2) })
 
 pub up_to_settings : {bytes : List ℕ} {version : Version} {day : ℕ} {body : List ℕ} {xs : List Setting} {rest : List ℕ}
     {number : ℕ}
@@ -99,7 +87,7 @@ card_said {bytes} x says =
     let counted =
     value_said false (codes "SETTINGS ") _ _ number.says ∙ ap (line_then (settings_words (length xs))) behind in
     let body = list.says.lines.lines ∙ ap (λ t. list_text xs ++ t) counted in
-    subst (λ (y : ℕ × List Setting × PriceParts). IsCard bytes y.0 y.1 y.2) (sym (Yields-Ok end.next)) (record {
+    rw (Yields-Ok end.next) (record {
       text =
           head.says.text ∙ ap (λ v. line_then (head_words v head.found.1) head.found.2) (sym are.version)
           ∙ ap (line_then (head_words (version_of prices) head.found.1)) body
@@ -203,13 +191,11 @@ module _ {K X : Type 0} {format : KindFormat K X} (is : IsFormat format) where
   group_begins : {number : ℕ} {bytes : List ℕ} (kinds : List K) (rest : List ℕ) → 0 < number
       → IsGroup format number kinds → bytes ≡ kinds_text format kinds ++ rest → BeginsWithWord format.word bytes
   group_begins [] rest some group e = let count = group.count in absurd (omega arith)
-  group_begins (kind ∷ kinds) rest some group e =
-      kind_begins (next_kind {last = None} kind kinds rest group.in_order e)
+  group_begins (kind ∷ kinds) rest some group e = kind_begins (next_kind {last = None} kind kinds rest group.in_order e)
 
 only_groups : {R X C Y : Type 0} {rows : KindFormat R X} {columns : KindFormat C Y} → IsFormat rows → IsFormat columns
     → (number line : ℕ) (bytes : List ℕ) → HasOneAnswer (IsGroupsAnswer rows columns number line bytes)
-only_groups rows columns number line bytes =
-    search (rules, one_answer, only_group rows, only_group columns)
+only_groups rows columns number line bytes = search (rules, one_answer, only_group rows, only_group columns)
 
 groups_say : {R X C Y : Type 0} {rows : KindFormat R X} {columns : KindFormat C Y} → IsFormat rows → IsFormat columns
     → columns.word ≢ rows.word → (number line : ℕ) (xs : List R) (ys : List C) {bytes : List ℕ} (rest : List ℕ)
@@ -239,8 +225,7 @@ one_table : (word : List ℕ) (version : Version) (table other : CostTable) → 
 one_table word version table other e d = grind arith
 
 only_all_prices : (version : Version) (line : ℕ) (bytes : List ℕ) → HasOneAnswer (IsAllPricesAnswer version line bytes)
-only_all_prices version line bytes =
-    search (rules, one_answer, only_line, only_of_table, HasOneAnswer-Finds, one_table)
+only_all_prices version line bytes = search (rules, one_answer, only_line, only_of_table, HasOneAnswer-Finds, one_table)
 
 by_number_says : (table : CostTable) (line : ℕ) {bytes : List ℕ} (rows columns : List ℤ) (rest : List ℕ)
     → IsPriceList (price_count table) rows → IsPriceList (price_count table) columns
@@ -264,13 +249,13 @@ all_say (Bars row col) line rest are ends e =
     (e ∙ two_lines (price_words (first_text ByNumber OfBars) row) (price_words (column_word OfBars) col) rest)
 all_say (CableKinds row col) line rest are ends e =
     let say =
-    groups_say cables_are pairs_are (λ same. omega (arith, ap (λ t. get_or t 0 0) same)) 13 line row.items col.items
-    rest (omega arith) are.0 are.1 (ends pair_format.word (λ same. omega (arith, ap (λ t. get_or t 0 0) same))) e in
+    groups_say cables_are pairs_are (grind arith) 13 line row.items col.items rest (omega arith) are.0 are.1
+    (ends pair_format.word (grind arith)) e in
     GoesOn OfCables (GoesOn _ (first_says say.0.has) refl) (GoesOn (row.items, col.items, rest) say.1 refl)
 all_say (BarKinds row col) line rest are ends e =
     let say =
-    groups_say bars_are rows_are (λ same. omega (arith, ap (λ t. get_or t 0 0) same)) 27 line row.items col.items rest
-    (omega arith) are.0 are.1 (ends row_format.word (λ same. omega (arith, ap (λ t. get_or t 0 0) same))) e in
+    groups_say bars_are rows_are (grind arith) 27 line row.items col.items rest (omega arith) are.0 are.1
+    (ends row_format.word (grind arith)) e in
     GoesOn OfBars (GoesOn _ (first_says say.0.has) refl) (GoesOn (row.items, col.items, rest) say.1 refl)
 
 -- ---- the head, and a name and a value

@@ -283,8 +283,7 @@ module _ {A B : Type 0} (a : A) (b : B) (cost : A → B → ℕ) (rows : List A)
       rw (column j within, ← at i j inside within) (fits i j inside within)))
 
   sums : price_sum prices ≡ (sum_of (row_prices prices) +ℤ prices_with beside)
-  sums =
-      grind (arith, ints, prices_moved columns (column_prices prices) beside, fold_of_both)
+  sums = grind (arith, ints, prices_moved columns (column_prices prices) beside, fold_of_both)
 
   below : (pos loose +ℤ price_sum prices) ≤ℤ pos lines
   below =

@@ -18,8 +18,7 @@ returns-in_err-cables-in-ByKind-OfCables c =
 
 pub of_parts-requires : goal.of_parts-requires
 of_parts-requires c =
-    let said = groups_said _ _ 13 c.args.line _ c.in_ok-cables-in-ByKind-OfCables.ensures in
-    (said.1, said.2)
+    let said = groups_said _ _ 13 c.args.line _ c.in_ok-cables-in-ByKind-OfCables.ensures in (said.1, said.2)
 
 pub returns-in_ok-cables-in-ByKind-OfCables : goal.returns-in_ok-cables-in-ByKind-OfCables
 returns-in_ok-cables-in-ByKind-OfCables c =
@@ -33,8 +32,7 @@ returns-in_err-bars-in-ByKind-OfBars c =
 
 pub of_parts-requires-in-ByKind-OfBars : goal.of_parts-requires-in-ByKind-OfBars
 of_parts-requires-in-ByKind-OfBars c =
-    let said = groups_said _ _ 27 c.args.line _ c.in_ok-bars-in-ByKind-OfBars.ensures in
-    (said.1, said.2)
+    let said = groups_said _ _ 27 c.args.line _ c.in_ok-bars-in-ByKind-OfBars.ensures in (said.1, said.2)
 
 pub returns-in_ok-bars-in-ByKind-OfBars : goal.returns-in_ok-bars-in-ByKind-OfBars
 returns-in_ok-bars-in-ByKind-OfBars c =

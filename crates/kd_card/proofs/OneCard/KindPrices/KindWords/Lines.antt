@@ -1,46 +1,45 @@
 -- Lines of words as they are written and split, texts of prices, and what the lines of a card have.
 pub use Rattle.kd_tables.specs.{declared.place.Place.Place, Places.{place_text, reading_text, standing_text}}
-pub use Rattle.kd_card.specs.Reading.{AreFewKinds, EndsKindsAt, head_prefix, IsBadKindAt, IsKindOfWords, IsPriceText}
-pub use Rattle.kd_card.specs.Laws.{CardsAreSaid, CardsHaveNoFault, NoCardBeginsAnother, OneCardFault, TextsTellCards}
+pub use Rattle.std.specs.{Fmt.signed_decimal, Int.Signed.mag, List.{All, AllByRecursion, flat_map, list_all}}
+pub use Rattle.std.{proofs.Common.{[], drop, length, negsuc, unsigned_abs, zero, ◌+ℤ◌, ◌<◌, ◌≢◌}, specs.Result.IsErrAnd}
+pub use Rattle.std.proofs.Common.{ap, arith, decimal, false, List, ltb, None, Option, Some, subst, take, true, ℤ, ◌++◌}
+pub use Rattle.std.proofs.Common.{Bool, Bor, Decides, eqb, Err, MatchOption, min, Ok, Result, suc, w16, ◌+◌, ◌^◌, ◌↔◌}
+pub use Rattle.std.proofs.Common.{append_assoc, fold, get_or, is_some, length-append, MatchResult, of_z, ℕ, ◌∙◌, ◌≤◌}
+pub use Rattle.std.proofs.Common.{codes, FitsSigned, IsTrue, map, pos, refl, rules, sym, to_z, ◌*◌, ◌∷◌, ◌≡◌}
+pub use Rattle.std.proofs.lemmas.{Grind.common_steps, Int.{fits_signed_from_abs, to_z-of_z}, Result.err_from_is_err_and}
+pub use Rattle.std.proofs.lemmas.List.{append_cancel_left, Folds.flat_map-map, Sums.AllPass-from_list_all}
+pub use Rattle.std.proofs.lemmas.List.{append-nil, nil_from_length, Elements.{All-append, All-nil, All-replicate}}
+pub use Rattle.std.proofs.lemmas.List.Elements.{All-cons, All-from_get_or, All-map, All-weaker, recursion_from_All}
+pub use Rattle.std.proofs.lemmas.List.{Elements.All-from_recursion, Splits.{join_with_byte-slice_split, slice_split_at}}
+pub use Rattle.std.proofs.lemmas.List.{get_or-map, get_or_at, length-replicate, take_all, Splits.slice_split_none}
+pub use Rattle.std.proofs.lemmas.{Bool.{ltb-true, Decides.Decides-eqb}, List.{length-map, Concat.flat_map-append}}
+pub use Rattle.std.proofs.lemmas.{Bool.{false≢true, ne_eqb}, Fmt.{decimal_digit, signed_decimal_injective}}
+pub use Rattle.std.proofs.lemmas.Fmt.{decimal_injective, decimal_nonempty, digits_decimal, first_decimal}
+pub use Rattle.kd_card.specs.Kinds.{AreEnds, bar_format, cable_format, ComesAfter, HasText, IsOnlyKey, letters_text}
+pub use Rattle.kd_card.specs.Kinds.{counted, IsGroup, IsKind, KeyComesBefore, KindFormat, pair_format, prices_of_kinds}
+pub use Rattle.kd_card.specs.{CardFault.first_text, Kinds.{AreKinds, HasKindWords, kind_words, kinds_text, row_format}}
+pub use Rattle.kd_card.specs.CardFault.{AtNothing, BeginsWithWord, IsAllPricesAnswer, IsPricesAnswer, last_of}
+pub use Rattle.kd_card.specs.CardFault.{BeginsWithKinds, IsDigit, IsGroupsAnswer, IsPriceLineAnswer, IsRestAnswer}
+pub use Rattle.kd_card.specs.CardFault.{EndsGroup, HasLineWords, IsLineAnswer, IsNextKind, IsNumberText, IsValueAnswer}
+pub use Rattle.kd_card.specs.CardFault.{BeginsWithHead, IsCardAnswer, IsSettingsAnswer, IsTablePricesAnswer}
+pub use Rattle.kd_card.specs.CardFault.{AtOther, HasNoNext, IsGroupAnswer, IsNumeral, line_then, parts_by_number}
+pub use Rattle.kd_card.specs.CardText.{card_text, column_word, head_words, IsCard, lines_text, price_count, price_lines}
+pub use Rattle.kd_card.specs.declared.cost_table.CostTable.{CostTable, TheVariants.{OfBars, OfCables}}
 pub use Rattle.kd_card.specs.declared.prices.PriceParts.{PriceParts, TheVariants.{BarKinds, Bars, CableKinds, Cables}}
 pub use Rattle.kd_card.specs.declared.{kinds.KindOf.KindOf, prices.Version.{Version, TheVariants.{ByKind, ByNumber}}}
-pub use Rattle.kd_card.specs.declared.cost_table.CostTable.{CostTable, TheVariants.{OfBars, OfCables}}
 pub use Rattle.kd_card.specs.declared.fault.CardFault.{CardFault, TheVariants.{BadLine, PriceMissing, Trailing}}
-pub use Rattle.kd_card.specs.Prices.{ArePrices, ArePricesInRange, column_prices, price_sum, row_prices, version_of}
-pub use Rattle.kd_card.specs.{CardFault.{HasNoNext, IsSettingsAnswer, line_then}, Prices.{IsPriceList, table_rows}}
-pub use Rattle.kd_card.specs.CardFault.{AtOther, BeginsWithKinds, first_text, IsCardAnswer, IsGroupAnswer}
-pub use Rattle.kd_card.specs.CardFault.{IsGroupsAnswer, IsLineAnswer, IsNumberText, IsNumeral, IsPricesAnswer, last_of}
-pub use Rattle.kd_card.specs.CardFault.{BeginsWithHead, IsDigit, IsNextKind, IsTablePricesAnswer, parts_by_number}
-pub use Rattle.kd_card.specs.CardFault.{AtNothing, EndsGroup, IsPriceLineAnswer, IsRestAnswer, IsValueAnswer}
-pub use Rattle.kd_card.specs.{CardFault.{BeginsWithWord, HasLineWords, IsAllPricesAnswer}, CardText.column_word}
-pub use Rattle.kd_card.specs.CardText.{card_text, head_words, IsCard, lines_text, price_count, price_lines}
-pub use Rattle.kd_card.specs.Kinds.{AreKinds, cable_format, ComesAfter, HasKindWords, HasText, IsGroup, pair_format}
-pub use Rattle.kd_card.specs.Kinds.{AreEnds, counted, IsKind, KeyComesBefore, kind_words, KindFormat, prices_of_kinds}
-pub use Rattle.kd_card.specs.Kinds.{bar_format, IsOnlyKey, kinds_text, letters_text, row_format}
-pub use Rattle.kd_state.proofs.Lines.{lines_split_into_words, not_longer, same_end, word_by_bytes, word_by_test}
-pub use Rattle.kd_state.proofs.Lines.{IsNumeralModel-digits, texts_tell_first_parts, words_make_one_line}
-pub use Rattle.kd_state.{proofs.Lines.numbers_are_words, specs.{Costs.column_letters, Machine.cable_letters}}
-pub use Rattle.kd_state.specs.Line.{BeginsWithNoSetting, BeginsWithSettingLines, list_text, setting_line, setting_words}
-pub use Rattle.kd_state.specs.{Line.BeginsWithAllSettings, Words.{IsFirstPart, IsWithout, IsWord, line_of, words_of}}
-pub use Rattle.kd_state.specs.{declared.setting.Setting.Setting, FirstFaults.HasOneAnswer-Yields, SheetDay.IsDayNumber}
-pub use Rattle.kd_state.specs.FirstFaults.{GoesOn, HasFault, HasOneAnswer, HasOneAnswer-ThenNext, Yields, Yields-Ok}
-pub use Rattle.kd_state.specs.FirstFaults.{Demands, HasOneAnswer-Demands, HasOneAnswer-Finds, ThenNext, ThenNext-Ok}
-pub use Rattle.{kd_state.specs.FirstFaults.HasOneAnswer-FindsAlways, std.specs.{Int.Signed.mag, List.All}}
-pub use Rattle.std.specs.{Fmt.signed_decimal, List.{AllByRecursion, flat_map, list_all}, Result.IsErrAnd}
-pub use Rattle.std.proofs.Common.{Bool, Decides, eqb, Err, false, get_or, List, MatchOption, Option, sym, ℤ, ◌↔◌, ◌≡◌}
-pub use Rattle.std.proofs.Common.{[], ap, length-append, ltb, MatchResult, None, Ok, Some, suc, true, ◌++◌, ◌∙◌, ◌≢◌}
-pub use Rattle.std.proofs.Common.{Bor, codes, FitsSigned, is_some, IsTrue, map, of_z, Result, subst, to_z, w16, ℕ, ◌<◌}
-pub use Rattle.std.proofs.Common.{append_assoc, arith, length, negsuc, pos, refl, rules, unsigned_abs, ◌^◌, ◌∷◌, ◌≤◌}
-pub use Rattle.std.proofs.lemmas.{Bool.{false≢true, ltb-true, ne_eqb, Decides.Decides-eqb}, Fmt.decimal_digit}
-pub use Rattle.std.proofs.lemmas.Fmt.{decimal_injective, decimal_nonempty, digits_decimal, signed_decimal_injective}
-pub use Rattle.std.proofs.lemmas.{Fmt.first_decimal, Grind.common_steps, List.{get_or-map, get_or_at, nil_from_length}}
-pub use Rattle.std.proofs.lemmas.List.{append-nil, Concat.flat_map-append, Elements.{All-from_get_or, All-replicate}}
-pub use Rattle.std.proofs.lemmas.List.Elements.{All-cons, All-from_recursion, All-nil, All-weaker, recursion_from_All}
-pub use Rattle.std.proofs.lemmas.List.{append_cancel_left, length-map, Elements.{All-append, All-map}}
-pub use Rattle.std.proofs.lemmas.List.{Splits.join_with_byte-slice_split, Sums.AllPass-from_list_all}
-pub use Rattle.std.proofs.lemmas.List.{length-replicate, Folds.flat_map-map, Splits.{slice_split_at, slice_split_none}}
-pub use Rattle.std.proofs.lemmas.{Int.{fits_signed_from_abs, to_z-of_z}, List.take_all, Result.err_from_is_err_and}
-pub use Rattle.std.proofs.Common.{zero, ◌+◌, ◌*◌, inl, inr, fold, decimal, not, ◌+ℤ◌, drop, min, take}
+pub use Rattle.kd_card.specs.Laws.{CardsAreSaid, CardsHaveNoFault, NoCardBeginsAnother, OneCardFault, TextsTellCards}
+pub use Rattle.kd_card.specs.Reading.{AreFewKinds, EndsKindsAt, head_prefix, IsBadKindAt, IsKindOfWords, IsPriceText}
+pub use Rattle.kd_card.specs.Prices.{ArePrices, column_prices, IsPriceList, price_sum, table_rows, version_of}
+pub use Rattle.{kd_card.specs.Prices.{ArePricesInRange, row_prices}, kd_state.specs.SheetDay.IsDayNumber}
+pub use Rattle.kd_state.specs.FirstFaults.{HasOneAnswer, HasOneAnswer-Demands, ThenNext, ThenNext-Ok, Yields, Yields-Ok}
+pub use Rattle.kd_state.specs.FirstFaults.{Demands, HasOneAnswer-Finds, HasOneAnswer-FindsAlways, HasOneAnswer-ThenNext}
+pub use Rattle.kd_state.specs.{Costs.column_letters, FirstFaults.{GoesOn, HasFault, HasOneAnswer-Yields}}
+pub use Rattle.kd_state.specs.{declared.setting.Setting.Setting, Words.{IsWithout, IsWord, line_of, words_of}}
+pub use Rattle.kd_state.specs.{Line.{BeginsWithAllSettings, BeginsWithSettingLines, setting_line}, Words.IsFirstPart}
+pub use Rattle.kd_state.specs.{Line.{BeginsWithNoSetting, list_text, setting_words}, Machine.cable_letters}
+pub use Rattle.kd_state.proofs.Lines.{lines_split_into_words, not_longer, same_end, word_by_test, words_make_one_line}
+pub use Rattle.kd_state.proofs.Lines.{IsNumeralModel-digits, numbers_are_words, texts_tell_first_parts, word_by_bytes}
 
 abbrev pub settings_words : ℕ → List (List ℕ)
 settings_words number = codes "SETTINGS" ∷ decimal number ∷ []
@@ -215,7 +214,7 @@ not_at words i d inside none all =
     (all i d.now (omega (arith, inside, length-map words (λ (word : Bor (List ℕ)). word.now)))))
 
 pub all_price_texts : (prices : List ℤ) → ArePricesInRange prices → All IsPriceText (map signed_decimal prices)
-all_price_texts prices reach = search (rules, All-map, All-weaker, unsigned_abs)
+all_price_texts prices reach = search (rules, All-map, All-weaker)
 
 AllByRecursion-prices : (words : List (List ℕ)) → AllByRecursion IsPriceText words → (prices : List ℤ)
     × (words ≡ map signed_decimal prices) × AllByRecursion (λ price. unsigned_abs price ≤ 9999) prices
@@ -375,7 +374,7 @@ line_said {word} {number} {bytes} x says =
     let prices = ThenNext-Ok first.next in
     let are = prices_said prices.says in
     let words : line.found.0 ∷ line.found.1 ≡ price_words word prices.found = cc in
-    subst (λ (y : List ℤ × List ℕ). HasPrices bytes word number y.0 y.1) (sym (Yields-Ok prices.next)) (record {
+    rw (Yields-Ok prices.next) (record {
       text = is_line split.next ∙ ap (λ ws. line_then ws line.found.2) words;
       list = are.1;
     })
