@@ -78,8 +78,7 @@ card_said {bytes} x says =
     let all = ThenNext-Ok number.next in
     let sum = ThenNext-Ok all.next in
     let end = ThenNext-Ok sum.next in
-    let table = ThenNext-Ok all.says in
-    let are = of_table head.found.0 table.found _ all.found table.next in
+    let are = of_table head.found.0 _ _ all.found (ThenNext-Ok all.says).next in
     let xs = list.found.0 in
     let prices = all.found.0 in
     let last = value_said true (codes "SUM ") _ _ sum.says ∙ ap (line_then (sum_words (price_sum prices))) end.says in
@@ -145,8 +144,7 @@ module _ {K X : Type 0} {format : KindFormat K X} (is : IsFormat format) where
   next_kind kind kinds rest are e = record {
     good = are.0;
     after = are.1;
-    line =
-        line_has_words (kind_words format kind) (kinds_text format kinds ++ rest) (λ none. cc)
+    line = line_has_words (kind_words format kind) (kinds_text format kinds ++ rest) (λ none. cc)
         (kind_is_words is kind are.0) (e ∙ text_of_more_kinds format kind kinds rest);
   }
 
@@ -167,10 +165,7 @@ module _ {K X : Type 0} {format : KindFormat K X} (is : IsFormat format) where
       let first = next_kind x xs rest a.in_order a.lines in
       let same = same_words first.line (next_kind y ys more b.in_order b.lines).line in
       let heads : x ≡ y = same_kind is x y a.in_order.0 b.in_order.0 same.0 in
-      let other : BeginsWithKinds format (Some x) (kinds_text format xs ++ rest) ys more =
-      rw (heads, same.1) (behind b) in
-      let tails = kinds_end (Some x) xs ys rest more (behind a) other in
-      (cc, tails.1)
+      let tails = kinds_end (Some x) xs ys rest more (behind a) (rw (heads, same.1) (behind b)) in (cc, tails.1)
 
   only_group : (number line : ℕ) (bytes : List ℕ) → HasOneAnswer (IsGroupAnswer format number line bytes)
   only_group number line bytes =
@@ -203,9 +198,7 @@ groups_say : {R X C Y : Type 0} {rows : KindFormat R X} {columns : KindFormat C 
     → bytes ≡ lines_text (map (kind_words rows) xs ++ map (kind_words columns) ys) ++ rest
     → BeginsWithWord rows.word bytes × IsGroupsAnswer rows columns number line bytes (Ok (xs, ys, rest))
 groups_say {rows} {columns} row column differ number line xs ys rest some a b ends e =
-    let lines =
-    e ∙ ap (λ t. t ++ rest) (text_of_two rows columns xs ys)
-    ∙ append_assoc (kinds_text rows xs) (kinds_text columns ys) rest in
+    let lines = e ∙ ap (λ t. t ++ rest) (text_of_two rows columns xs ys) ∙ append_assoc _ _ rest in
     let second = group_begins column ys rest some b refl in (
       group_begins row xs (kinds_text columns ys ++ rest) some a lines,
       GoesOn (xs, kinds_text columns ys ++ rest) (group_says row _ xs (kinds_text columns ys ++ rest) a lines
@@ -229,11 +222,12 @@ only_all_prices version line bytes = search (rules, one_answer, only_line, only_
 
 by_number_says : (table : CostTable) (line : ℕ) {bytes : List ℕ} (rows columns : List ℤ) (rest : List ℕ)
     → IsPriceList (price_count table) rows → IsPriceList (price_count table) columns
-    → bytes ≡ line_then (price_words (first_text ByNumber table) rows)
-    (line_then (price_words (column_word table) columns) rest)
+    → bytes ≡ lines_text (price_words (first_text ByNumber table) rows ∷ price_words (column_word table) columns ∷ [])
+    ++ rest
     → IsAllPricesAnswer ByNumber line bytes (Ok (parts_by_number table rows columns, rest))
 by_number_says table line rows columns rest a b e =
-    let first = line_of_prices (first_text ByNumber table) rows _ (first_is_word table).0 a.reach e in
+    let first = line_of_prices (first_text ByNumber table) rows _ (first_is_word table).0 a.reach
+    (e ∙ two_lines (price_words (first_text ByNumber table) rows) (price_words (column_word table) columns) rest) in
     let second = line_of_prices (column_word table) columns rest (first_is_word table).1 b.reach refl in
     GoesOn table (GoesOn _ (first_says first) refl)
     (GoesOn (rows, _) (price_line_says rows first a) (GoesOn (columns, rest) (price_line_says columns second b) refl))
@@ -241,20 +235,14 @@ by_number_says table line rows columns rest a b e =
 all_say : (prices : PriceParts) (line : ℕ) {bytes : List ℕ} (rest : List ℕ) → ArePrices prices
     → ((word : List ℕ) → word ≢ codes "SUM" → EndsGroup word rest) → bytes ≡ lines_text (price_lines prices) ++ rest
     → IsAllPricesAnswer (version_of prices) line bytes (Ok (prices, rest))
-all_say (Cables row col) line rest are ends e =
-    by_number_says OfCables line row col rest are.0 are.1
-    (e ∙ two_lines (price_words (first_text ByNumber OfCables) row) (price_words (column_word OfCables) col) rest)
-all_say (Bars row col) line rest are ends e =
-    by_number_says OfBars line row col rest are.0 are.1
-    (e ∙ two_lines (price_words (first_text ByNumber OfBars) row) (price_words (column_word OfBars) col) rest)
+all_say (Cables row col) line rest are ends e = by_number_says OfCables line row col rest are.0 are.1 e
+all_say (Bars row col) line rest are ends e = by_number_says OfBars line row col rest are.0 are.1 e
 all_say (CableKinds row col) line rest are ends e =
-    let say =
-    groups_say cables_are pairs_are (grind arith) 13 line row.items col.items rest (omega arith) are.0 are.1
+    let say = groups_say cables_are pairs_are (grind arith) 13 line row.items col.items rest (omega arith) are.0 are.1
     (ends pair_format.word (grind arith)) e in
     GoesOn OfCables (GoesOn _ (first_says say.0.has) refl) (GoesOn (row.items, col.items, rest) say.1 refl)
 all_say (BarKinds row col) line rest are ends e =
-    let say =
-    groups_say bars_are rows_are (grind arith) 27 line row.items col.items rest (omega arith) are.0 are.1
+    let say = groups_say bars_are rows_are (grind arith) 27 line row.items col.items rest (omega arith) are.0 are.1
     (ends row_format.word (grind arith)) e in
     GoesOn OfBars (GoesOn _ (first_says say.0.has) refl) (GoesOn (row.items, col.items, rest) say.1 refl)
 
@@ -264,7 +252,7 @@ same_day : {bytes : List ℕ} {version : Version} {day other : ℕ} {rest more :
     → BeginsWithHead bytes version day rest → BeginsWithHead bytes version other more → (day ≡ other) × (rest ≡ more)
 same_day {version} {day} {other} {rest} {more} a b =
     let same = same_values (head_prefix version) (day_unbroken day a.of_month) (day_unbroken other b.of_month)
-    (a.text ∙ sym (head_text version day rest refl)) (b.text ∙ sym (head_text version other more refl)) in
+    (a.text ∙ sym (head_text version _ _ refl)) (b.text ∙ sym (head_text version _ _ refl)) in
     grind (arith, decimal_injective)
 
 one_head : (bytes : List ℕ) (head other : Version × ℕ × List ℕ) → BeginsWithHead bytes head.0 head.1 head.2
