@@ -129,11 +129,9 @@ reading_alike_costs_no_more g n s legal has too reads also ws size =
     let change = changes {A = Option ℕ × Option ℕ} alphabet of_cable of_column in
     let back = ap change (zip-seconds us.beside there.0 there.2) in
     let sums = sum_by-IsPermutation (λ z. count_differing alphabet (of_column z.0) (of_column z.1)) _ _ there.1 in
-    let moved = IsPermutation-map second _ _ there.1 in (
-      vs,
-      subst (λ ws. IsPermutation ws vs) (seconds-zip qs.beside ws (size ∙ sym qs.count)) moved,
-      omega (arith, us.free, qs.free, costly.0, cheap.1, back, sums),
-    )
+    let moved = IsPermutation-map second _ _ there.1 in
+    let order = subst (λ ws. IsPermutation ws vs) (seconds-zip qs.beside ws (size ∙ sym qs.count)) moved in
+    (vs, order, omega (arith, us.free, qs.free, costly.0, cheap.1))
 
 -- ---- how far a machine is from another one that reads as the day
 
@@ -229,12 +227,10 @@ module _ (g n h o : RotorParts) (s : RotorDay) (card list : List Setting) (legal
       let none = nothing_loose (Rotor o) (OfRotors s) by_list.reads in
       let slots = ap (λ z. loose_slots z.1 s) near.same in
       let reflector = ap (λ z. one_unless (same_reflector z.2 s.reflector)) near.same in
-      let rings_meet = gaps-self o.rings in
-      let letters_meet = gaps-self o.letters in
       let bound = bounded (None, None) None cable_cost g.cables (columns_of s.pairs) (Cables row column)
       (loose_for s legal o by_list.reads (Rotor n)) (length list) near.first.count
       (thirteen_columns s.pairs legal.pairs.few) are.0.count are.1.count proves.fits there.0 order
-      (omega (arith, none, due.free, there.2)) in
+      (omega (arith, none, due.free, there.2, gaps-self o.rings, gaps-self o.letters)) in
       let paid = loose_for-list s legal o by_list.reads (Rotor g) (Rotor h) card proves.model by_card.leads
       proves.needed in
       let rings = gaps-triangle g.rings n.rings o.rings in
