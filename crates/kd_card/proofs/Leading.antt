@@ -203,8 +203,8 @@ module _ (m : RotorParts) (s : RotorDay) (machine : IsMachine (Rotor m)) (legal 
   rings_now : map ring_now (box_of m.model) ≡ m.rings
   rings_now =
       sym (map-map (λ k. get_or m.rings k 0) (place_in_box m.model) (box_of m.model))
-      ∙ ap (map (λ k. get_or m.rings k 0)) (places_in_box m.model) ∙ sym (fill_by_all
-      (λ k. get_or m.rings k 0) m.rings (length (box_of m.model)) 0 machine.legal.rings.count (λ k lt. refl))
+      ∙ ap (map (λ k. get_or m.rings k 0)) (places_in_box m.model)
+      ∙ sym (fill_by_all (λ k. get_or m.rings k 0) m.rings _ 0 machine.legal.rings.count (λ k lt. refl))
 
   abbrev ringed : List ℕ → RotorParts
   ringed rings = record m { slots = seats_of_wheels s.wheels; reflector = s.reflector; rings = rings }

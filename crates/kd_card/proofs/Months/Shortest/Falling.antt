@@ -256,9 +256,10 @@ pin_lowers m s (suc wheel) letter effective e =
     let place = unwrap_or (place_on (ring_of (suc wheel)) letter) 0 in
     let new = set (wheel_pins m.pins (suc wheel)) place effective in
     let all : pins_of (with_pin m.pins (suc wheel) letter effective)
-    ≡ set (pins_of m.pins) wheel (set (get_or (pins_of m.pins) wheel []) place effective) = six_lists m.pins
-    (suc wheel - 1) new ∙ ap (λ i. set (pins_of m.pins) i new) (one_less wheel) ∙ ap
-    (λ pins. set (pins_of m.pins) wheel (set pins place effective)) (unwrap_or-slice_get (pins_of m.pins) wheel []) in
+    ≡ set (pins_of m.pins) wheel (set (get_or (pins_of m.pins) wheel []) place effective)
+    = six_lists m.pins (suc wheel - 1) new ∙ ap (λ i. set (pins_of m.pins) i new) (one_less wheel)
+    ∙ ap (λ pins. set (pins_of m.pins) wheel (set pins place effective))
+    (unwrap_or-slice_get (pins_of m.pins) wheel []) in
     subst (λ pins. loose_pins m.pins s.pins ≤ sum (map differing_pins (zip pins (pins_of s.pins))) + 1) (sym all)
     (wheel_set_lowers (pins_of m.pins) (pins_of s.pins) wheel place effective)
 

@@ -117,8 +117,8 @@ no_first_part {byte} {text} {part} {rest} first without =
 
 -- The bytes after `front`, split at the first LF: the value before it, and the bytes after it; or there is no LF.
 pub value_split : (text front behind : List ℕ) (r : Option (Bor (List ℕ) × Bor (List ℕ))) → text ≡ front ++ behind
-    → MatchOption r (IsWithout 10 behind) (λ parts. IsFirstPart 10 behind parts.0.now parts.1.now) → MatchOption r
-    ((value rest : List ℕ) → IsWithout 10 value → text ≢ front ++ value ++ 10 ∷ rest)
+    → MatchOption r (IsWithout 10 behind) (λ parts. IsFirstPart 10 behind parts.0.now parts.1.now)
+    → MatchOption r ((value rest : List ℕ) → IsWithout 10 value → text ≢ front ++ value ++ 10 ∷ rest)
     (λ found. (text ≡ front ++ found.0.now ++ 10 ∷ found.1.now) × IsWithout 10 found.0.now)
 value_split text front behind None e none = λ value rest free d.
     let same : front ++ behind ≡ front ++ (value ++ 10 ∷ rest) = sym e ∙ d ∙ append_assoc front value (10 ∷ rest) in
@@ -374,7 +374,5 @@ line_said {word} {number} {bytes} x says =
     let prices = ThenNext-Ok first.next in
     let are = prices_said prices.says in
     let words : line.found.0 ∷ line.found.1 ≡ price_words word prices.found = cc in
-    rw (Yields-Ok prices.next) (record {
-      text = is_line split.next ∙ ap (λ ws. line_then ws line.found.2) words;
-      list = are.1;
-    })
+    rw (Yields-Ok prices.next)
+    (record { text = is_line split.next ∙ ap (λ ws. line_then ws line.found.2) words; list = are.1 })
