@@ -20,11 +20,9 @@ AllPairs-before : {X Y : Type 0} (f : X → Y) (front : List X) (x : X) (back : 
     → AllPairs (λ w v. f w ≢ f v) (front ++ x ∷ back) → AllByRecursion (λ v. f x ≢ f v) front
 AllPairs-before f [] x back apart = tt
 AllPairs-before f (y ∷ front) x back apart =
-    let differ = apart zero (suc (length front)) x (omega arith) (omega (arith, length-append front (x ∷ back))) in (
-      (λ same. rw (get_or_at front x back x (length front) refl) at differ (sym same)),
-      AllPairs-before f front x back (all_pairs_remove (λ w v. f w ≢ f v) (y ∷ front ++ x ∷ back) zero
-          (omega arith) apart),
-    )
+    let away = apart zero (suc (length front)) x (omega arith) (omega (arith, length-append front (x ∷ back))) in
+    let rest = all_pairs_remove (λ w v. f w ≢ f v) (y ∷ front ++ x ∷ back) zero (omega arith) apart in
+    ((λ same. rw (get_or_at front x back x (length front) refl) at away (sym same)), AllPairs-before f front x _ rest)
 
 pub seam_map : {X Y : Type 0} (f : X → Y) (xs front back : List X) (x : X) → xs ≡ front ++ x ∷ back
     → slice_get (map f xs) (length front) ≡ Some (f x)
@@ -38,8 +36,7 @@ pub led_none : {m n : Parts} → n ≡ m → Led m [] n
 led_none e = record { leads = e }
 
 pub led_cons : {m k n : Parts} {x : Setting} {xs : List Setting} → why_refused m x ≡ None → machine_after m x ≡ k
-    → Led k xs n
-    → Led m (x ∷ xs) n
+    → Led k xs n → Led m (x ∷ xs) n
 led_cons {k = k} allowed made rest = record { leads = (k, record { allowed = allowed; made = sym made }, rest.leads) }
 
 pub led_append : (xs ys : List Setting) {m k n : Parts} → Led m xs k → Led k ys n → Led m (xs ++ ys) n
@@ -47,8 +44,7 @@ led_append xs ys first second = record { leads = leads_join _ _ _ xs ys first.le
 
 -- The setting for a thing leads from `m` to `n`; it is left out if the thing is right already (`so`).
 pub led_unless : (so : Bool) (m n : Parts) (x : Setting) → (so ≡ true → n ≡ m) → (so ≡ false → machine_after m x ≡ n)
-    → (so ≡ false → why_refused m x ≡ None)
-    → Led m (setting_unless so x) n
+    → (so ≡ false → why_refused m x ≡ None) → Led m (setting_unless so x) n
 led_unless true m n x same made allowed = led_none (same refl)
 led_unless false m n x same made allowed = led_cons (allowed refl) (made refl) (led_none refl)
 
@@ -143,13 +139,8 @@ module _ (m : RotorParts) where
       let rest = seats_led (front ++ Some w.wheel ∷ []) (behind now w slots) wheels (number + 1)
       (omega (arith, length-append front (Some w.wheel ∷ []))) (grind (arith, length-map))
       (λ k n wheel e at. allowed (suc k) n wheel (omega arith) at)
-      (λ k d lt. grind (
-        arith,
-        map-append,
-        absent (suc k) d (omega arith),
-        apart zero (suc k) d (omega arith) (omega arith),
-        same_wheel-Decides,
-      ))
+      (λ k d lt. let differ = apart zero (suc k) d (omega arith) (omega arith) in
+      grind (arith, map-append, absent (suc k) d (omega arith), differ, same_wheel-Decides))
       (all_pairs_remove (λ (w v : SheetWheel). w.wheel ≢ v.wheel) (w ∷ wheels) zero (omega arith) apart) in
       let here = seat_led front slots now w number e (allowed zero number w.wheel (omega arith) refl)
       (absent zero w (omega arith)) in
@@ -201,8 +192,7 @@ module _ (m : RotorParts) (s : RotorDay) (machine : IsMachine (Rotor m)) (legal 
       let wheel = (get_or s.wheels k d).wheel in
       found_at (find (λ v. same_wheel wheel v.wheel)) (λ v. same_wheel wheel v.wheel) Some None refl
       (λ v vs. refl) s.wheels k d lt (λ i before. same_wheel_differs wheel (get_or s.wheels i d).wheel
-      (λ same. places_differ i k d before lt (ap (place_in_box m.model) (sym same))))
-      (same_wheel_self wheel)
+      (λ same. places_differ i k d before lt (ap (place_in_box m.model) (sym same)))) (same_wheel_self wheel)
 
   abbrev ring_now : Wheel → ℕ
   ring_now wheel = get_or m.rings (place_in_box m.model wheel) 0
@@ -214,11 +204,13 @@ module _ (m : RotorParts) (s : RotorDay) (machine : IsMachine (Rotor m)) (legal 
   rings_now =
       sym (map-map (λ k. get_or m.rings k 0) (place_in_box m.model) (box_of m.model))
       ∙ ap (map (λ k. get_or m.rings k 0)) (places_in_box m.model)
-      ∙ sym (fill_by_all (λ k. get_or m.rings k 0) m.rings (length (box_of m.model)) 0 machine.legal.rings.count
-      (λ k lt. refl))
+      ∙ sym (fill_by_all (λ k. get_or m.rings k 0) m.rings _ 0 machine.legal.rings.count (λ k lt. refl))
+
+  abbrev ringed : List ℕ → RotorParts
+  ringed rings = record m { slots = seats_of_wheels s.wheels; reflector = s.reflector; rings = rings }
 
   abbrev with_rings : List ℕ → Parts
-  with_rings rings = Rotor (record m { slots = seats_of_wheels s.wheels; reflector = s.reflector; rings = rings })
+  with_rings rings = Rotor (ringed rings)
 
   ring_led : (front back : List ℕ) (wheel : Wheel) (one : Option SheetWheel) → the_one wheel ≡ one
       → slice_get (box_of m.model) (length front) ≡ Some wheel
@@ -245,13 +237,7 @@ module _ (m : RotorParts) (s : RotorDay) (machine : IsMachine (Rotor m)) (legal 
 
   -- TURN: the machine after SEAT, REFLECTOR and RING, with these letters.
   abbrev turned : List ℕ → RotorParts
-  turned letters =
-      record m {
-        slots = seats_of_wheels s.wheels;
-        reflector = s.reflector;
-        rings = map ring_then (box_of m.model);
-        letters = letters;
-      }
+  turned letters = record (ringed (map ring_then (box_of m.model))) { letters = letters }
 
   abbrev turn : List ℕ → SheetWheel → List ℕ
   turn letters w = set letters (place w) w.letter
@@ -341,12 +327,8 @@ module _ (m : PinParts) where
         ≡ pin_set (front ++ (done ++ effective ∷ rest) ∷ back)
     pin_made done rest now effective letter placed =
         let pins = done ++ now ∷ rest in
-        rw (
-          pins_of_set (front ++ pins ∷ back) (omega (arith, length-append front (pins ∷ back))),
-          seam_get front pins back,
-          placed,
-          set_at done now rest effective (length done) refl,
-        )
+        let lists = pins_of_set (front ++ pins ∷ back) (omega (arith, length-append front (pins ∷ back))) in
+        rw (lists, seam_get front pins back, placed, set_at done now rest effective (length done) refl)
         (ap pin_set (set_at front pins back (done ++ effective ∷ rest) _ (omega arith)))
 
     one_pin : (done rest : List Bool) (w : Cell) → place_on (ring_of number) w.0 ≡ Some (length done)
@@ -362,10 +344,8 @@ module _ (m : PinParts) where
         let ring = ring_of number in
         let cells = zip ring (zip now day) in
         let size : length (zip now day) ≡ length ring = omega (arith, length-zip now day) in
-        let before =
-        second_map (λ (pin : Bool × Bool). pin.0) ring (zip now day) size ∙ firsts-zip now day (d ∙ sym e) in
-        let after =
-        second_map (λ (pin : Bool × Bool). pin.1) ring (zip now day) size ∙ seconds-zip now day (d ∙ sym e) in
+        let before = second_map (λ (p : Bool × Bool). p.0) ring (zip now day) size ∙ firsts-zip now day (d ∙ sym e) in
+        let after = second_map (λ (p : Bool × Bool). p.1) ring (zip now day) size ∙ seconds-zip now day (d ∙ sym e) in
         rw (lines_of_each (pin_line number) cells 1)
         (cells_led with_wheel (λ (w : Cell). w.1.0) (λ w. w.1.1) (λ n w. pin_line number w) cells before after
         (λ fs bs w is.

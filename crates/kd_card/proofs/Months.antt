@@ -72,8 +72,7 @@ differing-triangle : (p q r : ℕ → Bool) (letters : List ℕ)
     × (count_differing letters q r ≤ count_differing letters p q + count_differing letters p r)
 differing-triangle p q r [] = (omega arith, omega arith)
 differing-triangle p q r (letter ∷ letters) =
-    let rest = differing-triangle p q r letters in
-    simp count_by-cons (grind (arith, rest.0), grind (arith, rest.1))
+    let rest = differing-triangle p q r letters in simp count_by-cons (grind (arith, rest.0), grind (arith, rest.1))
 
 -- The cost of cables `xs` at columns `us`: `f` tests whether a cable has a letter, and `g` whether a column has it.
 module _ {A W : Type 0} (letters : List ℕ) (f : A → ℕ → Bool) (g : W → ℕ → Bool) where
@@ -130,11 +129,9 @@ reading_alike_costs_no_more g n s legal has too reads also ws size =
     let change = changes {A = Option ℕ × Option ℕ} alphabet of_cable of_column in
     let back = ap change (zip-seconds us.beside there.0 there.2) in
     let sums = sum_by-IsPermutation (λ z. count_differing alphabet (of_column z.0) (of_column z.1)) _ _ there.1 in
-    let moved = IsPermutation-map second _ _ there.1 in (
-      vs,
-      subst (λ ws. IsPermutation ws vs) (seconds-zip qs.beside ws (size ∙ sym qs.count)) moved,
-      omega (arith, us.free, qs.free, costly.0, cheap.1, back, sums),
-    )
+    let moved = IsPermutation-map second _ _ there.1 in
+    let order = subst (λ ws. IsPermutation ws vs) (seconds-zip qs.beside ws (size ∙ sym qs.count)) moved in
+    (vs, order, omega (arith, us.free, qs.free, costly.0, cheap.1))
 
 -- ---- how far a machine is from another one that reads as the day
 
@@ -190,8 +187,7 @@ module _ (s : RotorDay) (legal : IsLegalRotorDay s) (o : RotorParts) (reads : Re
   loose_for-needed m x same needed = grind arith
 
   loose_for-list : (m n : Parts) (xs : List Setting) → model_of m ≡ s.model → Leads m xs n
-      → AreSettingsNeeded m (OfRotors s) xs
-      → loose_for n + length xs ≤ loose_for m + priced_count xs
+      → AreSettingsNeeded m (OfRotors s) xs → loose_for n + length xs ≤ loose_for m + priced_count xs
   loose_for-list m n [] same leads needed = subst (λ n. loose_for n + 0 ≤ loose_for m + 0) (sym leads) (omega arith)
   loose_for-list m n (x ∷ xs) same leads needed =
       let after = subst (λ between. Leads between xs n) leads.1.made leads.2 in
@@ -212,8 +208,7 @@ record AgreeButForCables (g n : RotorParts) : Type 0 where
   cables : CostNoMore g.cables n.cables
 
 module _ (g n h o : RotorParts) (s : RotorDay) (card list : List Setting) (legal : IsLegalRotorDay s)
-    (near : AgreeButForCables g n)
-    (by_card : ReachesDay (Rotor g) (OfRotors s) card (Rotor h))
+    (near : AgreeButForCables g n) (by_card : ReachesDay (Rotor g) (OfRotors s) card (Rotor h))
     (by_list : ReachesDay (Rotor n) (OfRotors s) list (Rotor o)) where
   last : HasCables o.cables
   last = list_keeps (Rotor n) (Rotor o) list by_list.leads near.second
@@ -232,12 +227,10 @@ module _ (g n h o : RotorParts) (s : RotorDay) (card list : List Setting) (legal
       let none = nothing_loose (Rotor o) (OfRotors s) by_list.reads in
       let slots = ap (λ z. loose_slots z.1 s) near.same in
       let reflector = ap (λ z. one_unless (same_reflector z.2 s.reflector)) near.same in
-      let rings_meet = gaps-self o.rings in
-      let letters_meet = gaps-self o.letters in
       let bound = bounded (None, None) None cable_cost g.cables (columns_of s.pairs) (Cables row column)
       (loose_for s legal o by_list.reads (Rotor n)) (length list) near.first.count
       (thirteen_columns s.pairs legal.pairs.few) are.0.count are.1.count proves.fits there.0 order
-      (omega (arith, none, due.free, there.2)) in
+      (omega (arith, none, due.free, there.2, gaps-self o.rings, gaps-self o.letters)) in
       let paid = loose_for-list s legal o by_list.reads (Rotor g) (Rotor h) card proves.model by_card.leads
       proves.needed in
       let rings = gaps-triangle g.rings n.rings o.rings in
@@ -253,10 +246,8 @@ module _ (g n h o : RotorParts) (s : RotorDay) (card list : List Setting) (legal
       record { first = first; second = last; same = same; cables = cables }
 
 sum_by-fewest : (days : List Day) (g n : RotorParts) (cards lists : List (List Setting)) → g.model ≢ M209
-    → All IsLegalDay days
-    → AgreeButForCables g n → DayAfterDay IsProvedCard (Rotor g) days cards
-    → DayAfterDay ReachesDay (Rotor n) days lists
-    → sum_by length cards ≤ sum_by length lists + machine_gap g n
+    → All IsLegalDay days → AgreeButForCables g n → DayAfterDay IsProvedCard (Rotor g) days cards
+    → DayAfterDay ReachesDay (Rotor n) days lists → sum_by length cards ≤ sum_by length lists + machine_gap g n
 sum_by-fewest [] g n [] [] rotor legal near are lead = omega arith
 sum_by-fewest (OfRotors s ∷ days) g n (card ∷ cards) (list ∷ lists) rotor legal near (Rotor h, to, rest)
     (Rotor o, by, more) =

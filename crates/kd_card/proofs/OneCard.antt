@@ -11,10 +11,7 @@ same_prices : (ps qs : List ℤ) → AllByRecursion (λ p. unsigned_abs p ≤ 99
     → AllByRecursion (λ p. unsigned_abs p ≤ 9999) qs → map signed_decimal ps ≡ map signed_decimal qs → ps ≡ qs
 same_prices [] [] a b e = refl
 same_prices (p ∷ ps) (q ∷ qs) a b e =
-    let first : p ≡ q = signed_decimal_injective p q (mag-small p a.0) (mag-small q b.0) (cc) in
-    let tails : map signed_decimal ps ≡ map signed_decimal qs = cc in
-    let others : ps ≡ qs = same_prices ps qs a.1 b.1 tails in
-    cc
+    cc (signed_decimal_injective p q (mag-small p a.0) (mag-small q b.0) (cc), same_prices ps qs a.1 b.1 (cc))
 same_prices ps qs a b e = absurd (omega (arith, ap length e))
 
 -- the first and the third letter, which distinguish the line after the settings from the line of a setting
@@ -52,25 +49,16 @@ of_table : (version : Version) (table : CostTable) (line : ℕ) {bytes : List �
 of_table ByNumber table line {bytes} x says =
     let rows = ThenNext-Ok says in
     let columns = ThenNext-Ok rows.next in
-    subst (λ (y : PriceParts × List ℕ). AreAllPriceLines ByNumber bytes y.0 y.1) (sym (Yields-Ok columns.next))
-    (by_number table rows.found.0 columns.found.0 (line_said rows.found rows.says)
+    rw (Yields-Ok columns.next) (by_number table rows.found.0 columns.found.0 (line_said rows.found rows.says)
     (line_said columns.found columns.says))
 of_table ByKind OfCables line {bytes} x says =
     let groups = ThenNext-Ok says in
     let said = groups_said cable_format pair_format 13 line groups.found groups.says in
-    subst (λ (y : PriceParts × List ℕ). AreAllPriceLines ByKind bytes y.0 y.1) (sym (Yields-Ok groups.next)) (record {
-      version = refl;
-      text = said.0;
-      are = (said.1, said.2);
-    })
+    rw (Yields-Ok groups.next) (record { version = refl; text = said.0; are = (said.1, said.2) })
 of_table ByKind OfBars line {bytes} x says =
     let groups = ThenNext-Ok says in
     let said = groups_said bar_format row_format 27 line groups.found groups.says in
-    subst (λ (y : PriceParts × List ℕ). AreAllPriceLines ByKind bytes y.0 y.1) (sym (Yields-Ok groups.next)) (record {
-      version = refl;
-      text = said.0;
-      are = (said.1, said.2);
-    })
+    rw (Yields-Ok groups.next) (record { version = refl; text = said.0; are = (said.1, said.2) })
 
 pub up_to_settings : {bytes : List ℕ} {version : Version} {day : ℕ} {body : List ℕ} {xs : List Setting} {rest : List ℕ}
     {number : ℕ}
@@ -90,8 +78,7 @@ card_said {bytes} x says =
     let all = ThenNext-Ok number.next in
     let sum = ThenNext-Ok all.next in
     let end = ThenNext-Ok sum.next in
-    let table = ThenNext-Ok all.says in
-    let are = of_table head.found.0 table.found _ all.found table.next in
+    let are = of_table head.found.0 _ _ all.found (ThenNext-Ok all.says).next in
     let xs = list.found.0 in
     let prices = all.found.0 in
     let last = value_said true (codes "SUM ") _ _ sum.says ∙ ap (line_then (sum_words (price_sum prices))) end.says in
@@ -99,7 +86,7 @@ card_said {bytes} x says =
     let counted =
     value_said false (codes "SETTINGS ") _ _ number.says ∙ ap (line_then (settings_words (length xs))) behind in
     let body = list.says.lines.lines ∙ ap (λ t. list_text xs ++ t) counted in
-    subst (λ (y : ℕ × List Setting × PriceParts). IsCard bytes y.0 y.1 y.2) (sym (Yields-Ok end.next)) (record {
+    rw (Yields-Ok end.next) (record {
       text =
           head.says.text ∙ ap (λ v. line_then (head_words v head.found.1) head.found.2) (sym are.version)
           ∙ ap (line_then (head_words (version_of prices) head.found.1)) body
@@ -157,8 +144,7 @@ module _ {K X : Type 0} {format : KindFormat K X} (is : IsFormat format) where
   next_kind kind kinds rest are e = record {
     good = are.0;
     after = are.1;
-    line =
-        line_has_words (kind_words format kind) (kinds_text format kinds ++ rest) (λ none. cc)
+    line = line_has_words (kind_words format kind) (kinds_text format kinds ++ rest) (λ none. cc)
         (kind_is_words is kind are.0) (e ∙ text_of_more_kinds format kind kinds rest);
   }
 
@@ -179,16 +165,12 @@ module _ {K X : Type 0} {format : KindFormat K X} (is : IsFormat format) where
       let first = next_kind x xs rest a.in_order a.lines in
       let same = same_words first.line (next_kind y ys more b.in_order b.lines).line in
       let heads : x ≡ y = same_kind is x y a.in_order.0 b.in_order.0 same.0 in
-      let other : BeginsWithKinds format (Some x) (kinds_text format xs ++ rest) ys more =
-      rw (heads, same.1) (behind b) in
-      let tails = kinds_end (Some x) xs ys rest more (behind a) other in
-      (cc, tails.1)
+      let tails = kinds_end (Some x) xs ys rest more (behind a) (rw (heads, same.1) (behind b)) in (cc, tails.1)
 
   only_group : (number line : ℕ) (bytes : List ℕ) → HasOneAnswer (IsGroupAnswer format number line bytes)
   only_group number line bytes =
-      HasOneAnswer-ThenNext
-      (HasOneAnswer-FindsAlways (λ x y a b. let same = kinds_end None x.0 y.0 x.1 y.1 a b in same_pair x y same.0
-      same.1))
+      HasOneAnswer-ThenNext (HasOneAnswer-FindsAlways
+      (λ x y a b. let same = kinds_end None x.0 y.0 x.1 y.1 a b in same_pair x y same.0 same.1))
       (λ group takes. HasOneAnswer-ThenNext (HasOneAnswer-Demands _ _)
       (λ end ends. HasOneAnswer-ThenNext (HasOneAnswer-Demands _ _) (λ all count. HasOneAnswer-Yields group)))
 
@@ -204,13 +186,11 @@ module _ {K X : Type 0} {format : KindFormat K X} (is : IsFormat format) where
   group_begins : {number : ℕ} {bytes : List ℕ} (kinds : List K) (rest : List ℕ) → 0 < number
       → IsGroup format number kinds → bytes ≡ kinds_text format kinds ++ rest → BeginsWithWord format.word bytes
   group_begins [] rest some group e = let count = group.count in absurd (omega arith)
-  group_begins (kind ∷ kinds) rest some group e =
-      kind_begins (next_kind {last = None} kind kinds rest group.in_order e)
+  group_begins (kind ∷ kinds) rest some group e = kind_begins (next_kind {last = None} kind kinds rest group.in_order e)
 
 only_groups : {R X C Y : Type 0} {rows : KindFormat R X} {columns : KindFormat C Y} → IsFormat rows → IsFormat columns
     → (number line : ℕ) (bytes : List ℕ) → HasOneAnswer (IsGroupsAnswer rows columns number line bytes)
-only_groups rows columns number line bytes =
-    search (rules, one_answer, only_group rows, only_group columns)
+only_groups rows columns number line bytes = search (rules, one_answer, only_group rows, only_group columns)
 
 groups_say : {R X C Y : Type 0} {rows : KindFormat R X} {columns : KindFormat C Y} → IsFormat rows → IsFormat columns
     → columns.word ≢ rows.word → (number line : ℕ) (xs : List R) (ys : List C) {bytes : List ℕ} (rest : List ℕ)
@@ -218,14 +198,11 @@ groups_say : {R X C Y : Type 0} {rows : KindFormat R X} {columns : KindFormat C 
     → bytes ≡ lines_text (map (kind_words rows) xs ++ map (kind_words columns) ys) ++ rest
     → BeginsWithWord rows.word bytes × IsGroupsAnswer rows columns number line bytes (Ok (xs, ys, rest))
 groups_say {rows} {columns} row column differ number line xs ys rest some a b ends e =
-    let lines =
-    e ∙ ap (λ t. t ++ rest) (text_of_two rows columns xs ys)
-    ∙ append_assoc (kinds_text rows xs) (kinds_text columns ys) rest in
+    let lines = e ∙ ap (λ t. t ++ rest) (text_of_two rows columns xs ys) ∙ append_assoc _ _ rest in
     let second = group_begins column ys rest some b refl in (
       group_begins row xs (kinds_text columns ys ++ rest) some a lines,
-      GoesOn (xs, kinds_text columns ys ++ rest)
-          (group_says row _ xs (kinds_text columns ys ++ rest) a lines (AtOther columns.word second differ))
-          (GoesOn (ys, rest) (group_says column _ ys rest b refl ends) refl),
+      GoesOn (xs, kinds_text columns ys ++ rest) (group_says row _ xs (kinds_text columns ys ++ rest) a lines
+          (AtOther columns.word second differ)) (GoesOn (ys, rest) (group_says column _ ys rest b refl ends) refl),
     )
 
 -- ---- the prices
@@ -241,16 +218,16 @@ one_table : (word : List ℕ) (version : Version) (table other : CostTable) → 
 one_table word version table other e d = grind arith
 
 only_all_prices : (version : Version) (line : ℕ) (bytes : List ℕ) → HasOneAnswer (IsAllPricesAnswer version line bytes)
-only_all_prices version line bytes =
-    search (rules, one_answer, only_line, only_of_table, HasOneAnswer-Finds, one_table)
+only_all_prices version line bytes = search (rules, one_answer, only_line, only_of_table, HasOneAnswer-Finds, one_table)
 
 by_number_says : (table : CostTable) (line : ℕ) {bytes : List ℕ} (rows columns : List ℤ) (rest : List ℕ)
     → IsPriceList (price_count table) rows → IsPriceList (price_count table) columns
-    → bytes ≡ line_then (price_words (first_text ByNumber table) rows)
-    (line_then (price_words (column_word table) columns) rest)
+    → bytes ≡ lines_text (price_words (first_text ByNumber table) rows ∷ price_words (column_word table) columns ∷ [])
+    ++ rest
     → IsAllPricesAnswer ByNumber line bytes (Ok (parts_by_number table rows columns, rest))
 by_number_says table line rows columns rest a b e =
-    let first = line_of_prices (first_text ByNumber table) rows _ (first_is_word table).0 a.reach e in
+    let first = line_of_prices (first_text ByNumber table) rows _ (first_is_word table).0 a.reach
+    (e ∙ two_lines (price_words (first_text ByNumber table) rows) (price_words (column_word table) columns) rest) in
     let second = line_of_prices (column_word table) columns rest (first_is_word table).1 b.reach refl in
     GoesOn table (GoesOn _ (first_says first) refl)
     (GoesOn (rows, _) (price_line_says rows first a) (GoesOn (columns, rest) (price_line_says columns second b) refl))
@@ -258,35 +235,24 @@ by_number_says table line rows columns rest a b e =
 all_say : (prices : PriceParts) (line : ℕ) {bytes : List ℕ} (rest : List ℕ) → ArePrices prices
     → ((word : List ℕ) → word ≢ codes "SUM" → EndsGroup word rest) → bytes ≡ lines_text (price_lines prices) ++ rest
     → IsAllPricesAnswer (version_of prices) line bytes (Ok (prices, rest))
-all_say (Cables row col) line rest are ends e =
-    by_number_says OfCables line row col rest are.0 are.1
-    (e ∙ two_lines (price_words (first_text ByNumber OfCables) row) (price_words (column_word OfCables) col) rest)
-all_say (Bars row col) line rest are ends e =
-    by_number_says OfBars line row col rest are.0 are.1
-    (e ∙ two_lines (price_words (first_text ByNumber OfBars) row) (price_words (column_word OfBars) col) rest)
+all_say (Cables row col) line rest are ends e = by_number_says OfCables line row col rest are.0 are.1 e
+all_say (Bars row col) line rest are ends e = by_number_says OfBars line row col rest are.0 are.1 e
 all_say (CableKinds row col) line rest are ends e =
-    let say =
-    groups_say cables_are pairs_are (λ same. omega (arith, ap (λ t. get_or t 0 0) same)) 13 line row.items col.items
-    rest (omega arith) are.0 are.1
-    (ends pair_format.word (λ same. omega (arith, ap (λ t. get_or t 0 0) same))) e in
-    GoesOn OfCables (GoesOn _ (first_says say.0.has) refl)
-    (GoesOn (row.items, col.items, rest) say.1 refl)
+    let say = groups_say cables_are pairs_are (grind arith) 13 line row.items col.items rest (omega arith) are.0 are.1
+    (ends pair_format.word (grind arith)) e in
+    GoesOn OfCables (GoesOn _ (first_says say.0.has) refl) (GoesOn (row.items, col.items, rest) say.1 refl)
 all_say (BarKinds row col) line rest are ends e =
-    let say =
-    groups_say bars_are rows_are (λ same. omega (arith, ap (λ t. get_or t 0 0) same)) 27 line row.items col.items
-    rest (omega arith) are.0 are.1
-    (ends row_format.word (λ same. omega (arith, ap (λ t. get_or t 0 0) same))) e in
-    GoesOn OfBars (GoesOn _ (first_says say.0.has) refl)
-    (GoesOn (row.items, col.items, rest) say.1 refl)
+    let say = groups_say bars_are rows_are (grind arith) 27 line row.items col.items rest (omega arith) are.0 are.1
+    (ends row_format.word (grind arith)) e in
+    GoesOn OfBars (GoesOn _ (first_says say.0.has) refl) (GoesOn (row.items, col.items, rest) say.1 refl)
 
 -- ---- the head, and a name and a value
 
 same_day : {bytes : List ℕ} {version : Version} {day other : ℕ} {rest more : List ℕ}
-    → BeginsWithHead bytes version day rest
-    → BeginsWithHead bytes version other more → (day ≡ other) × (rest ≡ more)
+    → BeginsWithHead bytes version day rest → BeginsWithHead bytes version other more → (day ≡ other) × (rest ≡ more)
 same_day {version} {day} {other} {rest} {more} a b =
     let same = same_values (head_prefix version) (day_unbroken day a.of_month) (day_unbroken other b.of_month)
-    (a.text ∙ sym (head_text version day rest refl)) (b.text ∙ sym (head_text version other more refl)) in
+    (a.text ∙ sym (head_text version _ _ refl)) (b.text ∙ sym (head_text version _ _ refl)) in
     grind (arith, decimal_injective)
 
 one_head : (bytes : List ℕ) (head other : Version × ℕ × List ℕ) → BeginsWithHead bytes head.0 head.1 head.2
@@ -318,10 +284,8 @@ abbrev IsEndAnswer : List ℕ → ℕ × List Setting × PriceParts → Result (
 IsEndAnswer rest card = ThenNext (Demands (rest ≡ []) Trailing) (λ (end : Unit {0}). Yields card)
 
 card_says : {text : List ℕ} {day : ℕ} {xs : List Setting} {prices : PriceParts}
-    {answer : Result (ℕ × List Setting × PriceParts) CardFault}
-    (rest : List ℕ)
-    → IsCard text day xs prices
-    → IsEndAnswer rest (day, xs, prices) answer → IsCardAnswer (text ++ rest) answer
+    {answer : Result (ℕ × List Setting × PriceParts) CardFault} (rest : List ℕ)
+    → IsCard text day xs prices → IsEndAnswer rest (day, xs, prices) answer → IsCardAnswer (text ++ rest) answer
 card_says {day} {xs} {prices} rest card end =
     let few = card.few in
     let near = price_sum_is_small prices card.are_prices in
@@ -330,13 +294,11 @@ card_says {day} {xs} {prices} rest card end =
     let number = line_then (settings_words (length xs)) behind in
     GoesOn (version_of prices, day, list_text xs ++ number)
     (record { text = ap (λ t. t ++ rest) card.text ∙ card_and_more day xs prices rest; of_month = card.of_month })
-    (GoesOn (xs, number)
-    (record {
+    (GoesOn (xs, number) (record {
       lines = record { lines = refl; in_range = card.in_range };
       few = few;
       none_more = λ x more r e. no_setting x more (sym (ap first_and_third e));
-    })
-    (GoesOn behind (value_says false (codes "SETTINGS ") _ _ (number_text (length xs) (omega arith)) refl)
+    }) (GoesOn behind (value_says false (codes "SETTINGS ") _ _ (number_text (length xs) (omega arith)) refl)
     (GoesOn (prices, sum) (all_say prices _ sum card.are_prices (sum_ends (price_sum prices) rest near) refl)
     (GoesOn rest (value_says true (codes "SUM ") _ _ (signed_text (price_sum prices) near) refl) end))))
 

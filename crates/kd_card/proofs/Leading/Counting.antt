@@ -1,40 +1,35 @@
 -- How many settings there are for loose things, and how many of all settings are priced.
-pub use Rattle.kd_card.proofs.Months.Shortest.Falling.{HaveTheirPlaces}
-pub use Rattle.kd_card.specs.Loose.{lines_from, loose_lines, pin_line, pin_wheel_turn_line, wheel_ring_line}
-pub use Rattle.kd_card.specs.Loose.{slot_seat_line, slot_turn_line, setting_unless, wheel_pin_lines}
-pub use Rattle.kd_card.specs.{Proving.{is_priced_setting, priced_count}, Laws.LooseThingsAreCounted}
-pub use Rattle.kd_pins.specs.{declared.pin_set.PinSet.PinSet, PinWheels.pins_of}
-pub use Rattle.kd_state.proofs.Wheels.{days_wheels_have_their_places, allowed_in_box, has_wheel-Decides}
-pub use Rattle.kd_state.proofs.Wheels.{same_wheel-Decides, same_wheel_differs, has_reflector-Decides, place_within}
-pub use Rattle.kd_state.proofs.Wheels.{same_reflector-Decides, same_wheel_self}
-pub use Rattle.kd_state.proofs.{Slots.{set_other, has_letter-Decides, is_some-place_on, set_here}, CostTable.sums_add}
-pub use Rattle.kd_state.proofs.{Telling.letters_have_places, Telling.Refusing.leads_join, SortedAlike.count_by-cons}
-pub use Rattle.kd_state.specs.Machine.{IsMachine, model_of, ring_at, HasAllPins, AreOnWheels, IsSeatedAt}
-pub use Rattle.kd_state.specs.Machine.{AreLegalSeats}
-pub use Rattle.kd_state.specs.SheetDay.{Day, IsLegalDay, OfPins, OfRotors, PinDay, RotorDay, day_model}
-pub use Rattle.kd_state.specs.SheetDay.{seats_of_wheels, IsLegalPinDay, IsLegalRotorDay}
-pub use Rattle.kd_state.specs.Setting.{Leads, machine_after, has_letter, why_refused, seat_without}
-pub use Rattle.kd_state.specs.{declared.machine.parts.Parts.TheVariants.{Pin, Rotor}, Costs.{exactly_one, loose_count}}
-pub use Rattle.kd_state.specs.{SameParts.{place_in_box, same_reflector, same_wheel}, declared.machine.parts.Parts.Parts}
-pub use Rattle.kd_state.specs.{declared.sheet_day.rotor_entry.SheetWheel.SheetWheel, declared.setting.Setting.Setting}
-pub use Rattle.kd_state.specs.{declared.machine.rotor_parts.RotorParts.RotorParts, Pins.{wheel_pins, pin_set, with_pin}}
-pub use Rattle.kd_state.specs.declared.setting.Setting.TheVariants.{SeatReflector}
-pub use Rattle.kd_state.specs.declared.machine.pin_parts.PinParts.{PinParts}
-pub use Rattle.kd_tables.specs.{Tables.{box_of, reflectors_of, wheels_for}, declared.reflector.Reflector.Reflector}
-pub use Rattle.kd_tables.specs.{declared.model.Model.Model, declared.wheel.Wheel.Wheel, Rings.{ring_of, place_on}}
-pub use Rattle.std.proofs.Common.{Contains, Bool, List, [], ap, arith, cond, count_by, length, length-append, nat_eq}
-pub use Rattle.std.proofs.Common.{not, refl, subst, suc, sym, true, zero, zip, ℕ, ◌++◌, ◌+◌, ◌∙◌, ◌∷◌, ◌≡◌, ◌≢◌, ◌≤◌}
-pub use Rattle.std.proofs.Common.{◌&&◌, false, find, flat_map, AllPairs, None, Option, Some, append_assoc, fold, get_or}
-pub use Rattle.std.proofs.Common.{is_some, map, set, slice_get, unwrap_or, ◌<◌}
-pub use Rattle.std.proofs.lemmas.List.{append-nil, get_or-map, get_or_at, length-map, length-set, map-append}
-pub use Rattle.std.proofs.lemmas.List.{set-get_or, set_at}
-pub use Rattle.std.proofs.lemmas.Option.{slice_get-get_or, slice_get-map, get_or_from_slice_get, slice_get_within}
-pub use Rattle.std.proofs.lemmas.{Slice.Zip.{length-zip, seconds-zip, firsts-zip}, Bool.{eqb-true, cond_both}}
-pub use Rattle.std.proofs.lemmas.{Grind.common_steps, Simd.map-map}
-pub use Rattle.std.proofs.lemmas.List.FromFn.{fill_by_all, get_or-range_with_len, length-range_with_len}
-pub use Rattle.std.proofs.lemmas.List.{Sums.{sum_by-append, sum_by-cons, sum_by-le, fold_push}, Recursion.found_at}
-pub use Rattle.std.proofs.lemmas.List.{Quantifiers.all_pairs_remove, Elements.recursion_from_All, Folds.fold-map}
-pub use Rattle.std.specs.{List.{AllByRecursion, All, sum_by, list_any, range_with_len}, Option.option_map_or}
+pub use Rattle.kd_card.{proofs.Months.Shortest.Falling.HaveTheirPlaces, specs.Proving.{is_priced_setting, priced_count}}
+pub use Rattle.kd_card.specs.{Laws.LooseThingsAreCounted, Loose.{pin_wheel_turn_line, setting_unless, slot_turn_line}}
+pub use Rattle.kd_card.specs.Loose.{lines_from, loose_lines, pin_line, slot_seat_line, wheel_pin_lines, wheel_ring_line}
+pub use Rattle.std.proofs.Common.{AllPairs, get_or, length, List, nat_eq, refl, set, slice_get, suc, zero, ◌&&◌, ◌≤◌}
+pub use Rattle.std.proofs.Common.{[], append_assoc, false, fold, is_some, map, None, subst, sym, zip, ◌+◌, ◌∙◌, ◌∷◌}
+pub use Rattle.std.proofs.Common.{ap, arith, Bool, cond, count_by, find, length-append, Option, Some, ℕ, ◌++◌, ◌<◌, ◌≢◌}
+pub use Rattle.std.proofs.{Common.{Contains, flat_map, not, true, unwrap_or, ◌≡◌}, lemmas.Bool.{cond_both, eqb-true}}
+pub use Rattle.std.proofs.lemmas.Option.{get_or_from_slice_get, slice_get-get_or, slice_get-map, slice_get_within}
+pub use Rattle.std.proofs.lemmas.List.{length-map, map-append, set_at, Folds.fold-map, Quantifiers.all_pairs_remove}
+pub use Rattle.std.proofs.lemmas.List.{get_or_at, set-get_or, Sums.{fold_push, sum_by-append, sum_by-cons, sum_by-le}}
+pub use Rattle.std.proofs.lemmas.List.{append-nil, length-set, Elements.recursion_from_All, Recursion.found_at}
+pub use Rattle.std.proofs.lemmas.List.{get_or-map, FromFn.{fill_by_all, get_or-range_with_len, length-range_with_len}}
+pub use Rattle.std.proofs.lemmas.{Grind.common_steps, Simd.map-map, Slice.Zip.{firsts-zip, length-zip, seconds-zip}}
+pub use Rattle.std.specs.{List.{All, AllByRecursion, list_any, range_with_len, sum_by}, Option.option_map_or}
+pub use Rattle.kd_state.proofs.Slots.{has_letter-Decides, is_some-place_on, set_here, set_other}
+pub use Rattle.kd_state.proofs.{SortedAlike.count_by-cons, Telling.{letters_have_places, Refusing.leads_join}}
+pub use Rattle.kd_state.proofs.{CostTable.sums_add, Wheels.{days_wheels_have_their_places, same_wheel_self}}
+pub use Rattle.kd_state.proofs.Wheels.{has_reflector-Decides, place_within, same_reflector-Decides, same_wheel_differs}
+pub use Rattle.kd_state.{proofs.Wheels.{allowed_in_box, has_wheel-Decides, same_wheel-Decides}, specs.Pins.wheel_pins}
+pub use Rattle.kd_state.specs.{Pins.{pin_set, with_pin}, SameParts.{place_in_box, same_reflector, same_wheel}}
+pub use Rattle.kd_state.specs.declared.setting.Setting.{Setting, TheVariants.SeatReflector}
+pub use Rattle.kd_state.specs.declared.machine.{parts.Parts.{Parts, TheVariants.Pin}, pin_parts.PinParts.PinParts}
+pub use Rattle.kd_state.specs.declared.machine.{parts.Parts.TheVariants.Rotor, rotor_parts.RotorParts.RotorParts}
+pub use Rattle.kd_state.specs.{Costs.{exactly_one, loose_count}, declared.sheet_day.rotor_entry.SheetWheel.SheetWheel}
+pub use Rattle.kd_state.specs.Machine.{AreLegalSeats, AreOnWheels, HasAllPins, IsMachine, IsSeatedAt, model_of, ring_at}
+pub use Rattle.kd_state.specs.SheetDay.{Day, day_model, IsLegalDay, IsLegalRotorDay, PinDay, seats_of_wheels}
+pub use Rattle.kd_state.specs.{Setting.why_refused, SheetDay.{IsLegalPinDay, OfPins, OfRotors, RotorDay}}
+pub use Rattle.kd_state.specs.Setting.{has_letter, Leads, machine_after, seat_without}
+pub use Rattle.{kd_pins.specs.{declared.pin_set.PinSet.PinSet, PinWheels.pins_of}, kd_tables.specs.Rings.ring_of}
+pub use Rattle.kd_tables.specs.{declared.model.Model.Model, Rings.place_on, Tables.{box_of, reflectors_of, wheels_for}}
+pub use Rattle.kd_tables.specs.declared.{reflector.Reflector.Reflector, wheel.Wheel.Wheel}
 
 -- `lines` are `loose` settings for loose things and `cost` priced ones, which change a cable or a bar.
 pub record AreCounted (lines : List Setting) (loose cost : ℕ) : Type 0 where

@@ -90,15 +90,8 @@ module _ (cables rest : List (Option ℕ × Option ℕ)) (cable : Option ℕ × 
 
   rest_matched : AreMatched rest pairs
   rest_matched = record {
-    cables_once =
-        λ letter. omega (
-          arith,
-          once_in_order letter,
-          times-append letter (cable_letters cable)
-              (letters_in_cables rest),
-        );
-    pairs_once =
-        λ letter. omega (arith, h.pairs_once letter, times-append letter (pair_letters pair) (letters_in_pairs pairs));
+    cables_once = λ letter. omega (arith, once_in_order letter, times-append);
+    pairs_once = λ letter. omega (arith, h.pairs_once letter, times-append);
     pair = pair_of_rest;
     cable = cable_of_rest;
   }
@@ -111,40 +104,31 @@ all_empty : (cables : List (Option ℕ × Option ℕ)) (number : ℕ) → length
     → ((cable : Option ℕ × Option ℕ) → Contains cables cable → cable_letters cable ≢ [] → ⊥)
     → AllZip CostsNothing cables (replicate number None)
 all_empty [] zero e h = tt
-all_empty (cable ∷ cables) (suc number) e h = (
-  empty_costs_nothing cable (h cable (zero, omega arith, refl)),
-  all_empty cables number (omega arith)
-      (λ other among. h other (Contains-append_right (cable ∷ []) cables other among)),
-)
+all_empty (cable ∷ cables) (suc number) e h =
+    let rest = all_empty cables number (omega arith)
+    (λ other among. h other (Contains-append_right (cable ∷ []) cables other among)) in
+    (empty_costs_nothing cable (h cable (zero, omega arith, refl)), rest)
 all_empty cables number e h = absurd (omega arith)
 
 -- The cables have an order in which each costs nothing at its column.
 pub cables-matched : (cables : List (Option ℕ × Option ℕ)) (pairs : List (ℕ × ℕ)) (nothings : ℕ)
-    → length cables ≡ length pairs + nothings → AreMatched cables pairs
-    → (others : List (Option ℕ × Option ℕ)) × IsPermutation cables others
-    × AllZip CostsNothing others (map Some pairs ++ replicate nothings None)
-cables-matched cables [] nothings e h = (
-  cables,
-  IsPermutation-refl cables,
-  all_empty cables nothings (omega arith)
-      (λ cable among some. let found = h.pair cable among some in omega (arith, found.1.1)),
-)
+    → length cables ≡ length pairs + nothings → AreMatched cables pairs → (others : List (Option ℕ × Option ℕ))
+    × IsPermutation cables others × AllZip CostsNothing others (map Some pairs ++ replicate nothings None)
+cables-matched cables [] nothings e h =
+    let empty = all_empty cables nothings (omega arith)
+    (λ cable among some. let found = h.pair cable among some in omega (arith, found.1.1)) in
+    (cables, IsPermutation-refl cables, empty)
 cables-matched cables (pair ∷ pairs) nothings e h =
     let found = h.cable pair (zero, omega arith, refl) in
     let rest = remove cables found.1.0 in
     let order = IsPermutation-remove cables found.1.0 found.0 found.1.1 (sym found.1.2) in
     let fewer = length-remove cables found.1.0 found.1.1 in
     let further =
-    cables-matched rest pairs nothings (omega arith) (rest_matched cables rest found.0 pair pairs order h found.2) in (
-      found.0 ∷ further.0,
-      IsPermutation-trans cables (found.0 ∷ rest) (found.0 ∷ further.0) order
-          (IsPermutation-cons found.0 rest further.0 further.1),
-      (
-        none_differ (cable_letters found.0) (pair_letters pair)
-            ((tests_tell_letters (cable_letters found.0) (pair_letters pair)).0 found.2) alphabet,
-        further.2,
-      ),
-    )
+    cables-matched rest pairs nothings (omega arith) (rest_matched cables rest found.0 pair pairs order h found.2) in
+    let all = IsPermutation-trans cables (found.0 ∷ rest) (found.0 ∷ further.0) order
+    (IsPermutation-cons found.0 rest further.0 further.1) in
+    let same = (tests_tell_letters (cable_letters found.0) (pair_letters pair)).0 found.2 in
+    (found.0 ∷ further.0, all, (none_differ (cable_letters found.0) (pair_letters pair) same alphabet, further.2))
 
 -- An assignment that costs nothing: the columns with their prices, in an order in which each is beside its row.
 pub record FreePairing {A B : Type 0} (cost : A → B → ℕ) (rows : List A) (columns : List B)
@@ -154,12 +138,11 @@ pub record FreePairing {A B : Type 0} (cost : A → B → ℕ) (rows : List A) (
   pub count : length beside ≡ length rows
   pub free : pairing_cost cost rows beside ≡ 0
 
-module _ {A B : Type 0} (cost : A → B → ℕ) where
-  free_of_all : (rows : List A) (ws : List (B × ℤ)) → AllZip (λ row w. cost row w.0 ≡ 0) rows ws
-      → pairing_cost cost rows ws ≡ 0
-  free_of_all (row ∷ rows) (w ∷ ws) h = grind (arith, sum_by-cons, free_of_all rows ws h.1)
-  free_of_all [] ws h = refl
-  free_of_all rows ws h = absurd h
+free_of_all : {A B : Type 0} (cost : A → B → ℕ) (rows : List A) (ws : List (B × ℤ))
+    → AllZip (λ row w. cost row w.0 ≡ 0) rows ws → pairing_cost cost rows ws ≡ 0
+free_of_all cost (row ∷ rows) (w ∷ ws) h = grind (arith, sum_by-cons, free_of_all cost rows ws h.1)
+free_of_all cost [] ws h = refl
+free_of_all cost rows ws h = absurd h
 
 pub with_prices : {A B C : Type 0} (R : A → B → Type 0) (xs : List A) (columns : List B) (prices : List C)
     → length columns ≡ length prices → AllZip R xs columns → AllZip (λ x (w : B × C). R x w.0) xs (zip columns prices)
@@ -211,8 +194,7 @@ free_rows (bar ∷ bars) (w ∷ ws) stand h =
 free_rows bars ws stand h = absurd h
 
 pub bars_paired : (bars : List (Place × Place)) (rows : List (ℕ × ℕ)) (prices : List ℤ) → HasBars bars
-    → length rows ≡ length prices → IsPermutation (map reading_of bars) rows
-    → FreePairing bar_cost bars rows prices
+    → length rows ≡ length prices → IsPermutation (map reading_of bars) rows → FreePairing bar_cost bars rows prices
 bars_paired bars rows prices has count h =
     let beside = reordered (λ row (w : (ℕ × ℕ) × ℤ). row ≡ w.0) rows (map reading_of bars) (zip rows prices)
     (IsPermutation-sym (map reading_of bars) rows h)
@@ -252,11 +234,9 @@ pub record AreBounds (costs : List (List ℕ)) (prices : PriceParts) (loose line
 
 module _ {A B : Type 0} (a : A) (b : B) (cost : A → B → ℕ) (rows : List A) (columns : List B) (prices : PriceParts)
     (loose lines : ℕ) (rows_count : length rows ≡ table_rows prices)
-    (columns_count : length columns ≡ table_rows prices)
-    (row_count : length (row_prices prices) ≡ table_rows prices)
+    (columns_count : length columns ≡ table_rows prices) (row_count : length (row_prices prices) ≡ table_rows prices)
     (column_count : length (column_prices prices) ≡ table_rows prices)
-    (fits : PricesFit (map (λ row. map (cost row) columns) rows) prices)
-    (beside : List (B × ℤ))
+    (fits : PricesFit (map (λ row. map (cost row) columns) rows) prices) (beside : List (B × ℤ))
     (order : IsPermutation (zip columns (column_prices prices)) beside)
     (enough : loose + pairing_cost cost rows beside ≤ lines) where
   abbrev costs : List (List ℕ)
@@ -288,8 +268,7 @@ module _ {A B : Type 0} (a : A) (b : B) (cost : A → B → ℕ) (rows : List A)
       rw (column j within, ← at i j inside within) (fits i j inside within)))
 
   sums : price_sum prices ≡ (sum_of (row_prices prices) +ℤ prices_with beside)
-  sums =
-      grind (arith, ints, prices_moved columns (column_prices prices) beside, fold_of_both)
+  sums = grind (arith, ints, prices_moved columns (column_prices prices) beside, fold_of_both)
 
   below : (pos loose +ℤ price_sum prices) ≤ℤ pos lines
   below =
@@ -306,8 +285,7 @@ module _ {A B : Type 0} (a : A) (b : B) (cost : A → B → ℕ) (rows : List A)
         let due : pos (pairing_cost cost rows beside) ≤ℤ all = omega (arith, ints, sums) in
         let tight =
         tight_at cost a rows (row_prices prices) beside i (b, pos 0) (rows_count ∙ sym size)
-        (rows_count ∙ sym row_count)
-        fit due (omega arith) in
+        (rows_count ∙ sym row_count) fit due (omega arith) in
         rw (at i j lt lt') (rw (e ∙ column j lt') at tight)
 
     column_for : (i : ℕ) → i < table_rows prices → (j : ℕ) × (j < table_rows prices) × IsPriceTightAt costs prices i j
@@ -332,8 +310,7 @@ pub no_rotors : (model : Model) (reflector : Reflector) → model ≡ M209 → C
 no_rotors model reflector e h = grind (arith, common_steps)
 
 AreBounds-prices : (m n : Parts) (s : Day) (prices : PriceParts) (settings : List Setting) → IsMachine m → IsLegalDay s
-    → ArePrices prices
-    → AreModelPrices m prices → PricesFit (cost_table m s) prices → Leads m settings n → ReadsAs n s
+    → ArePrices prices → AreModelPrices m prices → PricesFit (cost_table m s) prices → Leads m settings n → ReadsAs n s
     → AreBounds (cost_table m s) prices (loose_count m s) (length settings)
 AreBounds-prices (Rotor m) (Rotor n) (OfRotors s) (Cables row column) settings machine legal are kind fits leads reads =
     let at_first = machines_have_all (Rotor m) machine.legal in
@@ -342,23 +319,19 @@ AreBounds-prices (Rotor m) (Rotor n) (OfRotors s) (Cables row column) settings m
     let pairing = cables_paired n.cables s.pairs column at_last once legal.pairs.few are.1.count reads.key.cables in
     let same = sym (model_of-list (Rotor m) (Rotor n) settings leads) ∙ reads.key.model in
     let falling = list_lowers pairing.beside [] (OfRotors s) legal (Rotor m) (Rotor n) settings same leads in
-    bounded (None, None) None cable_cost m.cables (columns_of s.pairs) (Cables row column)
-    (loose_count (Rotor m) (OfRotors s)) (length settings) at_first.count (thirteen_columns s.pairs legal.pairs.few)
-    are.0.count are.1.count fits pairing.beside pairing.order
+    bounded (None, None) None cable_cost m.cables (columns_of s.pairs) (Cables row column) _ _ at_first.count
+    (thirteen_columns s.pairs legal.pairs.few) are.0.count are.1.count fits pairing.beside pairing.order
     (omega (arith, falling, pairing.free, nothing_loose (Rotor n) (OfRotors s) reads))
 AreBounds-prices (Pin m) (Pin n) (OfPins s) (Bars row column) settings machine legal are kind fits leads reads =
     let at_first = machines_have_all (Pin m) machine.legal in
     let at_last = list_keeps (Pin m) (Pin n) settings leads at_first in
     let pairing = bars_paired n.bars s.rows column at_last (legal.count ∙ sym are.1.count) reads.key.1 in
     let falling = list_lowers [] pairing.beside (OfPins s) legal (Pin m) (Pin n) settings refl leads in
-    bounded (One, One) (0, 0) bar_cost m.bars s.rows (Bars row column) (loose_count (Pin m) (OfPins s))
-    (length settings) at_first.count legal.count are.0.count are.1.count fits pairing.beside pairing.order
+    bounded (One, One) (0, 0) bar_cost m.bars s.rows (Bars row column) _ _ at_first.count legal.count
+    are.0.count are.1.count fits pairing.beside pairing.order
     (omega (arith, falling, pairing.free, nothing_loose (Pin n) (OfPins s) reads))
-AreBounds-prices (Rotor m) (Pin n) (OfPins s) prices settings machine legal are kind fits leads reads =
+AreBounds-prices m n s prices settings machine legal are kind fits leads reads =
     grind (arith, common_steps, no_rotors, model_of-list)
-AreBounds-prices (Pin m) (Rotor n) (OfRotors s) prices settings machine legal are kind fits leads reads =
-    grind (arith, common_steps, no_rotors, model_of-list)
-AreBounds-prices m n s prices settings machine legal are kind fits leads reads = grind arith
 
 pub fitting_prices_bound_lists : FittingPricesBoundLists
 fitting_prices_bound_lists m s prices settings machine legal are kind fits reached =
@@ -427,11 +400,7 @@ pub proving_cards_are_shortest : ProvingCardsAreShortest
 proving_cards_are_shortest m s settings prices machine legal are_prices h others reached =
     let proves = h.proves in
     let long = proving_cards_are_as_long m s settings h.numbered proves in
-    let are : ArePrices h.numbered =
-    elim h.expands [
-      | Same by same ↦ subst ArePrices same are_prices
-      | Expanded here also expanded ↦ also
-    ] in
+    let are : ArePrices h.numbered = grind arith in
     let below = fitting_prices_bound_lists m s h.numbered others machine legal are proves.kind proves.fits reached in
     omega (arith, ints)
 

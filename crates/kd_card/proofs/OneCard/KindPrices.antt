@@ -68,16 +68,14 @@ pub text_of_two : {R X C Y : Type 0} (rows : KindFormat R X) (columns : KindForm
 text_of_two rows columns xs ys = grind (arith, flat_map-append, flat_map-map)
 
 pub groups_joined : {R X C Y : Type 0} (rows : KindFormat R X) (columns : KindFormat C Y) (front : List ℕ) (xs : List R)
-    (ys : List C)
-    → (front ++ kinds_text rows xs) ++ kinds_text columns ys
+    (ys : List C) → (front ++ kinds_text rows xs) ++ kinds_text columns ys
     ≡ front ++ lines_text (map (kind_words rows) xs ++ map (kind_words columns) ys)
 groups_joined rows columns front xs ys = rw text_of_two (append_assoc front (kinds_text rows xs) _)
 
 -- ---- kinds that are read
 
 pub first_kind : {K X : Type 0} {format : KindFormat K X} {last : Option K} {bytes after rest : List ℕ} {kind : K}
-    {kinds : List K}
-    → IsNextKind format last bytes kind after → BeginsWithKinds format (Some kind) after kinds rest
+    {kinds : List K} → IsNextKind format last bytes kind after → BeginsWithKinds format (Some kind) after kinds rest
     → BeginsWithKinds format last bytes (kind ∷ kinds) rest
 first_kind {format} {rest} {kind} {kinds} next behind = record {
   lines =
@@ -108,8 +106,7 @@ reads_none format room line text kept none = grind arith
 pub reads_on : {K X : Type 0} {format : KindFormat K X} {room line : ℕ} {text rest after : List ℕ} {last : Option K}
     {number at new : ℕ} {kept more : List K} {kind : K}
     → HasRead format room line text rest last number at kept → IsNextKind format last rest kind after
-    → new ≡ min (number + (format.kind kind).count) (room + 1)
-    → (length kept < room → more ≡ kept ++ kind ∷ [])
+    → new ≡ min (number + (format.kind kind).count) (room + 1) → (length kept < room → more ≡ kept ++ kind ∷ [])
     → HasRead format room line text after (Some kind) new (at + 1) more
 reads_on {format} {text} {rest} {after} {kind} so_far next new keeps =
     let read = so_far.read in
@@ -120,9 +117,8 @@ reads_on {format} {text} {rest} {after} {kind} so_far next new keeps =
     let size = length-append (line_of (kind_words format kind)) (10 ∷ after) in
     record {
       read = read ++ kind ∷ [];
-      goes_on = λ more end begins.
-          subst (λ kinds. BeginsWithKinds format None text kinds end) (sym (append_assoc read (kind ∷ []) more))
-          (so_far.goes_on (kind ∷ more) end (first_kind next begins));
+      goes_on = λ more end begins. subst (λ kinds. BeginsWithKinds format None text kinds end)
+          (sym (append_assoc read (kind ∷ []) more)) (so_far.goes_on (kind ∷ more) end (first_kind next begins));
       some = omega (arith, so_far.some);
       number_is = omega (arith, so_far.number_is);
       at_is = omega (arith, so_far.at_is);
@@ -137,5 +133,4 @@ pub all_read : {K X : Type 0} {format : KindFormat K X} {room line : ℕ} {text 
     → (read : HasRead format room line text rest last number at kept) → HasNoNext format last rest
     → BeginsWithKinds format None text read.read rest
 all_read {format} {text} {rest} read none =
-    rw (← append-nil read.read)
-    (read.goes_on [] rest (record { lines = refl; in_order = tt; none_more = none }))
+    rw (← append-nil read.read) (read.goes_on [] rest (record { lines = refl; in_order = tt; none_more = none }))

@@ -27,12 +27,9 @@ SameBut x letters others =
 
 one_apart : (x : ℕ) (fewer letters : List ℕ) → IsPermutation letters (x ∷ fewer) → SameBut x letters fewer
 one_apart x fewer letters order letter =
-    let back = IsPermutation-sym letters (x ∷ fewer) order in
-    let same = (tests_tell_letters letters (x ∷ fewer)).0 (λ l. (
-      Contains-permutation letters (x ∷ fewer) l order,
-      Contains-permutation (x ∷ fewer) letters l back,
-    ))
-    in
+    let there = λ (l : ℕ). Contains-permutation letters (x ∷ fewer) l order in
+    let back = λ (l : ℕ). Contains-permutation (x ∷ fewer) letters l (IsPermutation-sym letters (x ∷ fewer) order) in
+    let same = (tests_tell_letters letters (x ∷ fewer)).0 (λ l. (there l, back l)) in
     grind (arith, same letter)
 
 -- If the cable with number `cable` becomes `new`, its letters stay the same except perhaps `letter`, and `HasCables`
@@ -119,16 +116,12 @@ lug_moves m ws bar lug place e =
     let here = get_or_from_slice_get m.bars (bar - 1) old old there.here in
     let before = still_before new (rw there.is at allowed.1.0) (rw there.is at allowed.1.1.0) in
     let all : bars_with_lug m bar lug place ≡ set m.bars (bar - 1) new = rw there.is refl in
-    let cost = pairing_cost bar_cost m.bars ws in
-    subst (λ bars. (cost ≤ pairing_cost bar_cost bars ws + 1) × (HasBars m.bars → HasBars bars)) (sym all) (
+    rw all (
       zip_set (λ pair. bar_cost pair.0 pair.1.0) m.bars ws (bar - 1) new old (λ w.
           let step = lugs_moved_step lug place old in
           subst (λ was. bar_cost was w.0 ≤ bar_cost new w.0 + 1) (sym here)
           (least_falls (lugs_moved old) (lugs_moved new) step (standings_as w.0) 2 2 (omega arith))),
-      λ h. record {
-        count = length-set m.bars (bar - 1) new ∙ h.count;
-        stand = All-set HasLugsInOrder m.bars (bar - 1) new before h.stand;
-      },
+      λ h. record { count = length-set m.bars _ new ∙ h.count; stand = All-set HasLugsInOrder _ _ new before h.stand },
     )
 
 -- ---- what settings keep
@@ -187,13 +180,9 @@ module _ {X : Type 0} (place target : X → ℕ) where
             omega (arith, at_most_one (wrong letters x), rest)
         | inr away ↦
             let head = ap (λ b. cond {A = ℕ} b 1 0) (same_elsewhere letters p l x away) in
-            omega (
-              arith,
-              now,
-              later,
-              head,
-              set_lowers letters p l xs (λ i j d before within. h (suc i) (suc j) d (omega arith) (omega arith)),
-            )
+            let rest = set_lowers letters p l xs
+            (λ i j d before within. h (suc i) (suc j) d (omega arith) (omega arith)) in
+            omega arith
       ]
 
 -- A slot that is wrong is still wrong after it is emptied.
@@ -229,30 +218,20 @@ module _ (columns : List (Option (ℕ × ℕ) × ℤ)) (rows : List ((ℕ × ℕ
   abbrev place : SheetWheel → ℕ
   place w = place_in_box m.model w.wheel
 
-  turned_lowers : (seated : Option Wheel) (letter : ℕ)
-      → loose_count (Rotor m) (OfRotors s)
+  turned_lowers : (seated : Option Wheel) (letter : ℕ) → loose_count (Rotor m) (OfRotors s)
       ≤ loose_count (Rotor (record m { letters = letters_with m seated letter })) (OfRotors s) + 1
   turned_lowers None letter = omega arith
   turned_lowers (Some wheel) letter =
-      omega (
-        arith,
-        set_lowers place (λ (w : SheetWheel). w.letter) m.letters (place_in_box m.model wheel) letter s.wheels apart,
-      )
+      omega (arith, set_lowers place (λ w. w.letter) m.letters (place_in_box m.model wheel) letter s.wheels apart)
 
-  rotor_lowers : (x : Setting) → why_refused (Rotor m) x ≡ None
-      → left_to_do columns rows (Rotor m) (OfRotors s)
+  rotor_lowers : (x : Setting) → why_refused (Rotor m) x ≡ None → left_to_do columns rows (Rotor m) (OfRotors s)
       ≤ left_to_do columns rows (machine_after (Rotor m) x) (OfRotors s) + 1
-  rotor_lowers (Pull cable letter) e = omega
-      (arith, cables_fall m cable letter _ columns (ChangesCable-pull m cable letter e))
-  rotor_lowers (Put cable letter) e = omega
-      (arith, cables_fall m cable letter _ columns (ChangesCable-put m cable letter e))
+  rotor_lowers (Pull cable letter) e = omega (arith, cables_fall m cable letter _ columns (ChangesCable-pull _ _ _ e))
+  rotor_lowers (Put cable letter) e = omega (arith, cables_fall m cable letter _ columns (ChangesCable-put _ _ _ e))
   rotor_lowers (Seat slot wheel) e = grind (arith, common_steps, without_raises, zip_set_lowers)
   rotor_lowers (SeatReflector reflector) e = omega (arith, unless_same_at_most (same_reflector m.reflector s.reflector))
   rotor_lowers (RingTo wheel letter) e =
-      omega (
-        arith,
-        set_lowers place (λ (w : SheetWheel). w.ring) m.rings (place_in_box m.model wheel) letter s.wheels apart,
-      )
+      omega (arith, set_lowers place (λ w. w.ring) m.rings (place_in_box m.model wheel) letter s.wheels apart)
   rotor_lowers (Turn slot letter) e = omega (arith, turned_lowers (wheel_in_slot m slot) letter)
   rotor_lowers x e = omega arith
 
@@ -260,14 +239,10 @@ module _ (columns : List (Option (ℕ × ℕ) × ℤ)) (rows : List ((ℕ × ℕ
 abbrev differing_pins : List Bool × List Bool → ℕ
 differing_pins wheel = count_by (λ (pin : Bool × Bool). exactly_one pin.0 pin.1) (zip wheel.0 wheel.1)
 
-wheel_set_lowers : (xss yss : List (List Bool)) (i p : ℕ) (effective : Bool)
-    → sum (map differing_pins (zip xss yss))
+wheel_set_lowers : (xss yss : List (List Bool)) (i p : ℕ) (effective : Bool) → sum (map differing_pins (zip xss yss))
     ≤ sum (map differing_pins (zip (set xss i (set (get_or xss i []) p effective)) yss)) + 1
 wheel_set_lowers xss yss i p effective =
-    let was = get_or xss i [] in
-    let differs = λ (pin : Bool × Bool). exactly_one pin.0 pin.1 in
-    simp sum-map
-    (zip_set differing_pins xss yss i (set was p effective) [] (λ ys. zip_set_lowers differs was ys p effective))
+    simp sum-map (zip_set differing_pins xss yss i _ [] (λ ys. zip_set_lowers _ (get_or xss i []) ys p effective))
 
 abbrev loose_pins : PinSet → PinSet → ℕ
 loose_pins pins wanted = sum (map differing_pins (zip (pins_of pins) (pins_of wanted)))
@@ -296,9 +271,7 @@ pin_machine_lowers columns rows m s x e = grind (arith, zip_set_lowers, pin_lowe
 
 -- Each setting of any machine lowers what is left to do by at most one.
 pub left_to_do-lowered : (columns : List (Option (ℕ × ℕ) × ℤ)) (rows : List ((ℕ × ℕ) × ℤ)) (m : Parts) (s : Day)
-    (x : Setting)
-    → IsLegalDay s
-    → model_of m ≡ day_model s → why_refused m x ≡ None
+    (x : Setting) → IsLegalDay s → model_of m ≡ day_model s → why_refused m x ≡ None
     → left_to_do columns rows m s ≤ left_to_do columns rows (machine_after m x) s + 1
 left_to_do-lowered columns rows (Rotor m) (OfRotors s) x h same e =
     rotor_lowers columns rows m s (subst (λ model. HaveTheirPlaces model s.wheels) (sym same)
@@ -342,10 +315,8 @@ rotor_not_loose n s h =
     let reflector : one_unless (same_reflector n.reflector s.reflector) ≡ 0 =
     ap (λ reflector. one_unless (same_reflector reflector s.reflector)) h.key.reflector
     ∙ ap one_unless (bytes_eq-self (reflector_text s.reflector)) in
-    let rings = none_wrong (λ w. ring_at n w.wheel) (λ w. w.ring) s.wheels
-    (recursion_from_All (λ (w : SheetWheel). ring_at n w.wheel ≡ Some w.ring) s.wheels h.key.rings) in
-    let letters = none_wrong (λ w. letter_at n w.wheel) (λ w. w.letter) s.wheels
-    (recursion_from_All (λ (w : SheetWheel). letter_at n w.wheel ≡ Some w.letter) s.wheels h.window) in
+    let rings = none_wrong (λ w. ring_at n w.wheel) (λ w. w.ring) s.wheels (recursion_from_All _ _ h.key.rings) in
+    let letters = none_wrong (λ w. letter_at n w.wheel) (λ w. w.letter) s.wheels (recursion_from_All _ _ h.window) in
     omega (arith, slots, reflector, rings, letters)
 
 no_pin_wrong : (pins : List Bool) → differing_pins (pins, pins) ≡ 0

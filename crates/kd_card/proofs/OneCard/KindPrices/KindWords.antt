@@ -21,8 +21,7 @@ same_ends a b c d e g h = grind arith
 same_pair : (a b : Option (ℕ × ℕ)) → letters_text (column_letters a) ≡ letters_text (column_letters b) → a ≡ b
 same_pair a b e = grind arith
 
-same_standing : (a b c d : Place) → standing_text (a, b) ≡ standing_text (c, d)
-    → ◌≡◌ {A = Place × Place} (a, b) (c, d)
+same_standing : (a b c d : Place) → standing_text (a, b) ≡ standing_text (c, d) → ◌≡◌ {A = Place × Place} (a, b) (c, d)
 same_standing a b c d e = grind (arith, common_steps, texts_tell_first_parts, place_without, append_assoc)
 
 same_reading : (x y : ℕ × ℕ) → reading_text x ≡ reading_text y → x ≡ y
@@ -67,8 +66,7 @@ module _ {K X : Type 0} {format : KindFormat K X} (is : IsFormat format) where
   kind_is_words kind good = grind (arith, common_steps, All-from_recursion, numbers_are_words, signed_word)
 
   pub same_kind : (kind other : K) → IsKind format kind → IsKind format other
-      → kind_words format kind ≡ kind_words format other
-      → kind ≡ other
+      → kind_words format kind ≡ kind_words format other → kind ≡ other
   same_kind kind other a b e =
       let a_kind = format.kind kind in
       let b_kind = format.kind other in
@@ -79,11 +77,9 @@ module _ {K X : Type 0} {format : KindFormat K X} (is : IsFormat format) where
       decimal_injective a_kind.count b_kind.count (omega arith) (omega arith) (ap (λ w. get_or w 2 []) e) in
       let prices : a_kind.price ≡ b_kind.price =
       signed_decimal_injective a_kind.price b_kind.price (mag-small a_kind.price a.reach)
-      (mag-small b_kind.price b.reach)
-      (ap (λ w. get_or w 3 []) e) in
+      (mag-small b_kind.price b.reach) (ap (λ w. get_or w 3 []) e) in
       let make : X → ℕ → ℤ → KindOf X = λ key count price. record { key = key; count = count; price = price } in
-      is.same kind other
-      (ap (λ key. make key a_kind.count a_kind.price) keys
+      is.same kind other (ap (λ key. make key a_kind.count a_kind.price) keys
       ∙ ap (λ count. make b_kind.key count a_kind.price) counts ∙ ap (make b_kind.key b_kind.count) prices)
 
 -- ---- reading a line of a group
@@ -152,7 +148,6 @@ no_count format key count price is kind has = grind (arith, common_steps, decima
 
 pub line_in_pieces : {K X : Type 0} (format : KindFormat K X) (front : List ℕ) (kind : K)
     → (((((((front ++ format.word) ++ 32 ∷ []) ++ format.text (format.kind kind).key) ++ 32 ∷ [])
-    ++ decimal (format.kind kind).count) ++ 32 ∷ []) ++ signed_decimal (format.kind kind).price)
-    ++ 10 ∷ []
+    ++ decimal (format.kind kind).count) ++ 32 ∷ []) ++ signed_decimal (format.kind kind).price) ++ 10 ∷ []
     ≡ front ++ kinds_text format (kind ∷ [])
 line_in_pieces format front kind = simp (append_assoc, append-nil)

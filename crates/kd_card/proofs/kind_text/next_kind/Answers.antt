@@ -1,9 +1,7 @@
-use Rattle.kd_card.proofs.OneCard.{◌∷◌, ◌∙◌, sym, refl, subst, nil_from_length, HasLineWords, AtOther, common_steps}
-use Rattle.kd_card.proofs.OneCard.{arith, ThenNext-Ok, not_from_false, nonempty-by_length, no_line, MatchResult-err}
-use Rattle.kd_card.proofs.OneCard.{ends_at, unended, no_kind, words_are, out_of_order}
-use Rattle.kd_card.specs.Reading.{words_after_first}
+use Rattle.kd_card.proofs.OneCard.{AtOther, common_steps, HasLineWords, nil_from_length, refl, subst, sym, ◌∙◌}
+use Rattle.kd_card.proofs.OneCard.{arith, MatchResult-err, no_line, nonempty-by_length, not_from_false, ThenNext-Ok}
+use Rattle.kd_card.proofs.OneCard.{ends_at, no_kind, out_of_order, unended, words_are}
 use Rattle.std.proofs.lemmas.Bool.{eqb-true}
-use Rattle.std.specs.Option.{option_copied}
 use Rattle.kd_card.proofs.kind_text.next_kind.Goals as goal
 use Rattle.kd_card.proofs.kind_text.next_kind.Goals.{in_default-via-in-Some+else-comes_after, in_default-via-in_default}
 
@@ -26,10 +24,7 @@ pub returns-in-Some : goal.returns-in-Some
 returns-in-Some g c =
     let is = c.in-Some.ensures.has in
     let word = c.is_word.ensures.0 c.if-not-is_word.false ∙ c.word.ensures.value in
-    let has =
-    subst (λ w. HasLineWords c.args.text.now (w ∷ words_after_first (option_copied c.in_ok-first.behind))
-    c.in_ok-first.rest.now)
-    word (ThenNext-Ok c.in_ok-first.ensures).next in
+    let has = rw word at (ThenNext-Ok c.in_ok-first.ensures).next in
     record {
       good = is.good;
       after = c.comes_after.ensures.0 c.if-comes_after.true;
@@ -39,10 +34,7 @@ returns-in-Some g c =
 pub returns-in_default : goal.returns-in_default
 returns-in_default g c =
     let word = c.is_word.ensures.0 c.if-not-is_word.false ∙ c.word.ensures.value in
-    let has =
-    subst (λ w. HasLineWords c.args.text.now (w ∷ words_after_first (option_copied c.in_ok-first.behind))
-    c.in_ok-first.rest.now)
-    word (ThenNext-Ok c.in_ok-first.ensures).next in (
+    let has = rw word at (ThenNext-Ok c.in_ok-first.ensures).next in (
       no_kind c.args.last (record { behind = _; rest = _; has = has }) (elim c.in_default.branch [
         | in_default-via-in-Some+else-comes_after w ↦
             out_of_order has w.in-Some.ensures (not_from_false w.comes_after.ensures w.if-comes_after.false)

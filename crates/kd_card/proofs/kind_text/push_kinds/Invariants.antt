@@ -1,5 +1,4 @@
-use Rattle.arrayvec.specs.ArrayString.{array_string_len}
-use Rattle.kd_card.specs.Kinds.{kinds_text}
+use Rattle.{arrayvec.specs.ArrayString.array_string_len, kd_card.specs.Kinds.kinds_text}
 use Rattle.std.proofs.Common.{◌≡◌, ◌+◌, ◌*◌, ◌≤◌, ◌++◌, take}
 use Rattle.kd_card.proofs.kind_text.push_kinds.Given as goal
 

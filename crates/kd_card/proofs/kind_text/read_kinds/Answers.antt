@@ -22,8 +22,7 @@ returns-then-number g c =
     let end = rw c.in-Ok-None.field-0-is at c.in-Ok-None.ensures in
     let all = c.if-number.true in
     let counts : counted g.K.Kind.format read.read ≡ g.row.N = omega (arith, read.number_is) in
-    GoesOn (read.read, c.kind.rest.now) (all_read read end.none_more)
-    (GoesOn tt end.ends (GoesOn tt counts
+    GoesOn (read.read, c.kind.rest.now) (all_read read end.none_more) (GoesOn tt end.ends (GoesOn tt counts
     (ap (λ kinds. Ok (kinds, c.kind.rest.now)) (read.keeps (omega (arith, read.some))))))
 
 pub returns-else-number : goal.returns-else-number

@@ -8,14 +8,9 @@ push_prices-requires g c =
     let kinds = c.args.kinds.now in
     let at = c.loop-kind.kind-index in
     let within = counted_within format kinds at c.loop-kind-test.true c.kind-item.is in
-    omega (
-      arith,
-      within,
-      length_of_kinds format (take at kinds),
-      ap length c.loop-kind.invariant,
-      ap (λ (k : KindOf _). k.count) c.parts.ensures,
-      c.requires.few,
-    )
+    let made = ap length c.loop-kind.invariant in
+    let count = ap (λ (k : KindOf _). k.count) c.parts.ensures in
+    omega (arith, length_of_kinds format (take at kinds), c.requires.few)
 
 pub returns-clause-list : goal.returns-clause-list
 returns-clause-list g c = kind_price_list _ _ _ (record { in_order = c.requires.kinds; count = refl })

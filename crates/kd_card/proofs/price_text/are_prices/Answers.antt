@@ -1,6 +1,5 @@
-use Rattle.kd_card.proofs.OneCard.{rules, arith, eqb, IsPriceText, tells_price}
-use Rattle.std.proofs.lemmas.{Iterator.Splits.YieldsList-from_slice_split, Iterator.Search.true_from_All}
-use Rattle.std.proofs.lemmas.Iterator.{cases_from_all}
+use Rattle.kd_card.proofs.OneCard.{arith, eqb, IsPriceText, rules, tells_price}
+use Rattle.std.proofs.lemmas.Iterator.{cases_from_all, Search.true_from_All, Splits.YieldsList-from_slice_split}
 use borrow.Author.Tests.{tests}
 use Rattle.kd_card.proofs.price_text.are_prices.Goals as goal
 

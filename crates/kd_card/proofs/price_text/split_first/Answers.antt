@@ -1,6 +1,5 @@
-use Rattle.kd_card.proofs.OneCard.{◌∙◌, sym, refl, nil_from_length, PriceMissing, HasFault, GoesOn, nonempty-by_length}
-use Rattle.kd_card.proofs.OneCard.{no_first_part, words_of_first, words_of_last}
-use Rattle.std.proofs.lemmas.Bool.{eqb-true}
+use Rattle.kd_card.proofs.OneCard.{GoesOn, HasFault, nil_from_length, nonempty-by_length, PriceMissing, refl, sym, ◌∙◌}
+use Rattle.{kd_card.proofs.OneCard.{no_first_part, words_of_first, words_of_last}, std.proofs.lemmas.Bool.eqb-true}
 use Rattle.kd_card.proofs.price_text.split_first.Goals as goal
 
 pub returns-then-is_empty : goal.returns-then-is_empty

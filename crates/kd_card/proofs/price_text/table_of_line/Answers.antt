@@ -8,8 +8,7 @@ returns-in_err-first c =
     rw (is.1, is.2) (HasFault _ c.in_err-first.ensures refl)
 
 pub returns-then-is_word : goal.returns-then-is_word
-returns-then-is_word c =
-    GoesOn _ c.in_ok-first.ensures (c.is_word.ensures.0 c.if-is_word.true ∙ c.first_text.ensures)
+returns-then-is_word c = GoesOn _ c.in_ok-first.ensures (c.is_word.ensures.0 c.if-is_word.true ∙ c.first_text.ensures)
 
 pub returns-then-is_word-2 : goal.returns-then-is_word-2
 returns-then-is_word-2 c =

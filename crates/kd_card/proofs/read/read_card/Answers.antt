@@ -1,8 +1,6 @@
-use Rattle.kd_card.proofs.OneCard.{rules, ◌∙◌, sym, refl, to_z-of_z, nil_from_length, Trailing, HasFault, GoesOn}
-use Rattle.kd_card.proofs.OneCard.{nonempty-by_length, MatchResult-err, up_to_settings, card_said}
-use Rattle.kd_card.specs.declared.fault.CardFault.TheVariants.{BadHead, TooMany}
-use Rattle.std.proofs.Common.{w32}
-use Rattle.std.proofs.lemmas.Bool.{eqb-true}
+use Rattle.{kd_card.proofs.OneCard.{refl, sym, to_z-of_z, Trailing, ◌∙◌}, std.proofs.{Common.w32, lemmas.Bool.eqb-true}}
+use Rattle.kd_card.proofs.OneCard.{card_said, GoesOn, HasFault, MatchResult-err, nil_from_length, rules, up_to_settings}
+use Rattle.kd_card.{proofs.OneCard.nonempty-by_length, specs.declared.fault.CardFault.TheVariants.{BadHead, TooMany}}
 use Rattle.kd_card.proofs.read.read_card.Goals as goal
 
 pub returns-in_default : goal.returns-in_default
@@ -29,8 +27,7 @@ returns-in_err-rest-2 c =
     let sum = to_z-of_z w32 c.sum.result (search rules) ∙ c.sum.ensures in
     MatchResult-err _ _ _ _ c.from_residual-in_err-rest-2.ensures.1
     (up_to_settings c.in-Some.ensures c.in-Some-split_settings.ensures c.len-count.ensures.value
-    (GoesOn _ (rw c.format.ensures.text at c.in_ok-rest.ensures)
-    (GoesOn _ c.in_ok-prices.ensures (HasFault _
+    (GoesOn _ (rw c.format.ensures.text at c.in_ok-rest.ensures) (GoesOn _ c.in_ok-prices.ensures (HasFault _
     (rw (c.format-2.ensures.text, sum, c.line_count.ensures.value) at c.in_err-rest-2.ensures)
     refl))))
 

@@ -1,11 +1,10 @@
-use Rattle.kd_card.proofs.OneCard.{head_text, day_unbroken, same_values, ◌∷◌, ◌++◌, ◌∙◌, ap, decimal, sym}
+use Rattle.kd_card.proofs.OneCard.{ap, day_unbroken, decimal, head_text, same_values, sym, ◌++◌, ◌∙◌, ◌∷◌}
 use Rattle.kd_card.proofs.read.read_day.Goals as goal
 
 pub returns-in_err-day : goal.returns-in_err-day
 returns-in_err-day c =
-    rw c.from_residual.ensures (λ day rest head.
-    c.in_err-day.ensures (decimal day) rest (day_unbroken day head.of_month)
-    (head.text ∙ sym (head_text c.args.version day rest c.front.ensures.value)))
+    rw c.from_residual.ensures (λ day rest head. c.in_err-day.ensures (decimal day) rest
+    (day_unbroken day head.of_month) (head.text ∙ sym (head_text c.args.version day rest c.front.ensures.value)))
 
 pub returns-in_err-day_of_text : goal.returns-in_err-day_of_text
 returns-in_err-day_of_text c =

@@ -1,4 +1,4 @@
-use Rattle.kd_card.proofs.OneCard.{refl, HasFault, GoesOn, MatchResult-err, goes_on, groups_said}
+use Rattle.kd_card.proofs.OneCard.{goes_on, GoesOn, groups_said, HasFault, MatchResult-err, refl}
 use Rattle.kd_card.proofs.read.read_prices.Goals as goal
 
 pub returns-in_err-table : goal.returns-in_err-table
@@ -18,25 +18,21 @@ returns-in_err-cables-in-ByKind-OfCables c =
 
 pub of_parts-requires : goal.of_parts-requires
 of_parts-requires c =
-    let said = groups_said _ _ 13 c.args.line _ c.in_ok-cables-in-ByKind-OfCables.ensures in
-    (said.1, said.2)
+    let said = groups_said _ _ 13 c.args.line _ c.in_ok-cables-in-ByKind-OfCables.ensures in (said.1, said.2)
 
 pub returns-in_ok-cables-in-ByKind-OfCables : goal.returns-in_ok-cables-in-ByKind-OfCables
 returns-in_ok-cables-in-ByKind-OfCables c =
-    GoesOn _ c.in_ok-table.ensures
-    (rw (c.in-ByKind-OfCables.is-0, c.in-ByKind-OfCables.is-1, c.of_parts.ensures)
+    GoesOn _ c.in_ok-table.ensures (rw (c.in-ByKind-OfCables.is-0, c.in-ByKind-OfCables.is-1, c.of_parts.ensures)
     (GoesOn _ c.in_ok-cables-in-ByKind-OfCables.ensures refl))
 
 pub returns-in_err-bars-in-ByKind-OfBars : goal.returns-in_err-bars-in-ByKind-OfBars
 returns-in_err-bars-in-ByKind-OfBars c =
-    MatchResult-err _ _ _ _ c.from_residual-in_err-bars-in-ByKind-OfBars.ensures.1
-    (GoesOn _ c.in_ok-table.ensures
+    MatchResult-err _ _ _ _ c.from_residual-in_err-bars-in-ByKind-OfBars.ensures.1 (GoesOn _ c.in_ok-table.ensures
     (rw (c.in-ByKind-OfBars.is-0, c.in-ByKind-OfBars.is-1) (HasFault _ c.in_err-bars-in-ByKind-OfBars.ensures refl)))
 
 pub of_parts-requires-in-ByKind-OfBars : goal.of_parts-requires-in-ByKind-OfBars
 of_parts-requires-in-ByKind-OfBars c =
-    let said = groups_said _ _ 27 c.args.line _ c.in_ok-bars-in-ByKind-OfBars.ensures in
-    (said.1, said.2)
+    let said = groups_said _ _ 27 c.args.line _ c.in_ok-bars-in-ByKind-OfBars.ensures in (said.1, said.2)
 
 pub returns-in_ok-bars-in-ByKind-OfBars : goal.returns-in_ok-bars-in-ByKind-OfBars
 returns-in_ok-bars-in-ByKind-OfBars c =

@@ -1,11 +1,10 @@
-use Rattle.kd_card.proofs.OneCard.{◌∷◌, ◌++◌, ◌∙◌, None, Some, Decides-eqb, append_assoc, value_split}
+use Rattle.kd_card.proofs.OneCard.{append_assoc, Decides-eqb, None, Some, value_split, ◌++◌, ◌∙◌, ◌∷◌}
 use Rattle.std.proofs.lemmas.Slice.Eq.{strip_prefix_is}
 use Rattle.kd_card.proofs.read.split_value.Goals as goal
 
 pub returns-in_err-behind : goal.returns-in_err-behind
 returns-in_err-behind c =
-    rw c.from_residual.ensures (λ value rest free e.
-    strip_prefix_is Decides-eqb c.args.text.now c.args.front.now None
+    rw c.from_residual.ensures (λ value rest free e. strip_prefix_is Decides-eqb c.args.text.now c.args.front.now None
     (rw c.as_bytes.ensures.value at c.in_err-behind.ensures.cases)
     (value ++ 10 ∷ rest) (e ∙ append_assoc c.args.front.now value (10 ∷ rest)))
 

@@ -1,6 +1,5 @@
-use Rattle.kd_card.proofs.OneCard.{rules, ◌++◌, [], ◌∷◌, ◌∙◌, ap, codes, signed_decimal, to_z-of_z, card_text-joined}
-use Rattle.kd_card.proofs.OneCard.{head_text}
-use Rattle.std.proofs.Common.{w32}
+use Rattle.kd_card.proofs.OneCard.{[], ap, card_text-joined, codes, rules, signed_decimal, to_z-of_z, ◌++◌, ◌∙◌, ◌∷◌}
+use Rattle.{kd_card.proofs.OneCard.head_text, std.proofs.Common.w32}
 use Rattle.kd_card.proofs.write.card_text.Goals as goal
 
 pub returns-clause-bytes : goal.returns-clause-bytes

@@ -1,57 +1,45 @@
 -- Lines of words as they are written and split, texts of prices, and what the lines of a card have.
-pub use Rattle.kd_card.specs.CardFault.{line_then, HasLineWords, IsPricesAnswer, BeginsWithHead, first_text, IsDigit}
-pub use Rattle.kd_card.specs.CardFault.{IsNumberText, IsNumeral, IsValueAnswer, IsLineAnswer, IsPriceLineAnswer}
-pub use Rattle.kd_card.specs.CardFault.{IsGroupAnswer, BeginsWithWord, EndsGroup, AtNothing, AtOther, IsNextKind}
-pub use Rattle.kd_card.specs.CardFault.{HasNoNext, BeginsWithKinds, IsSettingsAnswer, last_of, IsGroupsAnswer}
-pub use Rattle.kd_card.specs.CardFault.{IsTablePricesAnswer, IsAllPricesAnswer, IsRestAnswer, IsCardAnswer}
-pub use Rattle.kd_card.specs.CardFault.{parts_by_number}
-pub use Rattle.kd_card.specs.CardText.{head_words, lines_text, price_lines, card_text, column_word}
-pub use Rattle.kd_card.specs.CardText.{price_count, IsCard}
-pub use Rattle.kd_card.specs.Kinds.{KindFormat, kinds_text, cable_format, pair_format, bar_format, row_format}
-pub use Rattle.kd_card.specs.Kinds.{kind_words, AreEnds, IsKind, ComesAfter, KeyComesBefore, HasKindWords, HasText}
-pub use Rattle.kd_card.specs.Kinds.{IsOnlyKey, letters_text, counted, prices_of_kinds, AreKinds, IsGroup}
-pub use Rattle.kd_card.specs.Laws.{TextsTellCards, NoCardBeginsAnother, CardsHaveNoFault, OneCardFault, CardsAreSaid}
-pub use Rattle.kd_card.specs.Prices.{version_of, price_sum, ArePricesInRange, table_rows, ArePrices, row_prices}
-pub use Rattle.kd_card.specs.Prices.{column_prices, IsPriceList}
-pub use Rattle.kd_card.specs.Reading.{IsPriceText, head_prefix, EndsKindsAt, IsBadKindAt, IsKindOfWords, AreFewKinds}
-pub use Rattle.kd_card.specs.declared.fault.CardFault.TheVariants.{BadHead, BadLine, PriceMissing, CountWrong, Trailing}
-pub use Rattle.kd_card.specs.declared.prices.PriceParts.TheVariants.{CableKinds, BarKinds, Cables, Bars}
-pub use Rattle.kd_card.specs.declared.cost_table.CostTable.TheVariants.{OfCables, OfBars}
-pub use Rattle.kd_card.specs.{declared.prices.Version.TheVariants.{ByNumber, ByKind}, declared.kinds.PairKind.PairKind}
-pub use Rattle.kd_card.specs.{declared.cost_table.CostTable.CostTable, declared.prices.PriceParts.PriceParts}
-pub use Rattle.kd_card.specs.{declared.fault.CardFault.CardFault, declared.kinds.CableKind.CableKind}
-pub use Rattle.kd_card.specs.{declared.prices.Version.Version, declared.kinds.BarKind.BarKind}
-pub use Rattle.kd_card.specs.{declared.kinds.RowKind.RowKind, declared.kinds.KindOf.KindOf}
-pub use Rattle.kd_state.proofs.Lines.{IsNumeralModel-digits, lines_split_into_words, texts_tell_first_parts}
-pub use Rattle.kd_state.proofs.Lines.{words_make_one_line, numbers_are_words, word_by_bytes, word_by_test, not_longer}
-pub use Rattle.kd_state.proofs.Lines.{same_end}
-pub use Rattle.kd_state.specs.FirstFaults.{HasFault, GoesOn, ThenNext, ThenNext-Ok, Yields-Ok, Yields, Demands}
-pub use Rattle.kd_state.specs.FirstFaults.{HasOneAnswer, HasOneAnswer-Demands, HasOneAnswer-Finds, HasOneAnswer-Yields}
-pub use Rattle.kd_state.specs.FirstFaults.{HasOneAnswer-FindsAlways, HasOneAnswer-ThenNext}
-pub use Rattle.kd_state.specs.Line.{setting_line, list_text, setting_words, BeginsWithSettingLines, BeginsWithNoSetting}
-pub use Rattle.kd_state.specs.Line.{BeginsWithAllSettings}
-pub use Rattle.kd_state.specs.{Words.{words_of, line_of, IsWord, IsWithout, IsFirstPart}, Machine.cable_letters}
-pub use Rattle.kd_state.specs.{declared.setting.Setting.Setting, Costs.column_letters, SheetDay.IsDayNumber}
-pub use Rattle.kd_tables.specs.{Places.{place_text, standing_text, reading_text}, declared.place.Place.Place}
-pub use Rattle.std.proofs.Common.{rules, ◌≡◌, ◌≢◌, ℕ, ◌<◌, true, false, eqb, ltb, List, [], ◌∷◌, ◌++◌, length, refl}
-pub use Rattle.std.proofs.Common.{sym, ap, ◌∙◌, append_assoc, length-append, arith, ℤ, map, suc, ◌^◌, ◌≤◌, Bool, get_or}
-pub use Rattle.std.proofs.Common.{Option, Some, None, MatchOption, Result, Ok, Err, MatchResult, Decides, Bor, ◌↔◌}
-pub use Rattle.std.proofs.Common.{IsTrue, is_some, subst, pos, negsuc, unsigned_abs, FitsSigned, w16, to_z, of_z, codes}
-pub use Rattle.std.proofs.Common.{zero, ◌+◌, ◌*◌, inl, inr, fold, decimal, not, ◌+ℤ◌, drop, min, take}
-pub use Rattle.std.proofs.lemmas.Fmt.{parse-signed_decimal, IsAscii-signed, decimal_nonempty, digits_decimal}
-pub use Rattle.std.proofs.lemmas.Fmt.{decimal_digit, decimal_injective, first_decimal, signed_decimal_injective}
-pub use Rattle.std.proofs.lemmas.List.{append_cancel_left, append-nil, get_or_at, take_all, get_or-map, length-map}
-pub use Rattle.std.proofs.lemmas.List.{nil_from_length, length-replicate}
-pub use Rattle.std.proofs.lemmas.{Bool.{ne_eqb, ltb-true, false≢true, not-false}, Int.{fits_signed_from_abs, to_z-of_z}}
-pub use Rattle.std.proofs.lemmas.{Result.err_from_is_err_and, Slice.Eq.slice_eq-Decides, Bool.Decides.Decides-eqb}
-pub use Rattle.std.proofs.lemmas.Grind.{common_steps}
-pub use Rattle.std.proofs.lemmas.List.Elements.{All-weaker, All-from_recursion, recursion_from_All, All-map, All-cons}
-pub use Rattle.std.proofs.lemmas.List.Elements.{All-append, All-from_get_or, All-nil, All-replicate}
-pub use Rattle.std.proofs.lemmas.List.Splits.{slice_split_none, slice_split_at, join_with_byte-slice_split}
-pub use Rattle.std.proofs.lemmas.List.{Sums.AllPass-from_list_all, Concat.flat_map-append, Folds.flat_map-map}
-pub use Rattle.std.specs.{List.{All, list_all, flat_map, AllByRecursion}, Str.Parse.{ParsesSigned, digits_value}}
-pub use Rattle.std.specs.{Fmt.signed_decimal, Result.IsErrAnd, Bool.then_some, Int.Signed.mag, Str.IsUtf8}
-pub use lib.Pointwise.{pointwise}
+pub use Rattle.kd_tables.specs.{declared.place.Place.Place, Places.{place_text, reading_text, standing_text}}
+pub use Rattle.std.specs.{Fmt.signed_decimal, Int.Signed.mag, List.{All, AllByRecursion, flat_map, list_all}}
+pub use Rattle.std.{proofs.Common.{[], drop, length, negsuc, unsigned_abs, zero, ◌+ℤ◌, ◌<◌, ◌≢◌}, specs.Result.IsErrAnd}
+pub use Rattle.std.proofs.Common.{ap, arith, decimal, false, List, ltb, None, Option, Some, subst, take, true, ℤ, ◌++◌}
+pub use Rattle.std.proofs.Common.{Bool, Bor, Decides, eqb, Err, MatchOption, min, Ok, Result, suc, w16, ◌+◌, ◌^◌, ◌↔◌}
+pub use Rattle.std.proofs.Common.{append_assoc, fold, get_or, is_some, length-append, MatchResult, of_z, ℕ, ◌∙◌, ◌≤◌}
+pub use Rattle.std.proofs.Common.{codes, FitsSigned, IsTrue, map, pos, refl, rules, sym, to_z, ◌*◌, ◌∷◌, ◌≡◌}
+pub use Rattle.std.proofs.lemmas.{Grind.common_steps, Int.{fits_signed_from_abs, to_z-of_z}, Result.err_from_is_err_and}
+pub use Rattle.std.proofs.lemmas.List.{append_cancel_left, Folds.flat_map-map, Sums.AllPass-from_list_all}
+pub use Rattle.std.proofs.lemmas.List.{append-nil, nil_from_length, Elements.{All-append, All-nil, All-replicate}}
+pub use Rattle.std.proofs.lemmas.List.Elements.{All-cons, All-from_get_or, All-map, All-weaker, recursion_from_All}
+pub use Rattle.std.proofs.lemmas.List.{Elements.All-from_recursion, Splits.{join_with_byte-slice_split, slice_split_at}}
+pub use Rattle.std.proofs.lemmas.List.{get_or-map, get_or_at, length-replicate, take_all, Splits.slice_split_none}
+pub use Rattle.std.proofs.lemmas.{Bool.{ltb-true, Decides.Decides-eqb}, List.{length-map, Concat.flat_map-append}}
+pub use Rattle.std.proofs.lemmas.{Bool.{false≢true, ne_eqb}, Fmt.{decimal_digit, signed_decimal_injective}}
+pub use Rattle.std.proofs.lemmas.Fmt.{decimal_injective, decimal_nonempty, digits_decimal, first_decimal}
+pub use Rattle.kd_card.specs.Kinds.{AreEnds, bar_format, cable_format, ComesAfter, HasText, IsOnlyKey, letters_text}
+pub use Rattle.kd_card.specs.Kinds.{counted, IsGroup, IsKind, KeyComesBefore, KindFormat, pair_format, prices_of_kinds}
+pub use Rattle.kd_card.specs.{CardFault.first_text, Kinds.{AreKinds, HasKindWords, kind_words, kinds_text, row_format}}
+pub use Rattle.kd_card.specs.CardFault.{AtNothing, BeginsWithWord, IsAllPricesAnswer, IsPricesAnswer, last_of}
+pub use Rattle.kd_card.specs.CardFault.{BeginsWithKinds, IsDigit, IsGroupsAnswer, IsPriceLineAnswer, IsRestAnswer}
+pub use Rattle.kd_card.specs.CardFault.{EndsGroup, HasLineWords, IsLineAnswer, IsNextKind, IsNumberText, IsValueAnswer}
+pub use Rattle.kd_card.specs.CardFault.{BeginsWithHead, IsCardAnswer, IsSettingsAnswer, IsTablePricesAnswer}
+pub use Rattle.kd_card.specs.CardFault.{AtOther, HasNoNext, IsGroupAnswer, IsNumeral, line_then, parts_by_number}
+pub use Rattle.kd_card.specs.CardText.{card_text, column_word, head_words, IsCard, lines_text, price_count, price_lines}
+pub use Rattle.kd_card.specs.declared.cost_table.CostTable.{CostTable, TheVariants.{OfBars, OfCables}}
+pub use Rattle.kd_card.specs.declared.prices.PriceParts.{PriceParts, TheVariants.{BarKinds, Bars, CableKinds, Cables}}
+pub use Rattle.kd_card.specs.declared.{kinds.KindOf.KindOf, prices.Version.{Version, TheVariants.{ByKind, ByNumber}}}
+pub use Rattle.kd_card.specs.declared.fault.CardFault.{CardFault, TheVariants.{BadLine, PriceMissing, Trailing}}
+pub use Rattle.kd_card.specs.Laws.{CardsAreSaid, CardsHaveNoFault, NoCardBeginsAnother, OneCardFault, TextsTellCards}
+pub use Rattle.kd_card.specs.Reading.{AreFewKinds, EndsKindsAt, head_prefix, IsBadKindAt, IsKindOfWords, IsPriceText}
+pub use Rattle.kd_card.specs.Prices.{ArePrices, column_prices, IsPriceList, price_sum, table_rows, version_of}
+pub use Rattle.{kd_card.specs.Prices.{ArePricesInRange, row_prices}, kd_state.specs.SheetDay.IsDayNumber}
+pub use Rattle.kd_state.specs.FirstFaults.{HasOneAnswer, HasOneAnswer-Demands, ThenNext, ThenNext-Ok, Yields, Yields-Ok}
+pub use Rattle.kd_state.specs.FirstFaults.{Demands, HasOneAnswer-Finds, HasOneAnswer-FindsAlways, HasOneAnswer-ThenNext}
+pub use Rattle.kd_state.specs.{Costs.column_letters, FirstFaults.{GoesOn, HasFault, HasOneAnswer-Yields}}
+pub use Rattle.kd_state.specs.{declared.setting.Setting.Setting, Words.{IsWithout, IsWord, line_of, words_of}}
+pub use Rattle.kd_state.specs.{Line.{BeginsWithAllSettings, BeginsWithSettingLines, setting_line}, Words.IsFirstPart}
+pub use Rattle.kd_state.specs.{Line.{BeginsWithNoSetting, list_text, setting_words}, Machine.cable_letters}
+pub use Rattle.kd_state.proofs.Lines.{lines_split_into_words, not_longer, same_end, word_by_test, words_make_one_line}
+pub use Rattle.kd_state.proofs.Lines.{IsNumeralModel-digits, numbers_are_words, texts_tell_first_parts, word_by_bytes}
 
 abbrev pub settings_words : ℕ → List (List ℕ)
 settings_words number = codes "SETTINGS" ∷ decimal number ∷ []
@@ -100,17 +88,15 @@ head_text version day rest e = rw e (grind arith)
 
 lines_text-card : (head count sum : List (List ℕ)) (settings lines : List (List (List ℕ)))
     → (((([] ++ line_then head []) ++ lines_text settings) ++ line_then count []) ++ lines_text lines)
-    ++ line_then sum []
-    ≡ lines_text (head ∷ settings ++ count ∷ lines ++ sum ∷ [])
+    ++ line_then sum [] ≡ lines_text (head ∷ settings ++ count ∷ lines ++ sum ∷ [])
 lines_text-card head count sum settings lines = simp (flat_map-append, append_assoc)
 
-pub card_text-joined : (version : Version) (day count : ℕ) (xs ys : List Setting) (prices : PriceParts) (sum : ℤ)
-    (empty top head list below counted lines end whole : List ℕ)
+pub card_text-joined : (version : Version) (day count : ℕ)
+    (xs ys : List Setting) (prices : PriceParts) (sum : ℤ) (empty top head list below counted lines end whole : List ℕ)
     → empty ≡ [] → top ≡ line_then (head_words version day) [] → below ≡ line_then (settings_words count) []
-    → end ≡ line_then (sum_words sum) [] → head ≡ empty ++ top → list ≡ head ++ list_text ys
-    → counted ≡ list ++ below → lines ≡ counted ++ lines_text (price_lines prices) → whole ≡ lines ++ end
-    → version ≡ version_of prices → ys ≡ xs → count ≡ length xs → sum ≡ price_sum prices
-    → whole ≡ card_text day xs prices
+    → end ≡ line_then (sum_words sum) [] → head ≡ empty ++ top → list ≡ head ++ list_text ys → counted ≡ list ++ below
+    → lines ≡ counted ++ lines_text (price_lines prices) → whole ≡ lines ++ end → version ≡ version_of prices
+    → ys ≡ xs → count ≡ length xs → sum ≡ price_sum prices → whole ≡ card_text day xs prices
 card_text-joined version day count xs ys prices sum empty top head list below counted lines end whole
     a t n s h l c p w by same many summed =
     let lines_of = map setting_words xs in
@@ -132,8 +118,7 @@ no_first_part {byte} {text} {part} {rest} first without =
 -- The bytes after `front`, split at the first LF: the value before it, and the bytes after it; or there is no LF.
 pub value_split : (text front behind : List ℕ) (r : Option (Bor (List ℕ) × Bor (List ℕ))) → text ≡ front ++ behind
     → MatchOption r (IsWithout 10 behind) (λ parts. IsFirstPart 10 behind parts.0.now parts.1.now)
-    → MatchOption r
-    ((value rest : List ℕ) → IsWithout 10 value → text ≢ front ++ value ++ 10 ∷ rest)
+    → MatchOption r ((value rest : List ℕ) → IsWithout 10 value → text ≢ front ++ value ++ 10 ∷ rest)
     (λ found. (text ≡ front ++ found.0.now ++ 10 ∷ found.1.now) × IsWithout 10 found.0.now)
 value_split text front behind None e none = λ value rest free d.
     let same : front ++ behind ≡ front ++ (value ++ 10 ∷ rest) = sym e ∙ d ∙ append_assoc front value (10 ∷ rest) in
@@ -223,19 +208,16 @@ pub tells_price : (word : List ℕ) (r : Option ℤ) → IsPriceOf word r → Is
 tells_price word r e = grind arith
 
 pub not_at : (words : List (Bor (List ℕ))) (i : ℕ) (d : Bor (List ℕ)) → i < length words
-    → ¬ (IsPriceText (get_or words i d).now)
-    → ¬ (All IsPriceText (map (λ (word : Bor (List ℕ)). word.now) words))
+    → ¬ (IsPriceText (get_or words i d).now) → ¬ (All IsPriceText (map (λ (word : Bor (List ℕ)). word.now) words))
 not_at words i d inside none all =
-    none
-    (subst IsPriceText (get_or-map (λ (word : Bor (List ℕ)). word.now) words i d d.now inside)
+    none (subst IsPriceText (get_or-map (λ (word : Bor (List ℕ)). word.now) words i d d.now inside)
     (all i d.now (omega (arith, inside, length-map words (λ (word : Bor (List ℕ)). word.now)))))
 
 pub all_price_texts : (prices : List ℤ) → ArePricesInRange prices → All IsPriceText (map signed_decimal prices)
-all_price_texts prices reach = search (rules, All-map, All-weaker, unsigned_abs)
+all_price_texts prices reach = search (rules, All-map, All-weaker)
 
-AllByRecursion-prices : (words : List (List ℕ)) → AllByRecursion IsPriceText words
-    → (prices : List ℤ) × (words ≡ map signed_decimal prices)
-    × AllByRecursion (λ price. unsigned_abs price ≤ 9999) prices
+AllByRecursion-prices : (words : List (List ℕ)) → AllByRecursion IsPriceText words → (prices : List ℤ)
+    × (words ≡ map signed_decimal prices) × AllByRecursion (λ price. unsigned_abs price ≤ 9999) prices
 AllByRecursion-prices [] all = ([], refl, tt)
 AllByRecursion-prices (word ∷ words) (is, all) =
     let rest = AllByRecursion-prices words all in (is.0 ∷ rest.0, cc, (is.1, rest.2))
@@ -244,8 +226,7 @@ AllByRecursion-prices (word ∷ words) (is, all) =
 
 module _ (number line : ℕ) {words : List (List ℕ)} where
   pub other_count : (prices : List ℤ) → words ≡ map signed_decimal prices → ArePricesInRange prices
-      → length prices ≢ number
-      → IsPricesAnswer number line words (Err PriceMissing)
+      → length prices ≢ number → IsPricesAnswer number line words (Err PriceMissing)
   other_count prices are reach differs =
       GoesOn prices (are, reach) (HasFault PriceMissing ((λ same count. differs count), refl) refl)
 
@@ -268,9 +249,8 @@ pub MatchResult-err : {F Y : Type 0} (answer : Result Y F) (fault : F) (Good : Y
 MatchResult-err answer fault Good Bad made bad = let is = err_from_is_err_and answer made in rw (is.1, is.2) bad
 
 -- If the first step finds `x`, and the result is right by the rule of the next step, it is right by the rule of both.
-pub goes_on : {F X Y Z : Type 0} (First : Result X F → Type 0) (Next : X → Result Z F → Type 0) (x : X)
-    → First (Ok x) → (answer : Result Y F) (f : Y → Z)
-    → MatchResult answer (λ y. Next x (Ok (f y))) (λ fault. Next x (Err fault))
+pub goes_on : {F X Y Z : Type 0} (First : Result X F → Type 0) (Next : X → Result Z F → Type 0) (x : X) → First (Ok x)
+    → (answer : Result Y F) (f : Y → Z) → MatchResult answer (λ y. Next x (Ok (f y))) (λ fault. Next x (Err fault))
     → MatchResult answer (λ y. ThenNext First Next (Ok (f y))) (λ fault. ThenNext First Next (Err fault))
 goes_on First Next x is (Ok y) f next = GoesOn x is next
 goes_on First Next x is (Err fault) f next = GoesOn x is next
@@ -323,8 +303,7 @@ prices_are_words word prices w reach =
 -- ---- the keywords of numbers
 
 number_by_parts : (text : List ℕ) → 0 < length text → ((i : ℕ) → i < length text → IsDigit (get_or text i 0))
-    → (get_or text 0 0 ≡ 48 → length text ≡ 1)
-    → IsNumberText text
+    → (get_or text 0 0 ≡ 48 → length text ≡ 1) → IsNumberText text
 number_by_parts [] some digits lead = absurd (omega arith)
 number_by_parts (digit ∷ rest) some digits lead =
     let all = All-from_get_or IsDigit rest 0 (λ i inside. digits (suc i) (omega arith)) in
@@ -383,8 +362,7 @@ pub record HasPrices (bytes word : List ℕ) (number : ℕ) (prices : List ℤ) 
   pub list : IsPriceList number prices
 
 pub prices_said : {number line : ℕ} {words : List (List ℕ)} {prices : List ℤ}
-    → IsPricesAnswer number line words (Ok prices)
-    → (words ≡ map signed_decimal prices) × IsPriceList number prices
+    → IsPricesAnswer number line words (Ok prices) → (words ≡ map signed_decimal prices) × IsPriceList number prices
 prices_said {number} {words} {prices} says = grind (arith, ThenNext-Ok)
 
 pub line_said : {word : List ℕ} {number line : ℕ} {bytes : List ℕ} (x : List ℤ × List ℕ)
@@ -396,7 +374,5 @@ line_said {word} {number} {bytes} x says =
     let prices = ThenNext-Ok first.next in
     let are = prices_said prices.says in
     let words : line.found.0 ∷ line.found.1 ≡ price_words word prices.found = cc in
-    subst (λ (y : List ℤ × List ℕ). HasPrices bytes word number y.0 y.1) (sym (Yields-Ok prices.next)) (record {
-      text = is_line split.next ∙ ap (λ ws. line_then ws line.found.2) words;
-      list = are.1;
-    })
+    rw (Yields-Ok prices.next)
+    (record { text = is_line split.next ∙ ap (λ ws. line_then ws line.found.2) words; list = are.1 })

@@ -1,63 +1,53 @@
 -- How often a letter occurs in a list.
 unfoldable pub use Rattle.{kd_state.specs.Costs.standings_as, kd_tables.specs.Rings.ring_of}
-pub use Rattle.kd_card.specs.Laws.{FittingPricesBoundLists, ProvingCardsAreAsLong, ProvingCardsAreShortest}
-pub use Rattle.kd_card.specs.Laws.{ProvingPricesAreTight, AsFewAreNeeded}
-pub use Rattle.kd_card.specs.Prices.{ArePrices, PricesFit, ArePricesTight, price_sum, IsPriceTightAt, column_prices}
-pub use Rattle.kd_card.specs.Prices.{cost_at, table_rows, price_at, row_prices}
-pub use Rattle.kd_card.specs.Proving.{is_priced_setting, priced_count, AreModelPrices, IsSettingNeeded}
-pub use Rattle.kd_card.specs.Proving.{AreSettingsNeeded, Same, Expanded, ProvesByNumber}
-pub use Rattle.kd_card.specs.Months.{CardsAreFewestInAll, DayAfterDay, IsProvedCard, ReachesDay}
-pub use Rattle.kd_card.specs.declared.prices.PriceParts.TheVariants.{Cables, Bars}
-pub use Rattle.kd_card.specs.declared.prices.PriceParts.{PriceParts}
-pub use Rattle.kd_enigma.specs.Plugs.{letters_in_pairs}
+pub use Rattle.std.proofs.lemmas.Map.{Keys.IsDistinct-cons, Made.{Contains-tail, IsDistinct-from_count}}
+pub use Rattle.std.proofs.lemmas.Map.Keys.{IsDistinct-head, IsDistinct-IsPermutation, IsDistinct-tail}
+pub use Rattle.std.proofs.lemmas.{Cmp.nat_eq_equiv, Int.ints, Slice.{Eq.bytes_eq-Decides, Zip.AllZip-long}}
+pub use Rattle.std.proofs.lemmas.{Option.get_or_from_slice_get, Slice.Zip.{get_or-zip, length-zip, seconds-zip}}
+pub use Rattle.std.proofs.lemmas.{Bool.{eq-eqb, not-false, Decides.{eqb_tells, nat_tests}}, Option.unwrap_or-slice_get}
+pub use Rattle.std.proofs.lemmas.{Bool.cases_eq, Grind.common_steps, List.Sorted.IsPermutation-swap}
+pub use Rattle.std.proofs.lemmas.List.Sorted.{Contains-permutation, IsPermutation-remove, sum_by-IsPermutation}
+pub use Rattle.std.proofs.lemmas.List.Sorted.{All-permutation, IsPermutation-keeps, IsPermutation-map}
+pub use Rattle.std.proofs.lemmas.List.Sorted.{IsPermutation-sym, IsPermutation-trans, length_permutation}
+pub use Rattle.std.proofs.lemmas.List.{Elements.All-tail, Sorted.{IsPermutation-cons, IsPermutation-refl}}
+pub use Rattle.std.proofs.lemmas.List.Elements.{All-contains, All-head, All-set, Contains-get_or, recursion_from_All}
+pub use Rattle.std.proofs.lemmas.List.{map-id, Elements.{All-from_get_or, Contains-append_right}, Sums.get_or-le-sum_by}
+pub use Rattle.std.proofs.lemmas.List.{get_or_default, Sums.{fold-append, sum-map, sum_by-append, sum_by-cons}}
+pub use Rattle.std.proofs.{Common.pos, lemmas.List.{get_or-map, length-map, length-set, Edits.length-remove}}
+pub use Rattle.std.proofs.Common.{Bool, Contains, inr, is_none, length, List, None, refl, Some, unwrap_or, ℕ, ◌++◌}
+pub use Rattle.std.proofs.Common.{[], AllPairs, Any, ap, false, nat_eq, remove, set, slice_get, subst, true, ◌≢◌, ◌≤ℤ◌}
+pub use Rattle.std.proofs.Common.{arith, cond, fold, get_or, inl, map, suc, zero, zip, ◌+ℤ◌, ◌+◌, ◌-◌, ◌≡◌, ◌≤◌}
+pub use Rattle.std.proofs.Common.{count_by, IsPermutation, min, not, replicate, rules, sum, sym, ℤ, ◌<◌, ◌∙◌, ◌∷◌, ◌⊎◌}
+pub use Rattle.std.{proofs.Common.Option, specs.List.{All, AllByRecursion, AllZip, flat_map, IsDistinct, sum_by}}
+pub use Rattle.{kd_enigma.specs.Plugs.letters_in_pairs, std.specs.{Option.option_map_or, Str.bytes_eq}}
 pub use Rattle.kd_pins.specs.{declared.pin_set.PinSet.PinSet, PinWheels.pins_of}
-pub use Rattle.kd_state.proofs.Cables.{eqb_flips, has_letter-AllByRecursion, set_moves, with_moves, without_moves}
-pub use Rattle.kd_state.proofs.Cables.{tests_tell_letters}
-pub use Rattle.kd_state.proofs.Telling.Refusing.Changing.{six_lists, no_reason, still_before, bars_with_lug}
-pub use Rattle.kd_state.proofs.Telling.Refusing.Changing.{letters_with}
-pub use Rattle.kd_state.proofs.{Slots.{IsNumbered-not_none, set_other}, Wheels.days_wheels_have_their_places}
-pub use Rattle.kd_state.proofs.{CostTable.thirteen_columns, SortedAlike.count_by-cons}
-pub use Rattle.kd_state.specs.Costs.{exactly_one, one_unless, column_letters, cable_cost, lugs_moved, bar_cost}
-pub use Rattle.kd_state.specs.Costs.{loose_count, columns_of, cost_table}
-pub use Rattle.kd_state.specs.Machine.{cable_letters, letters_in_cables, IsLegal, model_of, ring_at, letter_at}
-pub use Rattle.kd_state.specs.Machine.{IsMachine}
-pub use Rattle.kd_state.specs.OnKey.{ReadsAs, HaveSameLetters, HasPairLetters, AreThePairs}
-pub use Rattle.kd_state.specs.Setting.{has_letter, refusal_reasons, why_refused, cable_at, cable_without, cable_with}
-pub use Rattle.kd_state.specs.Setting.{with_lug, machine_after, Leads, wheel_in_slot, seat_without}
-pub use Rattle.kd_state.specs.SheetDay.{RotorDay, PinDay, Day, OfRotors, OfPins, IsLegalDay, day_model, IsLegalRotorDay}
-pub use Rattle.kd_state.specs.declared.setting.Setting.TheVariants.{Pull, Put, LugTo, Seat, SeatReflector, RingTo, Turn}
-pub use Rattle.kd_state.specs.declared.setting.Setting.TheVariants.{PinTo}
-pub use Rattle.kd_state.specs.SameParts.{numbered_item, same_wheel, same_reflector, place_in_box}
-pub use Rattle.kd_state.specs.{declared.machine.parts.Parts.TheVariants.{Rotor, Pin}, declared.setting.Setting.Setting}
-pub use Rattle.kd_state.specs.{declared.sheet_day.rotor_entry.SheetWheel.SheetWheel, declared.machine.parts.Parts.Parts}
-pub use Rattle.kd_state.specs.{declared.machine.rotor_parts.RotorParts.RotorParts, Pins.{wheel_pins, with_pin}}
-pub use Rattle.kd_state.specs.{declared.machine.pin_parts.PinParts.PinParts, Changes.HasLugsInOrder}
-pub use Rattle.kd_tables.specs.{Tables.{wheel_text, reflector_text, reflectors_of}, Places.{reading_of, IsBefore}}
-pub use Rattle.kd_tables.specs.{declared.reflector.Reflector.Reflector, declared.model.Model.TheVariants.M209}
-pub use Rattle.kd_tables.specs.{declared.place.Place.TheVariants.One, declared.model.Model.Model, Permutation.alphabet}
-pub use Rattle.kd_tables.specs.{declared.place.Place.Place, declared.wheel.Wheel.Wheel, Rings.place_on}
-pub use Rattle.kd_tables.specs.declared.lug.Lug.{Lug}
-pub use Rattle.std.proofs.Common.{Any}
-pub use Rattle.std.proofs.Common.{◌≡◌, ℕ, zero, suc, ◌+◌, ◌≤◌, nat_eq, set, get_or, zip, Bool, false, cond, List, []}
-pub use Rattle.std.proofs.Common.{◌∷◌, ◌++◌, count_by, refl, arith, ◌<◌, length, map, fold, ℤ, pos, ◌+ℤ◌, ◌≤ℤ◌, ◌∙◌, ap}
-pub use Rattle.std.proofs.Common.{IsPermutation, rules, ◌-◌, min, inl, inr, Option, None, unwrap_or, sym, subst, true}
-pub use Rattle.std.proofs.Common.{◌⊎◌, ◌≢◌, not, sum, AllPairs, Some, slice_get, is_none, replicate, Contains, remove}
-pub use Rattle.std.proofs.lemmas.Map.Keys.{IsDistinct-head, IsDistinct-tail, IsDistinct-IsPermutation, IsDistinct-cons}
-pub use Rattle.std.proofs.lemmas.{List.{length-set, map-id, get_or_default, get_or-map, length-map}, Grind.common_steps}
-pub use Rattle.std.proofs.lemmas.{Slice.Zip.{AllZip-long, seconds-zip, length-zip, get_or-zip}, Cmp.nat_eq_equiv}
-pub use Rattle.std.proofs.lemmas.{Option.{get_or_from_slice_get, unwrap_or-slice_get}, Slice.Eq.bytes_eq-Decides}
-pub use Rattle.std.proofs.lemmas.{Map.Made.{IsDistinct-from_count, Contains-tail}, Bool.Decides.{eqb_tells, nat_tests}}
-pub use Rattle.std.proofs.lemmas.{Bool.{not-false, cases_eq, eq-eqb}, Int.ints}
-pub use Rattle.std.proofs.lemmas.List.Elements.{All-head, All-tail, All-set, recursion_from_All, All-contains}
-pub use Rattle.std.proofs.lemmas.List.Elements.{Contains-append_right, All-from_get_or, Contains-get_or}
-pub use Rattle.std.proofs.lemmas.List.Sorted.{sum_by-IsPermutation, IsPermutation-keeps, IsPermutation-refl}
-pub use Rattle.std.proofs.lemmas.List.Sorted.{IsPermutation-trans, IsPermutation-swap, IsPermutation-map}
-pub use Rattle.std.proofs.lemmas.List.Sorted.{Contains-permutation, IsPermutation-sym, IsPermutation-cons}
-pub use Rattle.std.proofs.lemmas.List.Sorted.{IsPermutation-remove, length_permutation, All-permutation}
-pub use Rattle.std.proofs.lemmas.List.Sums.{sum_by-append, sum_by-cons, fold-append, sum-map, get_or-le-sum_by}
-pub use Rattle.std.proofs.lemmas.List.Edits.{length-remove}
-pub use Rattle.std.specs.{List.{sum_by, AllByRecursion, IsDistinct, All, AllZip, flat_map}, Option.option_map_or}
-pub use Rattle.std.specs.Str.{bytes_eq}
+pub use Rattle.kd_card.specs.Proving.{AreModelPrices, AreSettingsNeeded, Expanded, IsSettingNeeded, priced_count, Same}
+pub use Rattle.kd_card.specs.{Months.{CardsAreFewestInAll, ReachesDay}, Proving.{is_priced_setting, ProvesByNumber}}
+pub use Rattle.kd_card.specs.{declared.prices.PriceParts.TheVariants.{Bars, Cables}, Months.{DayAfterDay, IsProvedCard}}
+pub use Rattle.kd_card.specs.{declared.prices.PriceParts.PriceParts, Laws.{AsFewAreNeeded, ProvingPricesAreTight}}
+pub use Rattle.kd_card.specs.Laws.{FittingPricesBoundLists, ProvingCardsAreAsLong, ProvingCardsAreShortest}
+pub use Rattle.kd_card.specs.Prices.{ArePrices, ArePricesTight, column_prices, PricesFit, row_prices, table_rows}
+pub use Rattle.{kd_card.specs.Prices.{cost_at, IsPriceTightAt, price_at, price_sum}, kd_tables.specs.Rings.place_on}
+pub use Rattle.kd_tables.specs.declared.{lug.Lug.Lug, model.Model.{Model, TheVariants.M209}, wheel.Wheel.Wheel}
+pub use Rattle.kd_tables.specs.declared.{place.Place.{Place, TheVariants.One}, reflector.Reflector.Reflector}
+pub use Rattle.kd_tables.specs.{Places.{IsBefore, reading_of}, Tables.{reflector_text, reflectors_of, wheel_text}}
+pub use Rattle.{kd_state.proofs.Wheels.days_wheels_have_their_places, kd_tables.specs.Permutation.alphabet}
+pub use Rattle.kd_state.proofs.{Cables.{eqb_flips, has_letter-AllByRecursion, without_moves}, SortedAlike.count_by-cons}
+pub use Rattle.kd_state.proofs.{Cables.{set_moves, tests_tell_letters, with_moves}, Slots.IsNumbered-not_none}
+pub use Rattle.kd_state.proofs.{CostTable.thirteen_columns, Slots.set_other, Telling.Refusing.Changing.six_lists}
+pub use Rattle.kd_state.proofs.Telling.Refusing.Changing.{bars_with_lug, letters_with, no_reason, still_before}
+pub use Rattle.kd_state.specs.{Changes.HasLugsInOrder, Costs.{bar_cost, cable_cost, columns_of, exactly_one}}
+pub use Rattle.kd_state.specs.Costs.{column_letters, cost_table, loose_count, lugs_moved, one_unless}
+pub use Rattle.kd_state.specs.Setting.{cable_at, cable_without, refusal_reasons, seat_without, wheel_in_slot, with_lug}
+pub use Rattle.kd_state.specs.{Pins.with_pin, Setting.{cable_with, has_letter, Leads, machine_after, why_refused}}
+pub use Rattle.kd_state.specs.{Pins.wheel_pins, SameParts.{numbered_item, place_in_box, same_reflector, same_wheel}}
+pub use Rattle.kd_state.specs.declared.{setting.Setting.TheVariants.LugTo, sheet_day.rotor_entry.SheetWheel.SheetWheel}
+pub use Rattle.kd_state.specs.declared.setting.Setting.TheVariants.{PinTo, Pull, Put, RingTo, Seat, SeatReflector, Turn}
+pub use Rattle.kd_state.specs.declared.{machine.parts.Parts.{Parts, TheVariants.{Pin, Rotor}}, setting.Setting.Setting}
+pub use Rattle.kd_state.specs.declared.machine.{pin_parts.PinParts.PinParts, rotor_parts.RotorParts.RotorParts}
+pub use Rattle.kd_state.specs.Machine.{IsLegal, IsMachine, letter_at, letters_in_cables, model_of, ring_at}
+pub use Rattle.kd_state.specs.{Machine.cable_letters, OnKey.{AreThePairs, HasPairLetters, HaveSameLetters, ReadsAs}}
+pub use Rattle.kd_state.specs.SheetDay.{Day, day_model, IsLegalDay, IsLegalRotorDay, OfPins, OfRotors, PinDay, RotorDay}
 pub use borrow.Author.Differences.{up, down}
 
 pub at_most_one : (b : Bool) → cond b 1 0 ≤ 1
@@ -65,8 +55,7 @@ at_most_one b = grind arith
 
 -- Setting one item lowers a sum over pairs by at most one, if it lowers the term of this item by at most one.
 pub zip_set : {X Y : Type 0} (f : X × Y → ℕ) (xs : List X) (ys : List Y) (i : ℕ) (v d : X)
-    → ((y : Y) → f (get_or xs i d, y) ≤ f (v, y) + 1)
-    → sum_by f (zip xs ys) ≤ sum_by f (zip (set xs i v) ys) + 1
+    → ((y : Y) → f (get_or xs i d, y) ≤ f (v, y) + 1) → sum_by f (zip xs ys) ≤ sum_by f (zip (set xs i v) ys) + 1
 zip_set f (x ∷ xs) (y ∷ ys) zero v d h = grind (arith, common_steps, sum_by-cons)
 zip_set f (x ∷ xs) (y ∷ ys) (suc i) v d h = grind (arith, common_steps, sum_by-cons, zip_set f xs ys i v d h)
 zip_set f xs ys i v d h = omega arith
