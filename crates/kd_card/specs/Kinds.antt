@@ -33,8 +33,8 @@ IsPairInOrder (Some pair) = (pair.0 < pair.1) × (pair.1 < 26)
 
 -- How a card writes kinds of cables, columns, bars or rows. `word` begins each line. `kind` splits a kind into its key
 -- (letters, standing or reading), count and price. `text` is the text of a key, such as `AB`; a card only has keys that
--- satisfy `InForm`. `order` turns a key into numbers, and lines are in the dictionary order of these: a cable without
--- letters and an empty column come last.
+-- satisfy `InForm`. `order` turns a key into numbers, and lines are sorted by these numbers. The kinds of cables
+-- without letters, and of empty columns, come last.
 pub record KindFormat (K X : Type 0) : Type 1 where
   pub word : List ℕ
   pub kind : K → KindOf X
@@ -130,8 +130,8 @@ prices_of_kinds format kinds = flat_map (λ k. replicate (format.kind k).count (
 abbrev pub expansion : {X : Type 0} → List (KindOf X) → List (X × ℤ)
 expansion kinds = flat_map (λ kind. replicate kind.count (kind.key, kind.price)) kinds
 
--- The `keys` (letters, standings or readings), each with its price, are exactly what the kinds count, in some order.
--- Code: `kinds_of` sorts keys with their prices, and counts equal ones; `prices_of` takes keys out of kinds.
+-- `keys` (letters, standings or readings) with their prices are the items of the expansion of `kinds`, in any order.
+-- Code: `kinds_of` sorts keys with their prices, and counts equal ones; `prices_of` lowers the count of a key's kind.
 pub record AreKindsOf {K X : Type 0} (format : KindFormat K X) (keys : List X) (prices : List ℤ) (kinds : List K)
     : Type 0 where
   pub number : length prices ≡ length keys

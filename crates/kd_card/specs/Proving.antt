@@ -78,7 +78,7 @@ pub record ProvesByNumber (m : Parts) (s : Day) (settings : List Setting) (price
   pub sum : price_sum prices ≡ pos (priced_count settings)
   pub needed : AreSettingsNeeded m s settings
 
--- A card proves itself. `numbered` are its prices, one for each cable and each column, or for each bar and each row.
+-- A card proves itself. `numbered` are its prices by number: for each cable and each column, or each bar and each row.
 pub record Proves (m : Parts) (s : Day) (settings : List Setting) (prices : PriceParts) : Type 0 where
   pub numbered : PriceParts
   pub expands : Expands m s prices numbered

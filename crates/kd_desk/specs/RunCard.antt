@@ -20,9 +20,9 @@ use Rattle.kd_desk.specs.Headline.{LeavesTheSheetsMachine, EquallySetDecipherOn}
 use Rattle.kd_tables.specs.Ports.{Port}
 use Rattle.kd_desk.specs.Ports.{WritesText}
 
--- The card for day `number` was written, or only a prefix of it if the device failed. Equal cables, columns, bars or
--- rows have one price, and the prices prove that no fewer settings reach the day. The settings lead to the machine that
--- the day asks for, and leave spare cables free. What one machine enciphers, an equally set machine deciphers.
+-- The text of a shortest card for day `number` was written, or a prefix of it if the device failed. The card's settings
+-- lead to the machine that the day asks for, and leave spare cables free. Its prices prove that it is shortest; equal
+-- cables, columns, bars or rows have one price. What one machine enciphers, an equally set machine deciphers.
 pub record WritesCard (m : Parts) (s : Day) (number : ℕ) (sink : Port)
     (answer : Result (Unit {0}) DeskFault) : Type 0 where
   pub settings : List Setting

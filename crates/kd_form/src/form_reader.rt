@@ -109,9 +109,9 @@ impl MessageReader for FormReader {
     }
 }
 
-/// The fault of a form that ends within the heading line `line` of part `number`.
+/// The fault of a form that ends in the heading of part `number`. `line` is what came of the heading.
 ///
-/// If the heading is valid, the fault is `CountWrong`, because the part has no body.
+/// If `line` is a valid heading, the fault is `CountWrong`, because the part has no body.
 fn fault_in_heading(
     day: &SheetDay,
     number: u8,

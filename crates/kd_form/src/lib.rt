@@ -1,4 +1,4 @@
-//! Types texts, enciphers orders into forms, and deciphers forms into texts, as the bytes arrive.
+//! Messages: typed texts, orders and forms. Each is enciphered or deciphered while its bytes arrive.
 #![tactic(auto)]
 
 mod body;

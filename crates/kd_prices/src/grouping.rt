@@ -39,7 +39,7 @@ fn kind_of_one<T: KindKey>(pair: &(T, i16)) -> KindOf<T>
 /// Appends `kind` to `kinds`, and then the kinds of `pairs`. Each of the `pairs` is a key with its price, and the pairs
 /// are in ascending order.
 ///
-/// If the first of the `pairs` have the key and the price of `kind`, they are counted in `kind`.
+/// If the list `pairs` begins with pairs that have the key and the price of `kind`, they are counted in `kind`.
 fn push_kinds<K: Kind, const N: usize>(
     kind: KindOf<K::Key>,
     pairs: &[(K::Key, i16)],

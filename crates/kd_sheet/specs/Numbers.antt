@@ -1,5 +1,5 @@
 -- Whole numbers in files.
--- Source: ring settings 01 to 26.
+-- Source: key sheets of the war give ring settings as the numbers 01 to 26.
 -- Test: kd_trials/src/sheet/files.rt
 use Rattle.std.specs.Prelude.{ℕ, ◌&&◌, ◌-◌, ◌==◌, nat_le, pos, List, length, map, Option, Some, None, is_some}
 use Rattle.std.specs.Prelude.{if◌then◌else◌}

@@ -74,7 +74,7 @@ cost_table _ _ = []
 
 -- ---- Loose things: those other than cables and bars that differ from the day.
 
--- how many things other than cables and bars differ from the day, even rings and window letters of wheels in the box
+-- how many things other than cables and bars differ from the day, including rings and letters of wheels in the box
 abbrev pub loose_count : Parts → Day → ℕ
 loose_count (Rotor m) (OfRotors s) =
     count_by (λ slot. not (option_map_or (same_wheel slot.1.wheel) slot.0 false)) (zip m.slots s.wheels)
