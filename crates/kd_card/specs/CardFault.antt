@@ -26,7 +26,7 @@ abbrev pub IsNumberText : List ℕ → Type 0
 IsNumberText [] = ⊥
 IsNumberText (digit ∷ digits) = IsDigit digit × All IsDigit digits × ((digit ≡ 48) → (digits ≡ []))
 
--- The text is a decimal number without leading zeros. It may be negative if the argument is `true`, but isn't `-0`.
+-- The text is a decimal number without leading zeros. It may be negative if the Bool is `true`, but isn't `-0`.
 abbrev pub IsNumeral : Bool → List ℕ → Type 0
 IsNumeral false text = IsNumberText text
 IsNumeral true text =
@@ -63,7 +63,7 @@ IsLineAnswer line bytes = do
 
 -- ---- the head and the settings
 
--- `bytes` begin with a card's first line, such as `CARD 2 DAY 31`, with this version and day. Then comes `rest`.
+-- `bytes` are a card's first line with this version and day, such as `CARD 2 DAY 31`, and then `rest`.
 pub record BeginsWithHead (bytes : List ℕ) (version : Version) (day : ℕ) (rest : List ℕ) : Type 0 where
   pub text : bytes ≡ line_then (head_words version day) rest
   pub of_month : IsDayNumber day
@@ -102,7 +102,7 @@ IsPricesAnswer number line words = do
   _ ← Demands (length prices ≡ number) PriceMissing
   Yields prices
 
--- The result of reading a line of `word` and `number` prices: the prices and the bytes after the line, or a fault.
+-- The result of reading a line with `word` and then `number` prices: the prices and the bytes after it, or a fault.
 abbrev pub IsPriceLineAnswer : List ℕ → ℕ → ℕ → List ℕ → AnswerRule CardFault (List ℤ × List ℕ)
 IsPriceLineAnswer word number line bytes = do
   found ← IsLineAnswer line bytes
@@ -193,8 +193,8 @@ IsAllPricesAnswer version line bytes = do
   table ← IsTableAnswer version line bytes
   IsTablePricesAnswer version table line bytes
 
--- The result of reading the lines `SETTINGS`, prices and `SUM` after a card's settings: the whole card (`day`,
--- `settings` and the prices), or a fault.
+-- The result of reading the rest of a card, from its line `SETTINGS` on: the whole card (`day`, `settings` and the
+-- prices), or a fault.
 abbrev pub IsRestAnswer : Version → ℕ → List Setting → ℕ → List ℕ → AnswerRule CardFault (ℕ × List Setting × PriceParts)
 IsRestAnswer version day settings number bytes = do
   rest ← IsValueAnswer false (codes "SETTINGS ") (decimal number) (number + 2) bytes

@@ -88,7 +88,7 @@ pub record HasText {K X : Type 0} (format : KindFormat K X) (text : List ℕ) (k
   pub form : format.InForm key
   pub written : format.text key ≡ text
 
--- A card writes this key (letters, a standing or a reading), and no other key, as `text`.
+-- A card writes `key` (letters, a standing or a reading), and no other key, as `text`.
 pub record IsOnlyKey {K X : Type 0} (format : KindFormat K X) (text : List ℕ) (key : X) : Type 0 where
   pub has : HasText format text key
   pub only : (other : X) → HasText format text other → other ≡ key
@@ -130,7 +130,8 @@ prices_of_kinds format kinds = flat_map (λ k. replicate (format.kind k).count (
 abbrev pub expansion : {X : Type 0} → List (KindOf X) → List (X × ℤ)
 expansion kinds = flat_map (λ kind. replicate kind.count (kind.key, kind.price)) kinds
 
--- `keys` (letters, standings or readings) with their prices are the items of the expansion of `kinds`, in any order.
+-- `keys` (letters, standings or readings) with their prices are what `kinds` count, in any order: each kind's key and
+-- price, as often as its count says.
 -- Code: `kinds_of` sorts keys with their prices, and counts equal ones; `prices_of` lowers the count of a key's kind.
 pub record AreKindsOf {K X : Type 0} (format : KindFormat K X) (keys : List X) (prices : List ℤ) (kinds : List K)
     : Type 0 where

@@ -33,7 +33,8 @@ AsFewAreNeeded =
     → LeadsToTheDay m s settings
     → length settings ≤ loose_count m s + priced_count settings → AreSettingsNeeded m s settings
 
--- If a card with prices by number proves itself, it has as many settings as loose things plus the sum of its prices.
+-- If a card with prices by number proves itself, the number of its settings is the number of loose things plus the sum
+-- of its prices.
 -- `ProvingCardsAreShortest`: no list that reaches the day is shorter than a card that proves itself.
 abbrev pub ProvingCardsAreAsLong : Type 0
 ProvingCardsAreAsLong =

@@ -1,7 +1,7 @@
 -- The prices of a card, and what it means that they fit a table of costs. The table of a rotor machine has a row for
 -- each cable, and a column for each pair or empty column. The table of a Converter has a row for each bar, and a column
 -- for each row of the sheet. Rows and columns are counted from 0. With prices *by number*, each row and each column has
--- its own price. With prices *by kind*, equal ones share one price.
+-- its own price. With prices *by kind*, equal rows share one price, and so do equal columns.
 use Rattle.kd_card.specs.Kinds.{cable_format, pair_format, bar_format, row_format, prices_of_kinds, IsGroup}
 use Rattle.kd_card.specs.declared.prices.PriceParts.TheVariants.{Cables, Bars, CableKinds, BarKinds}
 use Rattle.kd_card.specs.{declared.prices.Version.TheVariants.{ByNumber, ByKind}, declared.prices.PriceParts.PriceParts}
@@ -43,7 +43,8 @@ pub record IsPriceList (number : ℕ) (prices : List ℤ) : Type 0 where
   pub count : length prices ≡ number
   pub reach : ArePricesInRange prices
 
--- All prices are from -9999 to 9999, and there are as many as the table of costs has rows and columns. Kinds are valid.
+-- There is a price from -9999 to 9999 for each row and each column of the table of costs. Kinds are valid and strictly
+-- ascending.
 abbrev pub ArePrices : PriceParts → Type 0
 ArePrices (Cables row col) = IsPriceList 13 row × IsPriceList 13 col
 ArePrices (Bars row col) = IsPriceList 27 row × IsPriceList 27 col
@@ -53,11 +54,11 @@ ArePrices (BarKinds row col) = IsGroup bar_format 27 row.items × IsGroup row_fo
 abbrev pub cost_at : List (List ℕ) → ℕ → ℕ → ℕ
 cost_at costs i j = slice_index (slice_index_or costs i []) j
 
--- the price of row `i` (if `prices` are those of rows) or of column `i` (if they are those of columns), counted from 0
+-- item `i` of a list of prices, counted from 0: the price of row `i`, or of column `i`
 abbrev pub price_at : List ℤ → ℕ → ℤ
 price_at prices i = slice_index_or prices i (pos 0)
 
--- The prices of row `i` and column `j` add up to at most their cost. `PricesFit`: so do those of any row and column.
+-- The prices of row `i` and column `j` add up to at most the cost in their cell. `PricesFit`: this holds in all cells.
 abbrev pub PricesFitAt : List (List ℕ) → PriceParts → ℕ → ℕ → Type 0
 PricesFitAt costs prices i j =
     (price_at (row_prices prices) i +ℤ price_at (column_prices prices) j) ≤ℤ pos (cost_at costs i j)

@@ -32,7 +32,7 @@ priced_count settings = count_by is_priced_setting settings
 abbrev pub IsSettingNeeded : Parts → Day → Setting → Type 0
 IsSettingNeeded m s x = IsFalse (is_priced_setting x) → loose_count m s ≡ loose_count (machine_after m x) s + 1
 
--- When the settings are carried out in turn, each of them is needed at its time.
+-- Each setting is needed when it is carried out, after all settings before it.
 abbrev pub AreSettingsNeeded : Parts → Day → List Setting → Type 0
 AreSettingsNeeded m s [] = Unit {0}
 AreSettingsNeeded m s (x ∷ xs) = IsSettingNeeded m s x × AreSettingsNeeded (machine_after m x) s xs
@@ -50,8 +50,8 @@ pair_in_order column = option_map (λ pair. smaller_first pair.0 pair.1) column
 abbrev pub columns_in_order : List (ℕ × ℕ) → List (Option (ℕ × ℕ))
 columns_in_order pairs = map pair_in_order (columns_of pairs)
 
--- The first prices are for the kinds of the machine's cables and the day's columns, or of the machine's bars and the
--- day's rows. The second prices give each cable, column, bar or row the price of its kind.
+-- The first prices are by kind, for the machine's cables and the day's columns, or for the machine's bars and the day's
+-- rows. The second prices are by number: each cable, column, bar or row has the price of its kind.
 abbrev pub AreExpanded : Parts → Day → PriceParts → PriceParts → Type 0
 AreExpanded (Rotor m) (OfRotors s) (CableKinds row col) (Cables rows columns) =
     AreKindsOf cable_format m.cables rows row.items
@@ -60,16 +60,16 @@ AreExpanded (Pin m) (OfPins s) (BarKinds row col) (Bars rows columns) =
     AreKindsOf bar_format m.bars rows row.items × AreKindsOf row_format s.rows columns col.items
 AreExpanded _ _ _ _ = ⊥
 
--- `numbered` are prices by number, which `prices` mean. If `prices` are by number, both are equal. If `prices` are by
--- kind, `numbered` gives each cable, column, bar or row the price of its kind.
+-- `numbered` are `prices` converted to prices by number. If `prices` are by number already, both are equal. If `prices`
+-- are by kind, `numbered` gives each cable, column, bar or row the price of its kind.
 pub data Expands (m : Parts) (s : Day) (prices numbered : PriceParts) : Type 0 where
   Same : version_of prices ≡ ByNumber → prices ≡ numbered → Expands m s prices numbered
   Expanded : ArePrices prices → ArePrices numbered → AreExpanded m s prices numbered → Expands m s prices numbered
 
 -- ---- the card proves itself
 
--- A card by number proves itself: its settings lead the machine to the day, and each of them is needed. Its prices
--- fit the table of costs, and their sum is the number of settings that change a cable or a bar.
+-- A card with prices by number proves itself: its settings lead the machine to the day, and each of them is needed. Its
+-- prices fit the table of costs, and their sum is the number of settings that change a cable or a bar.
 pub record ProvesByNumber (m : Parts) (s : Day) (settings : List Setting) (prices : PriceParts) : Type 0 where
   pub model : model_of m ≡ day_model s
   pub kind : AreModelPrices m prices

@@ -7,7 +7,7 @@ use super::prices::Version;
 /// What a card's prices are for: the rows and the columns of a table of costs.
 #[derive(Clone, Copy)]
 pub(crate) enum CostTable {
-    /// The table has a row for each cable, and a column for each of the day's pairs or empty columns.
+    /// The table has a row for each of the 13 cables, and 13 columns: the day's pairs, and then empty columns.
     OfCables,
     /// The table has a row for each bar, and a column for each row of the key sheet.
     OfBars,

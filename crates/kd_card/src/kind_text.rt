@@ -36,9 +36,9 @@ fn kind_behind<K: Kind>(behind: Option<&[u8]>) -> Option<K>
 
 /// Reads the next kind of a group from the first line of `text`. Returns this kind, and the text after the line.
 ///
-/// `None` if the group ends here: `text` is empty, or its first line begins with another word than `K::word()` and ends
-/// with LF. Otherwise, the line is bad unless it ends with LF, and has a valid kind that comes after the kind `last`.
-/// It is line `line` of the card.
+/// `None` if the group ends here: `text` is empty, or its first line ends with LF and begins with another word than
+/// `K::word()`. The fault is `BadLine` if the line has no LF, or isn't the line of a valid kind after the kind `last`.
+/// This line is line `line` of the card.
 fn next_kind<K: Kind>(
     text: &[u8],
     last: Option<K>,
@@ -63,7 +63,7 @@ fn next_kind<K: Kind>(
     }
 }
 
-/// Reads all kinds of a group. Their counts have to add up to `N`. Returns the kinds, and the text after them.
+/// Reads a group: kinds whose counts have to add up to `N`. Returns the kinds, and the text after the group.
 ///
 /// The group begins on line `line` of the card, counted from 1.
 #[tactic(auto, using(crate::proofs::OneCard::reads_none))]

@@ -14,22 +14,24 @@ use kd_tables::{Letter, Reading, Standing};
 /// A kind of cables: all cables with the same letters.
 #[derive(Clone, Copy, Default)]
 pub struct CableKind {
-    /// The letters of each cable. Two letters are in alphabetical order; a single letter has the first place.
+    /// The letters of each cable of this kind.
+    ///
+    /// In a valid kind, two letters are in alphabetical order, and a single letter has the first place.
     pub ends: (Option<Letter>, Option<Letter>),
-    /// The number of these cables, at least 1.
+    /// The number of cables of this kind; in a valid kind, at least 1.
     pub count: u8,
-    /// The price of each cable, from -9999 to 9999.
+    /// The price of each cable of this kind; in a valid kind, from -9999 to 9999.
     pub price: i16,
 }
 
 /// A kind of columns of the table of costs: all columns with the same pair, or all empty columns, which have no pair.
 #[derive(Clone, Copy, Default)]
 pub struct PairKind {
-    /// The letters of the pair in alphabetical order, or `None` for columns without a pair.
+    /// The pair, or `None` for empty columns. In a valid kind, the pair's letters are in alphabetical order.
     pub pair: Option<(Letter, Letter)>,
-    /// The number of these columns, at least 1.
+    /// The number of columns of this kind; in a valid kind, at least 1.
     pub count: u8,
-    /// The price of each column, from -9999 to 9999.
+    /// The price of each column of this kind; in a valid kind, from -9999 to 9999.
     pub price: i16,
 }
 
@@ -37,9 +39,9 @@ pub struct PairKind {
 #[derive(Clone, Copy, Default)]
 pub struct BarKind {
     pub standing: Standing,
-    /// The number of these bars, at least 1.
+    /// The number of bars of this kind; in a valid kind, at least 1.
     pub count: u8,
-    /// The price of each bar, from -9999 to 9999.
+    /// The price of each bar of this kind; in a valid kind, from -9999 to 9999.
     pub price: i16,
 }
 
@@ -47,9 +49,9 @@ pub struct BarKind {
 #[derive(Clone, Copy, Default)]
 pub struct RowKind {
     pub reading: Reading,
-    /// The number of these rows, at least 1.
+    /// The number of rows of this kind; in a valid kind, at least 1.
     pub count: u8,
-    /// The price of each row, from -9999 to 9999.
+    /// The price of each row of this kind; in a valid kind, from -9999 to 9999.
     pub price: i16,
 }
 
@@ -70,7 +72,7 @@ pub trait Kind: Copy + Default {
     /// The key of a kind: what its cables, columns, bars or rows have in common, such as their letters.
     type Key: KindKey;
 
-    /// The format and the order of the lines of these kinds (of cables, columns, bars or rows).
+    /// How a card writes kinds of this type, and in which order.
     ghost format: { KindFormat Self Self.Key };
 
     /// The first word of a kind's line on a card: `CABLE`, `PAIR`, `BAR` or `ROW`.

@@ -41,9 +41,10 @@ pub fn as_few_are_needed()
     ensures { AsFewAreNeeded }
 {}
 
-/// If a card with prices by number proves itself, it has as many settings as loose things plus the sum of its prices.
+/// If a card with prices by number proves itself, its length is the number of loose things plus the sum of its prices.
 ///
-/// By number means that each cable and each column, or each bar and each row, has its own price.
+/// The length is the number of settings. By number means that each cable and each column, or each bar and each row, has
+/// its own price.
 #[tactic(auto, using(crate::proofs::Months::proving_cards_are_as_long))]
 pub fn proving_cards_are_as_long()
     ensures { ProvingCardsAreAsLong }
@@ -56,7 +57,8 @@ pub fn proving_cards_are_shortest()
 
 /// If a card with prices by number proves itself, no single price can be raised: the prices would no longer fit.
 ///
-/// The reason: each row and each column of the table of costs has a cell where the two prices add up to the cost.
+/// The reason: each row and each column of the table of costs has a cell where the prices of row and column add up to
+/// the cost.
 #[tactic(auto, using(crate::proofs::Months::proving_prices_are_tight))]
 pub fn proving_prices_are_tight()
     ensures { ProvingPricesAreTight }

@@ -1,5 +1,5 @@
-//! Cards. A card has settings that set a machine to a day. Its prices can prove that no shorter list of settings does
-//! so. Reads and writes the text of a card.
+//! Reads and writes cards. A card has settings that set a machine to a day, and prices that can prove that no shorter
+//! list of settings does.
 #![tactic(auto)]
 
 mod card;

@@ -1,4 +1,4 @@
-//! Counts a machine's loose things: those that differ from the day, except cables and bars.
+//! Counts a machine's loose things: all things that differ from the day, except cables and bars.
 ghost use Rattle.kd_pins.specs.PinWheels.{pins_of};
 ghost use Rattle.kd_state.specs.{Machine.{machine_ring, machine_letter}, SameParts.{same_wheel, same_reflector}};
 ghost use Rattle.kd_state.specs.Costs.{exactly_one, one_unless};
@@ -10,7 +10,7 @@ use kd_pins::PinSet;
 use kd_state::{Entry, Machine, Parts, SheetDay, SheetWheel};
 use kd_tables::{Letter, Reflector, Wheel};
 
-/// Counts the loose things of `machine`: those that aren't as `day` says, except cables and bars.
+/// Counts the loose things of `machine`: all things that aren't as `day` says, except cables and bars.
 ///
 /// The count is 0 if the machine is a rotor machine and the day is for a Converter M-209, or vice versa.
 pub fn loose_count(machine: &Machine, day: &SheetDay) -> usize

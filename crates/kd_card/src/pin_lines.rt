@@ -41,8 +41,8 @@ fn push_pins(settings: &mut Settings, present: &PinSet, wanted: &PinSet)
 
 /// Appends the setting TURN for each pin wheel that shows another letter than the day's.
 ///
-/// `letters` are the letters that the wheels show, and `window` are the day's. The first item of each list is for wheel
-/// `number`, counted from 1, and the next items are for the next wheels.
+/// `letters` are the letters that the wheels show, and `window` are the day's letters. Both begin with the letter of
+/// wheel `number`, counted from 1.
 fn push_pin_turns(settings: &mut Settings, number: u8, letters: &[Letter], window: &[Letter])
     requires few { number + length letters.now < 256 }
     requires room { array_vec_len settings.old + length letters.now ≤ 192 }

@@ -12,9 +12,9 @@ use std::marker::Model;
 /// Whether each cable, pair, bar or row of a card has its own price, or each kind of them has one price.
 #[derive(Clone, Copy)]
 pub enum Version {
-    /// Each cable and each column has its own price, or each bar and each row of the sheet has.
+    /// Each cable and each column, or each bar and each row of the sheet, has its own price.
     ByNumber,
-    /// Each kind of cables has one price, and so has each kind of columns; or each kind of bars, and each kind of rows.
+    /// Each kind of cables and each kind of columns, or each kind of bars and each kind of rows, has one price.
     ByKind,
 }
 
@@ -98,7 +98,8 @@ impl Prices {
     /// Makes prices by kind: one for each kind of cables, and one for each kind of columns.
     ///
     /// `None` if `cables` or `pairs` aren't strictly ascending, or the counts of either don't add up to 13. Also `None`
-    /// if a kind has letters out of order, the count 0, or a price below -9999 or above 9999.
+    /// if a kind has letters out of order, a letter only at the second end, the count 0, or a price below -9999 or
+    /// above 9999.
     pub fn cable_kinds(cables: &[CableKind], pairs: &[PairKind]) -> Option<Self>
         ensures { let parts =
             PriceParts.CableKinds (record { items = cables.now }) (record { items = pairs.now }) in

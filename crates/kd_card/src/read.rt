@@ -126,7 +126,7 @@ fn read_prices(text: &[u8], version: Version, line: usize) -> Result<(Prices, &[
 
 /// Reads the two price lines of a card that has a price for each cable and each column, or each bar and each row.
 ///
-/// The first is line `line` of the card. Returns the prices, and the text after the lines.
+/// The first price line is line `line` of the card. Returns the prices, and the text after the lines.
 fn read_numbered(text: &[u8], table: CostTable, line: usize) -> Result<(Prices, &[u8]), CardFault>
     requires { line < 200 }
     ensures { let says = IsTablePricesAnswer ByNumber table line text.now in

@@ -12,8 +12,8 @@ use kd_tables::Wheel;
 
 /// Lists the settings that set the slots, reflector, rings and letters of a rotor machine as the day says.
 ///
-/// What is already so needs no setting. Slots come first, then the reflector, rings and letters. `parts` are the parts
-/// of `machine`.
+/// Only what differs from the day gets a setting. Slots come first, then the reflector, rings and letters. `parts` are
+/// the parts of `machine`.
 #[tactic(auto, using(crate::proofs::Leading::few_in_box))]
 pub fn rotor_settings(machine: &Machine, parts: &RotorParts, entry: &RotorEntry) -> Settings
     requires { machine.now ≡ Rotor parts.now }
@@ -83,7 +83,7 @@ fn push_turns(settings: &mut Settings, machine: &Machine, number: u8, wheels: &[
     }
 }
 
-/// Appends the setting RING for `wheel`, unless the day doesn't use the wheel, or its ring is set already.
+/// Appends the setting RING for `wheel` if the day uses the wheel and its ring isn't at the day's letter.
 fn push_ring(settings: &mut Settings, machine: &Machine, wheels: &[SheetWheel], wheel: Wheel)
     requires { array_vec_len settings.old + 1 ≤ 192 }
     ensures items { settings.new.items ≡ settings.old.items ++ wheel_ring_line machine.now wheels.now wheel }

@@ -28,10 +28,10 @@ pub(crate) fn keep_spares_free(cables: &[Cable; 13], pairs: &[(Letter, Letter)],
     }
 }
 
-/// Finds the first cable that should get a pair before the spare cable `spare` does, but is assigned none.
+/// Finds the first cable that has to get a pair before the spare cable `spare`, but is assigned none.
 ///
-/// Such a cable is in use, or has a lower number than `spare`. Cables are counted from 0. `pairs` is the number of
-/// pairs.
+/// A cable comes before `spare` if it is in use, or has a lower number. Cables are counted from 0. `pairs` is the
+/// number of pairs.
 fn find_left_out(spare: usize, cables: &[Cable; 13], pairs: usize, to: &[u8; 13]) -> Option<usize>
     ensures { MatchOption result
         ((place : ℕ) → place < 13 → IsTrue (comes_before cables.now place spare)

@@ -3,7 +3,8 @@ use Rattle.std.specs.Prelude.{◌≡◌, ℕ, ◌≤◌, length, slice_get, slic
 use Rattle.kd_state.specs.{Machine.cable_letters, declared.machine.parts.Parts.{Parts, TheVariants.{Pin, Rotor}}}
 use Rattle.kd_state.specs.{OnKey.HaveSameLetters, SheetDay.{Day, OfPins, OfRotors}}
 
--- Cables `place` and `other` have the same letters; or bars `place` and `other` have the same standing.
+-- The cables at `place` and `other`, counted from 0, have the same letters; on a Converter, the bars there have the
+-- same standing.
 abbrev pub StandAlike : Parts → ℕ → ℕ → Type 0
 StandAlike (Rotor m) place other =
     HaveSameLetters
@@ -11,8 +12,8 @@ StandAlike (Rotor m) place other =
     (cable_letters (slice_index_or m.cables other (None, None)))
 StandAlike (Pin m) place other = slice_get m.bars place ≡ slice_get m.bars other
 
--- At `place` and `other`, counted from 0, the day of a rotor machine has two empty columns, or the day of a Converter
--- has two equal rows.
+-- The day's columns at `place` and `other`, counted from 0, are both empty; on a Converter, the day's rows there are
+-- equal.
 abbrev pub ReadAlike : Day → ℕ → ℕ → Type 0
 ReadAlike (OfRotors s) place other = (length s.pairs ≤ place) × (length s.pairs ≤ other)
 ReadAlike (OfPins s) place other = slice_get s.rows place ≡ slice_get s.rows other

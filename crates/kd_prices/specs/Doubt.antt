@@ -10,8 +10,8 @@ use Rattle.kd_card.specs.Proving.{AreSettingsNeeded, Expands, IsSettingNeeded, p
 use Rattle.kd_prices.specs.declared.doubt.Doubt.TheVariants.{NeedlessLine, NotTheSheet, PriceMissing, PriceTooHigh}
 use Rattle.kd_prices.specs.declared.doubt.Doubt.{Doubt, TheVariants.{IllegalAt, OtherModel, SumDiffers}}
 
--- The prices are for machines like this one: prices of cables and columns for a rotor machine, or prices of bars
--- and rows for a Converter M-209.
+-- The prices suit the machine: they are prices of cables and columns for a rotor machine, or of bars and rows for a
+-- Converter M-209.
 abbrev pub BelongTo : Parts → PriceParts → Type 0
 BelongTo (Rotor m) (Cables row col) = Unit {0}
 BelongTo (Rotor m) (CableKinds row col) = Unit {0}
@@ -57,7 +57,7 @@ IsFitsAnswer costs prices (Err (PriceTooHigh i j)) =
     × IsFirstWithout (PricesFitAt costs prices) (table_rows prices) row column
 IsFitsAnswer costs prices (Err doubt) = ⊥
 
--- The result of testing the settings: success if all of them are needed, or the first that isn't needed.
+-- The result of testing whether all settings are needed: success, or the first setting that isn't.
 abbrev pub IsNeededAnswer : Parts → Day → List Setting → AnswerRule Doubt (Unit {0})
 IsNeededAnswer m s settings (Ok all) = AreSettingsNeeded m s settings
 IsNeededAnswer m s settings (Err (NeedlessLine line)) = IsFirstNeedless m s settings line
@@ -88,9 +88,9 @@ IsDoubt m s settings prices doubt = IsCheckedAnswer m s settings prices (Err dou
 
 -- ---- The steps of finding the first doubt. No public contract cites these definitions.
 
--- The result of checking settings by the prices of a table of costs: `rows` has the prices of its `number` rows, and
--- `columns` those of its `number` columns. The result is success if the settings lead to the day and are proved
--- shortest; otherwise it is the first doubt.
+-- The result of checking settings by prices: `rows` for the `number` rows of the table of costs, and `columns` for its
+-- `number` columns. The result is success if the settings lead to the day and are proved shortest; otherwise it is the
+-- first doubt.
 abbrev pub IsByPricesAnswer : Parts → Day → List Setting → ℕ → List ℤ → List ℤ → AnswerRule Doubt (Unit {0})
 IsByPricesAnswer m s settings number rows columns answer =
     (prices : PriceParts) → row_prices prices ≡ rows → column_prices prices ≡ columns → table_rows prices ≡ number

@@ -26,9 +26,9 @@ pub record CanBeKinds {K X : Type 0} (format : KindFormat K X) (cmp : X → X �
   pub one_price : HaveOnePriceEach pairs
   pub fine : All (IsFine format) pairs
 
--- `new` is `old` with added kinds, which count the keys that `kind` counts and the keys of `pairs`, all with their
--- prices. If all these can be grouped into kinds, the added kinds are valid and strictly ascending. If the key of
--- `kind` comes after the key of some kind `last`, all added kinds come after `last`.
+-- `new` is `old`, and then added kinds. They count the key of `kind`, as often as `kind` does, and the keys in `pairs`,
+-- all with their prices. Suppose that these keys can be grouped into valid kinds. Then the added kinds are valid and
+-- strictly ascending. If the key of `kind` comes after a kind `last`, so do all added kinds.
 pub record AppendsKinds {K X : Type 0} (format : KindFormat K X) (cmp : X → X → Ordering) (kind : KindOf X)
     (pairs : List (X × ℤ)) (old new : List K) : Type 0 where
   pub made : List K

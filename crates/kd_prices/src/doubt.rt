@@ -14,16 +14,16 @@ pub enum Doubt {
     ///
     /// Cards for rotor machines have prices of cables, and cards for the Converter have prices of bars.
     OtherModel,
-    /// The card has a price for each kind, but its kinds or their counts aren't those of machine and day.
+    /// The card has a price for each kind, but its kinds or their counts differ from the machine's or the day's.
     PriceMissing,
     /// The machine refuses this line, for this reason, after the lines before it are carried out.
     IllegalAt(usize, Why),
-    /// After all settings of the card, the machine isn't set as the day says, or shows other letters.
+    /// After all settings of the card, the machine isn't set as the day says, or doesn't show the day's letters.
     NotTheSheet,
-    /// The prices of this row and this column add up to more than the cost where row and column meet.
+    /// In the table of costs, the prices of this row and this column add up to more than the cost in their cell.
     ///
-    /// Of all such places of the table of costs, this is the first, row by row. Rows and columns are counted from 1. A
-    /// row of the table stands for a cable or a bar, and a column for a pair (or no pair) or for a row of the sheet.
+    /// This cell is the first whose prices are too high, row by row. Rows and columns are counted from 1. A row of the
+    /// table stands for a cable or a bar, and a column for a pair (or no pair) or for a row of the sheet.
     PriceTooHigh(u8, u8),
     /// The sum of the prices isn't the number of lines that change a cable or a bar.
     SumDiffers,

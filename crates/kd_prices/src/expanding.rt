@@ -24,9 +24,9 @@ pub(crate) fn prices_of<K: Kind, const N: usize>(
     take_prices(keys, kinds.as_mut_slice(), &mut prices).then_some(prices)
 }
 
-/// For each key in `keys`, lowers its kind's count by one, and writes the kind's price to the same place in `prices`.
+/// For each key in `keys`, lowers its kind's count by one, and writes the kind's price to the key's place in `prices`.
 ///
-/// The result is `false` if a key's kind isn't among `kinds`, or its count is too low.
+/// Returns `false` if some key is in `keys` more often than `kinds` count it.
 fn take_prices<K: Kind>(keys: &[K::Key], kinds: &mut [K], prices: &mut [i16]) -> bool
     requires prices { length prices.old ≡ length keys.now }
     ensures len { length prices.new ≡ length prices.old }
@@ -45,9 +45,9 @@ fn take_prices<K: Kind>(keys: &[K::Key], kinds: &mut [K], prices: &mut [i16]) ->
     }
 }
 
-/// Lowers the count of the kind with the key `key` by one, and returns the price of this kind.
+/// Lowers the count of a kind with the key `key` by one, and returns the kind's price.
 ///
-/// Returns `None` if no kind has this key, or if the count of this kind is 0.
+/// Returns `None` if no kind with this key has a count above 0.
 fn take_one<K: Kind>(key: &K::Key, kinds: &mut [K]) -> Option<i16>
     ensures { MatchOption result
         (HasNoneLeft K.Key.eq (map K.format.kind kinds.old) key.now)

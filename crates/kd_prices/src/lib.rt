@@ -1,5 +1,5 @@
-//! Checks whether a card proves itself. Converts cards: one price for each cable, pair, bar or row becomes one price
-//! for each kind of them.
+//! Checks whether a card proves itself. Converts cards with a price for each cable, pair, bar or row to cards with a
+//! price for each kind.
 #![tactic(auto)]
 
 mod checking;
