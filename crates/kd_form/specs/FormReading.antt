@@ -28,7 +28,7 @@ FitsHeadingAt place byte = (place < 5 → byte ≡ slice_index (codes "PART ") p
 abbrev pub HasBegunHeading : List ℕ → Type 0
 HasBegunHeading bytes = ((count : ℕ) × (count ≤ 5) × (bytes ≡ take count (codes "PART "))) ⊎ BeginsHeading bytes
 
--- `part` is the beginning of a heading line, without LF. `held` has its first 64 bytes, or all if it has fewer.
+-- `part` is the beginning of a heading line, without LF. `held` is `part`, cut off after 64 bytes if it is longer.
 pub record HoldsLine (held part : List ℕ) : Type 0 where
   pub kept : held ≡ take 64 part
   pub unbroken : IsWithout 10 part
@@ -55,8 +55,8 @@ pub record HoldsBody (s : Day) (b : PartBody) (part body : List ℕ) : Type 0 wh
   pub allowed : All (λ b. IsTrue (is_text_byte b)) body
   pub kept : b.letters.items ≡ take 525 (letters_from None body)
 
--- The part is number `number`, as its heading says. Its heading also has the expected number of parts. `b` holds the
--- part's body.
+-- `b` holds the heading and the body of `part`. The heading has the part number `number` and the expected number of
+-- parts.
 pub record HoldsPart (s : Day) (b : PartBody) (number : ℕ) (expected : Option ℕ) (part : List ℕ) : Type 0 where
   pub body : List ℕ
   pub holds : HoldsBody s b part body
@@ -72,8 +72,7 @@ abbrev pub IsBodyPlaintext : Day → Heading → List ℕ → List ℕ → Type 
 IsBodyPlaintext s h letters made = (text : List ℕ) × IsBodyAnswer s h.part h letters (Ok text)
     × (made ≡ plaintext_bytes s text)
 
--- The letters that `b` holds are deciphered to `output`, or refused. The last of these letters, `others` in number,
--- don't count.
+-- The body that `b` holds, without its last `others` letters, is deciphered to `output`, or refused.
 abbrev pub IsDecipherAnswer : Day → PartBody → ℕ → List ℕ → Result (Unit {0}) FormFault → Type 0
 IsDecipherAnswer s b others output answer =
     (letters more : List ℕ) → length more ≡ others → b.letters.items ≡ take 525 (letters ++ more)
@@ -81,13 +80,12 @@ IsDecipherAnswer s b others output answer =
     (λ _. IsBodyPlaintext s b.heading letters output)
     (λ fault. IsBodyAnswer s b.heading.part b.heading letters (Err fault))
 
--- `part` has no LF, so it ends within its heading line. `found` is the heading that these bytes are, if they are a
--- heading, and else `None`.
+-- `part` has no LF, so it ends within its heading line. `found` is the heading in it, or `None` if there is no heading.
 abbrev pub IsOpenHeading : Day → List ℕ → Option Heading → Type 0
 IsOpenHeading s part found =
     MatchOption found ((h : Heading) (body : List ℕ) → ¬ (HasHeading s part h body)) (λ h. HasHeading s part h [])
 
--- `part` is a first line without its LF. `found` is the heading in it, or `None` if there is no heading.
+-- `part` is a part's first line, without its LF. `found` is the heading in it, or `None` if there is no heading.
 abbrev pub IsEndedHeading : Day → List ℕ → Option Heading → Type 0
 IsEndedHeading s part found =
     MatchOption found
@@ -100,7 +98,7 @@ pub record IsExpectedHeading (number : ℕ) (expected : Option ℕ) (found : Opt
   pub numbered : h.part ≡ number
   pub due : IsExpectedCount expected h.parts
 
--- Why `found` is refused: it is `None`; or the heading in it has a wrong part number or number of parts.
+-- Why `found` is refused: it is `None`, or its heading has a wrong part number or a wrong number of parts.
 pub data IsHeadingFault (number : ℕ) (expected : Option ℕ) (found : Option Heading) (fault : FormFault) : Type 0 where
   HeadingMissing : found ≡ None → fault ≡ BadHeading number → IsHeadingFault number expected found fault
   HeadingOfOther : (h : Heading) → found ≡ Some h → (h.part ≢ number) ⊎ (¬ (IsExpectedCount expected h.parts))

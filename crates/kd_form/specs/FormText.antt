@@ -30,8 +30,7 @@ abbrev pub next_part_start : PartStart → ℕ → List ℕ → PartStart
 next_part_start p count part = record
     { number = p.number + 1; expected = Some count; bytes_before = p.bytes_before + length part }
 
--- A property such as `AreAllPartsRead`. It speaks of where a part starts, and of the list of this part and all later
--- parts.
+-- A property of a part's start and of the list of parts from there on. Example: `AreAllPartsRead`.
 abbrev pub PartsProperty : Type 1
 PartsProperty = PartStart → List (List ℕ) → Type 0
 
@@ -80,9 +79,8 @@ pub record IsTextOf (s : Day) (form text : List ℕ) : Type 0 where
 -- ---- Why a form has no text: its first fault, for good or at the form's end, and the text before this fault.
 -- Test: forms_are_received, parts_are_missing_or_exchanged
 
--- The first part not yet read, which begins at `p`, has `fault`, and no further bytes can change that. Any fault counts
--- if another part follows. Otherwise, only an early fault (`IsEarlyFault`) counts, and the part's heading line must
--- have ended.
+-- The first part not yet read, which begins at `p`, has `fault`, and no further bytes can change that: another part
+-- follows, or the part's heading line has ended and the fault is an early one (`IsEarlyFault`).
 abbrev pub IsPartFaultForGood : Day → FormFault → PartsProperty
 IsPartFaultForGood s fault p [] = ⊥
 IsPartFaultForGood s fault p (part ∷ []) =
@@ -109,7 +107,7 @@ IsPartFaultAtEnd s fault p (part ∷ next ∷ others) = ⊥
 abbrev pub IsRefusedAtEnd : Day → List ℕ → List ℕ → FormFault → Type 0
 IsRefusedAtEnd s form text fault = IsFormReadTo s (IsPartFaultAtEnd s fault) form text
 
--- The form has `fault`. Either no further bytes can change this, or the form has it because the form ends here.
+-- The form has `fault`, for good or because the form ends here.
 abbrev pub IsReceiveFault : Day → List ℕ → FormFault → Type 0
 IsReceiveFault s form fault = (text : List ℕ) × (IsRefusedForGood s form text fault ⊎ IsRefusedAtEnd s form text fault)
 

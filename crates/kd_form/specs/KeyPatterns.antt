@@ -35,14 +35,14 @@ pub record IsAnyKeyLine (s : Day) (bytes : List ℕ) : Type 0 where
   pub of_the_day : AreKeys s keys
   pub keyed : IsKeyLine keys bytes
 
--- The day is a rotor machine's, with `slots` slots, three or four.
+-- The day is for a rotor machine with `slots` slots, three or four.
 pub record IsRotorDayWith (s : Day) (slots : ℕ) : Type 0 where
   pub day : RotorDay
   pub is : s ≡ OfRotors day
   pub count : slots ≡ length day.wheels
   pub either : (slots ≡ 3) ⊎ (slots ≡ 4)
 
--- The day is a Converter M-209's.
+-- The day is for a Converter M-209.
 pub record IsConverterDay (s : Day) : Type 0 where
   pub day : PinDay
   pub is : s ≡ OfPins day

@@ -12,11 +12,11 @@ use Rattle.kd_form.specs.declared.heading.Indicator.{Indicator}
 use Rattle.kd_form.specs.InternalKey.{IsInternalKey}
 use Rattle.kd_form.specs.Part.{Part, part_text}
 
--- the ciphertext of `text` on the day's own machine, with the letters of `window` in the windows at the start
+-- the ciphertext of `text` on a machine set as the day says, with the letters of `window` in the windows at the start
 abbrev pub cipher_from : Day → List ℕ → List ℕ → List ℕ
 cipher_from s window text = cipher (key_with_window (sheet_key s) window) text
 
--- `key` is the key of the day's own machine, with any letters in its windows.
+-- `key` is the key of a machine set as the day says, with any letters in its windows.
 abbrev pub IsTurnedFrom : Day → EngineKey → Type 0
 IsTurnedFrom s key = (window : List ℕ) × (key ≡ key_with_window (sheet_key s) window)
 
@@ -46,7 +46,7 @@ abbrev pub indicator_of : Day → RotorKeys → Indicator
 indicator_of s k =
     record { ground_setting = k.ground_setting; enciphered_key = cipher_from s k.ground_setting k.message_key }
 
--- the two fillers and the group, which aren't enciphered, and the text, enciphered with the message key
+-- the two fillers and the group, unenciphered; then the text, enciphered with the message key
 abbrev pub rotor_letters : Day → RotorKeys → List ℕ → List ℕ
 rotor_letters s k text = k.fillers ++ k.group ++ cipher_from s k.message_key text
 
@@ -66,8 +66,8 @@ pin_indicators s k = k.chosen ∷ k.chosen ∷ k.external ++ list_letters s
 abbrev pub fill_last_group : List ℕ → List ℕ
 fill_last_group text = text ++ replicate ((5 - length text % 5) % 5) 23
 
--- the body of a part: the indicators; the filled text, enciphered with the internal key in the windows at the start;
--- the indicators again
+-- the body of a part: the indicators; `text`, filled to whole groups and enciphered with the internal key in the
+-- windows at the start; the indicators again
 abbrev pub pin_letters : Day → PinKeys → List ℕ → List ℕ → List ℕ
 pin_letters s k internal text = pin_indicators s k ++ cipher_from s internal (fill_last_group text)
     ++ pin_indicators s k

@@ -41,8 +41,8 @@ abbrev pub IsExpectedCount : Option ℕ → ℕ → Type 0
 IsExpectedCount None parts = Unit {0}
 IsExpectedCount (Some first) parts = first ≡ parts
 
--- The first fault of a part, if it shows before the part ends. It is one of these: no valid heading; a wrong part
--- number or number of parts; a byte of the body that isn't allowed. The form has `start` bytes before the part.
+-- The first fault of a part, if it shows before the part ends: no valid heading; a wrong part number or a wrong number
+-- of parts; a byte of the body that isn't allowed. The form has `start` bytes before the part.
 pub data IsEarlyFault (s : Day) (number : ℕ) (expected : Option ℕ) (start : ℕ) (part : List ℕ)
     (fault : FormFault) : Type 0 where
   InHeading : ((h : Heading) (body : List ℕ) → ¬ (HasHeading s part h body)) → fault ≡ BadHeading number

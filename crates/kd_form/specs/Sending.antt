@@ -70,8 +70,8 @@ pub record IsFirstKeysFault (s : Day) (keys : List Keys) (fault : FormFault) : T
   pub suited : All (KeysSuitDay s) before
   pub is : IsKeysFault s (length before + 1) unsuited fault
 
--- The order has a complete head, its keys suit the day, and each byte of its text is allowed. So only an
--- `IsOrderFaultAtEnd` is possible.
+-- The order has a complete head, its keys suit the day, and each byte of its text is allowed. So its only possible
+-- fault is one at its end (`IsOrderFaultAtEnd`).
 pub record IsSendable (s : Day) (order : List ℕ) (keys : List Keys) (head text : List ℕ) : Type 0 where
   pub is_order : IsOrder s order keys head text
   pub suited : All (KeysSuitDay s) keys
@@ -87,8 +87,8 @@ pub data IsOrderFaultForGood (s : Day) (order : List ℕ) (fault : FormFault) : 
       → All (KeysSuitDay s) keys
       → IsFirstBadByteAt text place → fault ≡ BadByte (length head + place + 1) → IsOrderFaultForGood s order fault
 
--- The fault that an order has if it ends here. Either it ends within its head; or its text has no letter, or needs more
--- or fewer parts than there are lines of keys.
+-- The fault that an order has if it ends here: its head is incomplete; or its text has no letter, or needs more or
+-- fewer parts than there are lines of keys.
 pub data IsOrderFaultAtEnd (s : Day) (order : List ℕ) (fault : FormFault) : Type 0 where
   HeadCutShort : IsOrderHeadFault s order (length order + 1) → fault ≡ BadByte (length order + 1)
       → IsOrderFaultAtEnd s order fault

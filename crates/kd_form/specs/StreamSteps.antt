@@ -23,8 +23,8 @@ pub record HasRoom (m : Message) (holds : List ℕ → List ℕ → Type 0) (roo
   pub held : HasReadSoFar m holds bytes text
   pub within : length bytes + room < 2 ^ 63
 
--- The reader reads `byte`. If the bytes read so far have no fault, it outputs `made`, and its state changes from `old`
--- to `new`.
+-- The reader reads `byte`. If `byte` causes no fault, the reader outputs `made`, and its state changes from `old` to
+-- `new`. Otherwise the message is refused, whatever bytes follow.
 abbrev pub IsFeedAnswer : Message → (List ℕ → List ℕ → Type 0) → (List ℕ → List ℕ → Type 0) → ℕ → List ℕ
     → Result (Unit {0}) FormFault → Type 0
 IsFeedAnswer m old new byte made answer =
@@ -32,8 +32,8 @@ IsFeedAnswer m old new byte made answer =
     → MatchResult answer (λ _. HasReadSoFar m new (bytes ++ byte ∷ []) (text ++ made))
     (IsRefused m (bytes ++ byte ∷ []) text)
 
--- At the end of the message, the reader outputs `made`. If there is no fault, it is what is left of the result. If
--- there is a fault, it is what is left of the text that comes before the fault.
+-- At the end of the message, the reader outputs `made`: the rest of the result or, if there is a fault, the rest of the
+-- text that is written before the fault.
 abbrev pub IsEndAnswer : Message → (List ℕ → List ℕ → Type 0) → List ℕ → Result (Unit {0}) FormFault → Type 0
 IsEndAnswer m old made answer = (bytes text : List ℕ) → HasReadSoFar m old bytes text
     → IsMessageAnswer m bytes (text ++ made) answer
@@ -50,7 +50,7 @@ is_device_interruption _ = false
 
 -- ---- bytes, one after another
 
--- At some time while `bytes` were read, a certain text had to be written. `text` is a proper prefix of it.
+-- `text` is a proper prefix of a text that was due once some prefix of `bytes` had been read.
 pub record IsPrefixOfDue (m : Message) (bytes text : List ℕ) : Type 0 where
   pub front : List ℕ
   pub due : List ℕ
@@ -78,7 +78,7 @@ IsFeedAllAnswer m old new more sink answer =
 
 -- ---- the end
 
--- All text that is due at the message's end was written; if the sink failed, only a proper prefix of this text.
+-- All text due at the message's end was written; or the sink failed, and only a proper prefix of it was written.
 abbrev pub HasBeenEnded : Message → List ℕ → List ℕ → Result (Unit {0}) Interruption → Type 0
 HasBeenEnded m bytes text (Ok _) = IsMessageAnswer m bytes text (Ok tt)
 HasBeenEnded m bytes text (Err (Refused fault)) = IsMessageAnswer m bytes text (Err fault)

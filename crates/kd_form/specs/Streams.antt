@@ -1,4 +1,4 @@
--- Kinds of messages: which faults their bytes have, what they become, and what is written.
+-- Kinds of messages: a message's faults, its result, and the text that is written while the message is read.
 use Rattle.std.specs.Prelude.{◌≡◌, ◌≢◌, ℕ, ◌≤◌, Bool, true, false, List, [], ◌∷◌, ◌++◌, length, Option, None, Some}
 use Rattle.std.specs.Prelude.{Result, Ok, Err, MatchResult}
 use Rattle.std.specs.Io.{StartsWith}
@@ -10,9 +10,9 @@ use Rattle.kd_form.specs.declared.fault.FormFault.{FormFault}
 use Rattle.kd_form.specs.declared.fault.FormFault.TheVariants.{NotReady, Device, NotOnKey, ReadTooLong}
 use Rattle.kd_form.specs.OnTheKey.{IsReadyOnKey, IsKeyFault}
 
--- A kind of message, such as orders. `stands`: the first bytes of a message have this fault, and no further bytes can
--- change it. `refused`: a whole message has this fault. `becomes`: a whole message has this result. `before`: if there
--- is a fault, this text is written before the fault; if not, before further bytes are read.
+-- A kind of message, such as orders. `stands`: the first bytes of a message have a fault that no further bytes can
+-- change. `refused`: a whole message has a fault. `becomes`: a whole message has a result. `before`: a text is written
+-- before a fault or, without a fault, before further bytes are read.
 pub record Message : Type 1 where
   pub stands : List ℕ → FormFault → Type 0
   pub refused : List ℕ → FormFault → Type 0
@@ -33,8 +33,8 @@ IsMessageAnswer m bytes text answer =
 -- Code: `stream_message` reads a message chunk by chunk; the readers of orders and forms take it byte by byte.
 -- Test: orders_are_sent, forms_are_received
 
--- While the bytes `read` come in, or when the source ends after them, texts have to be written. `text` is one of these
--- texts: all that is due by then.
+-- `text` is all that is due after some prefix of `read` that has no fault; or, if the source ends after `read`, all
+-- that is due at this end.
 pub data IsDue (m : Message) (source : Port) (read text : List ℕ) : Type 0 where
   ByThen : (front : List ℕ) → StartsWith read front → IsOpen m front text → IsDue m source read text
   ByTheEnd : (answer : Result (Unit {0}) FormFault) → IsAtEnd source.has → IsMessageAnswer m read text answer
@@ -100,8 +100,8 @@ pub record IsUntouched (p : Port) : Type 0 where
   pub has : p.has ≡ p.had
   pub well : HasNotFailed p
 
--- If a fault comes before anything is read, the answer is this fault, and both ports are left as they were. If there is
--- no such fault, the condition `may` holds; the message is read, and its result is written.
+-- Either the answer is a fault that satisfies `is_fault`, and both ports are left as they were; or `may` holds, and the
+-- call reads and writes as `IsStreamed` says.
 pub data StreamsUnlessFault (is_fault : FormFault → Type 0) (may : Type 0) (message : Message) (source sink : Port)
     (answer : Result (Unit {0}) FormFault) : Type 0 where
   FaultBefore : (fault : FormFault) → is_fault fault → answer ≡ Err fault → IsUntouched source → IsUntouched sink

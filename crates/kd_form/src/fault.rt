@@ -22,13 +22,13 @@ pub enum FormFault {
     BadByte(usize),
     /// The order's text has no letter.
     EmptyText,
-    /// The text needs `needed` parts, and the order has `given` lines of keys.
+    /// The text needs `needed` parts, but the order has `given` lines of keys.
     PartKeys { needed: usize, given: usize },
     /// A letter that the message gives for a wheel (an external letter) isn't on this wheel.
     KeyNotOnWheel,
-    /// This part's group is none of the day's. Or, on the Converter M-209, its list letters aren't the day's.
+    /// This part's group is none of the day's groups; or, on the Converter M-209, its list letters aren't the day's.
     WrongGroup(u8),
-    /// This part's enciphered letters run out before each wheel has a letter of the internal key.
+    /// The twelve letters from which this part's internal key is picked don't give each wheel a letter.
     IndicatorSpent(u8),
     /// This part doesn't begin with a valid heading for the day's model.
     BadHeading(u8),

@@ -109,9 +109,9 @@ impl MessageReader for FormReader {
     }
 }
 
-/// The fault of a form that ends in the heading of part `number`. `line` is what came of the heading.
+/// The fault of a form that ends within the heading line of part `number`. `line` is what was kept of this line.
 ///
-/// If `line` is a valid heading, the fault is `CountWrong`, because the part has no body.
+/// If the heading is valid and its numbers are right, the fault is `CountWrong`, because the part has no body.
 fn fault_in_heading(
     day: &SheetDay,
     number: u8,

@@ -22,7 +22,7 @@ pub(crate) struct Heading {
     pub(crate) indicator: Option<Indicator>,
 }
 
-/// What a rotor machine's heading says of the part's keys.
+/// What the heading of a rotor machine's part says of the part's keys.
 #[derive(Clone, Copy)]
 pub(crate) struct Indicator {
     /// The ground setting: the letters in the windows before the message key is deciphered.

@@ -9,7 +9,7 @@ use super::own_machine::OwnMachine;
 use arrayvec::ArrayVec;
 use kd_tables::{Letter, place_on_wheel};
 
-/// The internal key for `keys` on the day's machine; `None` if the enciphered letters give no internal key.
+/// Enciphers the chosen letter of `keys` twelve times, and picks the internal key; `None` if there is none.
 pub(crate) fn internal_key_of(own: &mut OwnMachine, keys: &PinKeys) -> Option<ArrayVec<Letter, 6>>
     requires { IsWindow (sheet_key own.old) keys.now.external }
     ensures day { own.new ≡ own.old }

@@ -1,4 +1,4 @@
-//! Makes one part of a form from the part's keys and its letters of the text.
+//! Makes one part of a form from its own keys and its own piece of the text.
 ghost use Rattle.std.specs.Prelude.{◌≡◌, ◌≤◌, ℕ, List, length};
 ghost use Rattle.kd_form.specs.InternalKey.{IsInternalKey};
 ghost use Rattle.kd_form.specs.Keys.{AreKeys};

@@ -1,5 +1,4 @@
-//! A machine that is set as the day says, with any letters in its windows (`OwnMachine`). Also, the call
-//! `append_letters`.
+//! `OwnMachine`, a machine set as the day says, with any letters in its windows; also the function `append_letters`.
 ghost use Rattle.std.specs.Prelude.{◌≡◌, ◌↔◌, ◌≤◌, ◌+◌, ◌<◌, ◌++◌, length, All, IsTrue};
 ghost use Rattle.std.specs.Bool.{OnTrue};
 ghost use Rattle.kd_state.specs.TwoCiphers.{sheet_key, IsWindow};

@@ -74,10 +74,10 @@ impl PartBody {
         keep_byte(&mut self.line, byte);
     }
 
-    /// Deciphers the body into `output`, except the last letters of the body, `others` in number.
+    /// Deciphers the body, without its last `others` letters, into `output`.
     ///
-    /// These letters belong to the next heading. Not inlined: otherwise every byte read would pay for this function's
-    /// stack frame.
+    /// These last letters belong to the next heading. Not inlined: otherwise every byte read would pay for this
+    /// function's stack frame.
     #[inline(never)]
     pub(crate) fn decipher_into(
         &self,

@@ -98,8 +98,8 @@ fn read_pin_letters(
 
 /// Deciphers `letters`, the body of the part with the heading `heading`.
 ///
-/// If a body is too long for any heading, a prefix of it may be given in its place, if the prefix is too long as well.
-/// The fault is `CountWrong` in any case.
+/// If the body is too long for any heading, `letters` may be a prefix of it that is too long as well: the fault is
+/// `CountWrong` for both.
 pub(crate) fn read_body(
     day: &SheetDay,
     heading: &Heading,

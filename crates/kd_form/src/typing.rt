@@ -49,11 +49,11 @@ pub(crate) struct Typist {
     engine: Engine,
     /// How many bytes of the text were read.
     read: usize,
-    /// The letters of the current chunk.
+    /// The letters of the current chunk, enciphered in place.
     ///
-    /// `letters` and `lamps` are kept from chunk to chunk, so that they are filled with placeholders only once.
+    /// `letters` and `lamps` are kept, so that they needn't be filled with placeholders for each chunk.
     letters: ArrayVec<Letter, CHUNK>,
-    /// The lamps that lit up for `letters`, as capital letters.
+    /// The lamps that lit up for the current chunk, as capital letters.
     lamps: ArrayVec<u8, CHUNK>,
 }
 

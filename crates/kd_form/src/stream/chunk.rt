@@ -120,7 +120,7 @@ pub(crate) fn read_next<Context, M: ChunkReader<Context>, R: Source, W: Sink>(
     )
 }
 
-/// Reads from `source` at most the bytes that fill `buffer`, feeds them to `reader`, and returns their number.
+/// Reads bytes from `source` into `buffer`, feeds them to `reader`, and returns their number.
 fn read_into<Context, M: ChunkReader<Context>, R: Source, W: Sink>(
     reader: &mut M,
     context: &Context,

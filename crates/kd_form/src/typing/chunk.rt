@@ -74,8 +74,7 @@ fn collect_letters(bytes: &[u8], letters: &mut ArrayVec<Letter, CHUNK>) -> usize
 
 /// Sets the length of `items` to `count`.
 ///
-/// Nothing is done if `items` has this length already. This is so for most chunks, since chunks of a text usually have
-/// one length.
+/// Usually does nothing, because most chunks of a text are equally long.
 fn set_length<T: Copy + Default>(items: &mut ArrayVec<T, CHUNK>, count: usize)
     requires { count ≤ CHUNK }
     ensures { array_vec_len items.new ≡ count }
@@ -88,8 +87,8 @@ fn set_length<T: Copy + Default>(items: &mut ArrayVec<T, CHUNK>, count: usize)
 
 /// Types the letters before the first byte that isn't allowed, and returns the index of this byte.
 ///
-/// If all bytes are allowed, returns the number of bytes. `letters` gets the letters typed, and `lamps` the lamps
-/// that light up, as capital letters.
+/// If all bytes are allowed, returns the number of bytes. `lamps` gets the lamps that light up, as capital letters;
+/// `letters` is only a buffer.
 pub(super) fn type_chunk(
     engine: &mut Engine,
     bytes: &[u8],
