@@ -1,5 +1,5 @@
--- A partial assignment of columns to rows: `holders` has, for each column, its row or `None`. No public contract
--- cites this file.
+-- A partial assignment of columns to rows: `holders` has each column's row, or `None` for a free column. No public
+-- contract cites this file.
 use Rattle.std.specs.Prelude.{◌≡◌, ℕ, ◌*◌, ◌<◌, List, length, Option, Some, None, is_some, slice_index_or, count_by, ℤ}
 use Rattle.std.specs.Prelude.{pos, ◌+ℤ◌, ◌≤ℤ◌}
 use Rattle.kd_assign.specs.Prices.{cost_at, price_at}
@@ -21,8 +21,8 @@ abbrev pub IsCheapestColumn : ℕ → List (List ℕ) → List ℤ → ℕ → �
 IsCheapestColumn n cost prices i j =
     (k : ℕ) → k < n → (pos (cost_at cost i j) +ℤ price_at prices k) ≤ℤ (pos (cost_at cost i k) +ℤ price_at prices j)
 
--- The rows before `next` have columns, and no other row has one. Each of these rows has its cheapest column at these
--- prices.
+-- The rows before `next` have columns, and no other row has one. Each row's column is its cheapest at the prices
+-- `prices`.
 pub record IsSolvedTo (n : ℕ) (cost : List (List ℕ)) (prices : List ℤ)
     (holders : List (Option ℕ)) (next : ℕ) : Type 0 where
   pub places : length holders ≡ n

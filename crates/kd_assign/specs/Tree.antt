@@ -59,9 +59,9 @@ module _ (n : ℕ) (cost : List (List ℕ)) (prices : List ℤ) (holders : List 
     pub taken : (j : ℕ) → is_some (slice_index_or plan j None) ≡ is_some (slice_index_or holders j None)
 
   -- Each column of the tree has a row. A column's room is its ceiling minus its price. No column of the tree has more
-  -- room than a column outside. If the ceilings are taken as prices, each column outside the tree is the cheapest
-  -- column of its nearest row. If row `i` is the nearest row of such a column, `plans` has an assignment of columns to
-  -- the rows from 0 to `root`, except row `i`.
+  -- room than a column outside the tree. If the ceilings are taken as prices, each column outside the tree is the
+  -- cheapest column of its nearest row. If row `i` is the nearest row of a column outside the tree, `plans` has an
+  -- assignment of columns to the rows from 0 to `root`, except row `i`.
   pub record IsGrownTree (near : List ℕ) (plans : List (List (Option ℕ))) : Type 0 where
     pub places : length reached ≡ n
     pub plan_places : length plans ≡ n

@@ -11,9 +11,8 @@ use crate::scans::Scans;
 /// Gives row `root` a column. The rows before it may get other columns, so that the total cost is the least.
 ///
 /// A tree of rows and columns grows from `root`. In each round the nearest column joins the tree, and then the row that
-/// holds this column. The growth ends at a free column, which no row holds. For each row of the tree, `plans` gets an
-/// assignment without this row: it gives columns to all rows from 0 to `root`, except this one. The old contents of
-/// `plans` are never read.
+/// holds this column. The growth ends at a free column, which no row holds. For each row `r` of the tree, `plans` gets
+/// an assignment of columns to the rows from 0 to `root`, except `r`. The old contents of `plans` are never read.
 pub fn assign_row<const N: usize>(
     cost: &[[u8; N]; N],
     prices: &mut [i16; N],

@@ -30,7 +30,7 @@ impl<const N: usize> Nearest<N> {
         }
     }
 
-    /// Adds `row` to the tree: compares the row's offer for each column outside the tree with the column's ceiling.
+    /// Adds `row` to the tree: for each column outside the tree, compares the row's offer with the column's ceiling.
     pub fn join(
         &mut self,
         reached: &[bool; N],
@@ -86,7 +86,7 @@ impl<const N: usize> Nearest<N> {
         self.ceiling[column] - prices[column]
     }
 
-    /// The level of `row`: the ceiling of `column`, which the row holds, minus the cost where row and column meet.
+    /// The level of `row`, the row that holds `column`: the column's ceiling minus the cost where the two meet.
     ///
     /// For any column, a row of the tree offers a price: the row's level plus the cost where row and column meet.
     pub fn level(&self, cost: &[[u8; N]; N], row: usize, column: usize) -> i16
@@ -120,10 +120,10 @@ impl<const N: usize> Nearest<N> {
         least.unwrap()
     }
 
-    /// The nearer of the columns `first` and `second`, or `first` if the tree has `second` already.
+    /// Of two columns, the one with less room (ceiling minus price), or `first` if the tree has `second` already.
     ///
-    /// If both columns are equally near, `second` wins if it is free, since the tree ends at a free column; otherwise
-    /// `first` wins. The contract leaves this choice open.
+    /// If both have equal room, a free `second` wins, because a free column ends the tree's growth; any other `second`
+    /// loses. The contract leaves this choice open.
     fn nearer(
         &self,
         reached: &[bool; N],

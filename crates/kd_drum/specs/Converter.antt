@@ -27,11 +27,12 @@ abbrev pub IsEachOnItsWheel : List ℕ → Type 0
 IsEachOnItsWheel letters = (wheel : ℕ) → 1 ≤ wheel → wheel ≤ 6
     → Contains (ring_of wheel) (slice_index letters (wheel - 1))
 
--- the place of the letter that a wheel shows (`letters` has all six shown letters); 0 if the wheel lacks its letter
+-- the place of the letter that a wheel has to show (`letters` has one for each wheel); 0 if the wheel lacks this letter
 abbrev pub shown_place : List ℕ → ℕ → ℕ
 shown_place letters wheel = unwrap_or (place_on (ring_of wheel) (slice_index letters (wheel - 1))) 0
 
--- whether the acting pin of wheel `wheel` is effective once `count` letters are enciphered, beginning at `letters`
+-- whether wheel `wheel` has an effective acting pin after `count` letters of a text; before the text, the wheels show
+-- `letters`
 abbrev pub is_acting_after : List (List Bool) → List ℕ → ℕ → ℕ → Bool
 is_acting_after pins letters count wheel =
     (nat_le 1 wheel && nat_le wheel 6) && is_effective (pins_on pins wheel)

@@ -1,10 +1,10 @@
-//! A table of the numbers of bars that are met. It has an entry for each set of wheels whose acting pins are effective.
+//! Tabulates how many bars are met, for each set of wheels whose acting pins are effective.
 ghost use Rattle.std.specs.Prelude.{◌≡◌, ◌≤◌, ◌||◌};
 ghost use Rattle.kd_drum.specs.Counts.{AreCounts, is_in_set, bars_met_by};
 
 use kd_tables::Reading;
 
-/// Counts, for each set of wheels, the bars that are met if exactly these wheels have an effective acting pin.
+/// For each set of wheels, counts the bars that are met if exactly these wheels have an effective acting pin.
 ///
 /// A set is a sum of powers of two: 1 for wheel 1, 2 for wheel 2, and so on to 32 for wheel 6.
 pub(crate) fn count_bars_met(rows: &[Reading; 27]) -> [u8; 64]

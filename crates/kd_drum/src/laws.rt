@@ -7,7 +7,7 @@ pub fn enciphering_twice_gives_back()
     ensures { ConverterTwiceGivesBack }
 {}
 
-/// A text can be enciphered in chunks. Each chunk begins with the wheels as the previous chunk left them.
+/// A text can be enciphered in chunks: each chunk starts from the letters that the wheels show after the previous one.
 #[tactic(auto, using(crate::proofs::Ciphers::cipher_in_turn))]
 pub fn pieces_are_enciphered_in_turn()
     ensures cipher { ConverterCipherInTurn }

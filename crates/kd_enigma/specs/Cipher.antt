@@ -10,7 +10,8 @@ use Rattle.kd_tables.specs.declared.reflector.Reflector.{Reflector}
 use Rattle.kd_step.specs.Stepper.{window_after}
 use Rattle.kd_enigma.specs.Rotor.{rotor}
 
--- A rotor machine's key: wheels, ring and window letters from the left, reflector, and the plugboard's permutation.
+-- A rotor machine's key. Wheels, ring letters and window letters are in order from the left; `plugs` is the plugboard's
+-- permutation.
 pub record RotorKey : Type 0 where
   pub wheels : List Wheel
   pub rings : List ℕ
@@ -36,7 +37,7 @@ key_after key n = key_turned key (window_after key.wheels key.window n)
 -- Code: `Enigma` keeps the path for the current window as one table, and makes this table anew after each step.
 -- Test: machines_encipher
 
--- the permutations of the wheels at these ring and window letters, from the left
+-- the wheels' permutations for given ring letters and window letters; all lists are in order from the left
 unfoldable pub rotors : List Wheel → List ℕ → List ℕ → List (List ℕ)
 rotors (wheel ∷ wheels) (ring ∷ rings) (letter ∷ window) = rotor wheel ring letter ∷ rotors wheels rings window
 rotors _ _ _ = []

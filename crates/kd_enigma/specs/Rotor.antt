@@ -15,6 +15,6 @@ offset ring window = (window + (26 - ring)) % 26
 unfoldable pub wiring_turned_by : ℕ → List ℕ → List ℕ
 wiring_turned_by by wiring = followed_by (followed_by (shift by) wiring) (shift (26 - by))
 
--- the permutation of a wheel, at this ring and window letter, on the current's way in, from right to left
+-- a wheel's permutation on the current's way in (from right to left), for a ring letter and a window letter
 abbrev pub rotor : Wheel → ℕ → ℕ → List ℕ
 rotor wheel ring window = wiring_turned_by (offset ring window) (wiring_of wheel)

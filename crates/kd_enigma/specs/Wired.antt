@@ -20,7 +20,7 @@ wheels_with_boards plugs (wheel ∷ wheels) (ring ∷ rings) =
     record { wheel = wheel; ring = ring; board = alphabet } ∷ wheels_with_boards plugs wheels rings
 wheels_with_boards plugs _ _ = []
 
--- the key of a machine with these parts
+-- the key of a machine, from its stepper, rings, reflector and plugboard
 abbrev pub key_of_parts : Stepping → List ℕ → Reflector → List ℕ → RotorKey
 key_of_parts stepper rings reflector plugs = record {
   wheels = stepper.wheels;

@@ -103,7 +103,7 @@ impl<const S: usize> Enigma<S> {
         }
     }
 
-    /// Turns the wheels so that `window` shows, from left to right.
+    /// Turns the wheels so that the windows show the letters `window`, from left to right.
     pub fn turn_to(&mut self, window: [Letter; S])
         ensures { self.new ≡ key_turned self.old window.entry }
     {

@@ -7,7 +7,7 @@ use kd_tables::{Letter, Reflector, Wheel};
 pub struct EnigmaKey<const S: usize> {
     /// The wheel in each slot.
     pub wheels: [Wheel; S],
-    /// The setting of each wheel's ring, as a letter: A is 01.
+    /// The ring setting of each wheel, as a letter: A is 01.
     pub rings: [Letter; S],
     /// The letter in each window.
     pub window: [Letter; S],

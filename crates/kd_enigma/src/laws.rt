@@ -7,7 +7,7 @@ ghost use Rattle.kd_enigma.specs.Laws.{PathsMoveEachLetter, EnigmaTwiceGivesBack
 
 /// Pairs in which no letter occurs twice make a plugboard, which exchanges the two letters of each pair.
 ///
-/// The order of the pairs, and of the two letters of a pair, makes no difference.
+/// Neither the order of the pairs nor the order of a pair's letters makes a difference.
 #[tactic(auto, using(crate::proofs::Cables::pairs_make_a_plugboard, crate::proofs::Cables::same_pairs_exchange_alike))]
 pub fn pairs_make_a_plugboard()
     ensures plugboard { PairsMakeAPlugboard }
@@ -15,7 +15,7 @@ pub fn pairs_make_a_plugboard()
     ensures same { SamePairsExchangeAlike }
 {}
 
-/// A plugboard without cables leaves each letter unchanged.
+/// A board without cables is a plugboard: a permutation that is its own inverse.
 #[tactic(auto, using(crate::proofs::Cables::no_cables))]
 pub fn an_empty_board_is_a_plugboard()
     ensures { IsPlugboard (exchange []) }
@@ -34,7 +34,7 @@ pub fn enciphering_twice_gives_back()
     ensures { EnigmaTwiceGivesBack }
 {}
 
-/// A text can be enciphered in chunks. Each chunk starts with the window that the previous chunk has left.
+/// A text can be enciphered in chunks: each chunk starts from the letters that the windows show after the previous one.
 #[tactic(auto, using(crate::proofs::Ciphers::cipher_in_turn, crate::proofs::Ciphers::key_in_turn))]
 pub fn pieces_are_enciphered_in_turn()
     ensures cipher { EnigmaCipherInTurn }

@@ -8,7 +8,7 @@ use super::map::Map;
 use kd_tables::{Letter, Wheel, unwiring, wiring};
 use std::marker::Model;
 
-/// A wheel with its ring, and with what lies to its right: the plugboard, or nothing.
+/// A wheel with its ring, and with a board to its right: the plugboard, or a permutation that changes nothing.
 ///
 /// For each window letter, it keeps two permutations: one for the current's way in, and one for the way back.
 #[derive(Drop)]

@@ -94,7 +94,7 @@ impl<const N: usize> PinWheel<N> {
         pins[*acting]
     }
 
-    /// Turns the wheel by one place, to the next letter in its order; the first comes after the last.
+    /// Turns the wheel by one place, to the next letter in the wheel's order; after the last letter comes the first.
     pub fn advance(&mut self)
         ensures next { self.new ≡ wheel_at_place self.old (place_past N self.old.place 1) }
         ensures wheel { IsWheel N self.new }

@@ -55,7 +55,7 @@ SetsOnly thing m n = KeepsAllBut (λ other. other ≡ thing) m n
 abbrev pub letters_at_cable : Parts → ℕ → List ℕ
 letters_at_cable m cable = option_map_or cable_letters (machine_cable m cable) []
 
--- the place of the left lug, or of the right lug, of a bar
+-- the place of a bar's left or right lug
 abbrev pub lug_place : Lug → Place × Place → Place
 lug_place Left bar = bar.0
 lug_place Right bar = bar.1
@@ -142,7 +142,7 @@ abbrev pub CanMoveLug : Parts → ℕ → Lug → Place → Type 0
 CanMoveLug m bar lug place =
     (standing : Place × Place) × (machine_standing m bar ≡ Some standing) × HasLugsInOrder (with_lug lug place standing)
 
--- The machine can carry the setting out; for example, the cable has the letter that is to be pulled.
+-- The machine can carry the setting out; for `Pull`, for example, the cable must have the letter.
 abbrev pub AllowsSetting : Parts → Setting → Type 0
 AllowsSetting m (Pull cable letter) = Contains (letters_at_cable m cable) letter
 AllowsSetting m (Put cable letter) = HasLooseEnd m cable

@@ -39,7 +39,7 @@ unfoldable pub standings_as : ℕ × ℕ → List (Place × Place)
 standings_as row =
     filter (λ bar. let reading = reading_of bar in nat_eq reading.0 row.0 && nat_eq reading.1 row.1) standings
 
--- the place of a bar at which this pin wheel acts; for 0, the left one of the two places without a wheel
+-- the place on a bar where this pin wheel acts; for 0, the left one of the two places without a wheel
 abbrev pub place_of_pin_wheel : ℕ → Place
 place_of_pin_wheel wheel = slice_index_or (ZeroLeft ∷ One ∷ Two ∷ Three ∷ Four ∷ Five ∷ Six ∷ []) wheel Six
 
@@ -51,14 +51,14 @@ standing_across one other = if nat_lt (place_rank one) (place_rank other) then (
 abbrev pub bar_cost : Place × Place → ℕ × ℕ → ℕ
 bar_cost standing row = fold min 2 (map (lugs_moved standing) (standings_as row))
 
--- the standing that reads as the row and takes the fewest moves of lugs; the first in order if there are two
+-- the standing that reads as the row and needs the fewest moves of lugs; if there are two, the first in `standings`
 abbrev pub nearest_standing : Place × Place → ℕ × ℕ → Option (Place × Place)
 nearest_standing bar row = find (λ other. nat_eq (lugs_moved bar other) (bar_cost bar row)) (standings_as row)
 
 -- ---- The cost tables: of cables and columns, and of bars and rows.
 -- Test: cards_are_planned
 
--- the 13 columns of a day: its pairs, and then columns without a pair
+-- the 13 columns of a day in the cost table: its pairs, and then columns without a pair
 abbrev pub columns_of : List (ℕ × ℕ) → List (Option (ℕ × ℕ))
 columns_of pairs = map Some pairs ++ replicate (13 - length pairs) None
 
@@ -66,15 +66,17 @@ columns_of pairs = map Some pairs ++ replicate (13 - length pairs) None
 abbrev pub costs_by : {X Y : Type 0} → (X → Y → ℕ) → List X → List Y → List (List ℕ)
 costs_by cost rows columns = map (λ row. map (cost row) columns) rows
 
--- the cost table of a machine and a day of the same model: a cost for each cable and column, or each bar and row
+-- the cost table of a machine and a day of the same model: the cost of each cable with each column, or of each bar with
+-- each row
 abbrev pub cost_table : Parts → Day → List (List ℕ)
 cost_table (Rotor m) (OfRotors s) = costs_by cable_cost m.cables (columns_of s.pairs)
 cost_table (Pin m) (OfPins s) = costs_by bar_cost m.bars s.rows
 cost_table _ _ = []
 
--- ---- Loose things: those other than cables and bars that differ from the day.
+-- ---- Loose things: all things that differ from the day, except cables and bars.
 
--- how many things other than cables and bars differ from the day, including rings and letters of wheels in the box
+-- how many things other than cables and bars differ from the day; rings and window letters count for each of the day's
+-- wheels, in a slot or in the box
 abbrev pub loose_count : Parts → Day → ℕ
 loose_count (Rotor m) (OfRotors s) =
     count_by (λ slot. not (option_map_or (same_wheel slot.1.wheel) slot.0 false)) (zip m.slots s.wheels)

@@ -20,7 +20,7 @@ rotor_values e = record {
 abbrev pub pin_values : PinEntry → PinDay
 pin_values e = record { day = e.day; rows = e.rows; pins = e.pins; window = e.window; list = e.list }
 
--- the values of a day of either kind
+-- the values of a day, of a rotor machine or of a Converter
 abbrev pub values_of : Entry → Day
 values_of (Rotor e) = OfRotors (rotor_values e)
 values_of (Pin e) = OfPins (pin_values e)

@@ -1,5 +1,6 @@
 -- Rules for results: a rule says which values and which faults are right answers of a function. A `do` block joins the
--- rules of several steps, in the order of testing. If a step fails, the fault of the first such step is right.
+-- rules of several steps, in the order of testing. If a step fails, its fault is the right answer, and no later step
+-- counts.
 use Rattle.std.specs.Prelude.{◌≡◌, Result, Ok, Err, refl}
 use Rattle.std.proofs.Common.{sym, ap, ◌∙◌, subst}
 
@@ -7,8 +8,8 @@ use Rattle.std.proofs.Common.{sym, ap, ◌∙◌, subst}
 abbrev pub AnswerRule : Type 0 → Type 0 → Type 1
 AnswerRule F X = Result X F → Type 0
 
--- The rule of two steps. If the first step has a fault, the right result is this fault. If the first step finds a
--- value `x`, the result must be right by the rule `Next x`.
+-- The rule for two successive steps. If the first step has a fault, the right result is this fault. If the first step
+-- finds a value `x`, the result must be right by the rule `Next x`.
 pub data ThenNext {F X Y : Type 0} (First : Result X F → Type 0) (Next : X → Result Y F → Type 0)
     (answer : Result Y F) : Type 0 where
   HasFault : (fault : F) → First (Err fault) → answer ≡ Err fault → ThenNext First Next answer

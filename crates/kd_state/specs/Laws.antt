@@ -1,4 +1,4 @@
--- The laws of the names of wheels and reflectors, and of the wheels' places in the box.
+-- Laws about the names of wheels and reflectors, and about the wheels' places in the box.
 use Rattle.std.specs.Prelude.{◌≡◌, ◌≢◌, ◌↔◌, ℕ, ◌+◌, ◌<◌, ◌≤◌, List, ◌++◌, length, slice_index_or, slice_get, All}
 use Rattle.std.specs.Prelude.{AllPairs, Option, None, MatchOption, Contains}
 use Rattle.std.specs.Bool.{Decides}
@@ -38,7 +38,7 @@ abbrev pub AllowedWheelsLieInTheBox : Type 0
 AllowedWheelsLieInTheBox =
     (model : Model) (slot : ℕ) (wheel : Wheel) → Contains (wheels_for model slot) wheel → Contains (box_of model) wheel
 
--- Each wheel of a box has a place below the box's length.
+-- The place of a wheel in the model's box, counted from 0, is below the number of wheels in the box.
 abbrev pub WheelsHavePlaces : Type 0
 WheelsHavePlaces =
     (model : Model) (wheel : Wheel) → Contains (box_of model) wheel → place_in_box model wheel < length (box_of model)
@@ -99,13 +99,13 @@ SeatsAreByTheTables =
     (m : RotorParts) (slot : ℕ) (wheel : Wheel)
     → (why_refused (Rotor m) (Seat slot wheel) ≡ None) ↔ Contains (wheels_for m.model slot) wheel
 
--- A rotor machine lets a reflector be seated exactly if the reflector is one of the model's.
+-- A reflector can be put into a rotor machine exactly if the model has this reflector.
 abbrev pub ReflectorsAreByTheTables : Type 0
 ReflectorsAreByTheTables =
     (m : RotorParts) (reflector : Reflector)
     → (why_refused (Rotor m) (SeatReflector reflector) ≡ None) ↔ Contains (reflectors_of m.model) reflector
 
--- The ring of a wheel can be set on a rotor machine if the wheel is in the model's box, and only then.
+-- The ring of a wheel can be set on a rotor machine exactly if the model has this wheel.
 abbrev pub RingsAreByTheTables : Type 0
 RingsAreByTheTables =
     (m : RotorParts) (wheel : Wheel) (letter : ℕ)
@@ -160,12 +160,13 @@ ReadingIsItsCipher =
 abbrev pub OnKeyIsReady : Type 0
 OnKeyIsReady = (m : Parts) (s : Day) → IsMachine m → IsLegalDay s → OnKey m s → IsReady m
 
--- A machine on the day's key enciphers as the day asks, beginning with the letters that it shows, not with the day's.
+-- A machine on the day's key enciphers as the day asks, but it starts from the letters that it shows, not from the
+-- day's letters.
 abbrev pub OnKeyIsItsCipher : Type 0
 OnKeyIsItsCipher = (m : Parts) (s : Day) (text : List ℕ) → IsMachine m → IsLegalDay s → OnKey m s
     → physical_cipher m text ≡ cipher (key_with_window (sheet_key s) (window_of m)) text
 
--- Turn a machine on the day's key until it shows some letters. It then enciphers by the day's key, beginning with these
+-- If a machine on the day's key is turned to other letters, it then enciphers by the day's key, starting from these
 -- letters.
 abbrev pub TurnedHasTheDaysCipher : Type 0
 TurnedHasTheDaysCipher =
@@ -215,11 +216,11 @@ abbrev pub TestsTellLetters : Type 0
 TestsTellLetters = (xs ys : List ℕ) → HaveSameLetters xs ys
     ↔ ((letter : ℕ) → has_letter xs letter ≡ has_letter ys letter)
 
--- A day with at most 13 pairs has 13 columns.
+-- A day with at most 13 pairs has 13 columns in the cost table.
 abbrev pub ThirteenColumns : Type 0
 ThirteenColumns = (pairs : List (ℕ × ℕ)) → length pairs ≤ 13 → length (columns_of pairs) ≡ 13
 
--- The columns of a day are first its pairs in their order, and then columns without a pair.
+-- In the cost table, a day's first columns are its pairs in their order; all later columns have no pair.
 abbrev pub ColumnsAreThePairs : Type 0
 ColumnsAreThePairs =
     (pairs : List (ℕ × ℕ)) (place : ℕ) → slice_index_or (columns_of pairs) place None ≡ slice_get pairs place
@@ -228,7 +229,7 @@ ColumnsAreThePairs =
 abbrev pub CablesCostFour : Type 0
 CablesCostFour = (cable : Option ℕ × Option ℕ) (column : Option (ℕ × ℕ)) → cable_cost cable column ≤ 4
 
--- Each row of a cost table is as long as the table.
+-- Each row of a cost table has as many costs as the table has rows.
 abbrev pub CostTablesAreSquare : Type 0
 CostTablesAreSquare =
     (m : Parts) (s : Day) → IsMachine m → IsLegalDay s

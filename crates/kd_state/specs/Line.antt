@@ -27,7 +27,7 @@ setting_words (PinTo wheel letter effective) =
     codes "PIN" ∷ decimal wheel ∷ letters_text (letter ∷ []) ∷ on_off_text effective ∷ []
 setting_words (LugTo bar lug place) = codes "LUG" ∷ decimal bar ∷ lug_text lug ∷ place_text place ∷ []
 
--- the line of a setting without LF: its words, with single spaces between them
+-- a setting's line, without LF: its words, with single spaces between them
 abbrev pub setting_line : Setting → List ℕ
 setting_line x = line_of (setting_words x)
 
@@ -69,14 +69,15 @@ pub record BeginsWithSettingLine (bytes : List ℕ) (x : Setting) (rest : List �
 abbrev pub BeginsWithNoSetting : List ℕ → Type 0
 BeginsWithNoSetting bytes = (x : Setting) (rest : List ℕ) → IsSettingInRange x → bytes ≢ setting_line x ++ 10 ∷ rest
 
--- `bytes` are the lines of `settings`, at most 192, and then `rest`, which doesn't begin with a setting's line.
+-- `bytes` are the lines of at most 192 `settings`, and then `rest`, which doesn't begin with a setting's line and LF.
 pub record BeginsWithAllSettings (bytes : List ℕ) (settings : List Setting) (rest : List ℕ) : Type 0 where
   pub lines : BeginsWithSettingLines bytes settings rest
   pub few : length settings ≤ 192
   pub none_more : BeginsWithNoSetting rest
 
--- Why the bytes aren't the text of a list. `BadLine` has the number, counted from 1, of the first line that isn't
--- a setting's. `TooMany`: the bytes begin with the lines of 193 settings.
+-- Why the bytes aren't the text of a list. `BadLine` has the number, counted from 1, of the first line that has no LF
+-- or isn't the line of a setting. At most 192 settings come before this line. `TooMany`: the bytes begin with the lines
+-- of 193 settings.
 abbrev pub IsListFault : List ℕ → ListFault → Type 0
 IsListFault bytes (BadLine line) =
     (settings : List Setting) × (rest : List ℕ)

@@ -30,7 +30,7 @@ letters_in_cables cables = flat_map cable_letters cables
 abbrev pub IsSeatedAt : List (Option Wheel) → ℕ → Wheel → Type 0
 IsSeatedAt slots place wheel = slice_get slots place ≡ Some (Some wheel)
 
--- There is one item for each slot of the model. Each wheel is allowed in its slot, and no wheel is in two slots.
+-- `slots` has one item for each slot of the model. Each wheel is allowed in its slot, and no wheel is in two slots.
 pub record AreLegalSeats (model : Model) (slots : List (Option Wheel)) : Type 0 where
   pub count : length slots ≡ slots_of model
   pub allowed : (place : ℕ) (w : Wheel) → IsSeatedAt slots place w → Contains (wheels_for model (place + 1)) w
@@ -83,7 +83,7 @@ cable_in_order (Some letter) (Some other) =
     if nat_le letter other then (Some letter, Some other) else (Some other, Some letter)
 cable_in_order one other = (option_or one other, None)
 
--- the machine, with each cable's letters in alphabetical order; it doesn't matter which end has which letter
+-- the machine, with each cable's letters in alphabetical order; the two ends of a cable work alike
 abbrev pub with_cables_in_order : Parts → Parts
 with_cables_in_order (Rotor m) = Rotor (record m { cables = map (λ cable. cable_in_order cable.0 cable.1) m.cables })
 with_cables_in_order (Pin m) = Pin m
@@ -100,15 +100,15 @@ abbrev pub model_of : Parts → Model
 model_of (Rotor m) = m.model
 model_of (Pin m) = M209
 
--- the ring of a wheel, whether the wheel is in a slot or not; `None` if the box lacks the wheel
+-- the ring of a wheel, whether the wheel is in a slot or not; `None` if the model lacks the wheel
 abbrev pub ring_at : RotorParts → Wheel → Option ℕ
 ring_at m wheel = slice_get m.rings (place_in_box m.model wheel)
 
--- the window letter of a wheel, whether the wheel is in a slot or not; `None` if the box lacks the wheel
+-- the window letter of a wheel, whether the wheel is in a slot or not; `None` if the model lacks the wheel
 abbrev pub letter_at : RotorParts → Wheel → Option ℕ
 letter_at m wheel = slice_get m.letters (place_in_box m.model wheel)
 
--- what the slot holds, a wheel or none; `None` if the machine lacks the slot
+-- what the slot holds, `Some None` if the slot is empty; `None` if the machine lacks the slot
 abbrev pub machine_slot : Parts → ℕ → Option (Option Wheel)
 machine_slot (Rotor m) slot = numbered_item m.slots slot
 machine_slot (Pin m) slot = None
@@ -131,7 +131,7 @@ abbrev pub machine_cable : Parts → ℕ → Option (Option ℕ × Option ℕ)
 machine_cable (Rotor m) cable = numbered_item m.cables cable
 machine_cable (Pin m) cable = None
 
--- whether the pin at a letter of a pin wheel is effective, if the machine has this pin
+-- whether the pin at a letter of a pin wheel is effective; `None` if the machine lacks this pin
 abbrev pub machine_pin : Parts → ℕ → ℕ → Option Bool
 machine_pin (Rotor m) wheel letter = None
 machine_pin (Pin m) wheel letter = pin_at m.pins wheel letter

@@ -6,7 +6,7 @@ use Rattle.kd_pins.specs.declared.pin_set.PinSet.{PinSet}
 use Rattle.kd_pins.specs.PinWheels.{pins_of}
 use Rattle.kd_state.specs.SameParts.{numbered_item}
 
--- the pins of the pin wheel with this number, in the order of the wheel's letters; none for other numbers
+-- the pins of the pin wheel with this number, in the order of the wheel's letters; none if there is no such wheel
 abbrev pub wheel_pins : PinSet → ℕ → List Bool
 wheel_pins pins wheel = unwrap_or (numbered_item (pins_of pins) wheel) []
 
@@ -14,7 +14,7 @@ wheel_pins pins wheel = unwrap_or (numbered_item (pins_of pins) wheel) []
 abbrev pub pin_at : PinSet → ℕ → ℕ → Option Bool
 pin_at pins wheel letter = option_and_then (slice_get (wheel_pins pins wheel)) (place_on (ring_of wheel) letter)
 
--- the pins of the six pin wheels, made of six lists, one for each wheel
+-- the pins of the six pin wheels, from six lists: one list for each wheel
 abbrev pub pin_set : List (List Bool) → PinSet
 pin_set lists =
     let at = λ (place : ℕ). slice_index_or lists place [] in

@@ -34,7 +34,7 @@ abbrev pub are_new_letters : List ℕ → List ℕ → Bool
 are_new_letters [] others = true
 are_new_letters (first ∷ rest) others = not (has_letter (rest ++ others) first) && are_new_letters rest others
 
--- the letters in cable `cable`, counted from 1; none if there is no such cable
+-- the letters in cable `cable` (cables are counted from 1); none if there is no such cable
 abbrev pub cable_at : RotorParts → ℕ → Option ℕ × Option ℕ
 cable_at m cable = unwrap_or (numbered_item m.cables cable) (None, None)
 
@@ -45,7 +45,7 @@ wheel_in_slot m slot = unwrap_or (numbered_item m.slots slot) None
 abbrev pub is_same_place : Place → Place → Bool
 is_same_place place other = nat_eq (place_rank place) (place_rank other)
 
--- the standing after this lug is moved to this place
+-- a bar's standing after the given lug is moved to the given place
 abbrev pub with_lug : Lug → Place → Place × Place → Place × Place
 with_lug Left place bar = (place, bar.1)
 with_lug Right place bar = (bar.0, place)
@@ -87,7 +87,7 @@ why_refused m x = option_map (λ reason. reason.1) (find (λ reason. reason.0) (
 abbrev pub cable_without : ℕ → Option ℕ × Option ℕ → Option ℕ × Option ℕ
 cable_without letter cable = if option_map_or (nat_eq letter) cable.0 false then (cable.1, None) else (cable.0, None)
 
--- the cable with this letter added, and the letters in alphabetical order; the cable must have a loose end
+-- the cable with this letter added, its letters in alphabetical order; an end of the cable must be empty
 abbrev pub cable_with : ℕ → Option ℕ × Option ℕ → Option ℕ × Option ℕ
 cable_with letter cable = cable_in_order (option_or cable.0 cable.1) (Some letter)
 

@@ -32,7 +32,7 @@ pub record PinDay : Type 0 where
   pub window : List ℕ
   pub list : List ℕ
 
--- the day of a rotor machine with these values; `pin_day_of`, below, makes a Converter's day
+-- a rotor machine's day with these values; `pin_day_of`, below, makes a Converter's day
 abbrev pub rotor_day_of : ℕ → Model → Reflector → List SheetWheel → List (ℕ × ℕ) → List (List ℕ) → RotorDay
 rotor_day_of day model reflector wheels pairs groups = record {
   day = day;

@@ -1,4 +1,4 @@
--- The key of an engine, for either kind of machine, and the cipher that the engine makes with this key.
+-- The key of an engine, for a rotor machine or a Converter, and the cipher that the engine makes with this key.
 -- Code: one type, `Engine`, serves all models.
 -- Test: kd_trials/src/state/engine.rt
 use Rattle.std.specs.Prelude.{◌≡◌, ◌≢◌, ℕ, ◌+◌, ◌-◌, ◌%◌, ◌||◌, List, length, map, All, IsSome}
@@ -61,7 +61,7 @@ window_of (Pin m) = m.letters
 -- Source: the published accounts of the current's path; War Department TM 11-380.
 -- Code: bars are counted by their readings, not by their lugs.
 
--- the key to which a machine is set; of the cables, only those with two letters count
+-- the key to which a machine is set; only cables with two letters count
 abbrev pub physical_key : Parts → EngineKey
 physical_key (Rotor m) = OfWheels (record {
   wheels = seated_wheels m;
@@ -83,7 +83,7 @@ sheet_key (OfRotors s) = OfWheels (record {
 })
 sheet_key (OfPins s) = OfDrum (record { pins = pins_of s.pins; letters = s.window; rows = s.rows })
 
--- how many bars are moved, by one lug or by both, after `count` letters
+-- how many bars are moved after `count` letters: all bars with a lug at which a wheel then acts
 abbrev pub bars_moved : PinParts → ℕ → ℕ
 bars_moved m count =
     let acts = λ (place : Place). is_acting_after (pins_of m.pins) m.letters count (place_number place) in

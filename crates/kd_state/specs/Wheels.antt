@@ -1,5 +1,5 @@
 -- Five, eight or ten values, one for each wheel of a box.
--- Code: `PerWheel` has an array of five values, of eight or of ten.
+-- Code: `PerWheel` has an array of five, eight or ten values.
 use Rattle.std.specs.Prelude.{◌≡◌, ◌==◌, List, length, if◌then◌else◌}
 use Rattle.kd_state.specs.declared.machine.per_wheel.Wheels.{Wheels}
 use Rattle.kd_state.specs.declared.machine.per_wheel.Wheels.TheVariants.{Five, Eight, Ten}

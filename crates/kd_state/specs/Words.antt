@@ -35,7 +35,7 @@ LinesTellWords =
     (words others : List (List ℕ)) → All IsWord words → All IsWord others → line_of words ≡ line_of others
     → words ≡ others
 
--- If words are joined to a line, and the line is split at its spaces, the words come out again.
+-- If words are joined into a line, and the line is split at its spaces, the words come out again.
 abbrev pub LinesSplitIntoWords : Type 0
 LinesSplitIntoWords = (words : List (List ℕ)) → words ≢ [] → All IsWord words → words_of (line_of words) ≡ words
 

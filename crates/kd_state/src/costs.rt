@@ -39,7 +39,7 @@ pub fn lies_in_column(column: Option<(Letter, Letter)>, letter: Letter) -> bool
     }
 }
 
-/// The cost of turning a bar at `standing` into a bar that reads as `row`: the least number of lugs to move.
+/// The cost of making a bar at `standing` read as `row`: the least number of lugs to move.
 pub fn bar_cost(standing: Standing, row: Reading) -> u8
     ensures cost { result ≡ costs.bar_cost standing row }
     ensures bound { result ≤ 2 }
@@ -49,7 +49,8 @@ pub fn bar_cost(standing: Standing, row: Reading) -> u8
 
 /// The standing that reads as `row` and is reached from `standing` by moving the fewest lugs.
 ///
-/// If two standings need equally many moves, the result is the first of them in the order of standings.
+/// If two standings need equally many moves, the result is the first in order of the left lug's place, then of the
+/// right lug's place.
 #[tactic(auto, using(crate::proofs::Prelude::nat_tests))]
 pub fn nearest_standing(standing: Standing, row: Reading) -> Standing
     ensures nearest { costs.nearest_standing standing row ≡ Some result }
@@ -63,7 +64,7 @@ pub fn nearest_standing(standing: Standing, row: Reading) -> Standing
     }
 }
 
-/// The standings that read as `row`, in order: two if exactly one of the row's numbers is 0, else one.
+/// The standings that read as `row`, in the order of `standings`: two if exactly one number of `row` is 0, else one.
 #[tactic(auto, using(crate::proofs::CostTable::standings_of_zeros, crate::proofs::CostTable::one_zero, crate::proofs::CostTable::no_zero))]
 fn standings_of(row: Reading) -> (Standing, Option<Standing>)
     ensures { costs.standings_as row ≡ result.0 ∷ option_to_list result.1 }
@@ -95,7 +96,7 @@ fn standing_across(one: Place, other: Place) -> Standing
     }
 }
 
-/// The place of a bar at which pin wheel `number` acts.
+/// The place on a bar where pin wheel `number` acts.
 fn place_of_pin_wheel(number: u8) -> Place
     requires { (1 ≤ number) × (number ≤ 6) }
     ensures { result ≡ costs.place_of_pin_wheel number }

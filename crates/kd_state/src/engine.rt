@@ -1,4 +1,4 @@
-//! An engine: a machine of any model that enciphers and deciphers texts.
+//! Engines, which encipher and decipher texts. One type serves all models.
 
 mod ready;
 
@@ -65,7 +65,7 @@ impl Engine {
 
     /// Turns the wheels until they show `letters`, which are listed from the left, or from pin wheel 1 on.
     ///
-    /// There must be one letter for each slot or pin wheel, and each letter must be on its pin wheel. Otherwise returns
+    /// There must be one letter for each slot; or, on a Converter, one letter of each pin wheel. Otherwise returns
     /// false, and turns no wheel.
     pub fn turn_to(&mut self, letters: &[Letter]) -> bool
         ensures window { IsTrue result ↔ IsWindow self.old letters.now }
@@ -79,7 +79,7 @@ impl Engine {
         }
     }
 
-    /// Creates the engine of a rotor machine from its three or four `wheels`, from the left.
+    /// Creates the engine of a rotor machine. `wheels` are its three or four wheels, from the left.
     fn from_wheels(wheels: &[SheetWheel], reflector: Reflector, plugs: Plugs) -> Engine
         requires { (length wheels.now ≡ 3) ⊎ (length wheels.now ≡ 4) }
         ensures { result ≡ OfWheels (key_of_wheels wheels.now reflector plugs) }
@@ -147,7 +147,7 @@ fn turn_wheels<const S: usize>(enigma: &mut Enigma<S>, letters: &[Letter]) -> bo
 
 /// Turns the Converter's wheels until they show `letters`.
 ///
-/// Returns false, and turns no wheel, if there aren't six letters, or if a wheel lacks its letter.
+/// Returns false, and turns no wheel, if there aren't six letters, or if a letter isn't on its wheel.
 fn turn_drum(converter: &mut Converter, letters: &[Letter]) -> bool
     ensures window { IsTrue result ↔ AreOnWheels letters.now }
     ensures turned { OnTrue result (converter.new ≡ pin_key_turned converter.old letters.now) }

@@ -90,7 +90,7 @@ fn learn_letters_of_cable(cable: &Cable)
     }
 }
 
-/// Shows the prover that each wheel of `pins` has a pin for each of its letters.
+/// Shows the prover that `pins` has a pin for each letter of each pin wheel.
 #[tactic(auto, using(crate::proofs::Slots::all_pins))]
 pub(crate) fn learn_pins(pins: PinSet)
     ensures { HasAllPins pins }

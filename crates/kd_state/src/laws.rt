@@ -14,7 +14,7 @@ ghost use Rattle.kd_state.specs.Laws.{EquallySetDecipher, TheDayDeciphersItself,
 ghost use Rattle.kd_state.specs.Laws.{TestsTellLetters, ThirteenColumns, ColumnsAreThePairs, CablesCostFour};
 ghost use Rattle.kd_state.specs.Laws.{CostTablesAreSquare};
 
-/// Words that are joined with single spaces come out again if the line is split at its spaces.
+/// If words are joined into a line with single spaces, splitting the line at its spaces gives the words again.
 ///
 /// The parts of a split line, joined with single spaces, make this line again. A line of words has no LF.
 #[tactic(auto, using(crate::proofs::Lines::lines_tell_words, crate::proofs::Lines::lines_split_into_words, crate::proofs::Lines::parts_make_lines, crate::proofs::Lines::words_make_one_line))]
@@ -31,7 +31,7 @@ pub fn texts_tell_first_parts()
     ensures { TextsTellFirstParts }
 {}
 
-/// Decimal numbers and single letters are words: they aren't empty, and have no space and no LF.
+/// Decimal numbers below 2^64 and single letters are words: they aren't empty, and have no space and no LF.
 #[tactic(auto, using(crate::proofs::Lines::numbers_are_words, crate::proofs::Lines::letters_are_words))]
 pub fn numbers_and_letters_are_words()
     ensures numbers { NumbersAreWords }
@@ -101,14 +101,14 @@ pub fn readers_tell_what_settings_change()
 /// A rotor machine refuses wheels, reflectors and rings just as the tables of its model say.
 ///
 /// The machine refuses a wheel that isn't allowed in the slot, and a reflector that the model lacks. It refuses to set
-/// the ring of a wheel that isn't in the box. It refuses no other wheels, reflectors or rings.
+/// the ring of a wheel that the model lacks. It refuses no other wheels, reflectors or rings.
 pub fn tables_say_what_is_refused()
     ensures seats { SeatsAreByTheTables }
     ensures reflectors { ReflectorsAreByTheTables }
     ensures rings { RingsAreByTheTables }
 {}
 
-/// An engine made from a machine enciphers as the machine does, also after both are turned to new letters.
+/// An engine made from a machine enciphers as the machine does, also after both are turned to the same letters.
 #[tactic(auto, using(crate::proofs::Keys::engine_cipher, crate::proofs::Keys::turned_engine))]
 pub fn engines_encipher_as_their_machines()
     ensures standing { EngineIsTheMachine }
@@ -122,8 +122,8 @@ pub fn reading_as_the_day_is_its_cipher()
     ensures cipher { ReadingIsItsCipher }
 {}
 
-/// A machine on the day's key is ready. It enciphers as the day asks, beginning with the letters that it shows, not
-/// with the day's.
+/// A machine on the day's key is ready. It enciphers as the day asks, but it starts from the letters that it shows, not
+/// from the day's letters.
 #[tactic(auto, using(crate::proofs::Keys::on_key_ready, crate::proofs::Keys::on_key_cipher))]
 pub fn being_on_the_key_is_its_cipher()
     ensures ready { OnKeyIsReady }
@@ -132,7 +132,7 @@ pub fn being_on_the_key_is_its_cipher()
 
 /// If a machine is turned to other letters, the rest of its key stays the same.
 ///
-/// A machine on the day's key stays on the key when it is turned. It then enciphers by the day's key, beginning with
+/// A machine on the day's key stays on the key when it is turned. It then enciphers by the day's key, starting from
 /// the letters that it shows.
 #[tactic(auto, using(crate::proofs::Keys::turned_key, crate::proofs::Keys::turned_on_key, crate::proofs::Keys::turned_cipher))]
 pub fn turning_keeps_the_key()
@@ -167,7 +167,7 @@ pub fn pieces_are_enciphered_in_turn()
 
 /// The cost tables are square, and it takes at most 4 settings to give a cable the letters of a column.
 ///
-/// A day has 13 columns: first its pairs in their order, then columns without a pair.
+/// A day has 13 columns in its cost table: first its pairs in their order, then columns without a pair.
 #[tactic(auto, using(crate::proofs::CostTable::at_most_four, crate::proofs::CostTable::columns_are_the_pairs, crate::proofs::CostTable::cost_tables_are_square, crate::proofs::CostTable::thirteen_columns))]
 pub fn cost_tables_are_square()
     ensures count { ThirteenColumns }

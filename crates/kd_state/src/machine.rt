@@ -45,9 +45,9 @@ impl Machine {
 
     /// Creates a rotor machine, or `None` if `parts` aren't legal.
     ///
-    /// Legal parts have an item for each slot of the model, and a reflector of the model. They have a ring and a letter
-    /// for each wheel of the model's box. Each wheel is allowed in its slot, no wheel is in two slots, and all letters
-    /// in the cables are different. A cable's letters may come in either order.
+    /// Legal parts have an item in `slots` for each slot of the model, and a reflector of the model. They have a ring
+    /// and a letter for each wheel of the model's box. Each wheel is allowed in its slot, no wheel is in two slots, and
+    /// all letters in the cables are different. A cable's letters may come in either order.
     pub fn rotor(parts: RotorParts) -> Option<Machine>
         ensures exists { IsSome result ↔ IsLegalRotor parts }
         ensures value { IfSome result (λ machine. machine ≡ with_cables_in_order (Parts.Rotor parts)) }

@@ -12,7 +12,7 @@ pub(crate) fn numbered_item<T: Copy>(things: &[T], number: u8) -> Option<T>
     things.get(usize::from(number) - 1).copied()
 }
 
-/// Sets the element of `things` at `place`, counted from 0, to `thing`.
+/// Sets `things[place]` to `thing`.
 pub(crate) fn set_item<T: Copy>(things: &mut [T], place: usize, thing: T)
     requires { place < length things.old }
     ensures value { things.new ≡ slice_set things.old place thing }
@@ -21,7 +21,7 @@ pub(crate) fn set_item<T: Copy>(things: &mut [T], place: usize, thing: T)
     things[place] = thing;
 }
 
-/// Sets element `number` of `things`, counted from 1, to `thing`.
+/// Sets element `number` of `things` to `thing`. The first element is number 1.
 pub(crate) fn set_numbered_item<T: Copy>(things: &mut [T], number: u8, thing: T)
     requires first { 1 ≤ number }
     requires last { number ≤ length things.old }

@@ -38,12 +38,12 @@ pub enum Setting {
         wheel: Wheel,
         letter: Letter,
     },
-    /// Turns the wheel in the slot, or the pin wheel with this number, until the letter shows.
+    /// Turns the wheel in slot `slot`, or pin wheel `slot`, until the letter shows.
     Turn {
         slot: u8,
         letter: Letter,
     },
-    /// Makes the pin at the letter of the pin wheel effective, or not effective.
+    /// Makes the pin at `letter` of pin wheel `wheel` effective, or not effective.
     PinTo {
         wheel: u8,
         letter: Letter,

@@ -40,9 +40,9 @@ impl SheetDay {
 
     /// Creates a day of a rotor machine, or `None` if no key sheet can have these values.
     ///
-    /// `day` must be from 1 to 31, and `reflector` one of the model's. `wheels` must have a wheel for each
-    /// slot, from the left; each must be allowed in its slot, and none may be in two slots. There may be at
-    /// most 13 pairs, whose letters must all be different, and at most 4 groups.
+    /// `day` must be from 1 to 31, and the model must have `reflector`. `wheels` must have a wheel for each slot, from
+    /// the left; each must be allowed in its slot, and none may be in two slots. There may be at most 13 pairs and at
+    /// most 4 groups. All letters in the pairs must be different.
     pub fn rotor(
         day: u8,
         model: Model,

@@ -56,7 +56,7 @@ pub fn is_word(text: &[u8], word: &str) -> bool
     text == word.as_bytes()
 }
 
-/// Reads a number below 65,536 in decimal, without leading zeros and without a sign.
+/// Reads a decimal number below 65,536, without leading zeros and without a sign.
 pub fn wide_number_of_text(text: &[u8]) -> Option<u16>
     ensures { MatchOption result
         ((number : ℕ) → number < 2 ^ 16 → decimal number ≢ text.now)
@@ -67,7 +67,7 @@ pub fn wide_number_of_text(text: &[u8]) -> Option<u16>
     is_word(text, buffer.format(number)).then_some(number)
 }
 
-/// Reads a number below 256 in decimal, without leading zeros and without a sign.
+/// Reads a decimal number below 256, without leading zeros and without a sign.
 #[tactic(auto, using(std::proofs::lemmas::Fmt::decimal_injective))]
 pub fn number_of_text(text: &[u8]) -> Option<u8>
     ensures { MatchOption result
@@ -77,7 +77,7 @@ pub fn number_of_text(text: &[u8]) -> Option<u8>
     u8::try_from(wide_number_of_text(text)?).ok()
 }
 
-/// Reads a day of a month in decimal, from 1 to 31. `None` for other texts.
+/// Reads a day of a month: a decimal number from 1 to 31. `None` for other texts.
 #[tactic(auto, using(std::proofs::lemmas::Fmt::decimal_injective))]
 pub fn day_of_text(text: &[u8]) -> Option<u8>
     ensures { MatchOption result

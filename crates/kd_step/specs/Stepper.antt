@@ -1,8 +1,8 @@
--- One step of the wheels, by the letters in their windows. Wheels are counted from the right, from 0: the right
--- wheel, the middle wheel, the left wheel, and on the M4 the Greek wheel, which never moves.
+-- One step of the wheels: the letters in the windows decide which wheels move. Wheels are counted from the right,
+-- beginning at 0: the right wheel, the middle wheel, the left wheel, and on the M4 the Greek wheel, which never moves.
 -- Source: the published accounts of the stepping, with its double step.
 -- Code: `Stepper` has a table for the middle wheel, and one for the right wheel: whether the wheel is at a notch,
--- for each letter in its window.
+-- for each letter that it can show.
 -- Test: wheels_step
 use Rattle.std.specs.Prelude.{◌≡◌, ◌↔◌, ℕ, zero, suc, ◌+◌, ◌-◌, ◌%◌, ◌≤◌, List, ◌++◌, length, take, drop, map}
 use Rattle.std.specs.Prelude.{slice_get, slice_index, IsTrue, IsFalse, Bool, false, if◌then◌else◌}

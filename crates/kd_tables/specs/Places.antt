@@ -43,7 +43,7 @@ lug_text lugs.Right = codes "R"
 -- ---- How a bar can stand: the places of its left and its right lug.
 -- Code: `Standing::new` compares the two places; `Standing::from_text` splits a standing's text at the hyphen.
 
--- all standings of a bar (left lug left of right lug), in order of the left lug's place, then of the right lug's place
+-- all standings of a bar, ordered by the left lug's place, then by the right lug's place, which is further right
 abbrev pub standings : List (Place × Place)
 standings = flat_map (λ l. map (λ r. (l, r)) (filter (λ r. nat_lt (place_rank l) (place_rank r)) places)) places
 

@@ -16,12 +16,12 @@ ring_texts =
 unfoldable pub ring_of : ℕ → List ℕ
 ring_of number = letters_of (slice_index_or ring_texts number [])
 
--- A pin wheel can have these letters: there are `size` letters, all different and below 26.
+-- A pin wheel can have the letters `letters`: they are `size` letters, all different and below 26.
 pub record IsRing (size : ℕ) (letters : List ℕ) : Type 0 where
   pub full : length letters ≡ size
   pub within : All (λ letter. letter < 26) letters
   pub differ : IsDistinct nat_eq letters
 
--- the place of a letter on the pin wheel with these letters, counted from 0; `None` if the wheel lacks the letter
+-- the place of a letter among a pin wheel's letters, counted from 0; `None` if the wheel lacks the letter
 abbrev pub place_on : List ℕ → ℕ → Option ℕ
 place_on letters letter = position (λ other. other == letter) letters

@@ -16,7 +16,8 @@ abbrev pub letters_of : List ℕ → List ℕ
 letters_of text = map (λ byte. byte - 65) text
 
 -- The name, the wiring and the notches of each wheel. The wiring: the letters that A to Z become as the current passes
--- from right to left. A notch: if the wheel shows this letter, its next step also moves the wheel on its left.
+-- from right to left. The notches: the letters at which the wheel's next step also moves the wheel to its left, unless
+-- that wheel is Beta or Gamma.
 abbrev pub wheel_table : Wheel → List ℕ × List ℕ × List ℕ
 wheel_table I = (codes "I", codes "EKMFLGDQVZNTOWYHXUSPAIBRCJ", codes "Q")
 wheel_table II = (codes "II", codes "AJDKSIRUXBLHWTMCQGZNPYFVOE", codes "E")
@@ -78,7 +79,7 @@ slots_of model = (model_table model).1
 abbrev pub reflectors_of : Model → List Reflector
 reflectors_of model = (model_table model).2
 
--- the wheels that a slot of a model may hold, by the slot's number (1 is the left slot); none if no such slot exists
+-- the wheels that may be in a slot of a model, none if it lacks this slot; slots are counted from 1, from the left
 abbrev pub wheels_for : Model → ℕ → List Wheel
 wheels_for EnigmaI slot = if nat_le 1 slot && nat_le slot 3 then I ∷ II ∷ III ∷ IV ∷ V ∷ [] else []
 wheels_for M3 slot = if nat_le 1 slot && nat_le slot 3 then I ∷ II ∷ III ∷ IV ∷ V ∷ VI ∷ VII ∷ VIII ∷ [] else []

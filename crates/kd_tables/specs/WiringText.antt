@@ -13,7 +13,7 @@ are_capitals text = list_all (λ byte. nat_le 65 byte && nat_le byte 90) text
 abbrev pub are_distinct_letters : List ℕ → Bool
 are_distinct_letters p = list_all (λ x. nat_lt x 26) p && (distinct_count nat_eq p == length p)
 
--- whether the text can be a pin wheel's: it has only capital letters, and none of them twice
+-- whether the text can be the letters of a pin wheel: only capital letters, and none of them twice
 abbrev pub is_ring_text : List ℕ → Bool
 is_ring_text text = are_capitals text && are_distinct_letters (letters_of text)
 

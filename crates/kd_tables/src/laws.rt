@@ -1,4 +1,4 @@
-//! Laws of published tables, pin wheels, permutations, the order of letters and readings, and the read limit.
+//! Laws of published tables, pin wheels, permutations, orderings and the read limit.
 ghost use Rattle.std.specs.Prelude.{◌≡◌, ℕ};
 ghost use Rattle.std.specs.Ordering.{ordering_then, nat_cmp};
 ghost use Rattle.kd_tables.specs.Ports.{read_limit};
@@ -22,7 +22,7 @@ pub fn tables_are_permutations()
     ensures none_fixed { ReflectorsMoveEachLetter }
 {}
 
-/// How products and inverses of permutations, and shifts of the alphabet, map one letter.
+/// How a permutation that is a product, an inverse or a shift maps one letter.
 pub fn permutations_by_letter()
     ensures product { ProductsByLetter }
     ensures backwards { InversesByLetter }
@@ -61,7 +61,7 @@ pub fn letters_and_readings_have_their_order()
         ≡ ordering_then (nat_cmp one.0 other.0) (nat_cmp one.1 other.1) }
 {}
 
-/// The code's limit of bytes to read, `READ_LIMIT`, equals the limit in the definitions, `read_limit`.
+/// The code's constant `READ_LIMIT` equals `read_limit` in the definitions.
 pub fn the_limit_is_the_definitions()
     ensures { READ_LIMIT ≡ read_limit }
 {}

@@ -14,9 +14,9 @@ pub enum Reflector {
     A,
     B,
     C,
-    /// The thin B of the M4, written `b`.
+    /// The M4's thin reflector B, written `b`.
     ThinB,
-    /// The thin C of the M4, written `c`.
+    /// The M4's thin reflector C, written `c`.
     ThinC,
 }
 

@@ -20,7 +20,7 @@ pub enum Refusal {
     Illegal,
     /// A slot is empty, or a cable has exactly one letter.
     NotReady,
-    /// Machine and day are of different models, or a card's prices are for the other kind of machine.
+    /// Machine and day have different models, or a card has prices of bars for an Enigma, or of cables for a Converter.
     OtherModel,
     /// A file, a source or a sink failed.
     Device,
@@ -40,11 +40,11 @@ pub enum Refusal {
     IllegalAt,
     /// After a card's lines are carried out, the machine isn't set as the day says, or doesn't show the day's letters.
     NotTheSheet,
-    /// A cable's price and a column's price, or a bar's and a row's, add up to more than the cost where they meet.
+    /// The prices of a cable and a column, or of a bar and a row, add up to more than the cost where the two meet.
     PriceTooHigh,
     /// The sum of a card's prices isn't the number of the card's lines for cables or bars.
     SumDiffers,
-    /// A line of a card isn't needed: it doesn't lower the number of things that differ from the day.
+    /// A line of a card isn't needed: it doesn't lower the number of slots, rings and so on that differ from the day.
     ///
     /// Lines for cables and bars aren't refused for this reason.
     NeedlessLine,
@@ -52,9 +52,9 @@ pub enum Refusal {
     NotToml,
     /// A file doesn't name a known model.
     UnknownModel,
-    /// A key of a file is missing.
+    /// A TOML key of a file is missing.
     Missing,
-    /// A key of a file has a wrong value.
+    /// A TOML key of a file has a wrong value.
     BadValue,
     /// A wheel is in two slots.
     WheelTwice,
@@ -72,13 +72,13 @@ pub enum Refusal {
     BadByte,
     /// The text of an order has no letter.
     EmptyText,
-    /// An order has too few or too many lines of keys. The refusal says how many are needed, and how many given.
+    /// An order has too few or too many lines of keys. The refusal says how many are needed, and how many there are.
     PartKeys,
     /// A letter that a message gives for a pin wheel (an external letter) isn't on this wheel.
     KeyNotOnWheel,
-    /// A part's group isn't one of the day's. On the Converter M-209: the part's key list isn't the day's.
+    /// A part's group is none of the day's groups. On the Converter: the part's key list isn't the day's key list.
     WrongGroup,
-    /// A part's enciphered letters run out before each pin wheel has got a letter of the internal key.
+    /// The letters enciphered for a part's internal key run out before each pin wheel has its letter.
     IndicatorSpent,
     /// A part doesn't begin with a heading of the day's model.
     BadHeading,
@@ -86,7 +86,7 @@ pub enum Refusal {
     PartCountWrong,
     /// A part's last ten letters aren't its first ten, or the first two letters differ from each other.
     IndicatorsDiffer,
-    /// A part is missing, parts aren't in order, or their headings differ in the number of parts.
+    /// A part is missing or out of order, or two headings give different numbers of parts.
     PartOrder,
     /// A source or a file has more bytes than the limit.
     ReadTooLong,
@@ -146,7 +146,7 @@ impl Refusal {
         }
     }
 
-    /// The number and the name of the refusal. Details, such as a line, aren't part of this text.
+    /// The number and the name of the refusal, without details such as a line's number.
     pub fn text(self) -> Text
         ensures bytes { result.bytes ≡ refusal_name self }
         ensures short { array_string_len result ≤ 20 }
@@ -156,7 +156,7 @@ impl Refusal {
         text
     }
 
-    /// The text of a refusal with one place, such as the number of a line or of a part.
+    /// The text of a refusal with one number, such as a line's or a part's number.
     pub fn text_at(self, place: usize) -> Text
         ensures bytes { result.bytes ≡ refusal_name self ++ word_after_space (decimal place) }
         ensures short { array_string_len result ≤ 41 }
@@ -176,7 +176,7 @@ impl Refusal {
         text
     }
 
-    /// The refusal's number and name, and then `word`: the name of a key of a file, or the name of a reason.
+    /// The refusal's number and name, and then `word`: the name of a TOML key or of a reason.
     pub fn text_with_word(self, word: &str) -> Text
         requires { length word.now ≤ 22 }
         ensures { result.bytes ≡ refusal_name self ++ word_after_space word.now }
@@ -186,7 +186,7 @@ impl Refusal {
         text
     }
 
-    /// The text of a refusal with one place, and then `word`, the name of a reason.
+    /// The text of a refusal with one number, and then `word`, the name of a reason.
     pub fn text_at_with_word(self, place: usize, word: &str) -> Text
         requires { length word.now ≤ 22 }
         ensures { result.bytes ≡ refusal_name self ++ word_after_space (decimal place) ++ word_after_space word.now }
@@ -208,7 +208,7 @@ fn push_place(text: &mut Text, place: usize)
     text.push_str(buffer.format(place));
 }
 
-/// Appends a space and `word`, the name of a file's key or of a reason.
+/// Appends a space and `word`, the name of a TOML key or of a reason.
 fn push_word(text: &mut Text, word: &str)
     requires { array_string_len text.old + length word.now + 1 ≤ 64 }
     ensures { text.new.bytes ≡ text.old.bytes ++ word_after_space word.now }

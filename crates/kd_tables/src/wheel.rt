@@ -83,8 +83,7 @@ impl Wheel {
 
 /// The published wiring: what each letter becomes on the way in, with ring A and window A.
 ///
-/// The way in leads from right to left. The wirings, of wheels of the Wehrmacht and the Kriegsmarine, are from the
-/// tables of Tony Sale and of the Crypto Museum.
+/// The way in leads from right to left. The wirings are from the tables of Tony Sale and of the Crypto Museum.
 #[tactic(auto, unfolding(crate::specs::Tables::wiring_of))]
 pub fn wiring(wheel: Wheel) -> [Letter; 26]
     ensures { result ≡ wiring_of wheel }

@@ -54,7 +54,7 @@ impl Machine {
         }
     }
 
-    /// Creates an engine that enciphers as this machine does, beginning with the letters that the machine shows.
+    /// Creates an engine that enciphers as this machine does, starting from the letters that the machine shows.
     ///
     /// Returns `NotReady` if a slot is empty or a cable has exactly one letter.
     pub fn engine(&self) -> Result<Engine, NotReady>

@@ -59,7 +59,7 @@ impl Machine {
     }
 }
 
-/// Whether a rotor machine's model, wheels, rings, reflector and cables are the day's.
+/// Whether a rotor machine has the day's model, wheels, rings and reflector, and exactly the day's pairs in its cables.
 fn is_rotor_on_key(parts: &RotorParts, entry: &RotorEntry) -> bool
     requires { IsLegalRotor parts.now }
     ensures { IsTrue result ↔ IsRotorOnKey parts.now (rotor_values entry.now) }
@@ -77,7 +77,7 @@ fn is_rotor_on_key(parts: &RotorParts, entry: &RotorEntry) -> bool
     are_the_pairs(&parts.cables, entry.pairs.as_slice())
 }
 
-/// Whether each of the day's `wheels` has the day's ring. `rings` are the machine's, in the order of its box.
+/// Whether each of the day's `wheels` has the day's ring. `rings` are the machine's rings, in box order.
 fn have_rings(model: Model, rings: &PerWheel<Letter>, wheels: &[SheetWheel]) -> bool
     requires { length rings.now ≡ length (box_of model) }
     ensures { IsTrue result
@@ -92,7 +92,7 @@ fn have_rings(model: Model, rings: &PerWheel<Letter>, wheels: &[SheetWheel]) -> 
     }
 }
 
-/// Whether each of the day's `wheels` shows the day's letter. `letters` are the machine's, in the order of its box.
+/// Whether each of the day's `wheels` shows the day's letter. `letters` are the machine's window letters, in box order.
 fn have_letters(model: Model, letters: &PerWheel<Letter>, wheels: &[SheetWheel]) -> bool
     requires { length letters.now ≡ length (box_of model) }
     ensures { IsTrue result
@@ -117,7 +117,7 @@ fn are_same_readings(readings: [Reading; 27], rows: [Reading; 27]) -> bool
     readings == rows
 }
 
-/// Whether the cables that aren't empty have exactly the letters of `pairs`, in any order of cables and letters.
+/// Whether the cables that aren't empty are exactly `pairs`. The order of cables, pairs and letters doesn't matter.
 fn are_the_pairs(cables: &[Cable], pairs: &[(Letter, Letter)]) -> bool
     ensures { IsTrue result ↔ AreThePairs cables.now pairs.now }
 {
@@ -135,7 +135,7 @@ fn are_paired(cables: &[Cable], pairs: &[(Letter, Letter)]) -> bool
     }
 }
 
-/// Whether the letters of each of `pairs` are in one of `cables`.
+/// Whether each of `pairs` has its letters in one of `cables`.
 fn are_joined(pairs: &[(Letter, Letter)], cables: &[Cable]) -> bool
     ensures { IsTrue result ↔ AllByRecursion (λ pair. Any (λ cable. HasPairLetters cable pair) cables.now) pairs.now }
 {

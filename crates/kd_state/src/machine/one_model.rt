@@ -1,4 +1,4 @@
-//! A machine and a day of the same model, and the parts of both.
+//! A machine and a day of the same model, as one value.
 use super::Machine;
 use super::parts::Parts;
 use super::pin_parts::PinParts;
@@ -8,7 +8,7 @@ use crate::sheet_day::entry::Entry;
 use crate::sheet_day::pin_entry::PinEntry;
 use crate::sheet_day::rotor_entry::RotorEntry;
 
-/// The parts of a machine and of a day of the same model.
+/// The parts of a machine, and the values of a day of the same model.
 #[derive(Clone, Copy)]
 pub enum OneModel<'a> {
     /// An Enigma I, an M3 or an M4, and a day for it.
@@ -23,7 +23,7 @@ impl Machine {
     ghost use Rattle.kd_state.specs.SheetDay.{IsLegalDay, day_model};
     ghost use Rattle.kd_state.specs.OneModel.{AreTakenApart};
 
-    /// The parts of the machine and of `day`; `None` if machine and day are of different models.
+    /// The machine's parts and the day's values; `None` if machine and day are of different models.
     pub fn of_one_model<'a>(&'a self, day: &'a SheetDay) -> Option<OneModel<'a>>
         ensures parted { MatchOption result
             (model_of self.now ≢ day_model day.now)

@@ -20,7 +20,7 @@ pub struct PinParts {
 }
 
 impl PinParts {
-    /// Whether the parts are legal: whether each pin wheel has the letter that it shows.
+    /// Whether the parts are legal: each of the six letters must be on its pin wheel.
     pub(crate) fn is_legal(&self) -> bool
         ensures { IsTrue result ↔ IsLegalPin self.now }
     {
@@ -30,7 +30,7 @@ impl PinParts {
     }
 }
 
-/// Whether `letters` are six letters, the first on pin wheel 1, the second on pin wheel 2, and so on.
+/// Whether the first of `letters` is on pin wheel 1, the second on pin wheel 2, and so on.
 #[tactic(auto, using(crate::proofs::Slots::is_numbered, crate::proofs::Slots::numbered_at))]
 pub(crate) fn are_on_wheels(letters: &[Letter; 6]) -> bool
     ensures { IsTrue result ↔ AreOnWheels letters.now }

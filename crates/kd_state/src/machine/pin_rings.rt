@@ -25,7 +25,7 @@ pub(crate) fn pin_at(pins: &PinSet, wheel: u8, letter: Letter) -> Option<bool>
     pins_on(pins, wheel).get(place).copied()
 }
 
-/// The pins of pin wheel `wheel`, counted from 1. Empty if there is no such wheel.
+/// The pins of pin wheel `wheel`; pin wheels are counted from 1. Empty if there is no such wheel.
 fn pins_on(pins: &PinSet, wheel: u8) -> &[bool]
     ensures { result.now ≡ wheel_pins pins.now wheel }
 {

@@ -47,7 +47,7 @@ impl Machine {
         }
     }
 
-    /// The ring of `wheel`, which may be in the box; ring 01 is A. `None` if the machine lacks the wheel.
+    /// The ring of `wheel`, in a slot or in the box; ring 01 is A. `None` if the machine lacks the wheel.
     pub fn ring(&self, wheel: Wheel) -> Option<Letter>
         ensures { result ≡ machine_ring self.now wheel }
     {
@@ -57,7 +57,7 @@ impl Machine {
         }
     }
 
-    /// The window letter of `wheel`, which may be in the box. `None` if the machine lacks the wheel.
+    /// The window letter of `wheel`, in a slot or in the box. `None` if the machine lacks the wheel.
     pub fn letter(&self, wheel: Wheel) -> Option<Letter>
         ensures { result ≡ machine_letter self.now wheel }
     {
@@ -67,7 +67,7 @@ impl Machine {
         }
     }
 
-    /// The letters in cable `cable`, counted from 1. `None` if there is no such cable.
+    /// The letters in cable `cable`; cables are counted from 1. `None` if there is no such cable.
     ///
     /// The letters are in alphabetical order; a single letter is at the first end.
     pub fn cable(&self, cable: u8) -> Option<Cable>
@@ -91,7 +91,7 @@ impl Machine {
         }
     }
 
-    /// The letter that pin wheel `wheel`, counted from 1, shows. `None` if there is no such wheel.
+    /// The letter that pin wheel `wheel` shows; pin wheels are counted from 1. `None` if there is no such wheel.
     pub fn shown(&self, wheel: u8) -> Option<Letter>
         ensures { result ≡ machine_pin_letter self.now wheel }
     {
@@ -101,7 +101,7 @@ impl Machine {
         }
     }
 
-    /// The places of the lugs of bar `bar`, counted from 1. `None` if there is no such bar.
+    /// The places of the two lugs of bar `bar`; bars are counted from 1. `None` if there is no such bar.
     pub fn standing(&self, bar: u8) -> Option<Standing>
         ensures { result ≡ machine_standing self.now bar }
     {
@@ -112,7 +112,7 @@ impl Machine {
     }
 }
 
-/// The letter for `wheel` in `letters`, which are in the order of the model's box. `None` if the box lacks the wheel.
+/// The letter for `wheel` in `letters`, which are in the order of the model's box. `None` if the model lacks the wheel.
 #[tactic(auto, using(crate::proofs::Wheels::place_nowhere, crate::proofs::Prelude::slice_get_past))]
 pub(crate) fn letter_of_wheel(
     model: Model,

@@ -18,7 +18,7 @@ pub struct RotorParts {
     /// The wheel in each slot, from the left; `None` for an empty slot.
     pub slots: PerSlot<Option<Wheel>>,
     pub reflector: Reflector,
-    /// The ring of each wheel that the model has, in a slot or in the box, in box order. Ring 01 is A.
+    /// The ring of each of the model's wheels, in a slot or not. The order is the box order. Ring 01 is A.
     pub rings: PerWheel<Letter>,
     /// The window letter of each of the model's wheels, in a slot or not. The order is the box order.
     pub letters: PerWheel<Letter>,

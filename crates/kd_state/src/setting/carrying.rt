@@ -9,7 +9,7 @@ use crate::setting::why::Why;
 use kd_tables::{Refusal, Text};
 use thiserror::Error;
 
-/// Of a list of settings, the first that the machine refuses. `line` is the setting's number, counted from 1.
+/// The first refusal in a list of settings: the refused setting's number, counted from 1, and the reason.
 #[derive(Clone, Copy, Debug, PartialEq, Eq, Error)]
 #[error("{}", self.text())]
 pub struct IllegalAt {

@@ -57,9 +57,9 @@ pub fn read_list(text: &[u8]) -> Result<Settings, ListFault>
     }
 }
 
-/// Reads settings up to the first line that isn't a setting's; returns the settings and the rest of `text`.
+/// Reads settings up to the first line that has no LF or isn't the line of a setting.
 ///
-/// `None` if there are more than 192 settings.
+/// Returns the settings and the rest of `text`. `None` if there are more than 192 settings.
 pub fn split_settings(text: &[u8]) -> Option<(Settings, &[u8])>
     ensures { MatchOption result
         (IsListFault text.now ListFault.TooMany)

@@ -76,7 +76,7 @@ impl PinParts {
     }
 }
 
-/// Whether the bar's other lug, not `lug`, is at `place`.
+/// Whether the bar's other lug (the one that isn't `lug`) is at `place`.
 fn is_taken(standing: Standing, lug: Lug, place: Place) -> bool
     ensures { let moved = with_lug lug place standing in result ≡ is_same_place moved.0 moved.1 }
 {

@@ -24,7 +24,7 @@ impl PinEntry {
     ghost use Rattle.kd_state.specs.SheetDay.{IsLegalPinDay};
     ghost use Rattle.kd_state.specs.Entry.{pin_values};
 
-    /// Whether the values are legal: whether a key sheet can have this day.
+    /// Whether the values are legal for a day of a key sheet.
     pub(crate) fn is_legal(&self) -> bool
         ensures { IsTrue result ↔ IsLegalPinDay (pin_values self.now) }
     {

@@ -53,7 +53,7 @@ impl RotorEntry {
     ghost use Rattle.kd_state.specs.SheetDay.{IsLegalRotorDay, AreOneOfGroups};
     ghost use Rattle.kd_state.specs.Entry.{rotor_values};
 
-    /// Whether the values are legal: whether a key sheet can have this day.
+    /// Whether the values are legal for a day of a key sheet.
     pub(crate) fn is_legal(&self) -> bool
         ensures { IsTrue result ↔ IsLegalRotorDay (rotor_values self.now) }
     {
