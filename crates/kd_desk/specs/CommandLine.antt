@@ -45,17 +45,16 @@ pub record IsMadeOf (grammar : Grammar) (name : List ℕ) (words : List (Bor (Li
 abbrev pub day_words : List (List ℕ)
 day_words = codes "MACHINE" ∷ codes "SHEET" ∷ codes "DAY" ∷ []
 
--- The name of the command, `send` or `receive`. `direction_word`: the name of the command's last argument, `ORDER` or
--- `FORM`.
+-- the name of the command: `send` or `receive`
 abbrev pub direction_name : Direction → List ℕ
 direction_name Send = codes "send"
 direction_name Receive = codes "receive"
 
+-- the name of the command's last argument: `ORDER` or `FORM`
 abbrev pub direction_word : Direction → List ℕ
 direction_word Send = codes "ORDER"
 direction_word Receive = codes "FORM"
 
--- the command `type`; the next two definitions are the commands `apply` and `card`
 abbrev pub type_shape : Shape
 type_shape = command_shape (codes "type") (codes "MACHINE" ∷ [])
 
@@ -69,7 +68,6 @@ card_shape = command_shape (codes "card") day_words
 abbrev pub file_shape : List ℕ → List ℕ → Shape
 file_shape name word = command_shape name (day_words ++ word ∷ [])
 
--- the command `check`; the next definition is the command `send` or `receive`
 abbrev pub check_shape : Shape
 check_shape = file_shape (codes "check") (codes "CARD")
 

@@ -23,7 +23,7 @@ pub record KnownFile : Type 0 where
 abbrev pub known_file : {O : Type 0} → (O → Option (List ℕ)) → (O → Bool) → O → KnownFile
 known_file bytes failed file = record { bytes = bytes file; failed = failed file }
 
--- an opened file with all of its bytes still to be read; or the fault that there is no file
+-- an opened file with all of its bytes still to be read; or the fault `Device` if there is no file
 abbrev pub opening_of : Option (List ℕ) → Result KnownFile FileFault
 opening_of None = Err Device
 opening_of (Some bytes) = Ok (record { bytes = Some bytes; failed = false })
@@ -79,8 +79,8 @@ pub record MissesOne (names : List (List ℕ)) (old new : List AskedName) : Type
   pub names_are : names ≡ before ++ name ∷ after
   pub asked : new ≡ old ++ (map asked_and_had before ++ asked_and_missed name ∷ [])
 
--- `new` is `old` followed by the names asked for: all of `names`, or those up to the first file that couldn't be read
--- or opened.
+-- `new` is `old` followed by the names asked for: all of `names`, or the names up to and including the first file that
+-- couldn't be read or opened.
 abbrev pub AreAskedFor : List (List ℕ) → List AskedName → List AskedName → Bool → Type 0
 AreAskedFor names old new true = new ≡ old ++ map asked_and_had names
 AreAskedFor names old new false = MissesOne names old new

@@ -8,7 +8,7 @@ use Rattle.kd_state.specs.SheetDay.{Day}
 use Rattle.kd_state.specs.OnKey.{OnKey, ReadsAs}
 use Rattle.kd_state.specs.TwoCiphers.{IsReady, window_of, physical_cipher, sheet_cipher}
 
--- The machine is ready, set as the day says, shows the day's letters, and enciphers as the day's own machine does.
+-- The machine is ready and set as the day says, shows the day's letters, and enciphers as the day asks.
 pub record IsSheetsMachine (n : Parts) (s : Day) : Type 0 where
   pub machine : IsMachine n
   pub reads : ReadsAs n s

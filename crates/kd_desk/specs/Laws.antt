@@ -42,7 +42,7 @@ MonthsSetTheMachine =
     → SetTheMachineInTurn file sheet numbers papers
 
 -- On a rotor machine, the cards written for days of a sheet, one after another, have the fewest settings in all. Other
--- lists that start from the same machine, and reach the same days in the same order, have no fewer.
+-- lists that start from the same machine, and reach the same days in the same order, have no fewer settings.
 abbrev pub MonthsAreFewest : Type 0
 MonthsAreFewest =
     (file sheet numbers : List ℕ) (papers : List Papers) (m : Parts) (month : List (Option Day)) (days : List Day)

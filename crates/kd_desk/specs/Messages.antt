@@ -15,7 +15,7 @@ use Rattle.kd_desk.specs.declared.fault.DeskFault.{DeskFault}
 use Rattle.kd_desk.specs.declared.fault.DeskFault.TheVariants as faults
 use Rattle.kd_tables.specs.Ports.{Port}
 
--- the desk's fault for a message's fault: `Device` and `ReadTooLong` stay, any other becomes a `Message`
+-- the desk's fault for a message's fault: `Device` and `ReadTooLong` stay, and any other fault becomes a `Message`
 abbrev pub fault_of_message : FormFault → DeskFault
 fault_of_message message.Device = faults.Device
 fault_of_message message.ReadTooLong = faults.ReadTooLong
@@ -45,9 +45,9 @@ IsStreamedOn m s message source sink answer = IsAnswered (StreamsOnKey m s messa
 abbrev pub Sends : Parts → Day → Port → Port → Result (Unit {0}) DeskFault → Type 0
 Sends m s order sink answer = IsStreamedOn m s (order_message s) order sink answer
 
--- How the forms and the orders of day `s` agree. If a form is made from an order, the form's text is the text that
--- `IsPlaintextOf` says. A form with a fault isn't made from any order. If no further bytes can change the fault, no
--- order makes a form that begins with the bytes of the faulty form.
+-- How the forms and the orders of day `s` agree. If a form is made from an order, the form's text is the text that the
+-- receiver must get. A form with a fault isn't made from any order. If no further bytes can change the fault, no order
+-- makes a form that begins with the bytes of the faulty form.
 pub record TellOfOrders (s : Day) : Type 0 where
   pub back : (form text order given : List ℕ) → IsTextOf s form text → IsFormOf s order form
       → IsPlaintextOf s order given → text ≡ given
@@ -55,7 +55,7 @@ pub record TellOfOrders (s : Day) : Type 0 where
   pub of_no_front : (form more order : List ℕ) (fault : FormFault) → (form_message s).stands form fault
       → ¬ (IsFormOf s order (form ++ more))
 
--- The text of the form is written, or the form is refused.
+-- The text of the form is written, or the form is refused. The day's forms and orders agree, as `TellOfOrders` says.
 pub record Receives (m : Parts) (s : Day) (form sink : Port) (answer : Result (Unit {0}) DeskFault) : Type 0 where
   pub streamed : IsStreamedOn m s (form_message s) form sink answer
   pub orders : TellOfOrders s

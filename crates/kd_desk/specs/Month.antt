@@ -1,5 +1,5 @@
--- A month on one machine. Each day has a card, and a machine file for the machine after the card's settings. What cards
--- and files promise.
+-- A month on one machine: its cards and machine files, and what they promise. Each day has a card, and a machine file
+-- for the machine after the card's settings.
 -- Test: tests/guide
 use Rattle.std.specs.Prelude.{◌≡◌, ◌⊎◌, ℕ, List, [], ◌∷◌, false, Option, Some, Result, Ok, IfOk}
 use Rattle.std.specs.List.{AllZip}
@@ -48,8 +48,8 @@ AreWrittenInTurn file sheet (number ∷ numbers) (papers ∷ more) =
     AreWritten file sheet number papers × AreWrittenInTurn papers.file sheet numbers more
 AreWrittenInTurn file sheet numbers papers = ⊥
 
--- The card's settings lead from the machine of `file` to the machine of the next file. This machine is set as day
--- `number` says, shows the day's letters, and enciphers as the day's own machine does. Spare cables stay free, and the
+-- The card's settings lead from the machine of `file` to the machine of the next file. The machine of the next file is
+-- set as day `number` says, shows the day's letters, and enciphers as the day asks. Spare cables stay free, and the
 -- card's prices prove that no fewer settings lead to the day.
 pub record SetTheMachine (file sheet : List ℕ) (number : ℕ) (papers : Papers) : Type 0 where
   pub m : Parts
@@ -71,7 +71,7 @@ SetTheMachineInTurn file sheet (number ∷ numbers) (papers ∷ more) =
     SetTheMachine file sheet number papers × SetTheMachineInTurn papers.file sheet numbers more
 SetTheMachineInTurn file sheet numbers papers = ⊥
 
--- `days` are the days of the month whose numbers are `numbers`.
+-- `days` has the month's day for each of `numbers`, in the same order.
 abbrev pub AreDaysOf : List (Option Day) → List ℕ → List Day → Type 0
 AreDaysOf month numbers days = AllZip (λ number s. day_of month number ≡ Some s) numbers days
 
@@ -85,8 +85,8 @@ pub record HasDayOf (model : Model) (month : List (Option Day)) (number : ℕ) :
   pub of_month : day_of month number ≡ Some s
   pub of_model : day_model s ≡ model
 
--- From each machine file of `m`, the desk can write a card for the day `s`, and a next machine file. `n` is the machine
--- of this next file.
+-- Given a machine file of `m` and a key sheet with the day `s`, the desk can write a card for this day, and then a
+-- machine file of `n`.
 abbrev pub HasPapers : Parts → Day → Parts → Type 0
 HasPapers m s n = (file sheet : List ℕ) → machine_and_day file sheet (day_number s) ≡ Ok (m, s)
     → (papers : Papers) × AreWritten file sheet (day_number s) papers × (machine_of papers.file ≡ Ok n)

@@ -34,7 +34,6 @@ use Rattle.kd_desk.specs.RunCheck.{Checks}
 use Rattle.kd_desk.specs.RunSteps.{LacksMemory, AnswersFault, is_refused_before, is_device}
 
 -- A task with what is known of its files: the bytes of a file that is read whole, and a `KnownFile` for an opened file.
--- `KnownAction`, `KnownCommand`: the same for an action and for a command.
 abbrev pub KnownTask : Type 0
 KnownTask = Task (List ℕ) KnownFile
 
@@ -70,12 +69,12 @@ known_command held command =
 
 -- ---- What each command does, as the contract of its function promises.
 
--- A text was typed on the machine of a machine file, or the machine file was refused.
+-- A text was typed on the machine of a machine file, or the machine file was refused, or memory ran out.
 pub record TypesOn (machine : List ℕ) (source sink : Port) (answer : Result (Unit {0}) DeskFault) : Type 0 where
   pub refused : IfErr (machine_of machine) (λ fault. AnswersFault answer (File fault))
   pub typed : IfOk (machine_of machine) (λ m. TypesText m source sink answer ⊎ LacksMemory answer)
 
--- Settings were carried out on the machine of a machine file, or the machine file was refused.
+-- Settings were carried out on the machine of a machine file, or the machine file was refused, or memory ran out.
 pub record AppliesTo (machine list : List ℕ) (sink : Port) (answer : Result (Unit {0}) DeskFault) : Type 0 where
   pub refused : IfErr (machine_of machine) (λ fault. AnswersFault answer (File fault))
   pub applied : IfOk (machine_of machine) (λ m. Applies m list sink answer ⊎ LacksMemory answer)
@@ -100,11 +99,11 @@ DoesCommand command source sink answer = DoesAction command.machine command.acti
 
 -- ---- How a command is carried out, and what is left of the file that it opened.
 
--- the opened file as a port: `file` is what is known of it before a call, `left` what is known of it after the call
+-- the opened file as a port, from what is known of the file before a call (`file`) and after the call (`left`)
 abbrev pub file_port : KnownFile → KnownFile → Port
 file_port left file = record { had = file.bytes; has = left.bytes; had_failed = file.failed; has_failed = left.failed }
 
--- Whether a command opened a file whose reading failed. `left` is what is known of the file after the call.
+-- Whether a command opened a file and a read of this file failed. `left` is what is known of the file after the call.
 abbrev pub has_file_failed : Option KnownFile → KnownFile → Bool
 has_file_failed None left = false
 has_file_failed (Some file) left = left.failed
@@ -117,15 +116,15 @@ IsUnfailed failed file = IfSome file (λ f. failed f ≡ false)
 abbrev pub StopsForMemory : Result (Unit {0}) Stop → Type 0
 StopsForMemory answer = (answer ≡ Err (Refused (File NoMemory))) ⊎ (answer ≡ Err (Unread files.NoMemory))
 
--- A command was carried out. `told` is the answer of the call that did it, and `answer` the program's answer.
--- `left` is what is known of the opened file after the call.
+-- A command was carried out. `told` is the answer of the command's call, such as `run_card`, and `answer` is the
+-- program's answer. `left` is what is known of the opened file after the call.
 pub record IsCommandDone (command : KnownCommand) (source sink : Port) (answer : Result (Unit {0}) Stop) : Type 0 where
   pub left : KnownFile
   pub told : Result (Unit {0}) DeskFault
   pub does : DoesCommand (with_command_opened (file_port left) command) source sink told
   pub answers : answer ≡ stop_after (has_file_failed (command_opened command) left) told
 
--- `IsCommandDone` for a task. The task has a machine, from the machine file, and a day, from the sheet.
+-- `IsCommandDone` for a task, with the machine of the file `machine` and day `number` of the key sheet `sheet`.
 pub record IsTaskDone (machine sheet : List ℕ) (number : ℕ) (task : KnownTask) (sink : Port)
     (answer : Result (Unit {0}) Stop) : Type 0 where
   pub left : KnownFile
@@ -141,7 +140,7 @@ CarriesOut (Err fault) source sink answer = (answer ≡ Err (Unread fault)) ⊎ 
 
 -- ---- What holds of the program's answer: the command's answer, the files asked for, and the ports.
 
--- whether the program stopped before it read a text, an order or a form, or wrote anything
+-- whether the program stopped before it read a message or wrote anything; a message is a text, an order or a form
 abbrev pub is_stopped_before : Result (Unit {0}) Stop → Bool
 is_stopped_before (Ok _) = false
 is_stopped_before (Err Usage) = true
@@ -154,16 +153,16 @@ abbrev pub is_stopped_by_port : Result (Unit {0}) Stop → Bool
 is_stopped_by_port (Err (Refused fault)) = is_device (Err fault)
 is_stopped_by_port _ = false
 
--- Which file names were asked for. If the answer is `Usage`: none. If it is `Unread`: the names up to the first file
--- that couldn't be read or opened. If it is another: all names, or none if memory ran out while the command line was
--- read.
+-- Which file names were asked for. If the answer is `Usage`: none. If it is `Unread`: the names up to and including the
+-- first file that couldn't be read or opened. Otherwise: all names, or none if memory ran out while the command line
+-- was read.
 abbrev pub AsksFor : List (List ℕ) → List AskedName → Result (Unit {0}) Stop → Type 0
 AsksFor names asked (Err Usage) = asked ≡ []
 AsksFor names asked (Err (Unread fault)) = AreAskedFor names [] asked false
 AsksFor names asked (Err (Refused fault)) = AreAskedFor names [] asked true ⊎ ((asked ≡ []) × (fault ≡ File NoMemory))
 AsksFor names asked answer = AreAskedFor names [] asked true
 
--- If `known` says which bytes the files have, the command was carried out on these bytes.
+-- If `known` says which bytes the files have, `CarriesOut` holds for these bytes.
 abbrev pub CarriesOutKnown : Option (List ℕ → Option (List ℕ)) → NamedCommand → Port → Port → Result (Unit {0}) Stop
     → Type 0
 CarriesOutKnown known command source sink answer =

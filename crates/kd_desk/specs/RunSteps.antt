@@ -14,7 +14,7 @@ LacksMemory answer = answer ≡ Err (File NoMemory)
 abbrev pub AnswersFault : Result (Unit {0}) DeskFault → DeskFault → Type 0
 AnswersFault answer fault = (answer ≡ Err fault) ⊎ LacksMemory answer
 
--- whether a call was refused before it read a text, an order or a form, or wrote anything
+-- whether a call was refused before it read a message or wrote anything; a message is a text, an order or a form
 abbrev pub is_refused_before : Result (Unit {0}) DeskFault → Bool
 is_refused_before (Ok _) = false
 is_refused_before (Err Device) = false

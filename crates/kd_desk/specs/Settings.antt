@@ -13,7 +13,7 @@ use Rattle.kd_card.specs.CardFault.{IsCardFault}
 use Rattle.kd_desk.specs.declared.fault.DeskFault.{DeskFault}
 use Rattle.kd_desk.specs.declared.fault.DeskFault.TheVariants as faults
 
--- whether the bytes begin as a card does, with `CARD `
+-- whether the bytes begin with `CARD `, as every card does
 abbrev pub begins_as_card : List ℕ → Bool
 begins_as_card bytes = starts_with nat_eq bytes (codes "CARD ")
 

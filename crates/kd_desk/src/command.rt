@@ -17,7 +17,7 @@ use std::convert::AsStr;
 /// A command of the desk, with its files or their names.
 ///
 /// `F` stands for a file that is read whole, and `O` for an order or a form, which is streamed. In a parsed command
-/// both are file names. In a command to carry out, `F` is the file's contents, and `O` the opened file.
+/// both are file names. When a command is carried out, `F` is the file's contents, and `O` the opened file.
 #[derive(Drop)]
 pub struct Command<F, O> {
     /// The machine file.
@@ -47,7 +47,7 @@ pub enum Action<F, O> {
 /// What a command does with the machine and a day.
 #[derive(Drop)]
 pub enum Task<F, O> {
-    /// Prints the shortest card from the machine to the day.
+    /// Prints a shortest card from the machine to the day.
     Card,
     /// Checks whether the card's prices prove that no shorter list sets the machine to the day.
     Check(F),

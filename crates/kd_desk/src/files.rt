@@ -29,7 +29,7 @@ pub trait Files<'n> {
 
     /// Reads the file `name` whole.
     ///
-    /// Returns `Device` if there is no such file or a read fails, and `ReadTooLong` if the file has more than
+    /// Returns `Device` if the file can't be opened or a read fails, and `ReadTooLong` if the file has more than
     /// 1,048,576 bytes. At most three names may be asked for.
     fn read_content(&mut self, alloc: Global, name: &'n str) -> Result<Content, FileFault>
         requires { length (asked self.old) < 3 }

@@ -30,15 +30,14 @@ pub fn settings_lead_or_are_refused()
 /// Cards and machine files, written for days of a sheet in turn, set the machine to each of these days.
 ///
 /// Each card's settings lead from the machine of one file to the machine of the next file. The machine of the next file
-/// is set as the day says, shows the day's letters, and enciphers as the day's own machine does. No fewer settings lead
-/// to the day.
+/// is set as the day says, shows the day's letters, and enciphers as the day asks. No fewer settings lead to the day.
 pub fn months_set_the_machine()
     ensures { MonthsSetTheMachine }
 {}
 
-/// On a rotor machine, a month's cards together have no more settings than other lists would have.
+/// On a rotor machine, a month's cards have the fewest settings in all.
 ///
-/// The other lists start from the same machine, and reach the same days one after another.
+/// Other lists that start from the same machine, and reach the same days in the same order, have no fewer settings.
 #[tactic(auto, using(crate::proofs::Months::months_are_fewest))]
 pub fn months_are_fewest()
     ensures { MonthsAreFewest }

@@ -1,4 +1,4 @@
-//! Two ports: `ReaderSource` reads from a standard reader, and `WriterSink` writes to a standard writer.
+//! Two ports: `ReaderSource` reads from any `std::io::Read`, and `WriterSink` writes to any `std::io::Write`.
 mod reader_source;
 mod writer_sink;
 

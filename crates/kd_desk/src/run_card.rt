@@ -1,4 +1,4 @@
-//! The command `card`: prints the shortest card, whose settings lead from a machine to a day.
+//! The command `card`: prints a shortest card, whose settings lead from a machine to a day.
 ghost use Rattle.std.specs.Prelude.{◌≡◌, ◌≢◌, ◌||◌, Err, IsErr};
 ghost use Rattle.kd_card.specs.Proving.{ProvesByNumber};
 ghost use Rattle.kd_prices.specs.KindCards.{IsByKind};
@@ -19,10 +19,10 @@ use kd_state::{Entry, Machine, Parts, SheetDay};
 use kd_tables::Sink;
 use std::alloc::Global;
 
-/// Writes the shortest card from the machine in the file `machine` to day `number` of the sheet `sheet`.
+/// Writes a shortest card from the machine in the file `machine` to day `number` of the sheet `sheet`.
 ///
 /// Faults are tested in this order: faults of the machine file, faults of the sheet, `NoSuchDay`, and `OtherModel`.
-/// For all of these, nothing is written. For `Device`, only a prefix of the card is written.
+/// For all of these faults, nothing is written. For `Device`, only a prefix of the card is written.
 pub fn run_card<W: Sink>(
     alloc: Global,
     machine: &[u8],

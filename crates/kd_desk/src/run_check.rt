@@ -22,7 +22,7 @@ use std::alloc::Global;
 /// `machine` is a machine file, and `sheet` a key sheet. If the card's prices prove the card shortest, writes SHORTEST
 /// and the number of its settings. Faults are tested in this order: faults of the machine file, faults of the sheet,
 /// `NoSuchDay`, faults of the card, `OtherDay`, and `Doubtful`. `Doubtful` has the first reason why the card doesn't
-/// prove itself. For all of these, nothing is written. For `Device`, only a prefix of the line is written.
+/// prove itself. For all of these faults, nothing is written. For `Device`, only a prefix of the line is written.
 pub fn run_check<W: Sink>(
     alloc: Global,
     machine: &[u8],

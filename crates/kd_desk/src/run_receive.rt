@@ -19,8 +19,8 @@ use std::alloc::Global;
 /// read, and nothing has been written.
 ///
 /// While the form is read, these faults can come: its own faults, such as `BadByte`; `ReadTooLong`, if it has more than
-/// 1,048,576 bytes; and `Device`, if a read or a write fails. The texts of the parts before such a fault are written,
-/// or a prefix of them if a write failed.
+/// 1,048,576 bytes; and `Device`, if a read or a write fails. The texts of the parts before the fault are written, or a
+/// prefix of them if a write failed.
 pub fn run_receive<R: Source, W: Sink>(
     alloc: Global,
     machine: &[u8],

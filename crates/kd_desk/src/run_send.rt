@@ -19,7 +19,7 @@ use std::alloc::Global;
 /// order has been read, and nothing has been written.
 ///
 /// While the order is read, these faults can come: its own faults, such as `BadByte`; `ReadTooLong`, if it has more
-/// than 1,048,576 bytes; and `Device`, if a read or a write fails. The parts made before such a fault are written, or a
+/// than 1,048,576 bytes; and `Device`, if a read or a write fails. The parts made before the fault are written, or a
 /// prefix of them if a write failed.
 pub fn run_send<R: Source, W: Sink>(
     alloc: Global,

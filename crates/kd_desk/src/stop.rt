@@ -38,7 +38,7 @@ impl Stop {
         }
     }
 
-    /// Turns the result of a command that streams a file into the program's result: a fault becomes a `Stop`.
+    /// Turns the result of a command with a streamed file into the program's result: a fault becomes a `Stop`.
     ///
     /// `file_failed` says whether a read of the streamed file failed.
     pub(crate) fn of_file_answer(done: Result<(), DeskFault>, file_failed: bool) -> Result<(), Stop>
@@ -77,7 +77,7 @@ impl Stop {
     }
 }
 
-/// The line on standard error for the refusal with the fault `fault`.
+/// The line on standard error for the fault `fault`.
 fn refused_line(fault: DeskFault) -> Line
     ensures { result.bytes ≡ refused_line fault }
 {
@@ -88,7 +88,7 @@ fn refused_line(fault: DeskFault) -> Line
     line
 }
 
-/// Writes the line for the `Stop` in `answer`, if there is one, to `errors`; returns the exit status.
+/// Writes to `errors` the line for the `Stop` in `answer`, if there is one; returns the exit status.
 ///
 /// The exit status is the same even if the line can't be written.
 pub fn end_program<E: Sink>(answer: Result<(), Stop>, errors: &mut E) -> u8

@@ -1,5 +1,5 @@
--- The standings of the bars, in a machine file, and the readings of the bars, in a key sheet. A standing has the places
--- of a bar's two lugs, and a reading has the numbers of the wheels at these places, or 0.
+-- The bars' standings in a machine file, and the bars' readings in a key sheet. A standing has the places of a bar's
+-- two lugs, and a reading has the numbers of the wheels at these places, or 0.
 -- Test: kd_trials/src/sheet/files.rt
 use Rattle.std.specs.Prelude.{ℕ, nat_eq, ◌+◌, ◌-◌, ◌==◌, ◌&&◌, ◌||◌, nat_le, not, List, [], ◌∷◌, length, Option}
 use Rattle.std.specs.Prelude.{Some, None, Result, ok_or, if◌then◌else◌}
@@ -21,7 +21,8 @@ unfoldable pub bars_in : Members → Result (List (Place × Place)) SheetFault
 bars_in table =
     value_at keys.Bars table >>= read_array keys.Bars (nat_eq 27) (or_bad_row (find_by_text standing_text standings))
 
--- the reading of a text such as `3-0` (here 0 and 3): two digits from 0 to 6, which differ or are both 0
+-- The two digits of a row's text, the lower one first: `3-0` gives 0 and 3. The digits are from 0 to 6, and differ or
+-- are both 0.
 unfoldable pub row_of_text : List ℕ → Option (ℕ × ℕ)
 row_of_text (one ∷ dash ∷ other ∷ []) =
     if list_all (λ x. nat_le 48 x && nat_le x 54) (one ∷ other ∷ []) && dash == 45 && (not (one == other) || one == 48)

@@ -1,4 +1,4 @@
--- The cables of a machine file, and the pairs of a key sheet, item by item.
+-- How the cables of a machine file and the pairs of a key sheet are read, item by item.
 -- Test: kd_trials/src/sheet/files.rt
 use Rattle.std.specs.Prelude.{ℕ, ◌-◌, nat_eq, nat_le, List, [], ◌∷◌, ◌++◌, length, replicate, slice_get, slice_index}
 use Rattle.std.specs.Prelude.{Option, None, Result, Ok, ok_or}
@@ -14,21 +14,21 @@ use Rattle.kd_sheet.specs.declared.key.Key.TheVariants as keys
 use Rattle.kd_sheet.specs.declared.fault.SheetFault.{SheetFault}
 use Rattle.kd_sheet.specs.declared.fault.SheetFault.TheVariants.{BadValue, LetterTwice}
 
--- The cable that `item` describes, or a fault. The letters must differ from each other and from those of `cables`.
+-- The cable that `item` describes, or a fault. Its letters must differ, and none of them may be in `cables`.
 unfoldable pub cable_for : List (Option ℕ × Option ℕ) → Data → Result (Option ℕ × Option ℕ) SheetFault
 cable_for cables item = do
   letters ← ok_or (from_text (capital_letters (λ n. nat_le n 2)) item) (BadValue keys.Cables)
   demand (are_new_letters letters (letters_in_cables cables)) LetterTwice
   Ok (slice_get letters 0, slice_get letters 1)
 
--- The 13 cables of a machine file. Cables that the key `cables` doesn't give are empty; without the key, all are.
+-- The 13 cables of a machine file. Cables that the key `cables` doesn't give are empty; without the key, all are empty.
 unfoldable pub cables_in : Members → Result (List (Option ℕ × Option ℕ)) SheetFault
 cables_in table = do
   cables ← option_map_or (read_array keys.Cables (λ n. nat_le n 13) cable_for) (get_member (key_name keys.Cables) table)
       (Ok [])
   Ok (cables ++ replicate (13 - length cables) (None, None))
 
--- The pair that `item` describes, or a fault. The letters must differ from each other and from those of `pairs`.
+-- The pair that `item` describes, or a fault. Its letters must differ, and none of them may be in `pairs`.
 unfoldable pub pair_for : List (ℕ × ℕ) → Data → Result (ℕ × ℕ) SheetFault
 pair_for pairs item = do
   letters ← ok_or (from_text (capital_letters (nat_eq 2)) item) (BadValue keys.Plugs)

@@ -26,7 +26,7 @@ infixl 10 ◌>>◌
 abbrev pub ◌>>◌ : {B : Type 0} → Result (Unit {0}) SheetFault → Result B SheetFault → Result B SheetFault
 test >> next = test >>= (λ _. next)
 
--- the values of the items, in order, or the first fault; `parse` takes the earlier items' values, and an item
+-- the values of the items, in order, or the first fault; `parse` reads an item, given the values of the items before it
 abbrev pub read_items : {A : Type 0} → (List A → Data → Result A SheetFault) → List Data → Result (List A) SheetFault
 read_items parse [] = Ok []
 read_items parse (first ∷ rest) = do

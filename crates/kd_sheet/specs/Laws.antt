@@ -19,12 +19,12 @@ LegalPartsAreReadBack = (m : Parts) → IsLegal m → machine_of (machine_text m
 abbrev pub WrittenFilesAreReadBack : Type 0
 WrittenFilesAreReadBack = (m : Parts) → IsMachine m → machine_of (machine_text m) ≡ Ok m
 
--- A day is legal exactly if some item describes this day when it is read as the first entry of a key sheet.
+-- A day is legal exactly if the first entry of a key sheet can describe this day.
 abbrev pub LegalDaysAreDescribed : Type 0
 LegalDaysAreDescribed = (day : Day) → IsLegalDay day ↔ ((entry : Data) × (day_for [] entry ≡ Ok day))
 
--- The entries of a key sheet without a fault describe `days`, and the sheet's month is `month_of days`. Day `number` of
--- the month is the day that the entry with this number describes.
+-- Let the entries of a key sheet describe `days`, without a fault. Then day `number` of the month `month_of days` is
+-- the day that the entry with this number describes.
 abbrev pub DaysAreTheEntries : Type 0
 DaysAreTheEntries = (entries : List Data) (days : List Day) (number : ℕ) (day : Day)
     → read_items day_for entries ≡ Ok days

@@ -1,4 +1,4 @@
--- The letters that the Converter's six wheels show, and their effective pins.
+-- The letters that the Converter's six wheels show, and the wheels' effective pins.
 -- Test: kd_trials/src/sheet/files.rt
 use Rattle.std.specs.Prelude.{ℕ, nat_eq, ◌+◌, ◌&&◌, Bool, List, [], length, map, Option, Some, None, Result, Ok}
 use Rattle.std.specs.Prelude.{ok_or, if◌then◌else◌}
@@ -23,8 +23,8 @@ shown_letters_in key table = do
   demand (list_all (λ numbered. has_letter (ring_of numbered.0) numbered.1) (enumerate_from 1 letters)) (BadValue key)
   Ok letters
 
--- The pins of a wheel, in the order of its letters `ring`: a pin is effective if `text` has its letter. The result
--- is `None` if a byte of `text` isn't a capital letter of the wheel, or comes twice.
+-- The pins of a wheel, in the order of the wheel's letters `ring`: a pin is effective if `text` has the pin's letter.
+-- The result is `None` if a byte of `text` isn't a capital letter of the wheel, or comes twice.
 unfoldable pub pins_of_text : List ℕ → List ℕ → Option (List Bool)
 pins_of_text ring text =
     if list_all (has_letter (letters_text ring)) text && are_new_letters text []

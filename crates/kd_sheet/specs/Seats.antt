@@ -1,4 +1,4 @@
--- The wheels in the slots of a machine file or a day, item by item from the left.
+-- How the wheels in the slots of a machine file or a day are read, item by item from the left.
 -- Test: kd_trials/src/sheet/files.rt
 use Rattle.std.specs.Prelude.{nat_eq, ◌+◌, false, not, List, [], length, Option, Some, None, Result, Ok}
 use Rattle.std.specs.Prelude.{ok_or}
@@ -18,7 +18,7 @@ use Rattle.kd_sheet.specs.declared.fault.SheetFault.{SheetFault}
 use Rattle.kd_sheet.specs.declared.fault.SheetFault.TheVariants.{BadValue, WheelTwice, WheelNotAllowed}
 
 -- The wheel that `item` names, for the next slot after `slots`: the model must allow the wheel there, and no slot of
--- `slots` may hold it. The text of any of the ten wheels names a wheel, also on models that lack the wheel.
+-- `slots` may hold it. If `item` names a wheel that the model lacks, the fault is `WheelNotAllowed`, not `BadValue`.
 unfoldable pub wheel_for : Key → Model → List (Option Wheel) → Data → Result Wheel SheetFault
 wheel_for key model slots item = do
   wheel ← ok_or (from_text (find_by_text wheel_text (box_of M4)) item) (BadValue key)

@@ -1,4 +1,4 @@
-//! Reads the bars' standings in a machine file, and the bars' readings in a key sheet.
+//! Reads the bars' standings (lug places) in a machine file, and the bars' readings (wheel numbers) in a key sheet.
 ghost use Rattle.std.specs.Prelude.{◌≡◌, ◌+◌, ◌&&◌, nat_le, is_some, IfSome};
 ghost use Rattle.toml.specs.View.{view, table_view};
 ghost use Rattle.kd_tables.specs.Places.{standings, standing_text};
@@ -21,7 +21,7 @@ fn standing_of_item(item: &Value) -> Option<Standing>
     Standing::from_text(item.as_str()?.as_bytes())
 }
 
-/// Reads an item as a bar's standing. A fault has the bar's number, counted from 1.
+/// Reads an item as a bar's standing: the places of its lugs. A fault has the bar's number, counted from 1.
 impl FromItem<()> for Standing {
     ghost parse = { λ _. or_bad_row (find_by_text standing_text standings) };
 
@@ -50,7 +50,7 @@ fn digit_value(byte: u8) -> Option<u8>
     }
 }
 
-/// Reads `item` as a reading: two digits from 0 to 6 in either order, with `-` between them.
+/// Reads `item` as a bar's reading: two different digits from 0 to 6, in either order, with `-` between; or `0-0`.
 #[tactic(auto, unfolding(crate::specs::Bars::row_of_text))]
 fn row_of_item(item: &Value) -> Option<Reading>
     ensures { result ≡ from_text row_of_text (view item.now) }
@@ -61,7 +61,8 @@ fn row_of_item(item: &Value) -> Option<Reading>
     }
 }
 
-/// Reads an item as a row's reading. A fault has the row's number, counted from 1.
+/// Reads an item as a row: two wheel numbers (0 for no wheel) that a day asks of a bar. A fault has the row's number,
+/// counted from 1.
 impl FromItem<()> for Reading {
     ghost parse = { λ _. or_bad_row row_of_text };
 
@@ -70,7 +71,7 @@ impl FromItem<()> for Reading {
     }
 }
 
-/// Reads the rows of a day of a key sheet: the readings that the 27 bars must have.
+/// Reads the rows of a day: the readings that the day asks of the 27 bars.
 #[tactic(auto, unfolding(crate::specs::Bars::rows_in))]
 pub fn rows_in(table: &Table) -> Result<[Reading; BARS], SheetFault>
     ensures { result ≡ rows_in (table_view table.now) }

@@ -35,7 +35,7 @@ fn rings_of(value: &Value, model: Model) -> Option<PerSlot<Letter>>
     }
 }
 
-/// Reads the rings of the model's slots.
+/// Reads the day's rings, one for each slot of `model`.
 fn rings_in(table: &Table, model: Model) -> Result<PerSlot<Letter>, SheetFault>
     requires { 0 < slots_of model }
     ensures { result ≡ read_at keys.Rings (rings_of (slots_of model)) (table_view table.now) }
@@ -43,7 +43,7 @@ fn rings_in(table: &Table, model: Model) -> Result<PerSlot<Letter>, SheetFault>
     rings_of(value_at(table, Key::Rings)?, model).ok_or(SheetFault::BadValue(Key::Rings))
 }
 
-/// Reads the window letters of the model's slots.
+/// Reads the day's window letters, one for each slot of `model`.
 #[tactic(auto, unfolding(crate::specs::Letters::letters_at))]
 fn window_in(table: &Table, model: Model) -> Result<PerSlot<Letter>, SheetFault>
     requires { 0 < slots_of model }
@@ -62,7 +62,7 @@ impl FromItem<()> for [Letter; 3] {
     }
 }
 
-/// Reads the groups, at most four. Without the key `groups`, there are none.
+/// Reads the day's groups, at most four. Without the key `groups`, the day has none.
 #[tactic(auto, unfolding(crate::specs::SheetFile::groups_in))]
 fn groups_in(table: &Table) -> Result<ArrayVec<[Letter; 3], 4>, SheetFault>
     ensures { result_map (λ groups. groups.items) result ≡ groups_in (table_view table.now) }

@@ -18,9 +18,8 @@ pub enum SheetFault {
     Missing(Key),
     /// A key's value is wrong.
     ///
-    /// The value or one of its items has the wrong type, form or length, or is a number out of range. Or its text is no
-    /// wheel's name, or no name of a reflector that the model has. Or a letter isn't on its pin wheel, or a pin is
-    /// named twice.
+    /// The value or one of its items has the wrong type, form or length, or is a number out of range. Or its text names
+    /// no wheel, or no reflector of the model. Or a letter isn't on its pin wheel, or a pin is named twice.
     BadValue(Key),
     /// A letter occurs twice among the cables, or among the pairs.
     LetterTwice,
@@ -28,7 +27,7 @@ pub enum SheetFault {
     WheelTwice,
     /// A wheel is in a slot in which the model doesn't allow it.
     WheelNotAllowed,
-    /// The bar with this number has no valid standing, or the row with this number no valid reading.
+    /// The bar with this number has no valid standing, or the row with this number has no valid reading.
     ///
     /// Bars and rows are counted from 1.
     BadRow(u8),

@@ -1,4 +1,4 @@
-//! How an array's items are written: the wheel in a slot, the letters of a cable, or a standing.
+//! How an array's items are written: the wheel in a slot, the letters of a cable, a bar's standing, or a text.
 ghost use Rattle.std.specs.Prelude.{◌≡◌, ℕ, List};
 ghost use Rattle.kd_tables.specs.Places.{standing_text};
 ghost use Rattle.kd_sheet.specs.MachineText.{cable_text, seat_text};

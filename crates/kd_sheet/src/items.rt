@@ -12,7 +12,7 @@ use toml::{Table, Value};
 
 /// A type whose values can be read from the items of an array.
 ///
-/// `Given` is what is needed to read an item, besides the items: for a wheel, the key and the model.
+/// `Given` is what an item's reader needs besides the array: for a wheel, the key and the model.
 pub trait FromItem<Given> {
     /// The rule that makes a value or a fault. It has three arguments: `Given`, the earlier items' values, and the
     /// item.

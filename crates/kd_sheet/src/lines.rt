@@ -80,7 +80,7 @@ fn push_items<T: ItemText>(text: &mut FileText, items: &[T])
     }
 }
 
-/// Appends the line of `key` with an array: the texts of `items`.
+/// Appends the line of `key`; its value is an array of the texts of `items`.
 pub fn push_list_line<T: ItemText>(text: &mut FileText, key: Key, items: &[T])
     requires { array_string_len text.old + 36 * length items.now + 15 ≤ 2048 }
     ensures bytes { text.new.bytes

@@ -33,7 +33,7 @@ pub fn model_in(table: &Table) -> Result<Model, SheetFault>
     Model::from_text(name.as_bytes()).ok_or(SheetFault::UnknownModel)
 }
 
-/// The reflector of `model` named `name`.
+/// The reflector named `name`, if `model` has this reflector.
 #[tactic(auto, unfolding(crate::specs::Names::find_by_text))]
 fn reflector_by_name(model: Model, name: &str) -> Option<Reflector>
     ensures { result ≡ find_by_text reflector_text (reflectors_of model) name.now }
@@ -46,7 +46,7 @@ fn reflector_by_name(model: Model, name: &str) -> Option<Reflector>
     None
 }
 
-/// Reads the reflector of `model` from its name.
+/// Reads the reflector from its name; `model` must have the reflector.
 #[tactic(auto, unfolding(crate::specs::MachineFile::reflector_in))]
 pub fn reflector_in(table: &Table, model: Model) -> Result<Reflector, SheetFault>
     ensures { result ≡ reflector_in model (table_view table.now) }

@@ -17,7 +17,7 @@ pub fn number_up_to(value: &Value, last: u8) -> Option<u8>
     (1 <= number && number <= last).then_some(number)
 }
 
-/// Reads the whole number from 1 to `last` at `key`.
+/// Reads the whole number at `key`, which must be from 1 to `last`.
 pub fn number_at(table: &Table, key: Key, last: u8) -> Result<u8, SheetFault>
     ensures value { result ≡ read_at key (number_up_to last) (table_view table.now) }
     ensures within { IfOk result (λ number. (1 ≤ number) × (number ≤ last)) }

@@ -1,4 +1,4 @@
-//! Reads the letters that the Converter's six wheels show, and their effective pins.
+//! Reads the letters that the Converter's six wheels show, and the wheels' effective pins.
 ghost use Rattle.std.specs.Prelude.{◌≡◌, ◌==◌, ◌+◌, ◌<◌, [], ◌∷◌, length, ok_or};
 ghost use Rattle.std.specs.List.{enumerate_from, list_all, position};
 ghost use Rattle.toml.specs.View.{view, table_view};
@@ -17,7 +17,7 @@ use kd_pins::PinSet;
 use kd_tables::{Letter, Ring, place_on_wheel, ring1, ring2, ring3, ring4, ring5, ring6};
 use toml::{Table, Value};
 
-/// Whether wheel number `wheel` has the first of `letters`, the next wheel the second, and so on.
+/// Whether each of `letters` is on its wheel: the first on wheel `wheel`, the second on the next wheel, and so on.
 #[tactic(auto, using(kd_state::proofs::Slots::on_wheels))]
 fn are_on_wheels(wheel: u8, letters: &[Letter]) -> bool
     requires { wheel + length letters.now < 256 }
@@ -44,14 +44,14 @@ pub fn shown_letters_in(table: &Table, key: Key) -> Result<[Letter; 6], SheetFau
     Ok(letters)
 }
 
-/// The place in `letters`, counted from 0, of the letter with the ASCII code `byte`; `None` if it isn't there.
+/// The index in `letters` of the letter with the ASCII code `byte`, if `letters` has this letter.
 fn place_of_byte(letters: &[Letter], byte: u8) -> Option<usize>
     ensures { result ≡ position (λ letter. letter + 65 == byte) letters.now }
 {
     letters.iter().position(|letter| letter.byte() == byte)
 }
 
-/// Reads the effective pins of one wheel from a text of their letters, each at most once.
+/// Reads the effective pins of one wheel from a text of their letters; no letter may come twice.
 fn pins_of_text<const N: usize>(ring: &Ring<N>, text: &[u8]) -> Option<[bool; N]>
     ensures { result ≡ pins_of_text ring.now text.now }
 {

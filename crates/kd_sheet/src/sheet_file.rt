@@ -1,4 +1,4 @@
-//! Reads key sheets: a TOML document with an array of days.
+//! Reads a key sheet: a TOML document with an array of days.
 ghost use Rattle.std.specs.Prelude.{◌≡◌, map, List};
 ghost use Rattle.toml.specs.View.{view};
 ghost use Rattle.kd_state.specs.SheetDay.{Day};

@@ -39,7 +39,7 @@ fn push_letters_line(text: &mut FileText, key: Key, letters: &[Letter])
     push_text_line(text, key, letters_text(letters).as_str());
 }
 
-/// Appends each of `letters` whose pin, at the same place in `pins`, is effective.
+/// Appends the letters whose pins are effective; `pins` has a pin for each of `letters`, in the same order.
 fn push_pin_letters(text: &mut Item, letters: &[Letter], pins: &[bool])
     requires room { array_string_len text.old + length letters.now ≤ 32 }
     requires pins { length pins.now ≡ length letters.now }
@@ -53,7 +53,7 @@ fn push_pin_letters(text: &mut Item, letters: &[Letter], pins: &[bool])
     }
 }
 
-/// Writes the letters of a wheel's effective pins, in the wheel's own order.
+/// Writes the letters of a wheel's effective pins, in the order of the wheel's letters `ring`.
 fn pins_text<const N: usize>(ring: &Ring<N>, pins: &[bool; N]) -> Item
     requires { N ≤ 32 }
     ensures { result.bytes ≡ pins_text ring.now pins.now }
@@ -78,7 +78,7 @@ fn pin_texts(pins: &PinSet) -> [Item; 6]
     ]
 }
 
-/// The digit for the version of the machine file that is written for a machine of `model`.
+/// The version in which a machine of `model` is written, as a digit.
 fn file_version(model: Model) -> &'static str
     ensures value { result.now ≡ digit_text (file_version model) }
 {

@@ -16,7 +16,7 @@ pub struct HostFiles<'n> {
 }
 
 impl<'n> HostFiles<'n> {
-    /// The files of the host system, opened by `rt`. No name has been asked for yet.
+    /// The files of the host system, which `rt` can open. No name has been asked for yet.
     pub fn new(rt: &'n HostRuntime) -> Self
         ensures { result.asked ≡ [] }
     {
