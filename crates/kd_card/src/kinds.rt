@@ -96,7 +96,7 @@ pub trait Kind: Copy + Default {
     fn text(&self) -> ArrayString<8>
         ensures { result.bytes ≡ format.text (format.kind self.now).key };
 
-    /// Parses the key of a kind (letters, standing or reading) from its text in the kind's line.
+    /// Parses the key of a kind (its letters, its standing or its reading) from the key's text in the kind's line.
     fn key_of_text(text: &[u8]) -> Option<Self::Key>
         ensures { MatchOption result
             ((key : Self.Key) → ¬ (HasText format text.now key))

@@ -41,10 +41,9 @@ pub fn as_few_are_needed()
     ensures { AsFewAreNeeded }
 {}
 
-/// If a card with prices by number proves itself, its length is the number of loose things plus the sum of its prices.
+/// If a card with prices by number proves itself, it has as many settings as loose things plus the sum of its prices.
 ///
-/// The length is the number of settings. By number means that each cable and each column, or each bar and each row, has
-/// its own price.
+/// Prices are *by number* if each cable and each column, or each bar and each row, has its own price.
 #[tactic(auto, using(crate::proofs::Months::proving_cards_are_as_long))]
 pub fn proving_cards_are_as_long()
     ensures { ProvingCardsAreAsLong }

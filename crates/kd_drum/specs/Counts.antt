@@ -8,8 +8,7 @@ use Rattle.std.specs.List.{count_by}
 abbrev pub is_in_set : ℕ → ℕ → Bool
 is_in_set wheels wheel = (nat_le 1 wheel && nat_le wheel 6) && nat_eq (wheels / 2 ^ (wheel - 1) % 2) 1
 
--- how many bars are met if the wheels of a set, and no others, have an effective acting pin; `rows` are the bars'
--- readings
+-- how many bars have a lug at a wheel of the set; `rows` has each bar's reading, the numbers of its lugs' wheels
 abbrev pub bars_met_by : List (ℕ × ℕ) → ℕ → ℕ
 bars_met_by rows wheels = count_by (λ row. is_in_set wheels row.0 || is_in_set wheels row.1) rows
 

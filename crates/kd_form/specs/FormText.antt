@@ -95,8 +95,8 @@ pub data IsRefusedForGood (s : Day) (form text : List ℕ) (fault : FormFault) :
       → IsRefusedForGood s form text fault
   AtPart : IsFormReadTo s (IsPartFaultForGood s fault) form text → IsRefusedForGood s form text fault
 
--- The form ends, and has `fault`. Of its parts, at most one isn't read yet. If one is left, it has the fault. If none
--- is left, the fault is `PartOrder`: the headings say that there are more parts.
+-- The form has ended, and has `fault`. All its parts were read, or all but the last. If the last part is unread, it has
+-- the fault. If all were read, the fault is `PartOrder`: the headings announce more parts than the form has.
 abbrev pub IsPartFaultAtEnd : Day → FormFault → PartsProperty
 IsPartFaultAtEnd s fault p [] = (fault ≡ PartOrder) × (count : ℕ) × (p.expected ≡ Some count) × (p.number ≤ count)
 IsPartFaultAtEnd s fault p (part ∷ []) = IsPartFault s p.number p.expected p.bytes_before part fault

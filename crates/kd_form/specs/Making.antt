@@ -66,8 +66,8 @@ pin_indicators s k = k.chosen ∷ k.chosen ∷ k.external ++ list_letters s
 abbrev pub fill_last_group : List ℕ → List ℕ
 fill_last_group text = text ++ replicate ((5 - length text % 5) % 5) 23
 
--- the body of a part: the indicators; `text`, filled to whole groups and enciphered with the internal key in the
--- windows at the start; the indicators again
+-- the body of a part: the indicators, the enciphered text, and the indicators again; `text` is filled to whole
+-- groups, and enciphered with the internal key
 abbrev pub pin_letters : Day → PinKeys → List ℕ → List ℕ → List ℕ
 pin_letters s k internal text = pin_indicators s k ++ cipher_from s internal (fill_last_group text)
     ++ pin_indicators s k

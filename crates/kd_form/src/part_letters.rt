@@ -98,8 +98,8 @@ fn read_pin_letters(
 
 /// Deciphers `letters`, the body of the part with the heading `heading`.
 ///
-/// If the body is too long for any heading, `letters` may be a prefix of it that is too long as well: the fault is
-/// `CountWrong` for both.
+/// A body that is longer than any heading allows may be cut short, if `letters` is still longer than any heading
+/// allows: the fault is `CountWrong` either way.
 pub(crate) fn read_body(
     day: &SheetDay,
     heading: &Heading,
