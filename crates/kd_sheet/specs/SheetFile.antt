@@ -20,7 +20,7 @@ use Rattle.kd_sheet.specs.Letters.{capital_letters, letters_at}
 use Rattle.kd_sheet.specs.MachineFile.{model_in, reflector_in}
 use Rattle.kd_sheet.specs.Numbers.{number_up_to, letters_of_numbers}
 use Rattle.kd_sheet.specs.PinWheels.{shown_letters_in, pins_in}
-use Rattle.kd_sheet.specs.Seats.{seats_in}
+use Rattle.kd_sheet.specs.Slots.{slots_in}
 use Rattle.kd_sheet.specs.Sheet.{month_of}
 use Rattle.kd_sheet.specs.declared.key.Key.TheVariants as keys
 use Rattle.kd_sheet.specs.declared.fault.SheetFault.{SheetFault}
@@ -40,19 +40,19 @@ groups_in table =
 
 -- the wheels of the slots, each with its ring and its window letter
 abbrev pub sheet_wheels : List (Option Wheel) → List ℕ → List ℕ → List SheetWheel
-sheet_wheels (Some wheel ∷ seats) (ring ∷ rings) (letter ∷ letters) =
-    record { wheel = wheel; ring = ring; letter = letter } ∷ sheet_wheels seats rings letters
+sheet_wheels (Some wheel ∷ slots) (ring ∷ rings) (letter ∷ letters) =
+    record { wheel = wheel; ring = ring; letter = letter } ∷ sheet_wheels slots rings letters
 sheet_wheels _ _ _ = []
 
 unfoldable pub rotor_day_in : ℕ → Model → Members → Result Day SheetFault
 rotor_day_in day model table = do
   reflector ← reflector_in model table
-  seats ← seats_in keys.Wheels model table
+  slots ← slots_in keys.Wheels model table
   rings ← read_at keys.Rings (rings_of (slots_of model)) table
   window ← letters_at keys.Window (slots_of model) table
   pairs ← pairs_in table
   groups ← groups_in table
-  wheels ← Ok (sheet_wheels seats rings window)
+  wheels ← Ok (sheet_wheels slots rings window)
   Ok (OfRotors
       (record { day = day; model = model; reflector = reflector; wheels = wheels; pairs = pairs; groups = groups }))
 

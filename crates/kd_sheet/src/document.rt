@@ -6,14 +6,13 @@ ghost use Rattle.kd_sheet.specs.Document.{AgreesOrNoMemory, result_map, document
 ghost use Rattle.kd_sheet.specs.Key.{key_name};
 ghost use Rattle.kd_sheet.specs.declared.fault.SheetFault.TheVariants as faults;
 
-use super::fault::SheetFault;
-use super::key::Key;
+use crate::{Key, SheetFault};
 use std::alloc::Global;
 use toml::value::Array;
 use toml::{Table, Value};
 
 /// Parses `bytes` as a TOML document.
-#[tactic(auto, using(crate::proofs::ReadBack::Described::Values::InTurn::document_parsed, crate::proofs::ReadBack::Described::Values::InTurn::document_refused))]
+#[tactic(auto, using(crate::proofs::ReadBack::Described::KeyValues::ReadingSteps::document_parsed, crate::proofs::ReadBack::Described::KeyValues::ReadingSteps::document_refused))]
 pub fn parse_table(alloc: Global, bytes: &[u8]) -> Result<Table, SheetFault>
     ensures { AgreesOrNoMemory (result_map table_view result) (document_of bytes.now) }
 {
@@ -49,7 +48,7 @@ pub fn text_at(table: &Table, key: Key) -> Result<&str, SheetFault>
 }
 
 /// The items of the array `value`, or the fault `BadValue(key)`.
-#[tactic(auto, using(crate::proofs::ReadBack::Described::Values::InTurn::items_found))]
+#[tactic(auto, using(crate::proofs::ReadBack::Described::KeyValues::ReadingSteps::items_found))]
 pub fn items_in(value: &Value, key: Key) -> Result<&Array, SheetFault>
     ensures { result_map (λ items. map view items.now.items) result
         ≡ ok_or (as_items (view value.now)) (faults.BadValue key) }
