@@ -117,7 +117,7 @@ cables_again cables are =
     ap (λ ts. read_array keys.Cables (λ n. nat_le n 13) cable_for (array_of_texts ts)) (sym (same_cables cables).1)
     ∙ read_array-texts keys.Cables (λ n. nat_le n 13) cable_text read cable_for (λ k cable at.
     let is = All-slice_get HasSingleFirst read k cable all at in
-    let new = IsFree-from_AreFree cable_letters read k cable free at in
+    let new = IsFree-at cable_letters read k cable free at in
     grind (arith, letters_spelled, recursion_from_All, new))
     (le-leb _ _ (omega (arith, are.count, length-map cables single_first)))
 
@@ -158,8 +158,8 @@ pin_day_table s =
 
 day_by_model : (number : ℕ) (model : Model) (reflector : Reflector) (table : Members) (day : Day)
     → list_any (same_reflector reflector) (reflectors_of model) ≡ true
-    → rotor_day_in number model table ≡ Ok day → model_day_in number model table ≡ Ok day
-unfolding model_day_in
+    → rotor_day_in number model table ≡ Ok day → day_in number model table ≡ Ok day
+unfolding day_in
 day_by_model number model reflector table day e d = grind arith
 
 pairs_in_again : (s : RotorDay) → IsLegalRotorDay s → pairs_in (rotor_day_table s) ≡ Ok s.pairs
@@ -167,7 +167,7 @@ unfolding pairs_in pair_for
 pairs_in_again s legal =
     let free : AreFree pair_letters s.pairs = record { within = legal.pairs.within; apart = legal.pairs.apart } in
     read_array-texts keys.Plugs (λ n. nat_le n 13) (λ pair. letters_text (pair_letters pair)) s.pairs pair_for
-    (λ k pair at. let new = IsFree-from_AreFree pair_letters s.pairs k pair free at in
+    (λ k pair at. let new = IsFree-at pair_letters s.pairs k pair free at in
     grind (arith, letters_spelled, recursion_from_All, new)) (le-leb _ _ legal.pairs.few)
 
 groups_in_again : (s : RotorDay) → IsLegalRotorDay s → groups_in (rotor_day_table s) ≡ Ok s.groups
@@ -207,7 +207,7 @@ unfolding pin_day_in letters_at
 pin_again s legal = grind (arith, bind-step, rows_in_again, pins_in_again, window_again, capitals_again)
 
 pub legal_is_described : (day : Day) → IsLegalDay day → (item : Data) × (day_for [] item ≡ Ok day)
-unfolding model_in model_day_in
+unfolding model_in day_in
 legal_is_described (OfRotors s) legal =
     let has = (has_reflector-Decides (reflectors_of s.model) s.reflector).1 legal.reflector in (
       toml.table (rotor_day_table s),

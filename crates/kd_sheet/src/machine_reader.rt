@@ -1,8 +1,8 @@
 //! Reads machine files: their versions, models and parts.
-ghost use Rattle.std.specs.Prelude.{◌≡◌, ◌<◌, ℕ, List, length, Ok};
+ghost use Rattle.std.specs.Prelude.{◌≡◌, ◌<◌, length};
 ghost use Rattle.toml.specs.View.{table_view};
 ghost use Rattle.kd_tables.specs.Tables.{box_of, slots_of};
-ghost use Rattle.kd_sheet.specs.{Document.{AgreesOrNoMemory, document_of}, Letters.{letters_at}};
+ghost use Rattle.kd_sheet.specs.{Document.{AgreesOrNoMemory}, Letters.{letters_at}};
 ghost use Rattle.kd_sheet.specs.MachineFile.{rotor_parts_in, pin_parts_in, parts_in, machine_of};
 
 use crate::document::{parse_table, value_at};
@@ -75,23 +75,16 @@ fn parts_in(table: &Table, model: Model) -> Result<Machine, SheetFault>
     }
 }
 
-/// Reads the machine that a machine file's table describes, or returns the file's first fault.
-fn machine_in(table: &Table) -> Result<Machine, SheetFault>
-    ensures { (bytes : List ℕ) → Ok (table_view table.now) ≡ document_of bytes → result ≡ machine_of bytes }
-{
-    let version = number_at(table, Key::Version, VERSION)?;
-    match model_in(table)? {
-        Model::M4 if version != 2 => Err(SheetFault::UnknownModel),
-        model => parts_in(table, model),
-    }
-}
-
 /// Reads a machine file of version 1 or 2, or returns its first fault. The M4 needs version 2.
 ///
-/// `NoMemory` may replace any other result. In practice it means that memory ran out while the document was parsed;
-/// the contract doesn't say when it comes.
+/// `NoMemory` may replace any other result. In practice, memory ran out; the contract doesn't say when it comes.
 pub fn read_machine(alloc: Global, bytes: &[u8]) -> Result<Machine, SheetFault>
     ensures { AgreesOrNoMemory result (machine_of bytes.now) }
 {
-    machine_in(&parse_table(alloc, bytes)?)
+    let table = parse_table(alloc, bytes)?;
+    let version = number_at(&table, Key::Version, VERSION)?;
+    match model_in(&table)? {
+        Model::M4 if version != 2 => Err(SheetFault::UnknownModel),
+        model => parts_in(&table, model),
+    }
 }

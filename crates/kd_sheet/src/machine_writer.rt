@@ -3,9 +3,8 @@ ghost use Rattle.std.specs.{Prelude.{◌≡◌, ◌+◌, ◌<◌, ◌≤◌, ◌
 ghost use Rattle.arrayvec.specs.ArrayString.{array_string_len};
 ghost use Rattle.kd_tables.specs.{Places.{digit_text}, Writing.{Writes}, Text.{letters_text}};
 ghost use Rattle.kd_state.specs.Machine.{IsLegalRotor, IsLegalPin};
-ghost use Rattle.kd_sheet.specs.{MachineFile.{machine_of}};
-ghost use Rattle.kd_sheet.specs.{MachineText.{quoted_text, key_line, file_version, pins_text}};
-ghost use Rattle.kd_sheet.specs.MachineText.{pin_texts, head_file_lines, machine_text};
+ghost use Rattle.kd_sheet.specs.{MachineFile.{machine_of}, MachineText.{quoted_text, key_line, file_version}};
+ghost use Rattle.kd_sheet.specs.MachineText.{pins_text, pin_texts, head_file_lines, machine_text};
 
 mod item_text;
 mod lines;
@@ -62,8 +61,7 @@ fn pins_text<const N: usize>(ring: &Ring<N>, pins: &[bool; N]) -> ItemString
     ensures { result.bytes ≡ pins_text ring.now pins.now }
 {
     let mut text = ItemString::new();
-    let letters = ring.letters();
-    push_pin_letters(&mut text, &letters, pins);
+    push_pin_letters(&mut text, &ring.letters(), pins);
     text
 }
 
@@ -85,10 +83,7 @@ fn pin_texts(pins: &PinSet) -> [ItemString; 6]
 fn file_version(model: Model) -> &'static str
     ensures value { result.now ≡ digit_text (file_version model) }
 {
-    match model {
-        Model::M4 => "2",
-        Model::EnigmaI | Model::M3 | Model::M209 => "1",
-    }
+    if model == Model::M4 { "2" } else { "1" }
 }
 
 /// Writes the first two lines of a machine file: the version and the model.
@@ -132,8 +127,7 @@ fn pin_machine_text(parts: &PinParts) -> FileString
 
 /// Writes the file of `machine`: in version 2 for the M4, otherwise in version 1.
 ///
-/// If it returns the fault `Device`, the sink has taken a prefix of the text. `read_machine` reads the whole text
-/// as the same machine.
+/// On the fault `Device`, the sink has taken a prefix of the text. `read_machine` reads the text as the same machine.
 #[tactic(auto, using(crate::proofs::ReadBack::parts_are_read_back))]
 pub fn write_machine<W: Sink>(sink: &mut W, machine: &Machine) -> Result<(), Device>
     ensures text { Writes (W.taken sink.old) (W.taken sink.new) (machine_text machine.now) result }

@@ -54,8 +54,8 @@ impl Sheet {
         days.get_mut(index)?.take()
     }
 
-    /// Puts `day` into the sheet. It replaces a day with the same number.
-    pub(crate) fn put(&mut self, day: SheetDay)
+    /// Inserts `day` into the sheet. It replaces a day with the same number.
+    pub(crate) fn insert(&mut self, day: SheetDay)
         ensures { self.new ≡ slice_set self.old (day_number day - 1) (Some day) }
     {
         let index = usize::from(day.day()) - 1;

@@ -12,7 +12,7 @@ use crate::sheet::{DAYS, Sheet};
 use crate::values::model::model_in;
 use crate::values::numbers::number_at;
 use crate::{Key, SheetFault};
-use day_entry::model_day_in;
+use day_entry::day_in;
 use kd_state::SheetDay;
 use std::alloc::Global;
 use toml::Value;
@@ -27,26 +27,25 @@ fn day_for(sheet: &Sheet, item: &Value) -> Result<SheetDay, SheetFault>
     if sheet.day(number).is_some() {
         return Err(SheetFault::DayTwice(number));
     }
-    model_day_in(table, number, model_in(table)?)
+    day_in(table, number, model_in(table)?)
 }
 
 /// Reads `items` as the days of a sheet.
-#[tactic(auto, using(crate::proofs::ReadBack::Described::first_month, crate::proofs::ReadBack::Described::KeyValues::ReadingSteps::read_after_all))]
+#[tactic(auto, using(crate::proofs::ReadBack::Described::first_month, crate::proofs::ReadBack::Described::KeyValues::Steps::read_after_all))]
 fn sheet_of_items(items: &[Value]) -> Result<Sheet, SheetFault>
     ensures { result ≡ result_map month_of (read_items day_for (map view items.now)) }
 {
     let mut sheet = Sheet::new();
     for item in items {
         let day = day_for(&sheet, item)?;
-        sheet.put(day);
+        sheet.insert(day);
     }
     Ok(sheet)
 }
 
 /// Reads a key sheet, or returns its first fault.
 ///
-/// `NoMemory` may replace any other result. In practice it means that memory ran out while the document was parsed;
-/// the contract doesn't say when it comes.
+/// `NoMemory` may replace any other result, as in `read_machine`.
 pub fn read_sheet(alloc: Global, bytes: &[u8]) -> Result<Sheet, SheetFault>
     ensures { AgreesOrNoMemory result (sheet_of bytes.now) }
 {

@@ -22,13 +22,15 @@ groups_in_groups : (table : Members)
     → SucceedsWith (groups_in table) (λ groups. (length groups ≤ 4) × All (AreLetters 3) groups)
 unfolding groups_in group_for
 groups_in_groups table groups e =
-    let read = read_array-up_to group_for (All (AreLetters 3)) (All-read_items group_for (AreLetters 3) (λ earlier item group e.
+    let read = read_array-up_to group_for (All (AreLetters 3))
+    (All-read_items group_for (AreLetters 3) (λ earlier item group e.
     grind (arith, ok_or-Ok, capitals_are_letters, none-some))) keys.Groups 4 in
     grind (arith, read, All-nil (AreLetters 3))
 
 rows_in_rows : (table : Members) → SucceedsWith (rows_in table) (HasEach IsReading 27)
 unfolding rows_in reading_of_text
-rows_in_rows table = read_array-exactly _ (All IsReading) (All-read_items (or_bad_row reading_of_text) IsReading (λ earlier item row e.
+rows_in_rows table = read_array-exactly _ (All IsReading)
+    (All-read_items (or_bad_row reading_of_text) IsReading (λ earlier item row e.
     grind (arith, ok_or-Ok, cond-Some, nat_tests, leb-true, none-some))) keys.Rows 27 table
 
 abbrev IsLegalStanding : Place × Place → Type 0
@@ -53,8 +55,8 @@ FitWheels lists = (place : ℕ) (d : List Bool) → place < length lists
     → length (get_or lists place d) ≡ length (ring_of (place + 1))
 
 all_fit : (items : List Data) → SucceedsWith (read_items pins_for items) FitWheels
-all_fit items lists e place d within =
-    grind (arith, length-read_items, read_items-get_or pins_for items lists e place no_item d, length-take-le, text_pins)
+all_fit items lists e k d within =
+    grind (arith, length-read_items, read_items-get_or pins_for items lists e k no_item d, length-take-le, text_pins)
 
 pins_in_fit : (table : Members) → SucceedsWith (pins_in table) HasAllPins
 unfolding pins_in ring_of
@@ -129,15 +131,15 @@ unfolding pin_day_in
 pin_day number table is day e = grind (arith, bind-Ok, rows_in_rows, pins_in_fit, letters_shown, letters_at_are)
 
 model_day : (number : ℕ) (model : Model) (table : Members) → IsDayNumber number
-    → SucceedsWith (model_day_in number model table) (IsLegalDayNumbered number)
-unfolding model_day_in
+    → SucceedsWith (day_in number model table) (IsLegalDayNumbered number)
+unfolding day_in
 model_day number M209 table is = pin_day number table is
 model_day number model table is = rotor_day number model table is
 
 pub day_again : (number : ℕ) (model : Model) (table : Members) (item : Data) (day : Day)
     → ok_or (as_table item) (BadValue keys.Day) ≡ Ok table
     → read_at keys.Day (number_up_to 31) table ≡ Ok number → model_in table ≡ Ok model
-    → model_day_in number model table ≡ Ok day → day_for [] item ≡ Ok day
+    → day_in number model table ≡ Ok day → day_for [] item ≡ Ok day
 unfolding day_for
 day_again number model table item day of_item is of_model rest = grind (arith, bind-step)
 
@@ -185,13 +187,13 @@ day_of_month days (suc place) is =
     ∙ month_at days place None (omega arith)
 
 -- a search for a number finds a day exactly if a day has this number
-is_some-find : (days : List Day) (number : ℕ) → is_some (find (has_number number) days) ≡ list_any (has_number number) days
-is_some-find [] number = refl
-is_some-find (day ∷ days) number = grind (arith, cases_Bool, has_number, is_some-find days number)
+find-any : (days : List Day) (number : ℕ) → is_some (find (has_number number) days) ≡ list_any (has_number number) days
+find-any [] number = refl
+find-any (day ∷ days) number = grind (arith, cases_Bool, has_number, find-any days number)
 
 pub day_of_is_some : (days : List Day) (number : ℕ) → IsDayNumber number
     → is_some (day_of (month_of days) number) ≡ list_any (has_number number) days
-day_of_is_some days number is = rw (day_of_month days number is) (is_some-find days number)
+day_of_is_some days number is = rw (day_of_month days number is) (find-any days number)
 
 -- a month has days at the numbers from 1 to 31 only
 within_month : (days : List Day) (number : ℕ) (day : Day) → day_of (month_of days) number ≡ Some day
@@ -207,11 +209,11 @@ empty_month = record { count = refl; each = λ number day e. grind (arith, withi
 pub blank_month : (month : List (Option Day)) → AllOfLen (λ day. day ≡ None) month 31 → month ≡ month_of []
 blank_month month blank = grind (arith, same_lists, blank.at, get_or-map-range_with_len)
 
--- a month in which a day is put at its own number is still a month
-pub put_day : (month : List (Option Day)) (place : ℕ) (new : Day) → IsMonth month → place + 1 ≡ day_number new
+-- a month in which a day is inserted at its own number is still a month
+pub insert_day : (month : List (Option Day)) (place : ℕ) (new : Day) → IsMonth month → place + 1 ≡ day_number new
     → place < 31
     → IsMonth (set month place (Some new))
-put_day month place new before here left =
+insert_day month place new before here left =
     let at : day_number new - 1 ≡ place = omega arith in
     rw (← at) (record {
       count = length-set month (day_number new - 1) (Some new) ∙ before.count;
@@ -231,7 +233,7 @@ day_number_at month number place (Some day) is within same here = is.each number
 find-has_number : (days : List Day) (new : Day) (number : ℕ) → list_any (has_number (day_number new)) days ≡ false
     → find (has_number number) (days ++ new ∷ [])
     ≡ cond (nat_eq (day_number new) number) (Some new) (find (has_number number) days)
-find-has_number days new number free = grind (arith, nat_tests, find-append, is_some-find days number)
+find-has_number days new number free = grind (arith, nat_tests, find-append, find-any days number)
 
 set-month_of : (days : List Day) (new : Day) → IsDayNumber (day_number new)
     → list_any (has_number (day_number new)) days ≡ false
@@ -339,9 +341,9 @@ parts_are_machine model table =
 
 pub machine_of-IsMachine : (bytes : List ℕ) → SucceedsWith (machine_of bytes) IsMachine
 machine_of-IsMachine bytes =
-    SucceedsWith-after_any (document_of bytes) _ IsMachine (λ table.
-    SucceedsWith-after_any (read_at keys.Version (number_up_to 2) table) _ IsMachine (λ version.
-    SucceedsWith-after_any (model_in table) _ IsMachine (λ model. SucceedsWith-after_any (demand _ _) _ IsMachine (λ _.
+    after_any (document_of bytes) _ IsMachine (λ table.
+    after_any (read_at keys.Version (number_up_to 2) table) _ IsMachine (λ version.
+    after_any (model_in table) _ IsMachine (λ model. after_any (demand _ _) _ IsMachine (λ _.
     parts_are_machine model table))))
 
 pub sheet_of-legal : (bytes : List ℕ) (month : List (Option Day)) (number : ℕ) (day : Day) → sheet_of bytes ≡ Ok month

@@ -24,11 +24,10 @@ impl ItemText for Option<Wheel> {
     ghost item_text = { slot_text };
 
     fn item_text(&self) -> ItemString {
-        let mut text = ItemString::new();
-        if let Some(wheel) = self {
-            text.push_str(wheel.text().as_str());
+        match self {
+            Some(wheel) => ItemString::from(wheel.text().as_str()).unwrap(),
+            None => ItemString::new(),
         }
-        text
     }
 }
 
@@ -51,9 +50,7 @@ impl ItemText for Standing {
     ghost item_text = { standing_text };
 
     fn item_text(&self) -> ItemString {
-        let mut text = ItemString::new();
-        text.push_str(self.text().as_str());
-        text
+        ItemString::from(self.text().as_str()).unwrap()
     }
 }
 

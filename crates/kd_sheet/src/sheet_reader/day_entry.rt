@@ -4,7 +4,7 @@ ghost use Rattle.toml.specs.View.{view, table_view};
 ghost use Rattle.kd_tables.specs.Tables.{slots_of};
 ghost use Rattle.kd_state.specs.SheetDay.{IsDayNumber};
 ghost use Rattle.kd_sheet.specs.{Document.{read_at}, Letters.{letters_at}};
-ghost use Rattle.kd_sheet.specs.SheetFile.{rings_of, sheet_wheels, rotor_day_in, pin_day_in, model_day_in};
+ghost use Rattle.kd_sheet.specs.SheetFile.{rings_of, sheet_wheels, rotor_day_in, pin_day_in, day_in};
 ghost use Rattle.kd_sheet.specs.declared.key.Key.TheVariants as keys;
 
 use crate::document::value_at;
@@ -75,10 +75,10 @@ fn push_wheels(
 
 /// Reads a day of a rotor machine.
 #[tactic(auto, unfolding(crate::specs::SheetFile::rotor_day_in))]
-fn rotor_day_in(table: &Table, day: u8, model: Model) -> Result<SheetDay, SheetFault>
+fn rotor_day_in(table: &Table, number: u8, model: Model) -> Result<SheetDay, SheetFault>
     requires slots { 0 < slots_of model }
-    requires day { IsDayNumber day }
-    ensures { result ≡ rotor_day_in day model (table_view table.now) }
+    requires day { IsDayNumber number }
+    ensures { result ≡ rotor_day_in number model (table_view table.now) }
 {
     let reflector = reflector_in(table, model)?;
     let slots = slots_in(table, Key::Wheels, model)?;
@@ -93,38 +93,38 @@ fn rotor_day_in(table: &Table, day: u8, model: Model) -> Result<SheetDay, SheetF
         rings.as_slice(),
         window.as_slice(),
     );
-    let new = SheetDay::rotor(
-        day,
+    let day = SheetDay::rotor(
+        number,
         model,
         reflector,
         wheels.as_slice(),
         pairs.as_slice(),
         groups.as_slice(),
     );
-    Ok(new.unwrap())
+    Ok(day.unwrap())
 }
 
 /// Reads a day of a Converter M-209.
 #[tactic(auto, unfolding(crate::specs::SheetFile::pin_day_in))]
-fn pin_day_in(table: &Table, day: u8) -> Result<SheetDay, SheetFault>
-    requires { IsDayNumber day }
-    ensures { result ≡ pin_day_in day (table_view table.now) }
+fn pin_day_in(table: &Table, number: u8) -> Result<SheetDay, SheetFault>
+    requires { IsDayNumber number }
+    ensures { result ≡ pin_day_in number (table_view table.now) }
 {
     let rows = rows_in(table)?;
     let pins = pins_in(table)?;
     let window = shown_letters_in(table, Key::Window)?;
     let list = letters_at(table, Key::List)?;
-    Ok(SheetDay::pin(day, rows, pins, window, list).unwrap())
+    Ok(SheetDay::pin(number, rows, pins, window, list).unwrap())
 }
 
-/// Reads day `day` of a key sheet from the day's table, for a machine of `model`.
-#[tactic(auto, unfolding(crate::specs::SheetFile::model_day_in))]
-pub fn model_day_in(table: &Table, day: u8, model: Model) -> Result<SheetDay, SheetFault>
-    requires { IsDayNumber day }
-    ensures { result ≡ model_day_in day model (table_view table.now) }
+/// Reads day `number` of a key sheet from the day's table, for a machine of `model`.
+#[tactic(auto, unfolding(crate::specs::SheetFile::day_in))]
+pub fn day_in(table: &Table, number: u8, model: Model) -> Result<SheetDay, SheetFault>
+    requires { IsDayNumber number }
+    ensures { result ≡ day_in number model (table_view table.now) }
 {
     match model {
-        Model::M209 => pin_day_in(table, day),
-        Model::EnigmaI | Model::M3 | Model::M4 => rotor_day_in(table, day, model),
+        Model::M209 => pin_day_in(table, number),
+        Model::EnigmaI | Model::M3 | Model::M4 => rotor_day_in(table, number, model),
     }
 }

@@ -1,5 +1,5 @@
 //! Reads the standings (lug places) of the Converter's 27 bars, from the key `bars`.
-ghost use Rattle.std.specs.Prelude.{◌≡◌, ◌+◌};
+ghost use Rattle.std.specs.Prelude.{◌≡◌};
 ghost use Rattle.toml.specs.View.{view, table_view};
 ghost use Rattle.kd_tables.specs.Places.{standings, standing_text};
 ghost use Rattle.kd_sheet.specs.{Bars.{or_bad_row, bars_in}, Document.{from_text}, Names.{find_by_text}};
@@ -10,7 +10,7 @@ use kd_tables::Standing;
 use toml::{Table, Value};
 
 /// The number of bars of the drum.
-const BARS: usize = 27;
+pub const BARS: usize = 27;
 
 /// Reads the standing that `item` names.
 fn standing_of_item(item: &Value) -> Option<Standing>

@@ -1,6 +1,6 @@
 //! Reads the cables of a machine, from the key `cables`.
-ghost use Rattle.std.specs.Prelude.{◌≡◌, ◌≤◌, ◌-◌, ◌++◌, Some, None, length, nat_le, replicate, slice_get, IfSome};
-ghost use Rattle.std.specs.Option.{option_map};
+ghost use Rattle.std.specs.Prelude.{◌≡◌, ◌≤◌, ◌-◌, ◌++◌, Some, None, length, nat_le, option_map, replicate};
+ghost use Rattle.std.specs.Prelude.{slice_get, IfSome};
 ghost use Rattle.toml.specs.View.{view, table_view};
 ghost use Rattle.kd_state.specs.Machine.{cable_letters};
 ghost use Rattle.kd_sheet.specs.{Cables.{cable_for, cables_in}, Document.{from_text}, Letters.{capital_letters}};

@@ -4,7 +4,7 @@ ghost use Rattle.toml.specs.{Data.{Data}, View.{view, table_view}};
 ghost use Rattle.kd_sheet.specs.Document.{◌>>=◌ as ◌followed_by◌, value_at, read_items, read_array, result_map};
 ghost use Rattle.kd_sheet.specs.declared.fault.SheetFault.{SheetFault};
 
-use crate::document::{items_at, items_in};
+use crate::document::{array_items, items_at};
 use crate::{Key, SheetFault};
 use arrayvec::ArrayVec;
 use toml::{Table, Value};
@@ -13,8 +13,7 @@ use toml::{Table, Value};
 ///
 /// `Given` is what an item's reader needs besides the array: for a wheel, the key and the model.
 pub trait FromItem<Given> {
-    /// The rule that makes a value or a fault. It has three arguments: `Given`, the earlier items' values, and the
-    /// item.
+    /// The rule that makes a value or a fault of three arguments: `Given`, the earlier items' values, and the item.
     ghost parse: { Given → List Self → Data → Result Self SheetFault };
 
     /// Reads `item`. `earlier` has the values of the items before it.
@@ -41,9 +40,7 @@ fn read_items<T: FromItem<G> + Copy + Default, G, const N: usize>(
     Ok(values)
 }
 
-/// Reads the items of the array at `key`, which must have exactly `count` items.
-///
-/// If it has more or fewer items, the fault is `BadValue(key)`.
+/// Reads the items of the array at `key`. The fault is `BadValue(key)` if there aren't exactly `count`.
 pub fn read_exactly<T: FromItem<G> + Copy + Default, G, const N: usize>(
     table: &Table,
     key: Key,
@@ -72,7 +69,7 @@ pub fn read_up_to<T: FromItem<()> + Copy + Default, const N: usize>(
     ensures { result_map (λ values. values.items) result
         ≡ read_array key (λ n. nat_le n N) (T.parse tt) (view value.now) }
 {
-    let items = items_in(value, key)?;
+    let items = array_items(value, key)?;
     if items.len() > N {
         return Err(SheetFault::BadValue(key));
     }

@@ -1,5 +1,5 @@
 //! Reads letters from texts of capital letters, and from numbers.
-ghost use Rattle.std.specs.Prelude.{◌≡◌, ◌-◌, ◌<◌, ◌≤◌, length, map, nat_eq, IfOk, IfSome, option_map};
+ghost use Rattle.std.specs.Prelude.{◌≡◌, ◌-◌, ◌<◌, ◌≤◌, length, map, nat_eq, IfSome, option_map};
 ghost use Rattle.toml.specs.View.{view, table_view};
 ghost use Rattle.kd_tables.specs.Tables.{slots_of};
 ghost use Rattle.kd_sheet.specs.{Document.{from_text}, Letters.{capital_letters, letters_at}};
@@ -34,8 +34,7 @@ pub fn capital_letters<const N: usize>(value: &Value, count: usize) -> Option<Ar
 /// Reads a text of exactly `N` capital letters.
 pub fn letters_of_text<const N: usize>(value: &Value) -> Option<[Letter; N]>
     requires { N ≤ 26 }
-    ensures value { result ≡ from_text (capital_letters (nat_eq N)) (view value.now) }
-    ensures count { IfSome result (λ letters. length letters ≡ N) }
+    ensures { result ≡ from_text (capital_letters (nat_eq N)) (view value.now) }
 {
     capital_letters(value, N)?.into_inner().ok()
 }
@@ -44,8 +43,7 @@ pub fn letters_of_text<const N: usize>(value: &Value) -> Option<[Letter; N]>
 #[tactic(auto, unfolding(crate::specs::Letters::letters_at))]
 pub fn letters_at<const N: usize>(table: &Table, key: Key) -> Result<[Letter; N], SheetFault>
     requires { N ≤ 26 }
-    ensures value { result ≡ letters_at key N (table_view table.now) }
-    ensures count { IfOk result (λ letters. length letters ≡ N) }
+    ensures { result ≡ letters_at key N (table_view table.now) }
 {
     letters_of_text(value_at(table, key)?).ok_or(SheetFault::BadValue(key))
 }

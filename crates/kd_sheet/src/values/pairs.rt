@@ -1,6 +1,5 @@
 //! Reads the pairs of a day, from the key `plugs`: letters that the day's cables exchange.
-ghost use Rattle.std.specs.Prelude.{◌≡◌, [], ◌∷◌};
-ghost use Rattle.std.specs.List.{flat_map};
+ghost use Rattle.std.specs.{Prelude.{◌≡◌, [], ◌∷◌}, List.{flat_map}};
 ghost use Rattle.toml.specs.View.{table_view};
 ghost use Rattle.kd_state.specs.Setting.{has_letter};
 ghost use Rattle.kd_sheet.specs.{Cables.{pair_for, pairs_in}, Document.{result_map}};
@@ -14,19 +13,14 @@ use kd_tables::Letter;
 use toml::{Table, Value};
 
 /// Two letters that a plugged cable exchanges.
-type Pair = (Letter, Letter);
-
-/// The plugged pairs of a day, in the sheet's order.
-pub type Pairs = ArrayVec<Pair, 13>;
+pub type Pair = (Letter, Letter);
 
 /// Whether `letter` is in one of `pairs`.
 fn is_in_pairs(pairs: &[Pair], letter: Letter) -> bool
     ensures { result ≡ has_letter (flat_map (λ pair. pair.0 ∷ pair.1 ∷ []) pairs.now) letter }
 {
     match pairs {
-        [(one, other), rest @ ..] => {
-            *one == letter || *other == letter || is_in_pairs(rest, letter)
-        }
+        [pair, rest @ ..] => pair.0 == letter || pair.1 == letter || is_in_pairs(rest, letter),
         [] => false,
     }
 }
@@ -45,9 +39,9 @@ impl FromItem<()> for Pair {
     }
 }
 
-/// Reads a day's pairs, at most 13.
+/// Reads the day's pairs, at most 13, in the sheet's order.
 #[tactic(auto, unfolding(crate::specs::Cables::pairs_in))]
-pub fn pairs_in(table: &Table) -> Result<Pairs, SheetFault>
+pub fn pairs_in(table: &Table) -> Result<ArrayVec<Pair, 13>, SheetFault>
     ensures { result_map (λ pairs. pairs.items) result ≡ pairs_in (table_view table.now) }
 {
     read_up_to(value_at(table, Key::Plugs)?, Key::Plugs)

@@ -1,5 +1,5 @@
 //! Reads the letters that the Converter's six wheels show, and the wheels' effective pins.
-ghost use Rattle.std.specs.Prelude.{◌≡◌, ◌==◌, ◌+◌, ◌<◌, [], ◌∷◌, length, ok_or};
+ghost use Rattle.std.specs.Prelude.{◌≡◌, ◌==◌, ◌+◌, ◌<◌, length, map, ok_or};
 ghost use Rattle.std.specs.List.{enumerate_from, list_all, position};
 ghost use Rattle.toml.specs.View.{view, table_view};
 ghost use Rattle.kd_tables.specs.Rings.{ring_of};
@@ -82,21 +82,14 @@ pub fn pins_in(table: &Table) -> Result<PinSet, SheetFault>
     let [one, two, three, four, five, six] = items else {
         return Err(SheetFault::BadValue(Key::Pins));
     };
-    pins_of_items(one, two, three, four, five, six).ok_or(SheetFault::BadValue(Key::Pins))
+    pins_of_items([one, two, three, four, five, six]).ok_or(SheetFault::BadValue(Key::Pins))
 }
 
-/// Reads the effective pins of the six wheels: `one` describes the pins of wheel 1, and so on.
-fn pins_of_items(
-    one: &Value,
-    two: &Value,
-    three: &Value,
-    four: &Value,
-    five: &Value,
-    six: &Value,
-) -> Option<PinSet>
-    ensures { ok_or result (faults.BadValue keys.Pins) ≡ pins_of_items
-        (view one.now ∷ view two.now ∷ view three.now ∷ view four.now ∷ view five.now ∷ view six.now ∷ []) }
+/// Reads the effective pins of the six wheels: each of `items` is a text of a wheel's pins, from wheel 1 to wheel 6.
+fn pins_of_items(items: [&Value; 6]) -> Option<PinSet>
+    ensures { ok_or result (faults.BadValue keys.Pins) ≡ pins_of_items (map (λ item. view item.now) items.entry) }
 {
+    let [one, two, three, four, five, six] = items;
     Some(PinSet {
         w1: pins_of_item(&ring1(), one)?,
         w2: pins_of_item(&ring2(), two)?,

@@ -14,12 +14,8 @@ use toml::Table;
 fn reflector_by_name(model: Model, name: &str) -> Option<Reflector>
     ensures { result ≡ find_by_text reflector_text (reflectors_of model) name.now }
 {
-    for reflector in model.reflectors() {
-        if reflector.text().as_str() == name {
-            return Some(*reflector);
-        }
-    }
-    None
+    let mut reflectors = model.reflectors().iter().copied();
+    reflectors.find(|reflector| reflector.text().as_str() == name)
 }
 
 /// Reads the reflector from its name; `model` must have the reflector.

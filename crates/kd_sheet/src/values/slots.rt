@@ -1,8 +1,7 @@
 //! Reads which wheel is in each slot, from the left.
 ghost use Rattle.std.specs.Prelude.{◌≡◌, ◌<◌, length};
 ghost use Rattle.toml.specs.{Data.{string}, View.{table_view}};
-ghost use Rattle.kd_tables.specs.Tables.{slots_of, box_of, wheel_text};
-ghost use Rattle.kd_tables.specs.declared.model.Model.TheVariants.{M4};
+ghost use Rattle.kd_tables.specs.{Tables.{slots_of, box_of, wheel_text}, declared.model.Model.TheVariants.{M4}};
 ghost use Rattle.kd_sheet.specs.{Names.{find_by_text}, Slots.{wheel_for, slot_for, slots_in}};
 
 use super::items::{FromItem, read_exactly};
@@ -18,9 +17,7 @@ fn wheel_by_name(name: &str) -> Option<Wheel>
     Wheel::from_text(name.as_bytes())
 }
 
-/// The wheel named `name`, if it may be in the next slot after `slots`.
-///
-/// Otherwise the fault is `BadValue(key)`, `WheelNotAllowed` or `WheelTwice`.
+/// The wheel named `name`, if it may be in the next slot after `slots`; otherwise the fault that says why not.
 #[tactic(auto, using(crate::proofs::ReadBack::Described::KeyValues::seating), unfolding(crate::specs::Slots::wheel_for))]
 fn wheel_for(
     key: Key,

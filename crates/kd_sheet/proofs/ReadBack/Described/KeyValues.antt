@@ -1,6 +1,6 @@
 -- Lemmas on the values of keys: names, numbers and letters, wheels in slots, cables and pairs, and pins.
-pub mod ReadingSteps
-unfoldable pub use ReadingSteps.*
+pub mod Steps
+unfoldable pub use Steps.*
 pub use Rattle.kd_tables.specs.declared.model.Model.TheVariants.{EnigmaI, M3, M4}
 use Rattle.std.proofs.lemmas.{List.{take_more}, List.Quantifiers.{position-Some}}
 use Rattle.std.{proofs.lemmas.List.Folds.{find_at, list_any-append}, specs.List.{position, position_or_len}}
@@ -196,7 +196,8 @@ fill_slots key model items slots e =
 pub slots_in_fill : (key : Key) (model : Model) (table : Members)
     → SucceedsWith (slots_in key model table) (λ slots. (length slots ≡ slots_of model) × FillsSlots key model slots)
 unfolding slots_in
-slots_in_fill key model table = read_array-exactly _ (FillsSlots key model) (fill_slots key model) key (slots_of model) table
+slots_in_fill key model table =
+    read_array-exactly _ (FillsSlots key model) (fill_slots key model) key (slots_of model) table
 
 -- ---- the wheels of a day
 
@@ -264,9 +265,9 @@ module _ {X : Type 0} (letters_in : X → List ℕ) where
       (λ plugged item x so_far is. one_more plugged x so_far (free plugged item x is)))
 
   -- of things that share no letters, each shares none with the things before it
-  pub IsFree-from_AreFree : (plugged : List X) (k : ℕ) (x : X) → AreFree letters_in plugged → slice_get plugged k ≡ Some x
+  pub IsFree-at : (plugged : List X) (k : ℕ) (x : X) → AreFree letters_in plugged → slice_get plugged k ≡ Some x
       → IsFree letters_in (take k plugged) x
-  IsFree-from_AreFree plugged k x free at =
+  IsFree-at plugged k x free at =
       let within = slice_get_within plugged k x at in
       let front = flat_map letters_in (take k plugged) in
       let rest = flat_map letters_in (drop (k + 1) plugged) in
@@ -308,7 +309,7 @@ filled_up cables few free =
 pub are_cables : (table : Members) → SucceedsWith (cables_in table) AreCables
 unfolding cables_in cable_for
 are_cables table =
-    SucceedsWith-bind _ _ _ _ (SucceedsWith-optional (get_member (key_name keys.Cables) table) _ _ _
+    SucceedsWith-bind _ _ _ _ (if_present (get_member (key_name keys.Cables) table) _ _ _
     (read_array-free cable_letters cable_for
     (λ cables item cable e. grind (arith, cond-Some, letters_read, two_letters, leb-true, none-some)) keys.Cables 13)
     (omega arith, record { within = All-nil (λ letter. letter < 26); apart = IsDistinct-nil }))
@@ -328,7 +329,7 @@ two_of letters are = absurd (omega (arith, are.count))
 pub are_pairs : (table : Members) → SucceedsWith (pairs_in table) ArePairs
 unfolding pairs_in pair_for
 are_pairs table =
-    SucceedsWith-after_any (value_at keys.Plugs table) (read_array keys.Plugs (λ n. nat_le n 13) pair_for) ArePairs (λ value pairs e.
+    after_any (value_at keys.Plugs table) (read_array keys.Plugs (λ n. nat_le n 13) pair_for) ArePairs (λ value pairs e.
     let free = read_array-free pair_letters pair_for (λ pairs item pair e.
     grind (arith, ok_or-Ok, capitals_are_letters, two_of, none-some)) keys.Plugs 13 value pairs e in
     record { few = free.0; within = free.1.within; apart = free.1.apart })
@@ -399,11 +400,11 @@ same_pins (x ∷ ring) text other same =
     grind (arith, nat_tests, same x, same_pins ring text other (λ letter has. same letter (rw (has, or-true) refl)))
 
 -- the text of a wheel's pins has no letter that the wheel lacks
-has_letter-pins_text : (ring : List ℕ) (pins : List Bool) (letter : ℕ) → has_letter ring letter ≡ false
+pins_text-lacks : (ring : List ℕ) (pins : List Bool) (letter : ℕ) → has_letter ring letter ≡ false
     → has_letter (pins_text ring pins) (letter + 65) ≡ false
-has_letter-pins_text [] pins letter absent = refl
-has_letter-pins_text (x ∷ ring) [] letter absent = refl
-has_letter-pins_text (x ∷ ring) (pin ∷ pins) letter absent = grind (arith, nat_tests, has_letter-pins_text ring pins letter)
+pins_text-lacks [] pins letter absent = refl
+pins_text-lacks (x ∷ ring) [] letter absent = refl
+pins_text-lacks (x ∷ ring) (pin ∷ pins) letter absent = grind (arith, nat_tests, pins_text-lacks ring pins letter)
 
 list_all-pins_text : (test : ℕ → Bool) (ring : List ℕ) (pins : List Bool) → list_all test (letters_text ring) ≡ true
     → list_all test (pins_text ring pins) ≡ true
@@ -411,11 +412,12 @@ list_all-pins_text test [] pins all = refl
 list_all-pins_text test (x ∷ ring) [] all = refl
 list_all-pins_text test (x ∷ ring) (pin ∷ pins) all = grind (arith, nat_tests, list_all-pins_text test ring pins)
 
-are_new_letters-pins_text : (ring : List ℕ) (pins : List Bool) → are_new_letters ring [] ≡ true
+pins_text-apart : (ring : List ℕ) (pins : List Bool) → are_new_letters ring [] ≡ true
     → are_new_letters (pins_text ring pins) [] ≡ true
-are_new_letters-pins_text [] pins apart = refl
-are_new_letters-pins_text (x ∷ ring) [] apart = refl
-are_new_letters-pins_text (x ∷ ring) (pin ∷ pins) apart = grind (arith, nat_tests, append-nil, has_letter-pins_text, are_new_letters-pins_text ring pins)
+pins_text-apart [] pins apart = refl
+pins_text-apart (x ∷ ring) [] apart = refl
+pins_text-apart (x ∷ ring) (pin ∷ pins) apart =
+    grind (arith, nat_tests, append-nil, pins_text-lacks, pins_text-apart ring pins)
 
 -- the text of a wheel's pins has the letters of the effective pins
 pins_again : (ring : List ℕ) (pins : List Bool) → are_new_letters ring [] ≡ true → length pins ≡ length ring
@@ -424,7 +426,7 @@ pins_again [] [] apart same = refl
 pins_again (x ∷ ring) (pin ∷ pins) apart same =
     let rest = same_pins ring (pins_text (x ∷ ring) (pin ∷ pins)) (pins_text ring pins)
     (λ letter has. grind (arith, nat_tests, append-nil)) in
-    grind (arith, nat_tests, append-nil, has_letter-pins_text, rest, pins_again ring pins)
+    grind (arith, nat_tests, append-nil, pins_text-lacks, rest, pins_again ring pins)
 pins_again ring pins apart same = absurd (omega arith)
 
 pub pins_of_text-pins_text : (wheel : ℕ) (pins : List Bool) → length pins ≡ length (ring_of wheel)
@@ -435,21 +437,22 @@ pins_of_text-pins_text wheel pins same =
     let apart = letters_apart wheel in
     rw (
       list_all-pins_text (has_letter (letters_text ring)) ring pins (own_letters wheel),
-      are_new_letters-pins_text ring pins apart,
+      pins_text-apart ring pins apart,
       pins_again ring pins apart same,
     ) refl
 
 -- ---- the pins of a text, byte by byte
 
-are_new_letters-push : (front : List ℕ) (byte : ℕ)
+new_letters-push : (front : List ℕ) (byte : ℕ)
     → are_new_letters (front ++ byte ∷ []) [] ≡ (are_new_letters front [] && not (has_letter front byte))
-are_new_letters-push [] byte = refl
-are_new_letters-push (x ∷ front) byte = grind (arith, nat_tests, list_any-append, append-nil, are_new_letters-push front byte)
+new_letters-push [] byte = refl
+new_letters-push (x ∷ front) byte = grind (arith, nat_tests, list_any-append, append-nil, new_letters-push front byte)
 
-are_new_letters-twice : (front : List ℕ) (byte : ℕ) (rest : List ℕ) → has_letter front byte ≡ true
+new_letters-twice : (front : List ℕ) (byte : ℕ) (rest : List ℕ) → has_letter front byte ≡ true
     → are_new_letters (front ++ byte ∷ rest) [] ≡ false
-are_new_letters-twice [] byte rest has = absurd (false≢true has)
-are_new_letters-twice (x ∷ front) byte rest has = grind (arith, nat_tests, list_any-append, append-nil, are_new_letters-twice front byte rest)
+new_letters-twice [] byte rest has = absurd (false≢true has)
+new_letters-twice (x ∷ front) byte rest has =
+    grind (arith, nat_tests, list_any-append, append-nil, new_letters-twice front byte rest)
 
 -- setting the pin of one letter gives the pins of the text with this letter added
 set_pin : (ring front : List ℕ) (byte place : ℕ) → are_new_letters ring [] ≡ true → place < length ring
@@ -491,21 +494,21 @@ module _ (ring text : List ℕ) (k byte : ℕ) (left : k < length text) (here : 
 
   module _ (pins : List Bool) (place : ℕ) (so_far : pins_of_text ring (take k text) ≡ Some pins)
       (at : byte_at ring byte ≡ Some place) where
-    prefix_read : (list_all (has_letter (letters_text ring)) (take k text) ≡ true)
+    prefix : (list_all (has_letter (letters_text ring)) (take k text) ≡ true)
         × (are_new_letters (take k text) [] ≡ true) × (map (has_letter (take k text)) (letters_text ring) ≡ pins)
     unfolding pins_of_text
-    prefix_read = grind (arith, cond-Some, nat_tests)
+    prefix = grind (arith, cond-Some, nat_tests)
 
-    letter_at_place : (place < length ring) × (get_or ring place 0 + 65 ≡ byte)
-    letter_at_place = grind (arith, eqb-true, position-Some (λ letter. letter + 65 == byte) ring place 0 at)
+    place_found : (place < length ring) × (get_or ring place 0 + 65 ≡ byte)
+    place_found = grind (arith, eqb-true, position-Some (λ letter. letter + 65 == byte) ring place 0 at)
 
     pin_is : get_or pins place false ≡ has_letter (take k text) byte
-    pin_is = rw (← prefix_read.2, pin_at ring (take k text) place letter_at_place.0, letter_at_place.1) refl
+    pin_is = rw (← prefix.2, pin_at ring (take k text) place place_found.0, place_found.1) refl
 
     pub pins_of_text-twice : get_or pins place false ≡ true → None ≡ pins_of_text ring text
     unfolding pins_of_text
     pins_of_text-twice effective =
-        let again = are_new_letters-twice (take k text) byte (drop (k + 1) text) (sym pin_is ∙ effective) in
+        let again = new_letters-twice (take k text) byte (drop (k + 1) text) (sym pin_is ∙ effective) in
         rw (rw (← here, ← drop_more text k 0 left, take-append-drop) at again, and-false) refl
 
     pub pins_of_text-push : IsDistinct nat_eq ring → get_or pins place false ≡ false
@@ -514,5 +517,6 @@ module _ (ring text : List ℕ) (k byte : ℕ) (left : k < length text) (here : 
     pins_of_text-push distinct free =
         let apart = ((new_tells ring []).0 (rw append-nil distinct)).0 in
         let own : has_letter (letters_text ring) byte ≡ true = grind (arith, has_byte ring byte) in
-        rw (take_more text k 0 left, here, list_all-append, prefix_read.0, own, are_new_letters-push, prefix_read.1, ← pin_is, free) (ap Some
-        (sym (set_pin ring (take k text) byte place apart letter_at_place.0 letter_at_place.1) ∙ ap (λ ps. set ps place true) prefix_read.2))
+        rw (take_more text k 0 left, here, list_all-append, prefix.0, own, new_letters-push, prefix.1, ← pin_is, free)
+        (ap Some (sym (set_pin ring (take k text) byte place apart place_found.0 place_found.1)
+        ∙ ap (λ ps. set ps place true) prefix.2))

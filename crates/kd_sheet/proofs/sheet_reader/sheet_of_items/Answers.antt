@@ -5,7 +5,7 @@ pub loop-item-preserved : goal.loop-item-preserved
 loop-item-preserved c =
     let so_far = c.loop-item.invariant in
     next_month _ _ _ _ _ _ c.loop-item-test.true c.item-item.is so_far (c.in_ok-day.ensures so_far.days so_far.month)
-    c.put.ensures
+    c.insert.ensures
 
 pub returns-in_err-day : goal.returns-in_err-day
 unfolding day_for

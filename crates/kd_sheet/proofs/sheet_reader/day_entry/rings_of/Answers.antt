@@ -1,4 +1,4 @@
-use Rattle.kd_sheet.proofs.ReadBack.Described.KeyValues.ReadingSteps.{arith, list_of-items_of, the_lemmas}
+use Rattle.kd_sheet.proofs.ReadBack.Described.KeyValues.Steps.{arith, list_of-items_of, the_lemmas}
 use Rattle.kd_sheet.proofs.sheet_reader.day_entry.rings_of.Goals as goal
 
 pub returns-in-Array : goal.returns-in-Array

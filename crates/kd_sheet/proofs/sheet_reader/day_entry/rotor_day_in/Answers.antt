@@ -6,5 +6,5 @@ pub unwrap-requires : goal.unwrap-requires
 unfolding rotor_day_in
 unwrap-requires c =
     let table = table_view c.args.table.now in
-    let day = rotor_day c.args.day c.args.model table c.requires.day (OfRotors _) (grind (arith, common_steps)) in
-    c.rotor-new.ensures.exists.1 day.0
+    let day = rotor_day c.args.number c.args.model table c.requires.day (OfRotors _) (grind (arith, common_steps)) in
+    c.rotor-day.ensures.exists.1 day.0

@@ -1,4 +1,5 @@
-use Rattle.kd_sheet.proofs.ReadBack.Described.KeyValues.ReadingSteps.{arith, read_after_none, read_after_more, read_after_fault, rules, ◌∙◌}
+use Rattle.kd_sheet.proofs.ReadBack.Described.KeyValues.Steps.{arith, read_after_none, read_after_more, rules, ◌∙◌}
+use Rattle.kd_sheet.proofs.ReadBack.Described.KeyValues.Steps.{read_after_fault}
 use Rattle.kd_sheet.proofs.values.items.read_items.Goals as goal
 
 pub loop-item-init : goal.loop-item-init

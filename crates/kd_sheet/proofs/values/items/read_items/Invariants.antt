@@ -1,4 +1,4 @@
-use Rattle.kd_sheet.proofs.ReadBack.Described.KeyValues.ReadingSteps.{drop, read_items, length, map, read_after, view, ◌≡◌}
+use Rattle.kd_sheet.proofs.ReadBack.Described.KeyValues.Steps.{drop, read_items, length, map, read_after, view, ◌≡◌}
 use Rattle.kd_sheet.proofs.values.items.read_items.Given as goal
 
 -- reading all items gives the same result as reading the rest of them after the values so far

@@ -63,7 +63,7 @@ pub use Rattle.toml.specs.Data.{items_depth, items_have_valid_dates, member, no_
 pub use Rattle.toml.specs.{Tables.{Expression, close, key_value, no_nodes}, declared.value.Value.{Value, the_lemmas}}
 pub use Rattle.toml.specs.{Text.{IsItemsText, IsLinesText, IsValueText}, View.{array_view, items_of, table_view, view}}
 unfoldable pub use Rattle.kd_sheet.specs.MachineFile.{model_in, parts_in, pin_parts_in}
-unfoldable pub use Rattle.kd_sheet.specs.SheetFile.{day_for, group_for, groups_in, model_day_in}
+unfoldable pub use Rattle.kd_sheet.specs.SheetFile.{day_for, group_for, groups_in, day_in}
 unfoldable pub use Rattle.kd_sheet.specs.SheetFile.{pin_day_in, rotor_day_in}
 unfoldable pub use Rattle.toml_writer.specs.Text.{encoding_of, escaped, key_text, needs_escape, quotes_after}
 unfoldable pub use Rattle.kd_sheet.specs.{Bars.{bars_in, reading_of_text, rows_in}, MachineText.machine_text}
@@ -135,16 +135,16 @@ pub SucceedsWith-bind : {A B : Type 0} (first : Result A SheetFault) (next : A �
 SucceedsWith-bind first next P Q here rest y e =
     let before = bind-Ok first next y e in rest before.0 (here before.0 before.1) y before.2
 
-pub SucceedsWith-after_any : {A B : Type 0} (first : Result A SheetFault) (next : A → Result B SheetFault) (Q : B → Type 0)
+pub after_any : {A B : Type 0} (first : Result A SheetFault) (next : A → Result B SheetFault) (Q : B → Type 0)
     → ((x : A) → SucceedsWith (next x) Q) → SucceedsWith (first >>= next) Q
-SucceedsWith-after_any first next Q rest y e = let before = bind-Ok first next y e in rest before.0 y before.2
+after_any first next Q rest y e = let before = bind-Ok first next y e in rest before.0 y before.2
 
 -- `P` holds of what is read at an optional key, if it holds of each value read and of the default
-pub SucceedsWith-optional : {A : Type 0} (there : Option Data) (parse : Data → Result A SheetFault) (none : A) (P : A → Type 0)
+pub if_present : {A : Type 0} (there : Option Data) (parse : Data → Result A SheetFault) (none : A) (P : A → Type 0)
     → ((value : Data) → SucceedsWith (parse value) P) → P none
     → SucceedsWith (option_map_or parse there (Ok none)) P
-SucceedsWith-optional None parse none P each holds = SucceedsWith-Ok P none holds
-SucceedsWith-optional (Some value) parse none P each holds = each value
+if_present None parse none P each holds = SucceedsWith-Ok P none holds
+if_present (Some value) parse none P each holds = each value
 
 -- if `ok_or` has the value `value` for an optional thing, the thing is there, and is `value`
 pub ok_or-Ok : {A : Type 0} (thing : Option A) (fault : SheetFault) (value : A) → ok_or thing fault ≡ Ok value
@@ -239,7 +239,7 @@ module _ {A : Type 0} where
   read_items-keeps parse Holds start more (item ∷ items) =
       SucceedsWith-bind (parse [] item) _ _ _ (λ value. more [] item value start) (λ value so_far.
       SucceedsWith-bind (read_items (λ read. parse (value ∷ read)) items) _ _ _
-      (read_items-keeps (λ read. parse (value ∷ read)) (λ ys. Holds (value ∷ ys)) so_far (λ read. more (value ∷ read)) items)
+      (read_items-keeps (λ xs. parse (value ∷ xs)) (λ ys. Holds (value ∷ ys)) so_far (λ xs. more (value ∷ xs)) items)
       (λ values all. SucceedsWith-Ok Holds (value ∷ values) all))
 
   -- if `Holds` holds of the values of all items that can be read, it holds of the result of `read_array`
