@@ -87,7 +87,8 @@ pub fn pins_in(table: &Table) -> Result<PinSet, SheetFault>
 
 /// Reads the effective pins of the six wheels: each of `items` is a text of a wheel's pins, from wheel 1 to wheel 6.
 fn pins_of_items(items: [&Value; 6]) -> Option<PinSet>
-    ensures { ok_or result (faults.BadValue keys.Pins) ≡ pins_of_items (map (λ item. view item.now) items.entry) }
+    ensures { ok_or result (faults.BadValue keys.Pins)
+        ≡ pins_of_items (map (λ item. view item.now) items.entry) }
 {
     let [one, two, three, four, five, six] = items;
     Some(PinSet {
