@@ -53,7 +53,7 @@ pub reflector_again : (model : Model) (reflector : Reflector)
 unfolding find_by_text
 reflector_again model reflector e = grind arith
 
--- an array at `key` can have an item for this seat: any key allows a wheel, only the key `slots` an empty seat
+-- an array at `key` can have an item for this slot: any key allows a wheel, only the key `slots` an empty slot
 abbrev pub MayBeSeated : Key → Option Wheel → Type 0
 MayBeSeated key None = key ≡ keys.Slots
 MayBeSeated key (Some wheel) = Unit {0}
@@ -64,9 +64,9 @@ slot_named : (key : Key) (model : Model) (slots : List (Option Wheel)) (wheel : 
 unfolding slot_for
 slot_named key model slots wheel = grind arith
 
-slot_again : (key : Key) (model : Model) (slots : List (Option Wheel)) (seat : Option Wheel) → MayBeSeated key seat
-    → AreLegalSeats model slots → (k : ℕ) → slice_get slots k ≡ Some seat
-    → slot_for key model (take k slots) (string (slot_text seat)) ≡ Ok seat
+slot_again : (key : Key) (model : Model) (slots : List (Option Wheel)) (slot : Option Wheel) → MayBeSeated key slot
+    → AreLegalSeats model slots → (k : ℕ) → slice_get slots k ≡ Some slot
+    → slot_for key model (take k slots) (string (slot_text slot)) ≡ Ok slot
 unfolding slot_for wheel_for
 slot_again key model slots None may seated k at = rw may refl
 slot_again key model slots (Some wheel) may seated k at =
@@ -85,8 +85,8 @@ pub slots_in_again : (key : Key) (model : Model) (table : Members) (slots : List
     → slots_in key model table ≡ Ok slots
 unfolding slots_in
 slots_in_again key model table slots there may seated =
-    rw there (read_array-texts key (nat_eq (slots_of model)) slot_text slots (slot_for key model) (λ k seat at.
-    slot_again key model slots seat (All-slice_get (MayBeSeated key) slots k seat may at) seated k at)
+    rw there (read_array-texts key (nat_eq (slots_of model)) slot_text slots (slot_for key model) (λ k slot at.
+    slot_again key model slots slot (All-slice_get (MayBeSeated key) slots k slot may at) seated k at)
     (eq-eqb _ _ (sym seated.count)))
 
 -- ---- cables and pairs
@@ -371,7 +371,7 @@ reflector_plain reflector = grind arith
 
 slots_plain : (slots : List (Option Wheel)) → AllByRecursion IsPlain (map slot_text slots)
 slots_plain [] = tt
-slots_plain (seat ∷ slots) = grind (arith, slots_plain slots)
+slots_plain (slot ∷ slots) = grind (arith, slots_plain slots)
 
 cables_plain : (cables : List (Option ℕ × Option ℕ)) → AllByRecursion (λ letter. letter < 26) (letters_in_cables cables)
     → AllByRecursion IsPlain (map cable_text cables)

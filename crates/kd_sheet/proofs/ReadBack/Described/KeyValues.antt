@@ -112,17 +112,17 @@ pub letters_at_are : (key : Key) (count : ℕ) (table : Members)
 unfolding letters_at
 letters_at_are key count table letters e = grind (arith, bind-Ok, ok_or-Ok, capitals_are_letters)
 
--- ---- one seat
+-- ---- one slot
 
 -- whether one of the slots holds the wheel
 abbrev pub is_seated : List (Option Wheel) → Wheel → Bool
-is_seated slots wheel = list_any (λ seat. option_map_or (same_wheel wheel) seat false) slots
+is_seated slots wheel = list_any (λ slot. option_map_or (same_wheel wheel) slot false) slots
 
 pub is_seated-Decides : (slots : List (Option Wheel)) (wheel : Wheel)
     → Decides (is_seated slots wheel) (Contains slots (Some wheel))
 is_seated-Decides slots wheel =
-    let holds : Option Wheel → Bool = λ seat. option_map_or (same_wheel wheel) seat false in
-    Decides-contains slots (Some wheel) _ (Decides-by_or holds (λ seat. seat ≡ Some wheel) (list_any holds)
+    let holds : Option Wheel → Bool = λ slot. option_map_or (same_wheel wheel) slot false in
+    Decides-contains slots (Some wheel) _ (Decides-by_or holds (λ slot. slot ≡ Some wheel) (list_any holds)
     (λ s. grind (arith, Decides-like, same_Some, same_wheel-Decides)) refl (λ _ _. refl) slots)
 
 pub not_seated : (slots : List (Option Wheel)) (wheel : Wheel) → ¬ Contains slots (Some wheel)
@@ -141,15 +141,15 @@ unfolding wheel_for
 wheel_read key model slots item wheel e = grind
     (arith, bind-Ok, demand-Ok, has_wheel-Decides, is_seated-Decides, not-true)
 
--- a seat as it is read: its wheel may be in the slot right of `slots`, and it is empty only in a machine file
-record IsSlotRead (key : Key) (model : Model) (slots : List (Option Wheel)) (seat : Option Wheel) : Type 0 where
-  free : IfSome seat (CanBeSeated model slots)
-  filled : key ≡ keys.Wheels → IsSome seat
+-- a slot as it is read: its wheel may be right of `slots`, and it is empty only in a machine file
+record IsSlotRead (key : Key) (model : Model) (slots : List (Option Wheel)) (slot : Option Wheel) : Type 0 where
+  free : IfSome slot (CanBeSeated model slots)
+  filled : key ≡ keys.Wheels → IsSome slot
 
-slot_read : (key : Key) (model : Model) (slots : List (Option Wheel)) (item : Data) (seat : Option Wheel)
-    → slot_for key model slots item ≡ Ok seat → IsSlotRead key model slots seat
+slot_read : (key : Key) (model : Model) (slots : List (Option Wheel)) (item : Data) (slot : Option Wheel)
+    → slot_for key model slots item ≡ Ok slot → IsSlotRead key model slots slot
 unfolding slot_for
-slot_read key model slots item seat e = record { free = grind (arith, wheel_read); filled = grind (arith, none-some) }
+slot_read key model slots item slot e = record { free = grind (arith, wheel_read); filled = grind (arith, none-some) }
 
 -- ---- the slots that an array fills
 
@@ -190,7 +190,7 @@ fill_slots key model items slots e =
           let first = not_free model slots place other wheel stands two.1 (omega (arith, two.0)) in
           omega (arith, first, not_free model slots other place wheel again one.1 (omega (arith, one.0)));
       filled = λ full. All-read_items (slot_for key model) IsSome
-          (λ before item seat is. (slot_read key model before item seat is).filled full) items slots e;
+          (λ before item slot is. (slot_read key model before item slot is).filled full) items slots e;
     }
 
 pub slots_in_fill : (key : Key) (model : Model) (table : Members)
@@ -208,7 +208,7 @@ pub seats_of_wheels-sheet_wheels : (slots : List (Option Wheel)) (rings letters 
 seats_of_wheels-sheet_wheels [] rings letters filled same equal = refl
 seats_of_wheels-sheet_wheels (Some w ∷ slots) (r ∷ rings) (l ∷ letters) filled same equal =
     ap (λ rest. Some w ∷ rest) (seats_of_wheels-sheet_wheels slots rings letters filled.1 (omega arith) (omega arith))
-seats_of_wheels-sheet_wheels (seat ∷ slots) rings letters filled same equal = grind (arith, false≢true)
+seats_of_wheels-sheet_wheels (slot ∷ slots) rings letters filled same equal = grind (arith, false≢true)
 
 pub wheels_have_letters : (slots : List (Option Wheel)) (rings letters : List ℕ)
     → AllByRecursion (λ letter. letter < 26) rings → AllByRecursion (λ letter. letter < 26) letters
