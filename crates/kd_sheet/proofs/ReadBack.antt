@@ -18,10 +18,10 @@ texts_read ts = ap Some (list_of-items_of (map string ts))
 module _ {X : Type 0} (key : Key) (fits : ℕ → Bool) (text_of : X → List ℕ) (things : List X)
     (parse : List X → Data → Result X SheetFault)
     (each : (k : ℕ) (x : X) → slice_get things k ≡ Some x → parse (take k things) (string (text_of x)) ≡ Ok x) where
-  pub array_again : fits (length things) ≡ true
+  pub read_array-texts : fits (length things) ≡ true
       → read_array key fits parse (array_of_texts (map text_of things)) ≡ Ok things
-  array_again passes =
-      let read = again parse text_of things each in
+  read_array-texts passes =
+      let read = read_items-texts parse text_of things each in
       let items = map string (map text_of things) in
       let count : length items ≡ length things = grind (arith, length-map) in
       rw (list_of-items_of items, count, passes) read
@@ -43,7 +43,7 @@ pub window_again : (key : Key) (table : Members) (window : List ℕ)
 unfolding shown_letters_in letters_at
 window_again key table window there are =
     let spelled = capitals_again 6 window (record { count = are.count; within = letters_below window are }) in
-    rw (there, spelled, are_own window are) refl
+    rw (there, spelled, are_on_wheels-true window are) refl
 
 -- ---- reflector and wheels
 
@@ -53,23 +53,23 @@ pub reflector_again : (model : Model) (reflector : Reflector)
 unfolding find_by_text
 reflector_again model reflector e = grind arith
 
--- an array at `key` can have an item for this seat: any key allows a wheel, only the key `slots` an empty seat
+-- an array at `key` can have an item for this slot: any key allows a wheel, only the key `slots` an empty slot
 abbrev pub MayBeSeated : Key → Option Wheel → Type 0
 MayBeSeated key None = key ≡ keys.Slots
 MayBeSeated key (Some wheel) = Unit {0}
 
-seat_named : (key : Key) (model : Model) (slots : List (Option Wheel)) (wheel : Wheel)
-    → seat_for key model slots (string (wheel_text wheel))
+slot_named : (key : Key) (model : Model) (slots : List (Option Wheel)) (wheel : Wheel)
+    → slot_for key model slots (string (wheel_text wheel))
     ≡ (wheel_for key model slots (string (wheel_text wheel)) >>= (λ wheel. Ok (Some wheel)))
-unfolding seat_for
-seat_named key model slots wheel = grind arith
+unfolding slot_for
+slot_named key model slots wheel = grind arith
 
-seat_again : (key : Key) (model : Model) (slots : List (Option Wheel)) (seat : Option Wheel) → MayBeSeated key seat
-    → AreLegalSeats model slots → (k : ℕ) → slice_get slots k ≡ Some seat
-    → seat_for key model (take k slots) (string (seat_text seat)) ≡ Ok seat
-unfolding seat_for wheel_for
-seat_again key model slots None may seated k at = rw may refl
-seat_again key model slots (Some wheel) may seated k at =
+slot_again : (key : Key) (model : Model) (slots : List (Option Wheel)) (slot : Option Wheel) → MayBeSeated key slot
+    → AreLegalSeats model slots → (k : ℕ) → slice_get slots k ≡ Some slot
+    → slot_for key model (take k slots) (string (slot_text slot)) ≡ Ok slot
+unfolding slot_for wheel_for
+slot_again key model slots None may seated k at = rw may refl
+slot_again key model slots (Some wheel) may seated k at =
     let within = slice_get_within slots k (Some wheel) at in
     let before : length (take k slots) ≡ k = length-take-le k slots (omega arith) in
     let among_them = (has_wheel-Decides (wheels_for model (length (take k slots) + 1)) wheel).1 (rw before
@@ -77,16 +77,16 @@ seat_again key model slots (Some wheel) may seated k at =
     let free = not_seated (take k slots) wheel (λ among.
     let stands : slice_get slots among.0 ≡ Some (Some wheel) = grind (arith, common_steps, gets) in
     omega (arith, seated.apart among.0 k wheel stands at, among.1)) in
-    rw (seat_named key model (take k slots) wheel, wheel_found wheel, among_them, free) refl
+    rw (slot_named key model (take k slots) wheel, wheel_found wheel, among_them, free) refl
 
-pub seats_in_again : (key : Key) (model : Model) (table : Members) (slots : List (Option Wheel))
-    → value_at key table ≡ Ok (array_of_texts (map seat_text slots)) → All (MayBeSeated key) slots
+pub slots_in_again : (key : Key) (model : Model) (table : Members) (slots : List (Option Wheel))
+    → value_at key table ≡ Ok (array_of_texts (map slot_text slots)) → All (MayBeSeated key) slots
     → AreLegalSeats model slots
-    → seats_in key model table ≡ Ok slots
-unfolding seats_in
-seats_in_again key model table slots there may seated =
-    rw there (array_again key (nat_eq (slots_of model)) seat_text slots (seat_for key model) (λ k seat at.
-    seat_again key model slots seat (All-slice_get (MayBeSeated key) slots k seat may at) seated k at)
+    → slots_in key model table ≡ Ok slots
+unfolding slots_in
+slots_in_again key model table slots there may seated =
+    rw there (read_array-texts key (nat_eq (slots_of model)) slot_text slots (slot_for key model) (λ k slot at.
+    slot_again key model slots slot (All-slice_get (MayBeSeated key) slots k slot may at) seated k at)
     (eq-eqb _ _ (sym seated.count)))
 
 -- ---- cables and pairs
@@ -115,9 +115,9 @@ cables_again cables are =
     let free : AreFree cable_letters read = record { within = rw same are.within; apart = rw same are.apart } in
     let all : All HasSingleFirst read = All-map HasSingleFirst single_first cables (λ k d within. grind arith) in
     ap (λ ts. read_array keys.Cables (λ n. nat_le n 13) cable_for (array_of_texts ts)) (sym (same_cables cables).1)
-    ∙ array_again keys.Cables (λ n. nat_le n 13) cable_text read cable_for (λ k cable at.
+    ∙ read_array-texts keys.Cables (λ n. nat_le n 13) cable_text read cable_for (λ k cable at.
     let is = All-slice_get HasSingleFirst read k cable all at in
-    let new = free_at cable_letters read k cable free at in
+    let new = IsFree-at cable_letters read k cable free at in
     grind (arith, letters_spelled, recursion_from_All, new))
     (le-leb _ _ (omega (arith, are.count, length-map cables single_first)))
 
@@ -126,7 +126,7 @@ cables_again cables are =
 pub pins_in_again : (table : Members) (pins : PinSet)
     → value_at keys.Pins table ≡ Ok (array_of_texts (pin_texts pins)) → HasAllPins pins → pins_in table ≡ Ok pins
 unfolding pins_in
-pins_in_again table pins there fit = grind (arith, pins_back, fit, then_read, texts_read)
+pins_in_again table pins there fit = grind (arith, pins_of_text-pins_text, fit, bind-step, texts_read)
 
 -- ---- wheels
 
@@ -145,7 +145,7 @@ rotor_day_table s =
     (member (key_name keys.Plugs) (array_of_texts (map (λ pair. letters_text (pair_letters pair)) s.pairs))
     (member (key_name keys.Reflector) (string (reflector_text s.reflector))
     (member (key_name keys.Rings) (string (letters_text (map (λ w. w.ring) s.wheels)))
-    (member (key_name keys.Wheels) (array_of_texts (map seat_text (seats_of_wheels s.wheels)))
+    (member (key_name keys.Wheels) (array_of_texts (map slot_text (seats_of_wheels s.wheels)))
     (member (key_name keys.Window) (string (letters_text (map (λ w. w.letter) s.wheels))) no_members)))))))
 
 abbrev pin_day_table : PinDay → Members
@@ -158,22 +158,22 @@ pin_day_table s =
 
 day_by_model : (number : ℕ) (model : Model) (reflector : Reflector) (table : Members) (day : Day)
     → list_any (same_reflector reflector) (reflectors_of model) ≡ true
-    → rotor_day_in number model table ≡ Ok day → model_day_in number model table ≡ Ok day
-unfolding model_day_in
+    → rotor_day_in number model table ≡ Ok day → day_in number model table ≡ Ok day
+unfolding day_in
 day_by_model number model reflector table day e d = grind arith
 
 pairs_in_again : (s : RotorDay) → IsLegalRotorDay s → pairs_in (rotor_day_table s) ≡ Ok s.pairs
 unfolding pairs_in pair_for
 pairs_in_again s legal =
     let free : AreFree pair_letters s.pairs = record { within = legal.pairs.within; apart = legal.pairs.apart } in
-    array_again keys.Plugs (λ n. nat_le n 13) (λ pair. letters_text (pair_letters pair)) s.pairs pair_for
-    (λ k pair at. let new = free_at pair_letters s.pairs k pair free at in
+    read_array-texts keys.Plugs (λ n. nat_le n 13) (λ pair. letters_text (pair_letters pair)) s.pairs pair_for
+    (λ k pair at. let new = IsFree-at pair_letters s.pairs k pair free at in
     grind (arith, letters_spelled, recursion_from_All, new)) (le-leb _ _ legal.pairs.few)
 
 groups_in_again : (s : RotorDay) → IsLegalRotorDay s → groups_in (rotor_day_table s) ≡ Ok s.groups
 unfolding groups_in group_for
 groups_in_again s legal =
-    array_again keys.Groups (λ n. nat_le n 4) letters_text s.groups group_for (λ k group at.
+    read_array-texts keys.Groups (λ n. nat_le n 4) letters_text s.groups group_for (λ k group at.
     rw (capitals_again 3 group (All-slice_get (AreLetters 3) s.groups k group legal.groups at)) refl)
     (le-leb _ _ legal.few_groups)
 
@@ -189,25 +189,25 @@ rotor_again : (s : RotorDay) → IsLegalRotorDay s → rotor_day_in s.day s.mode
 unfolding rotor_day_in reflector_in letters_at
 rotor_again s legal =
     let has = (has_reflector-Decides (reflectors_of s.model) s.reflector).1 legal.reflector in
-    let wheels = seats_in_again keys.Wheels s.model (rotor_day_table s) (seats_of_wheels s.wheels) refl
+    let wheels = slots_in_again keys.Wheels s.model (rotor_day_table s) (seats_of_wheels s.wheels) refl
     (All-map (MayBeSeated keys.Wheels) _ s.wheels (λ k d within. tt)) legal.wheels in
     let rings = capitals_again _ _ (parts_are s legal (λ w. w.ring) (λ w has. has.ring)) in
     let letters = capitals_again _ _ (parts_are s legal (λ w. w.letter) (λ w has. has.letter)) in
-    grind (arith, then_read, reflector_again, pairs_in_again, groups_in_again, wheels_again)
+    grind (arith, bind-step, reflector_again, pairs_in_again, groups_in_again, wheels_again)
 
 rows_in_again : (s : PinDay) → IsLegalPinDay s → rows_in (pin_day_table s) ≡ Ok s.rows
-unfolding rows_in row_of_text
+unfolding rows_in reading_of_text
 rows_in_again s legal =
-    array_again keys.Rows (nat_eq 27) reading_text s.rows (or_bad_row row_of_text) (λ k row at.
+    read_array-texts keys.Rows (nat_eq 27) reading_text s.rows (or_bad_row reading_of_text) (λ k row at.
     let is = All-slice_get IsReading s.rows k row legal.rows at in
     grind (arith, le-leb, cases_eq, eq-eqb, is.equal, or-true, ne_eqb)) (eq-eqb _ _ (sym legal.count))
 
 pin_again : (s : PinDay) → IsLegalPinDay s → pin_day_in s.day (pin_day_table s) ≡ Ok (OfPins s)
 unfolding pin_day_in letters_at
-pin_again s legal = grind (arith, then_read, rows_in_again, pins_in_again, window_again, capitals_again)
+pin_again s legal = grind (arith, bind-step, rows_in_again, pins_in_again, window_again, capitals_again)
 
 pub legal_is_described : (day : Day) → IsLegalDay day → (item : Data) × (day_for [] item ≡ Ok day)
-unfolding model_in model_day_in
+unfolding model_in day_in
 legal_is_described (OfRotors s) legal =
     let has = (has_reflector-Decides (reflectors_of s.model) s.reflector).1 legal.reflector in (
       toml.table (rotor_day_table s),
@@ -369,14 +369,14 @@ model_plain model = grind arith
 reflector_plain : (reflector : Reflector) → IsPlain (reflector_text reflector)
 reflector_plain reflector = grind arith
 
-seats_plain : (slots : List (Option Wheel)) → AllByRecursion IsPlain (map seat_text slots)
-seats_plain [] = tt
-seats_plain (seat ∷ slots) = grind (arith, seats_plain slots)
+slots_plain : (slots : List (Option Wheel)) → AllByRecursion IsPlain (map slot_text slots)
+slots_plain [] = tt
+slots_plain (slot ∷ slots) = grind (arith, slots_plain slots)
 
 cables_plain : (cables : List (Option ℕ × Option ℕ)) → AllByRecursion (λ letter. letter < 26) (letters_in_cables cables)
     → AllByRecursion IsPlain (map cable_text cables)
 cables_plain [] within = tt
-cables_plain (cable ∷ cables) within = grind (arith, all_parts, letters_plain, cables_plain cables)
+cables_plain (cable ∷ cables) within = grind (arith, AllByRecursion-parts, letters_plain, cables_plain cables)
 
 pins_plain : (ring : List ℕ) (pins : List Bool) → AllByRecursion (λ letter. letter < 26) ring
     → IsPlain (pins_text ring pins)
@@ -406,7 +406,7 @@ ruleset are_plain = (
   texts_written,
   model_plain,
   reflector_plain,
-  seats_plain,
+  slots_plain,
   letters_plain,
   cables_plain,
   bars_plain,
@@ -417,7 +417,7 @@ ruleset are_plain = (
 machine_of-parts : (model : Model) (bytes : List ℕ) (table : Members) (m : Parts) → document_of bytes ≡ Ok table
     → read_at keys.Version (number_up_to 2) table ≡ Ok (file_version model) → model_in table ≡ Ok model
     → parts_in model table ≡ Ok m → machine_of bytes ≡ Ok m
-machine_of-parts model bytes table m of_bytes version is parts = grind (arith, then_read, demand-passes, le-leb)
+machine_of-parts model bytes table m of_bytes version is parts = grind (arith, bind-step, demand-passes, le-leb)
 
 -- ---- a rotor machine
 
@@ -431,7 +431,7 @@ same_order (cable ∷ cables) = grind (arith, same_order cables)
 abbrev rotor_entries : RotorParts → List FileEntry
 rotor_entries m =
     version_entry m.model ∷ text_entry keys.Model (model_text m.model)
-    ∷ text_entry keys.Reflector (reflector_text m.reflector) ∷ texts_entry keys.Slots (map seat_text m.slots)
+    ∷ text_entry keys.Reflector (reflector_text m.reflector) ∷ texts_entry keys.Slots (map slot_text m.slots)
     ∷ text_entry keys.Rings (letters_text m.rings) ∷ text_entry keys.Letters (letters_text m.letters)
     ∷ texts_entry keys.Cables (map cable_text m.cables) ∷ []
 
@@ -442,7 +442,7 @@ rotor_table m =
     (member (key_name keys.Model) (string (model_text m.model))
     (member (key_name keys.Reflector) (string (reflector_text m.reflector))
     (member (key_name keys.Rings) (string (letters_text m.rings))
-    (member (key_name keys.Slots) (array_of_texts (map seat_text m.slots))
+    (member (key_name keys.Slots) (array_of_texts (map slot_text m.slots))
     (member (key_name keys.Version) (integer (pos (file_version m.model))) no_members))))))
 
 rotor_read : (m : RotorParts) → IsLegalRotor m → document_of (machine_text (Rotor m)) ≡ Ok (rotor_table m)
@@ -457,9 +457,9 @@ rotor_parts_again : (m : RotorParts) → IsLegalRotor m
 unfolding rotor_parts_in reflector_in letters_at cables_in
 rotor_parts_again m legal =
     let has = (has_reflector-Decides (reflectors_of m.model) m.reflector).1 legal.reflector in
-    let seated = seats_in_again keys.Slots m.model (rotor_table m) m.slots refl (λ k d within.
+    let seated = slots_in_again keys.Slots m.model (rotor_table m) m.slots refl (λ k d within.
     grind arith) legal.seats in
-    grind (arith, common_steps, then_read, reflector_again, capitals_again, cables_again, append-nil)
+    grind (arith, common_steps, bind-step, reflector_again, capitals_again, cables_again, append-nil)
 
 by_model : (model : Model) (reflector : Reflector) (table : Members) (m : RotorParts)
     → list_any (same_reflector reflector) (reflectors_of model) ≡ true → rotor_parts_in model table ≡ Ok m
@@ -494,14 +494,14 @@ pin_read m legal =
 bars_again : (m : PinParts) → IsLegalPin m → bars_in (pin_table m) ≡ Ok m.bars
 unfolding bars_in
 bars_again m legal =
-    array_again keys.Bars (nat_eq 27) standing_text m.bars (or_bad_row (find_by_text standing_text standings))
+    read_array-texts keys.Bars (nat_eq 27) standing_text m.bars (or_bad_row (find_by_text standing_text standings))
     (λ k bar at.
     rw (standing_again bar (All-slice_get (λ bar. IsBefore bar.0 bar.1) m.bars k bar legal.apart at)) refl)
     (eq-eqb _ _ (sym legal.bars))
 
 pin_parts_again : (m : PinParts) → IsLegalPin m → pin_parts_in (pin_table m) ≡ Ok m
 unfolding pin_parts_in
-pin_parts_again m legal = grind (arith, then_read, window_again, pins_in_again, bars_again)
+pin_parts_again m legal = grind (arith, bind-step, window_again, pins_in_again, bars_again)
 
 -- ---- each machine
 

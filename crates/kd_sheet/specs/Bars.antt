@@ -23,11 +23,11 @@ bars_in table =
 
 -- The two digits of a row's text, the lower one first: `3-0` gives 0 and 3. The digits are from 0 to 6, and differ or
 -- are both 0.
-unfoldable pub row_of_text : List ℕ → Option (ℕ × ℕ)
-row_of_text (one ∷ dash ∷ other ∷ []) =
+unfoldable pub reading_of_text : List ℕ → Option (ℕ × ℕ)
+reading_of_text (one ∷ dash ∷ other ∷ []) =
     if list_all (λ x. nat_le 48 x && nat_le x 54) (one ∷ other ∷ []) && dash == 45 && (not (one == other) || one == 48)
     then Some (smaller_first (one - 48) (other - 48)) else None
-row_of_text _ = None
+reading_of_text _ = None
 
 unfoldable pub rows_in : Members → Result (List (ℕ × ℕ)) SheetFault
-rows_in table = value_at keys.Rows table >>= read_array keys.Rows (nat_eq 27) (or_bad_row row_of_text)
+rows_in table = value_at keys.Rows table >>= read_array keys.Rows (nat_eq 27) (or_bad_row reading_of_text)

@@ -4,7 +4,7 @@ pub mod Document
 pub mod Letters
 pub mod Names
 pub mod Numbers
-pub mod Seats
+pub mod Slots
 pub mod Cables
 pub mod PinWheels
 pub mod Bars

@@ -20,7 +20,7 @@ use Rattle.kd_sheet.specs.MachineText.{file_version}
 use Rattle.kd_sheet.specs.Names.{find_by_text}
 use Rattle.kd_sheet.specs.Numbers.{number_up_to}
 use Rattle.kd_sheet.specs.PinWheels.{shown_letters_in, pins_in}
-use Rattle.kd_sheet.specs.Seats.{seats_in}
+use Rattle.kd_sheet.specs.Slots.{slots_in}
 use Rattle.kd_sheet.specs.declared.key.Key.TheVariants as keys
 use Rattle.kd_sheet.specs.declared.fault.SheetFault.{SheetFault}
 use Rattle.kd_sheet.specs.declared.fault.SheetFault.TheVariants.{UnknownModel}
@@ -36,7 +36,7 @@ reflector_in model table = read_at keys.Reflector (from_text (find_by_text refle
 unfoldable pub rotor_parts_in : Model → Members → Result RotorParts SheetFault
 rotor_parts_in model table = do
   reflector ← reflector_in model table
-  slots ← seats_in keys.Slots model table
+  slots ← slots_in keys.Slots model table
   rings ← letters_at keys.Rings (length (box_of model)) table
   letters ← letters_at keys.Letters (length (box_of model)) table
   cables ← cables_in table

@@ -38,8 +38,8 @@ file_version M4 = 2
 file_version _ = 1
 
 -- the name of the wheel in a slot, or the empty text if the slot is empty
-abbrev pub seat_text : Option Wheel → List ℕ
-seat_text seat = option_map_or wheel_text seat []
+abbrev pub slot_text : Option Wheel → List ℕ
+slot_text slot = option_map_or wheel_text slot []
 
 -- the letters in a cable, as a text of no, one or two letters
 abbrev pub cable_text : Option ℕ × Option ℕ → List ℕ
@@ -68,7 +68,7 @@ head_file_lines model =
 abbrev pub rotor_file_lines : RotorParts → List (List ℕ)
 rotor_file_lines m =
     key_line keys.Reflector (quoted_text (reflector_text m.reflector))
-    ∷ key_line keys.Slots (array_text (map seat_text m.slots))
+    ∷ key_line keys.Slots (array_text (map slot_text m.slots))
     ∷ key_line keys.Rings (quoted_text (letters_text m.rings))
     ∷ key_line keys.Letters (quoted_text (letters_text m.letters))
     ∷ key_line keys.Cables (array_text (map cable_text m.cables))

@@ -20,7 +20,7 @@ use Rattle.kd_sheet.specs.Letters.{capital_letters, letters_at}
 use Rattle.kd_sheet.specs.MachineFile.{model_in, reflector_in}
 use Rattle.kd_sheet.specs.Numbers.{number_up_to, letters_of_numbers}
 use Rattle.kd_sheet.specs.PinWheels.{shown_letters_in, pins_in}
-use Rattle.kd_sheet.specs.Seats.{seats_in}
+use Rattle.kd_sheet.specs.Slots.{slots_in}
 use Rattle.kd_sheet.specs.Sheet.{month_of}
 use Rattle.kd_sheet.specs.declared.key.Key.TheVariants as keys
 use Rattle.kd_sheet.specs.declared.fault.SheetFault.{SheetFault}
@@ -40,33 +40,33 @@ groups_in table =
 
 -- the wheels of the slots, each with its ring and its window letter
 abbrev pub sheet_wheels : List (Option Wheel) → List ℕ → List ℕ → List SheetWheel
-sheet_wheels (Some wheel ∷ seats) (ring ∷ rings) (letter ∷ letters) =
-    record { wheel = wheel; ring = ring; letter = letter } ∷ sheet_wheels seats rings letters
+sheet_wheels (Some wheel ∷ slots) (ring ∷ rings) (letter ∷ letters) =
+    record { wheel = wheel; ring = ring; letter = letter } ∷ sheet_wheels slots rings letters
 sheet_wheels _ _ _ = []
 
 unfoldable pub rotor_day_in : ℕ → Model → Members → Result Day SheetFault
-rotor_day_in day model table = do
+rotor_day_in number model table = do
   reflector ← reflector_in model table
-  seats ← seats_in keys.Wheels model table
+  slots ← slots_in keys.Wheels model table
   rings ← read_at keys.Rings (rings_of (slots_of model)) table
   window ← letters_at keys.Window (slots_of model) table
   pairs ← pairs_in table
   groups ← groups_in table
-  wheels ← Ok (sheet_wheels seats rings window)
+  wheels ← Ok (sheet_wheels slots rings window)
   Ok (OfRotors
-      (record { day = day; model = model; reflector = reflector; wheels = wheels; pairs = pairs; groups = groups }))
+      (record { day = number; model = model; reflector = reflector; wheels = wheels; pairs = pairs; groups = groups }))
 
 unfoldable pub pin_day_in : ℕ → Members → Result Day SheetFault
-pin_day_in day table = do
+pin_day_in number table = do
   rows ← rows_in table
   pins ← pins_in table
   window ← shown_letters_in keys.Window table
   list ← letters_at keys.List 2 table
-  Ok (OfPins (record { day = day; rows = rows; pins = pins; window = window; list = list }))
+  Ok (OfPins (record { day = number; rows = rows; pins = pins; window = window; list = list }))
 
-unfoldable pub model_day_in : ℕ → Model → Members → Result Day SheetFault
-model_day_in day M209 table = pin_day_in day table
-model_day_in day model table = rotor_day_in day model table
+unfoldable pub day_in : ℕ → Model → Members → Result Day SheetFault
+day_in number M209 table = pin_day_in number table
+day_in number model table = rotor_day_in number model table
 
 -- the day that `item` describes, or its first fault; `days` are the days of the items before `item`
 unfoldable pub day_for : List Day → Data → Result Day SheetFault
@@ -75,7 +75,7 @@ day_for days item = do
   number ← read_at keys.Day (number_up_to 31) table
   demand (not (list_any (λ day. day_number day == number) days)) (DayTwice number)
   model ← model_in table
-  model_day_in number model table
+  day_in number model table
 
 -- the month that a key sheet's bytes describe, or the sheet's first fault
 abbrev pub sheet_of : List ℕ → Result (List (Option Day)) SheetFault

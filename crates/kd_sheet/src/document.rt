@@ -1,19 +1,17 @@
 //! Parses a TOML document, and finds values, texts and arrays in the document's table.
-ghost use Rattle.std.specs.Prelude.{◌≡◌, map, option_map};
-ghost use Rattle.std.specs.Prelude.{ok_or};
+ghost use Rattle.std.specs.Prelude.{◌≡◌, map, ok_or, option_map};
 ghost use Rattle.toml.specs.{Data.{get_member, as_str}, View.{view, table_view}};
 ghost use Rattle.kd_sheet.specs.Document.{AgreesOrNoMemory, result_map, document_of, value_at, read_at, as_items};
 ghost use Rattle.kd_sheet.specs.Key.{key_name};
 ghost use Rattle.kd_sheet.specs.declared.fault.SheetFault.TheVariants as faults;
 
-use super::fault::SheetFault;
-use super::key::Key;
+use crate::{Key, SheetFault};
 use std::alloc::Global;
 use toml::value::Array;
 use toml::{Table, Value};
 
 /// Parses `bytes` as a TOML document.
-#[tactic(auto, using(crate::proofs::ReadBack::Described::Values::InTurn::document_parsed, crate::proofs::ReadBack::Described::Values::InTurn::document_refused))]
+#[tactic(auto, using(crate::proofs::ReadBack::Described::KeyValues::Steps::document_parsed, crate::proofs::ReadBack::Described::KeyValues::Steps::document_refused))]
 pub fn parse_table(alloc: Global, bytes: &[u8]) -> Result<Table, SheetFault>
     ensures { AgreesOrNoMemory (result_map table_view result) (document_of bytes.now) }
 {
@@ -43,14 +41,13 @@ pub fn value_at(table: &Table, key: Key) -> Result<&Value, SheetFault>
 pub fn text_at(table: &Table, key: Key) -> Result<&str, SheetFault>
     ensures { result_map (λ text. text.now) result ≡ read_at key as_str (table_view table.now) }
 {
-    value_at(table, key)?
-        .as_str()
-        .ok_or(SheetFault::BadValue(key))
+    let value = value_at(table, key)?;
+    value.as_str().ok_or(SheetFault::BadValue(key))
 }
 
 /// The items of the array `value`, or the fault `BadValue(key)`.
-#[tactic(auto, using(crate::proofs::ReadBack::Described::Values::InTurn::items_found))]
-pub fn items_in(value: &Value, key: Key) -> Result<&Array, SheetFault>
+#[tactic(auto, using(crate::proofs::ReadBack::Described::KeyValues::Steps::items_found))]
+pub fn array_items(value: &Value, key: Key) -> Result<&Array, SheetFault>
     ensures { result_map (λ items. map view items.now.items) result
         ≡ ok_or (as_items (view value.now)) (faults.BadValue key) }
 {
@@ -62,5 +59,5 @@ pub fn items_at(table: &Table, key: Key) -> Result<&Array, SheetFault>
     ensures { result_map (λ items. map view items.now.items) result
         ≡ read_at key as_items (table_view table.now) }
 {
-    items_in(value_at(table, key)?, key)
+    array_items(value_at(table, key)?, key)
 }

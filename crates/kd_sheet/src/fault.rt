@@ -27,9 +27,7 @@ pub enum SheetFault {
     WheelTwice,
     /// A wheel is in a slot in which the model doesn't allow it.
     WheelNotAllowed,
-    /// The bar with this number has no valid standing, or the row with this number has no valid reading.
-    ///
-    /// Bars and rows are counted from 1.
+    /// The bar or the row with this number, counted from 1, has no valid standing or reading.
     BadRow(u8),
     /// Two days of a sheet have this number.
     DayTwice(u8),

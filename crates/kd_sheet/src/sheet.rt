@@ -40,8 +40,8 @@ impl Sheet {
         ensures value { option_copied result ≡ day_of self.now number }
         ensures number { IfSome result (λ day. day_number day.now ≡ number) }
     {
-        let place = usize::from(number).checked_sub(1)?;
-        self.days.get(place)?.as_ref()
+        let index = usize::from(number).checked_sub(1)?;
+        self.days.get(index)?.as_ref()
     }
 
     /// Takes day `number` out of the sheet, if the sheet has it.
@@ -50,15 +50,15 @@ impl Sheet {
         ensures number { IfSome result (λ day. day_number day ≡ number) }
     {
         let Sheet { mut days } = self;
-        let place = usize::from(number).checked_sub(1)?;
-        days.get_mut(place)?.take()
+        let index = usize::from(number).checked_sub(1)?;
+        days.get_mut(index)?.take()
     }
 
-    /// Puts `day` into the sheet. It replaces a day with the same number.
-    pub(crate) fn put(&mut self, day: SheetDay)
+    /// Inserts `day` into the sheet. It replaces a day with the same number.
+    pub(crate) fn insert(&mut self, day: SheetDay)
         ensures { self.new ≡ slice_set self.old (day_number day - 1) (Some day) }
     {
-        let place = usize::from(day.day()) - 1;
-        self.days[place] = Some(day);
+        let index = usize::from(day.day()) - 1;
+        self.days[index] = Some(day);
     }
 }

@@ -1,7 +1,7 @@
 -- The machine and the day that a table describes are legal; and the days that the entries of a sheet describe make
 -- a month, each at its number.
-pub mod Values
-unfoldable pub use Values.*
+pub mod KeyValues
+unfoldable pub use KeyValues.*
 use Rattle.kd_sheet.specs.{Document.document_of, MachineFile.machine_of, SheetFile.sheet_of}
 use Rattle.kd_state.{proofs.Telling.Refusing.Changing.ordered_parts, specs.Machine.IsMachine}
 
@@ -10,7 +10,7 @@ use Rattle.kd_state.{proofs.Telling.Refusing.Changing.ordered_parts, specs.Machi
 reflector_there : (model : Model) (table : Members)
     → SucceedsWith (reflector_in model table) (Contains (reflectors_of model))
 unfolding reflector_in find_by_text
-reflector_there model table reflector e = grind (arith, bind-Ok, there_was, found_there)
+reflector_there model table reflector e = grind (arith, bind-Ok, ok_or-Ok, find-contains)
 
 -- ---- groups, rows and bars
 
@@ -22,30 +22,32 @@ groups_in_groups : (table : Members)
     → SucceedsWith (groups_in table) (λ groups. (length groups ≤ 4) × All (AreLetters 3) groups)
 unfolding groups_in group_for
 groups_in_groups table groups e =
-    let read = some_read group_for (All (AreLetters 3)) (each_is group_for (AreLetters 3) (λ earlier item group e.
-    grind (arith, there_was, capitals_are_letters, none-some))) keys.Groups 4 in
+    let read = read_array-up_to group_for (All (AreLetters 3))
+    (All-read_items group_for (AreLetters 3) (λ earlier item group e.
+    grind (arith, ok_or-Ok, capitals_are_letters, none-some))) keys.Groups 4 in
     grind (arith, read, All-nil (AreLetters 3))
 
 rows_in_rows : (table : Members) → SucceedsWith (rows_in table) (HasEach IsReading 27)
-unfolding rows_in row_of_text
-rows_in_rows table = each_read _ (All IsReading) (each_is (or_bad_row row_of_text) IsReading (λ earlier item row e.
-    grind (arith, there_was, some_if, nat_tests, leb-true, none-some))) keys.Rows 27 table
+unfolding rows_in reading_of_text
+rows_in_rows table = read_array-exactly _ (All IsReading)
+    (All-read_items (or_bad_row reading_of_text) IsReading (λ earlier item row e.
+    grind (arith, ok_or-Ok, cond-Some, nat_tests, leb-true, none-some))) keys.Rows 27 table
 
 abbrev IsLegalStanding : Place × Place → Type 0
 IsLegalStanding bar = IsBefore bar.0 bar.1
 
 bars_in_bars : (table : Members) → SucceedsWith (bars_in table) (HasEach IsLegalStanding 27)
 unfolding bars_in
-bars_in_bars table = each_read _ (All IsLegalStanding)
-    (each_is (or_bad_row (find_by_text standing_text standings)) IsLegalStanding (λ earlier item bar e.
-    grind (arith, there_was, standing_read, none-some))) keys.Bars 27 table
+bars_in_bars table = read_array-exactly _ (All IsLegalStanding)
+    (All-read_items (or_bad_row (find_by_text standing_text standings)) IsLegalStanding (λ earlier item bar e.
+    grind (arith, ok_or-Ok, standing_read, none-some))) keys.Bars 27 table
 
 -- ---- pins, and the letters that pin wheels show
 
 text_pins : (ring : List ℕ) (item : Data) (pins : List Bool)
     → ok_or (from_text (pins_of_text ring) item) (BadValue keys.Pins) ≡ Ok pins → length pins ≡ length ring
 unfolding pins_of_text
-text_pins ring item pins e = grind (arith, common_steps, there_was, some_if, none-some)
+text_pins ring item pins e = grind (arith, common_steps, ok_or-Ok, cond-Some, none-some)
 
 -- each wheel's list has a pin for each letter of the wheel
 abbrev FitWheels : List (List Bool) → Type 0
@@ -53,20 +55,20 @@ FitWheels lists = (place : ℕ) (d : List Bool) → place < length lists
     → length (get_or lists place d) ≡ length (ring_of (place + 1))
 
 all_fit : (items : List Data) → SucceedsWith (read_items pins_for items) FitWheels
-all_fit items lists e place d within =
-    grind (arith, as_many, read_items-get_or pins_for items lists e place no_item d, length-take-le, text_pins)
+all_fit items lists e k d within =
+    grind (arith, length-read_items, read_items-get_or pins_for items lists e k no_item d, length-take-le, text_pins)
 
 pins_in_fit : (table : Members) → SucceedsWith (pins_in table) HasAllPins
 unfolding pins_in ring_of
 pins_in_fit table =
-    SucceedsWith-bind _ _ _ _ (each_read pins_for FitWheels all_fit keys.Pins 6 table)
+    SucceedsWith-bind _ _ _ _ (read_array-exactly pins_for FitWheels all_fit keys.Pins 6 table)
     (λ lists all. SucceedsWith-Ok HasAllPins _ (grind (arith, all.1)))
 
 letters_shown : (key : Key) (table : Members) → SucceedsWith (shown_letters_in key table) AreOnWheels
 unfolding shown_letters_in
 letters_shown key table = SucceedsWith-bind _ _ _ _ (letters_at_are key 6 table) (λ letters are shown e.
-    let on = demand-Ok _ _ _ shown e in
-    subst AreOnWheels (same_found _ _ on.1) (AreOnWheels-by_test letters are.count on.0))
+    let tested = demand-Ok _ _ _ shown e in
+    subst AreOnWheels (Ok-injective _ _ tested.1) (AreOnWheels-by_test letters are.count tested.0))
 
 -- ---- machines
 
@@ -74,7 +76,7 @@ pub rotor_parts_legal : (model : Model) (table : Members) → SucceedsWith (roto
 unfolding rotor_parts_in
 rotor_parts_legal model table =
     SucceedsWith-bind _ _ _ _ (reflector_there model table) (λ reflector there.
-    SucceedsWith-bind _ _ _ _ (seats_in_fill keys.Slots model table) (λ slots fill.
+    SucceedsWith-bind _ _ _ _ (slots_in_fill keys.Slots model table) (λ slots fill.
     SucceedsWith-bind _ _ _ _ (letters_at_are keys.Rings (length (box_of model)) table) (λ rings are_rings.
     SucceedsWith-bind _ _ _ _ (letters_at_are keys.Letters (length (box_of model)) table) (λ letters are_letters.
     SucceedsWith-bind _ _ _ _ (are_cables table) (λ cables are. SucceedsWith-Ok IsLegalRotor _ (record {
@@ -104,12 +106,12 @@ pub rotor_day : (number : ℕ) (model : Model) (table : Members) → IsDayNumber
 unfolding rotor_day_in
 rotor_day number model table is =
     SucceedsWith-bind _ _ _ _ (reflector_there model table) (λ reflector there.
-    SucceedsWith-bind _ _ _ _ (seats_in_fill keys.Wheels model table) (λ slots fill.
+    SucceedsWith-bind _ _ _ _ (slots_in_fill keys.Wheels model table) (λ slots fill.
     SucceedsWith-bind _ _ _ _ (rings_in_letters model table) (λ rings are_rings.
     SucceedsWith-bind _ _ _ _ (letters_at_are keys.Window (slots_of model) table) (λ window are_letters.
     SucceedsWith-bind _ _ _ _ (are_pairs table) (λ pairs are_pairs.
     SucceedsWith-bind _ _ _ _ (groups_in_groups table) (λ groups are_groups.
-    let seated = seats-sheet_wheels slots rings window (recursion_from_All IsSome _ (fill.1.filled refl))
+    let seated = seats_of_wheels-sheet_wheels slots rings window (recursion_from_All IsSome _ (fill.1.filled refl))
     (are_rings.count ∙ sym fill.0) (are_letters.count ∙ sym fill.0) in SucceedsWith-Ok (IsLegalDayNumbered number) _ (
       record {
         day = is;
@@ -129,29 +131,29 @@ unfolding pin_day_in
 pin_day number table is day e = grind (arith, bind-Ok, rows_in_rows, pins_in_fit, letters_shown, letters_at_are)
 
 model_day : (number : ℕ) (model : Model) (table : Members) → IsDayNumber number
-    → SucceedsWith (model_day_in number model table) (IsLegalDayNumbered number)
-unfolding model_day_in
+    → SucceedsWith (day_in number model table) (IsLegalDayNumbered number)
+unfolding day_in
 model_day number M209 table is = pin_day number table is
 model_day number model table is = rotor_day number model table is
 
 pub day_again : (number : ℕ) (model : Model) (table : Members) (item : Data) (day : Day)
     → ok_or (as_table item) (BadValue keys.Day) ≡ Ok table
     → read_at keys.Day (number_up_to 31) table ≡ Ok number → model_in table ≡ Ok model
-    → model_day_in number model table ≡ Ok day → day_for [] item ≡ Ok day
+    → day_in number model table ≡ Ok day → day_for [] item ≡ Ok day
 unfolding day_for
-day_again number model table item day of_item is of_model rest = grind (arith, then_read)
+day_again number model table item day of_item is of_model rest = grind (arith, bind-step)
 
 -- what holds of the day that `item` describes after `days`: it is legal, none of `days` has its number, and the
 -- item alone describes it too
-pub record Tells (days : List Day) (item : Data) (day : Day) : Type 0 where
+pub record IsDayFor (days : List Day) (item : Data) (day : Day) : Type 0 where
   pub legal : IsLegalDay day
   pub number : IsDayNumber (day_number day)
   pub free : list_any (λ other. day_number other == day_number day) days ≡ false
   pub alone : day_for [] item ≡ Ok day
 
-pub Tells-day_for : (days : List Day) (item : Data) (day : Day) → day_for days item ≡ Ok day → Tells days item day
+pub IsDayFor-day_for : (days : List Day) (item : Data) (day : Day) → day_for days item ≡ Ok day → IsDayFor days item day
 unfolding day_for
-Tells-day_for days item day e =
+IsDayFor-day_for days item day e =
     let table = bind-Ok (ok_or (as_table item) (BadValue keys.Day)) _ day e in
     let number = bind-Ok (read_at keys.Day (number_up_to 31) table.0) _ day table.2 in
     let new = demand-Ok _ _ _ day number.2 in
@@ -185,13 +187,13 @@ day_of_month days (suc place) is =
     ∙ month_at days place None (omega arith)
 
 -- a search for a number finds a day exactly if a day has this number
-any_found : (days : List Day) (number : ℕ) → is_some (find (has_number number) days) ≡ list_any (has_number number) days
-any_found [] number = refl
-any_found (day ∷ days) number = grind (arith, cases_Bool, has_number, any_found days number)
+find-any : (days : List Day) (number : ℕ) → is_some (find (has_number number) days) ≡ list_any (has_number number) days
+find-any [] number = refl
+find-any (day ∷ days) number = grind (arith, cases_Bool, has_number, find-any days number)
 
 pub day_of_is_some : (days : List Day) (number : ℕ) → IsDayNumber number
     → is_some (day_of (month_of days) number) ≡ list_any (has_number number) days
-day_of_is_some days number is = rw (day_of_month days number is) (any_found days number)
+day_of_is_some days number is = rw (day_of_month days number is) (find-any days number)
 
 -- a month has days at the numbers from 1 to 31 only
 within_month : (days : List Day) (number : ℕ) (day : Day) → day_of (month_of days) number ≡ Some day
@@ -207,11 +209,11 @@ empty_month = record { count = refl; each = λ number day e. grind (arith, withi
 pub blank_month : (month : List (Option Day)) → AllOfLen (λ day. day ≡ None) month 31 → month ≡ month_of []
 blank_month month blank = grind (arith, same_lists, blank.at, get_or-map-range_with_len)
 
--- a month in which a day is put at its own number is still a month
-pub put_day : (month : List (Option Day)) (place : ℕ) (new : Day) → IsMonth month → place + 1 ≡ day_number new
+-- a month in which a day is inserted at its own number is still a month
+pub insert_day : (month : List (Option Day)) (place : ℕ) (new : Day) → IsMonth month → place + 1 ≡ day_number new
     → place < 31
     → IsMonth (set month place (Some new))
-put_day month place new before here left =
+insert_day month place new before here left =
     let at : day_number new - 1 ≡ place = omega arith in
     rw (← at) (record {
       count = length-set month (day_number new - 1) (Some new) ∙ before.count;
@@ -220,30 +222,30 @@ put_day month place new before here left =
     })
 
 -- the day at a place of the month has the place's number
-pub number_at : (month : List (Option Day)) (number place : ℕ) (found : Option Day) → IsMonth month
+pub day_number_at : (month : List (Option Day)) (number place : ℕ) (found : Option Day) → IsMonth month
     → place < length month → number ≡ suc place → found ≡ get_or month place found
     → IfSome found (λ day. day_number day ≡ number)
-number_at month number place None is within same here = tt
-number_at month number place (Some day) is within same here = is.each number day (grind (arith, slice_get-get_or))
+day_number_at month number place None is within same here = tt
+day_number_at month number place (Some day) is within same here = is.each number day (grind (arith, slice_get-get_or))
 
 -- after one more day with a new number, a search for this number finds the day; a search for another number
 -- finds what it found before
-found_more : (days : List Day) (new : Day) (number : ℕ) → list_any (has_number (day_number new)) days ≡ false
+find-has_number : (days : List Day) (new : Day) (number : ℕ) → list_any (has_number (day_number new)) days ≡ false
     → find (has_number number) (days ++ new ∷ [])
     ≡ cond (nat_eq (day_number new) number) (Some new) (find (has_number number) days)
-found_more days new number free = grind (arith, nat_tests, find-append, any_found days number)
+find-has_number days new number free = grind (arith, nat_tests, find-append, find-any days number)
 
-month_more : (days : List Day) (new : Day) → IsDayNumber (day_number new)
+set-month_of : (days : List Day) (new : Day) → IsDayNumber (day_number new)
     → list_any (has_number (day_number new)) days ≡ false
     → set (month_of days) (day_number new - 1) (Some new) ≡ month_of (days ++ new ∷ [])
-month_more days new is free =
+set-month_of days new is free =
     let at = day_number new - 1 in
     let first = is.first in
     let last = is.last in
     let size = length-set (month_of days) at (Some new) ∙ month_size days in
     same_lists _ _ (size ∙ sym (month_size (days ++ new ∷ []))) (λ k d within.
     let inside : k < 31 = omega (arith, size) in
-    rw (month_at (days ++ new ∷ []) k d inside, found_more days new (suc k) free) (elim (cases_eq (day_number new)
+    rw (month_at (days ++ new ∷ []) k d inside, find-has_number days new (suc k) free) (elim (cases_eq (day_number new)
     (suc k)) [
       | inl same ↦ rw (eq-eqb _ _ same) (get_or-set_at (month_of days) at k (Some new) d (omega arith) (omega
           (arith, month_size days)))
@@ -254,8 +256,8 @@ month_more days new is free =
 -- ---- the days of entries
 
 -- one of the items describes the day, and the day has this number
-abbrev TellsOneOf : List Data → ℕ → Day → Type 0
-TellsOneOf items number day = (entry : Data) × Contains items entry × (day_for [] entry ≡ Ok day)
+abbrev IsDayOfEntry : List Data → ℕ → Day → Type 0
+IsDayOfEntry items number day = (entry : Data) × Contains items entry × (day_for [] entry ≡ Ok day)
     × (day_number day ≡ number)
 
 -- `find` finds the element at `k` if this element passes and no element before it does
@@ -268,14 +270,14 @@ first_found p (x ∷ xs) (suc k) d within here none = grind (arith, nat_tests, f
 -- searching `days` for a number finds the day that an entry of `items` describes
 module _ (items : List Data) (days : List Day) (read : read_items day_for items ≡ Ok days) where
   day_at : (k : ℕ) (e : Data) (d : Day) → k < length days
-      → (k < length items) × Tells (take k days) (get_or items k e) (get_or days k d)
+      → (k < length items) × IsDayFor (take k days) (get_or items k e) (get_or days k d)
   day_at k e d within =
-      let left : k < length items = omega (arith, as_many day_for items days read) in
-      (left, Tells-day_for _ _ _ (read_items-get_or day_for items days read k e d left))
+      let left : k < length items = omega (arith, length-read_items day_for items days read) in
+      (left, IsDayFor-day_for _ _ _ (read_items-get_or day_for items days read k e d left))
 
-  found_told : (number : ℕ) (day : Day) → find (has_number number) days ≡ Some day → TellsOneOf items number day
-  found_told number day e =
-      let there = found_there (has_number number) days day e in
+  entry_of_day : (number : ℕ) (day : Day) → find (has_number number) days ≡ Some day → IsDayOfEntry items number day
+  entry_of_day number day e =
+      let there = find-contains (has_number number) days day e in
       let here = day_at there.0 no_item day there.1 in (
         get_or items there.0 no_item,
         Contains-get_or items there.0 no_item here.0,
@@ -283,22 +285,22 @@ module _ (items : List Data) (days : List Day) (read : read_items day_for items 
         eqb-true (day_number day) number (find-passes (has_number number) days day e),
       )
 
-  told_found : (number : ℕ) (day : Day) → TellsOneOf items number day → find (has_number number) days ≡ Some day
-  told_found number day told =
+  day_of_entry : (number : ℕ) (day : Day) → IsDayOfEntry items number day → find (has_number number) days ≡ Some day
+  day_of_entry number day told =
       let place = told.1.0 in
-      let within : place < length days = omega (arith, as_many day_for items days read, told.1.1) in
+      let within : place < length days = omega (arith, length-read_items day_for items days read, told.1.1) in
       let here = (day_at place told.0 day within).1 in
       let same : day ≡ get_or days place day =
-      same_found _ _ (sym told.2 ∙ ap (day_for []) (sym told.1.2) ∙ here.alone) in
+      Ok-injective _ _ (sym told.2 ∙ ap (day_for []) (sym told.1.2) ∙ here.alone) in
       first_found (has_number number) days place day within (eq-eqb _ _ (ap day_number (sym same) ∙ told.3))
       (rw (ap day_number (sym same) ∙ told.3) at here.free) ∙ ap Some (sym same)
 
 pub days_are_the_entries : DaysAreTheEntries
 days_are_the_entries items days number day read = (
-  λ found. found_told items days read number day
+  λ found. entry_of_day items days read number day
       (sym (day_of_month days number (within_month days number day found)) ∙ found),
-  λ told. day_of_month days number (subst IsDayNumber told.3 (Tells-day_for [] told.0 day told.2).number)
-      ∙ told_found items days read number day told,
+  λ told. day_of_month days number (subst IsDayNumber told.3 (IsDayFor-day_for [] told.0 day told.2).number)
+      ∙ day_of_entry items days read number day told,
 )
 
 -- ---- a sheet that is read
@@ -306,11 +308,11 @@ days_are_the_entries items days number day read = (
 -- the sheet has the days read so far; reading all items gives the same as reading the rest after these days
 pub record IsMonthOf (items : List Data) (sheet : List (Option Day)) (rest : List Data) : Type 0 where
   pub days : List Day
-  pub read : read_items day_for items ≡ on day_for days rest
+  pub read : read_items day_for items ≡ read_after day_for days rest
   pub month : sheet ≡ month_of days
 
 pub first_month : (sheet : List (Option Day)) (items : List Data) → sheet ≡ month_of [] → IsMonthOf items sheet items
-first_month sheet items e = record { days = []; read = on_none day_for items; month = e }
+first_month sheet items e = record { days = []; read = read_after_none day_for items; month = e }
 
 pub next_month : (sheet after : List (Option Day)) (items : List Value) (place : ℕ) (item : Value) (new : Day)
     → place < length items → item ≡ get_or items place item
@@ -318,12 +320,12 @@ pub next_month : (sheet after : List (Option Day)) (items : List Value) (place :
     → Ok new ≡ day_for so_far.days (view item) → after ≡ set sheet (day_number new - 1) (Some new)
     → IsMonthOf (map view items) after (drop (place + 1) (map view items))
 next_month sheet after items place item new left here so_far found put =
-    let tells = Tells-day_for so_far.days (view item) new (sym found) in
+    let tells = IsDayFor-day_for so_far.days (view item) new (sym found) in
     record {
       days = so_far.days ++ new ∷ [];
-      read = so_far.read ∙ read_more day_for items place item left here so_far.days new found;
+      read = so_far.read ∙ read_after_more day_for items place item left here so_far.days new found;
       month = put ∙ ap (λ month. set month (day_number new - 1) (Some new)) so_far.month
-          ∙ month_more so_far.days new tells.number tells.free;
+          ∙ set-month_of so_far.days new tells.number tells.free;
     }
 
 -- ---- a machine file describes a machine, and a sheet describes legal days
@@ -349,6 +351,6 @@ pub sheet_of-legal : (bytes : List ℕ) (month : List (Option Day)) (number : �
 sheet_of-legal bytes month number day e found =
     let days = bind-Ok (document_of bytes >>= read_at keys.Day as_items >>= read_items day_for) _ month e in
     let items = bind-Ok (document_of bytes >>= read_at keys.Day as_items) (read_items day_for) days.0 days.1 in
-    let same : month_of days.0 ≡ month = same_found _ _ days.2 in
+    let same : month_of days.0 ≡ month = Ok-injective _ _ days.2 in
     let entry = (days_are_the_entries items.0 days.0 number day items.2).0 (rw same found) in
-    (Tells-day_for [] entry.0 day entry.2).legal
+    (IsDayFor-day_for [] entry.0 day entry.2).legal

@@ -1,7 +1,7 @@
-use Rattle.kd_sheet.proofs.ReadBack.Described.{arith, ltb-true, number_at}
+use Rattle.kd_sheet.proofs.ReadBack.Described.{arith, ltb-true, day_number_at}
 use Rattle.kd_sheet.proofs.sheet.Sheet.day.Goals as goal
 
 pub returns-clause-number : goal.returns-clause-number
 returns-clause-number c =
-    let here = number_at _ c.args.number c.in_ok-place.place c.in_ok-get.field-0.now c.self.invariant in
-    grind (arith, here, ltb-true, c.in_ok-place.ensures, c.in_ok-get.ensures)
+    let here = day_number_at _ c.args.number c.in_ok-index.index c.in_ok-get.field-0.now c.self.invariant in
+    grind (arith, here, ltb-true, c.in_ok-index.ensures, c.in_ok-get.ensures)

@@ -1,0 +1,90 @@
+//! Reads machine files: their versions, models and parts.
+ghost use Rattle.std.specs.Prelude.{◌≡◌, ◌<◌, length};
+ghost use Rattle.toml.specs.View.{table_view};
+ghost use Rattle.kd_tables.specs.Tables.{box_of, slots_of};
+ghost use Rattle.kd_sheet.specs.{Document.{AgreesOrNoMemory}, Letters.{letters_at}};
+ghost use Rattle.kd_sheet.specs.MachineFile.{rotor_parts_in, pin_parts_in, parts_in, machine_of};
+
+use crate::document::{parse_table, value_at};
+use crate::values::bars::bars_in;
+use crate::values::cables::cables_in;
+use crate::values::letters::capital_letters;
+use crate::values::model::model_in;
+use crate::values::numbers::number_at;
+use crate::values::pin_wheels::{pins_in, shown_letters_in};
+use crate::values::reflector::reflector_in;
+use crate::values::slots::slots_in;
+use crate::{Key, SheetFault};
+use kd_state::{Machine, PerWheel, PinParts, RotorParts};
+use kd_tables::{Letter, Model};
+use std::alloc::Global;
+use toml::Table;
+
+/// The latest version of machine files.
+const VERSION: u8 = 2;
+
+/// Reads the text at `key`: a letter for each wheel of the model's box, in box order.
+#[tactic(auto, unfolding(crate::specs::Letters::letters_at))]
+fn box_letters_in(table: &Table, key: Key, model: Model) -> Result<PerWheel<Letter>, SheetFault>
+    requires { 0 < slots_of model }
+    ensures { result ≡ letters_at key (length (box_of model)) (table_view table.now) }
+{
+    let letters = capital_letters::<10>(value_at(table, key)?, model.wheels().len());
+    let letters = letters.ok_or(SheetFault::BadValue(key))?;
+    Ok(PerWheel::new(letters.as_slice()).unwrap())
+}
+
+/// Reads the parts of a rotor machine, key by key, or returns the first fault.
+#[tactic(auto, unfolding(crate::specs::MachineFile::rotor_parts_in))]
+fn rotor_parts_in(table: &Table, model: Model) -> Result<RotorParts, SheetFault>
+    requires { 0 < slots_of model }
+    ensures { result ≡ rotor_parts_in model (table_view table.now) }
+{
+    Ok(RotorParts {
+        model,
+        reflector: reflector_in(table, model)?,
+        slots: slots_in(table, Key::Slots, model)?,
+        rings: box_letters_in(table, Key::Rings, model)?,
+        letters: box_letters_in(table, Key::Letters, model)?,
+        cables: cables_in(table)?,
+    })
+}
+
+/// Reads the parts of a Converter M-209, key by key, or returns the first fault.
+#[tactic(auto, unfolding(crate::specs::MachineFile::pin_parts_in))]
+fn pin_parts_in(table: &Table) -> Result<PinParts, SheetFault>
+    ensures { result ≡ pin_parts_in (table_view table.now) }
+{
+    Ok(PinParts {
+        letters: shown_letters_in(table, Key::Letters)?,
+        pins: pins_in(table)?,
+        bars: bars_in(table)?,
+    })
+}
+
+/// Reads a machine of `model`.
+#[tactic(auto, using(crate::proofs::ReadBack::Described::rotor_parts_legal, crate::proofs::ReadBack::Described::pin_parts_legal), unfolding(crate::specs::MachineFile::parts_in))]
+fn parts_in(table: &Table, model: Model) -> Result<Machine, SheetFault>
+    ensures { result ≡ parts_in model (table_view table.now) }
+{
+    match model {
+        Model::M209 => Ok(Machine::pin(pin_parts_in(table)?).unwrap()),
+        Model::EnigmaI | Model::M3 | Model::M4 => {
+            Ok(Machine::rotor(rotor_parts_in(table, model)?).unwrap())
+        }
+    }
+}
+
+/// Reads a machine file of version 1 or 2, or returns its first fault. The M4 needs version 2.
+///
+/// `NoMemory` may replace any other result. In practice, memory ran out; the contract doesn't say when it comes.
+pub fn read_machine(alloc: Global, bytes: &[u8]) -> Result<Machine, SheetFault>
+    ensures { AgreesOrNoMemory result (machine_of bytes.now) }
+{
+    let table = parse_table(alloc, bytes)?;
+    let version = number_at(&table, Key::Version, VERSION)?;
+    match model_in(&table)? {
+        Model::M4 if version != 2 => Err(SheetFault::UnknownModel),
+        model => parts_in(&table, model),
+    }
+}

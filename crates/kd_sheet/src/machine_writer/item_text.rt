@@ -1,0 +1,63 @@
+//! How an array's items are written: the wheel in a slot, the letters of a cable, a bar's standing, or a text.
+ghost use Rattle.std.specs.Prelude.{◌≡◌, ℕ, List};
+ghost use Rattle.kd_tables.specs.Places.{standing_text};
+ghost use Rattle.kd_sheet.specs.MachineText.{cable_text, slot_text};
+
+use arrayvec::ArrayString;
+use kd_state::{Cable, push_letter};
+use kd_tables::{Standing, Wheel};
+
+/// The text of an array's item, at most 32 bytes.
+pub type ItemString = ArrayString<32>;
+
+/// A value that is written as a text in an array.
+pub trait ItemText {
+    /// The bytes of the value's text.
+    ghost item_text: { Self → List ℕ };
+
+    /// The value's text.
+    fn item_text(&self) -> ItemString
+        ensures { result.bytes ≡ item_text self.now };
+}
+
+impl ItemText for Option<Wheel> {
+    ghost item_text = { slot_text };
+
+    fn item_text(&self) -> ItemString {
+        match self {
+            Some(wheel) => ItemString::from(wheel.text().as_str()).unwrap(),
+            None => ItemString::new(),
+        }
+    }
+}
+
+impl ItemText for Cable {
+    ghost item_text = { cable_text };
+
+    fn item_text(&self) -> ItemString {
+        let mut text = ItemString::new();
+        if let Some(letter) = self.0 {
+            push_letter(&mut text, letter);
+        }
+        if let Some(letter) = self.1 {
+            push_letter(&mut text, letter);
+        }
+        text
+    }
+}
+
+impl ItemText for Standing {
+    ghost item_text = { standing_text };
+
+    fn item_text(&self) -> ItemString {
+        ItemString::from(self.text().as_str()).unwrap()
+    }
+}
+
+impl ItemText for ItemString {
+    ghost item_text = { λ text. text.bytes };
+
+    fn item_text(&self) -> ItemString {
+        *self
+    }
+}

@@ -1,0 +1,47 @@
+//! Reads the rows of a day, from the key `rows`: the readings (wheel numbers, 0 for no wheel) asked of the 27 bars.
+ghost use Rattle.std.specs.Prelude.{◌≡◌, ◌+◌, ◌&&◌, nat_le, is_some, IfSome};
+ghost use Rattle.toml.specs.View.{view, table_view};
+ghost use Rattle.kd_sheet.specs.{Bars.{or_bad_row, reading_of_text, rows_in}, Document.{from_text}};
+
+use super::bars::BARS;
+use super::items::{FromItem, read_exactly};
+use crate::{Key, SheetFault};
+use kd_tables::Reading;
+use toml::{Table, Value};
+
+/// The number that `byte` means, if it is an ASCII digit from 0 to 6.
+fn digit_value(byte: u8) -> Option<u8>
+    ensures value { IfSome result (λ number. byte ≡ number + 48) }
+    ensures exists { is_some result ≡ (nat_le 48 byte && nat_le byte 54) }
+{
+    byte.checked_sub(b'0').filter(|digit| *digit <= 6)
+}
+
+/// Reads `item` as a bar's reading: two different digits from 0 to 6, in either order, with `-` between; or `0-0`.
+#[tactic(auto, unfolding(crate::specs::Bars::reading_of_text))]
+fn reading_of_item(item: &Value) -> Option<Reading>
+    ensures { result ≡ from_text reading_of_text (view item.now) }
+{
+    match item.as_str()?.as_bytes() {
+        [one, b'-', other] => Reading::new(digit_value(*one)?, digit_value(*other)?),
+        _ => None,
+    }
+}
+
+/// Reads an item as a row: the reading asked of a bar. A fault has the row's number, counted from 1.
+impl FromItem<()> for Reading {
+    ghost parse = { λ _. or_bad_row reading_of_text };
+
+    fn read_item(_given: &(), earlier: &[Self], item: &Value) -> Result<Self, SheetFault> {
+        reading_of_item(item).ok_or(SheetFault::BadRow(earlier.len() as u8 + 1))
+    }
+}
+
+/// Reads the rows of a day: the readings that the day asks of the 27 bars.
+#[tactic(auto, unfolding(crate::specs::Bars::rows_in))]
+pub fn rows_in(table: &Table) -> Result<[Reading; BARS], SheetFault>
+    ensures { result ≡ rows_in (table_view table.now) }
+{
+    let rows = read_exactly(table, Key::Rows, BARS, &())?;
+    Ok(rows.into_inner().ok().unwrap())
+}
