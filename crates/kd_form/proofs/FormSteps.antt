@@ -9,22 +9,22 @@ pub use Rattle.kd_form.proofs.Prelude.{IsLineText, heading_words, letter_of_byte
 pub use Rattle.kd_form.proofs.Prelude.{BeginsHeading, Result, HasFault, GoesOn, IsBodyAnswer, HasHeading}
 pub use Rattle.kd_form.proofs.Prelude.{IsEarlyFault, IsExpectedCount}
 pub use Rattle.kd_form.proofs.Prelude.{InHeading, InNumber, InBody, IsPartFault, HoldsBody, IsBodyPlaintext}
-pub use Rattle.kd_form.proofs.Prelude.{HasBegunHeading, HoldsPart, HoldsStage, HoldsForm, IsHeadingFault}
+pub use Rattle.kd_form.proofs.Prelude.{HasBegunHeading, HoldsPart, HoldsFormStage, HoldsForm, IsHeadingFault}
 pub use Rattle.kd_form.proofs.Prelude.{HeadingMissing, HeadingOfOther, IsPartRead, PartOrder, plaintext_bytes}
 pub use Rattle.kd_form.proofs.Prelude.{IsRefusedForGood, NoHeading, form_message, IsRefused, IsMessageAnswer}
 pub use Rattle.kd_form.proofs.Prelude.{HasReadSoFar, PartsProperty, ReadsPartsTo, IsFormReadTo, IsPartFaultForGood}
 pub use Rattle.kd_form.proofs.Prelude.{IsPartFaultAtEnd, AreAllPartsRead, IsLastPart, AtPart, cut_at_headings, parts_of}
-pub use Rattle.kd_form.proofs.Prelude.{PartStart, first_part_start, next_part_start, HasTail, current_part_start}
+pub use Rattle.kd_form.proofs.Prelude.{PartStart, first_part_start, next_part_start, HasLastLineStart, current_part_start}
 pub use Rattle.kd_form.proofs.Prelude.{plaintext_byte, space_letter, BadHeading, BadByte, false≢true, All-take}
-use Rattle.kd_form.specs.declared.{part_body.PartBody.PartBody}
-use Rattle.kd_form.specs.declared.{form_reader.{FormReader.FormReader, FormStage.FormStage}}
+use Rattle.kd_form.specs.declared.receiving.body_reader.PartBody.{PartBody}
+use Rattle.kd_form.specs.declared.receiving.form_reader.{FormReader.FormReader, FormStage.FormStage}
 pub use Rattle.kd_form.proofs.Headings.{at_most, has_byte, one_heading, begins_there, as_parts, BeginsHeading-digit}
 pub use Rattle.kd_form.proofs.Headings.{begins_more, first_ends, first_more, may_begin, cut_at_headings-line}
 pub use Rattle.kd_form.proofs.Headings.{cut_at_headings-whole, HasBegunHeading-snoc, not_begun, ended_heading}
 pub use Rattle.kd_form.proofs.Headings.{whole_line, no_bad_byte, bad_behind}
 use Rattle.kd_form.proofs.Lines.{letters_first, head_unbroken}
 use Rattle.kd_form.proofs.OneText.{read_or_refused, reads_meet, reads_then, stands_at, stays_refused}
-use Rattle.kd_form.specs.declared.form_reader.FormStage.TheVariants as stages
+use Rattle.kd_form.specs.declared.receiving.form_reader.FormStage.TheVariants as stages
 
 -- -------- the body of a part, byte by byte
 
@@ -48,8 +48,8 @@ pub first_longer : {part line body : List ℕ} (byte : ℕ) → IsFirstPart 10 p
 first_longer byte first = grind (arith, append_assoc)
 
 -- one more byte makes the last line longer; an LF begins an empty line
-tail_more : (line body first now : List ℕ) (byte : ℕ) → HasTail line body first → (byte ≡ 10 → now ≡ [])
-    → (byte ≢ 10 → now ≡ take 6 (first ++ byte ∷ [])) → HasTail line (body ++ byte ∷ []) now
+tail_more : (line body first now : List ℕ) (byte : ℕ) → HasLastLineStart line body first → (byte ≡ 10 → now ≡ [])
+    → (byte ≢ 10 → now ≡ take 6 (first ++ byte ∷ [])) → HasLastLineStart line (body ++ byte ∷ []) now
 tail_more line body first now byte was ends longer = elim (cases_eq byte 10) [
   | inl is ↦ record {
     settled = body ++ byte ∷ [];
@@ -149,7 +149,7 @@ module _ {s : Day} {b : PartBody} {number : ℕ} {expected : Option ℕ} {part b
           body = body;
           has = next.has;
           numbered = next.numbered;
-          so_many = refl;
+          same_count = refl;
           allowed = next.allowed;
           read = subst (λ n. IsBodyAnswer s n b.heading (letters_from None body) (Ok text)) next.numbered read;
         },
@@ -182,22 +182,22 @@ IsHeadingFault-IsEarlyFault start told (HeadingOfOther h there wrong is) = InNum
 -- -------- the reader of a form, byte by byte
 
 has_begun : (s : Day) (stage : FormStage) (number : ℕ) (expected : Option ℕ) {part : List ℕ}
-    → HoldsStage s stage number expected part → HasBegunHeading part
+    → HoldsFormStage s stage number expected part → HasBegunHeading part
 has_begun s (stages.Heading line) number expected held = held.0.begins
 has_begun s (stages.Body b) number expected held = inr (begins_there s _ b.heading held.body (body_heading held.holds))
 
 module _ {s : Day} {number : ℕ} {expected : Option ℕ} {part : List ℕ} where
-  HoldsStage-not_early : {line body : List ℕ} {fault : FormFault} (start : ℕ) (stage : FormStage)
-      → HoldsStage s stage number expected part → IsFirstPart 10 part line body
+  HoldsFormStage-not_early : {line body : List ℕ} {fault : FormFault} (start : ℕ) (stage : FormStage)
+      → HoldsFormStage s stage number expected part → IsFirstPart 10 part line body
       → ¬ (IsEarlyFault s number expected start part fault)
-  HoldsStage-not_early {line} {body} start (stages.Heading shown) held broken early =
+  HoldsFormStage-not_early {line} {body} start (stages.Heading shown) held broken early =
       has_byte 10 line body (rw broken.joined at held.0.unbroken)
-  HoldsStage-not_early start (stages.Body b) held broken (InHeading none is) =
+  HoldsFormStage-not_early start (stages.Body b) held broken (InHeading none is) =
       none b.heading held.body (body_heading held.holds)
-  HoldsStage-not_early start (stages.Body b) held broken (InNumber h rest has other is) =
+  HoldsFormStage-not_early start (stages.Body b) held broken (InNumber h rest has other is) =
       let same = one_heading s part b.heading h held.body rest (body_heading held.holds) has in
       grind (arith, same, held.numbered, held.due)
-  HoldsStage-not_early start (stages.Body b) held broken (InBody h rest place has numbered due bad is) =
+  HoldsFormStage-not_early start (stages.Body b) held broken (InBody h rest place has numbered due bad is) =
       let same = one_heading s part b.heading h held.body rest (body_heading held.holds) has in
       no_bad_byte rest place (rw same.1 at held.holds.allowed) bad
 
@@ -233,7 +233,7 @@ module _ {s : Day} {r : FormReader} {form text : List ℕ} (h : HoldsForm s r fo
       → ¬ (IsPartFaultForGood s fault p parts)
   never_refused fault p parts (there, alone) stands =
       let ((line, body, broken), early) = rw (there, alone) at stands in
-      HoldsStage-not_early (length h.front) r.stage h.stage broken early
+      HoldsFormStage-not_early (length h.front) r.stage h.stage broken early
 
   unrefused : (before : List ℕ) (fault : FormFault) → ¬ (IsRefusedForGood s form before fault)
   unrefused before fault (NoHeading none empty is) = elim h.begun [
@@ -325,16 +325,16 @@ EndsInHeading-holds {b = b} mine begun =
 
 -- the reader at `stage`, after one more byte
 abbrev pub reader_after : FormReader → FormStage → FormReader
-reader_after r stage = record r { position = r.position + 1; stage = stage }
+reader_after r stage = record r { read = r.read + 1; stage = stage }
 
 module _ {s : Day} {r : FormReader} {form text : List ℕ} (h : HoldsForm s r form text) where
-  pub in_stage : {stage : FormStage} → r.stage ≡ stage → HoldsStage s stage r.number r.expected h.last
-  in_stage is = subst (λ st. HoldsStage s st r.number r.expected h.last) is h.stage
+  pub in_stage : {stage : FormStage} → r.stage ≡ stage → HoldsFormStage s stage r.number r.expected h.last
+  in_stage is = subst (λ st. HoldsFormStage s st r.number r.expected h.last) is h.stage
 
   -- after one more byte of the current part, the reader holds the form with this byte
   pub grows : (stage : FormStage) (made : List ℕ) (byte : ℕ) → made ≡ []
       → cut_at_headings (h.last ++ byte ∷ []) ≡ (h.last ++ byte ∷ [], [])
-      → HoldsStage s stage r.number r.expected (h.last ++ byte ∷ [])
+      → HoldsFormStage s stage r.number r.expected (h.last ++ byte ∷ [])
       → HoldsForm s (reader_after r stage) (form ++ byte ∷ []) (text ++ made)
   grows stage made byte none one there = grind (arith, append_assoc, append-nil, length-append)
 
@@ -380,7 +380,7 @@ module _ {s : Day} {r : FormReader} {form text : List ℕ} (h : HoldsForm s r fo
     pub part_read : {made : List ℕ} {line : ArrayVec ℕ}
         → HoldsWithMore b 4 (λ letters. IsBodyPlaintext s b.heading letters made)
         → line.items ≡ codes "PART " ++ byte ∷ [] → HoldsForm s (record {
-          position = r.position + 1;
+          read = r.read + 1;
           number = r.number + 1;
           expected = Some b.heading.parts;
           stage = stages.Heading line;

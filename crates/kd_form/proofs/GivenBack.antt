@@ -230,7 +230,7 @@ parts_are_given_back s part parts (k ∷ keys) (piece ∷ pieces) form legal are
       body = body_text made.body;
       has = part_has_heading s made back.is_heading;
       numbered = back.numbered;
-      so_many = back.so_many;
+      same_count = back.same_count;
       allowed = given.allowed;
       read =
           subst (λ ls. IsBodyAnswer s part made.heading ls (Ok (sent_letters s piece))) (sym given.gives)

@@ -18,7 +18,7 @@ pub use Rattle.kd_form.proofs.Prelude.{All-append, All-cons, All-replicate, twic
 pub use Rattle.kd_form.proofs.Prelude.{sent_letters, AreKeys, nat_tests, AreRising, GoesOn}
 use Rattle.{kd_enigma.specs.Cipher.{path, product}}
 use Rattle.{kd_state.specs.TwoCiphers.{EngineKey, engine_key_after, key_with_window}}
-use Rattle.{kd_form.specs.Making.IsTurnedFrom, kd_tables.specs.{Permutation.{alphabet, followed_by}, Rings.ring_of}}
+use Rattle.{kd_form.specs.Making.IsKeyOfDaysMachine, kd_tables.specs.{Permutation.{alphabet, followed_by}, Rings.ring_of}}
 use Rattle.std.proofs.lemmas.List.FromFn.{get_or-range_with_len, length-enumerate_from, length-range_with_len}
 
 pub enciphered_length : (s : Day) (window text : List ℕ) → length (cipher_from s window text) ≡ length text
@@ -50,14 +50,14 @@ pub ruleset stay_letters = (common_steps, enciphered_letters)
 
 -- ---- the day's own machine stays on the day's key, whatever is enciphered on it
 
-pub own_at_first : (s : Day) (key : EngineKey) → key ≡ sheet_key s → IsTurnedFrom s key
-own_at_first (OfRotors s) key is = (_, is)
-own_at_first (OfPins s) key is = (_, is)
+pub new_has_days_key : (s : Day) (key : EngineKey) → key ≡ sheet_key s → IsKeyOfDaysMachine s key
+new_has_days_key (OfRotors s) key is = (_, is)
+new_has_days_key (OfPins s) key is = (_, is)
 
-pub own_when_left : (s : Day) (key left : EngineKey) (window : List ℕ) (count : ℕ) → IsTurnedFrom s key
-    → left ≡ engine_key_after (key_with_window key window) count → IsTurnedFrom s left
-own_when_left (OfRotors s) key left window count (shown, is) left_is = grind arith
-own_when_left (OfPins s) key left window count (shown, is) left_is = grind arith
+pub run_keeps_days_key : (s : Day) (key left : EngineKey) (window : List ℕ) (count : ℕ) → IsKeyOfDaysMachine s key
+    → left ≡ engine_key_after (key_with_window key window) count → IsKeyOfDaysMachine s left
+run_keeps_days_key (OfRotors s) key left window count (shown, is) left_is = grind arith
+run_keeps_days_key (OfPins s) key left window count (shown, is) left_is = grind arith
 
 -- -------- skipping letters finds the first rising places, letter by letter and wheel by wheel
 
@@ -246,7 +246,7 @@ pub record IsPiece (s : Day) (piece : List ℕ) : Type 0 where
 pub record GivesBack (s : Day) (part parts : ℕ) (text : List ℕ) (made : Part) : Type 0 where
   pub is_heading : IsHeading s made.heading
   pub numbered : made.heading.part ≡ part
-  pub so_many : made.heading.parts ≡ parts
+  pub same_count : made.heading.parts ≡ parts
   pub within : All (λ letter. letter < 26) made.body
   pub counted : length made.body ≡ made.heading.letters
   pub read : IsLettersAnswer s part made.heading.indicator made.body (Ok text)
@@ -300,7 +300,7 @@ part_gives_back (OfRotors s) part parts (Rotor k) piece made legal are suits fra
     rw makes (record {
       is_heading = grind (arith, count, size, enciphered_letters day k.ground_setting k.message_key);
       numbered = refl;
-      so_many = refl;
+      same_count = refl;
       within = grind (arith, All-append (λ letter. letter < 26), are, enciphered_letters day k.message_key piece);
       counted = refl;
       read = GoesOn tt (rw (placed.0) suits) (grind (arith, placed, key, text));
@@ -326,7 +326,7 @@ part_gives_back (OfPins s) part parts (Pin k) piece made legal are suits fractio
     rw makes (record {
       is_heading = grind (arith, count, groups);
       numbered = refl;
-      so_many = refl;
+      same_count = refl;
       within = All-append (λ letter. letter < 26) (indicators ++ enciphered) indicators
           (All-append (λ letter. letter < 26) indicators enciphered outer
           (enciphered_letters day internal (fill_last_group piece))) outer;

@@ -120,7 +120,7 @@ module _ (s : Day) where
       → IsPartRead s number parts part text → IsExpectedCount expected parts
       → IsPartAnswer number expected start part (Ok text)
   part_read expected start a due =
-      let expects = subst (λ n. IsExpectedCount expected n) (sym a.so_many) due in
+      let expects = subst (λ n. IsExpectedCount expected n) (sym a.same_count) due in
       inr ((a.heading, a.body), a.has, inr ((a.numbered, expects), inr (a.allowed, a.read)))
 
   -- a part can be read with only one number of parts and only one text
@@ -130,7 +130,7 @@ module _ (s : Day) where
       let headings = one_heading s part a.heading b.heading a.body b.body a.has b.has in
       let texts : Ok text ≡ Ok other =
       only_part number None 0 part (Ok text) (Ok other) (part_read None 0 a tt) (part_read None 0 b tt) in
-      (cc (a.so_many, b.so_many, headings.0), cc)
+      (cc (a.same_count, b.same_count, headings.0), cc)
 
   -- -------- a form becomes one text, or has one fault
 

@@ -6,9 +6,9 @@ pub use Rattle.kd_form.proofs.Prelude.{slice_get, codes, All, MatchResult, div_c
 pub use Rattle.kd_form.proofs.Prelude.{drop-drop, take-take, take_more, length-take-le, Day, Keys, pieces}
 pub use Rattle.kd_form.proofs.Prelude.{IsPartTextMade, part_size, KeysSuitDay, parts_needed, ArePartTextsMade}
 pub use Rattle.kd_form.proofs.Prelude.{letters_from, text_letters, IsFirstKeysFault, IsOrderFaultForGood, InHead}
-pub use Rattle.kd_form.proofs.Prelude.{InKeys, InText, NoLetter, InParts, IsWritableCount, IsSentBefore, order_message}
-pub use Rattle.kd_form.proofs.Prelude.{AreLettersTaken, IsHeadBegun, IsHeadLine, IsTextRead, IsTextEndAnswer}
-pub use Rattle.kd_form.proofs.Prelude.{IsFreshWriter, IsOpen, IsOrderRead, IsStageRead, All-nil, PatternFault, AreKeys}
+pub use Rattle.kd_form.proofs.Prelude.{InKeys, InText, NoLetter, InParts, IsWritableCount, IsSentBeforeEnd, order_message}
+pub use Rattle.kd_form.proofs.Prelude.{AreLettersTaken, IsHeadBegun, IsHeadLine, HoldsOrderText, IsTextEndAnswer}
+pub use Rattle.kd_form.proofs.Prelude.{IsFreshWriter, IsOpen, HoldsOrder, HoldsOrderStage, All-nil, PatternFault, AreKeys}
 pub use Rattle.kd_form.proofs.Prelude.{IsPatternLine, IsPatternFault, key_pattern, key_words, line_of, IsLineWithEnd}
 pub use Rattle.kd_form.proofs.Prelude.{IsKeyLine, BeginsWithKeys, IsAnyOrderHead, IsOrderHead, IsOrder}
 pub use Rattle.kd_form.proofs.Prelude.{IsOrderHeadFault, is_text_byte, FormFault, IsRefused, IsMessageAnswer}
@@ -16,16 +16,16 @@ pub use Rattle.kd_form.proofs.Prelude.{HasReadSoFar, IsAnyKeyLine, common_steps,
 pub use Rattle.kd_form.proofs.Prelude.{All-push, filter_map-append, ◌-◌, cases_lt, drop_at, le_of_mul-le-mul_left}
 pub use Rattle.kd_form.proofs.Prelude.{take_at}
 use Rattle.std.proofs.lemmas.{Grind.div_ceil_times, Option.slice_get_within, Option.get_or_from_slice_get}
-use Rattle.kd_form.specs.declared.{order_reader.parts.PartWriter.PartWriter, order_reader.head.HeadReader.HeadReader}
-use Rattle.kd_form.specs.declared.{order_reader.OrderReader.OrderReader, order_reader.OrderStage.OrderStage}
+use Rattle.kd_form.specs.declared.sending.{part_writer.PartWriter.PartWriter, order_head.HeadReader.HeadReader}
+use Rattle.kd_form.specs.declared.sending.order_reader.{OrderReader.OrderReader, OrderStage.OrderStage}
 pub use Rattle.kd_form.proofs.MadeParts.{pieces-next, pieces-none, size_some}
 use Rattle.kd_form.proofs.Lines.{length-filled, as_form_line, key_first, lines_more, same_line, text_front, text_line}
 use Rattle.kd_form.proofs.Lines.{IsPlain, letters_first, plain_keys, plain_text}
 pub use Rattle.kd_form.proofs.OneOrder.{Shorter, Longer, all_of_the_day, prefixes, no_head_fault, no_keys_fault}
 pub use Rattle.kd_form.proofs.OneOrder.{nothing_stands, nothing_stands_yet, one_order, bad_longer, bad_behind}
 pub use Rattle.kd_form.proofs.OneOrder.{BeginsWithKeys-append}
-use Rattle.kd_form.specs.declared.pattern_line.PatternFault.TheVariants as faults
-use Rattle.kd_form.specs.declared.order_reader.OrderStage.TheVariants as stages
+use Rattle.kd_form.specs.declared.sending.pattern_line.PatternFault.TheVariants as faults
+use Rattle.kd_form.specs.declared.sending.order_reader.OrderStage.TheVariants as stages
 use Rattle.kd_form.specs.SendStream as stream
 
 -- -------- the parts of an order, letter by letter
@@ -190,7 +190,7 @@ module _ {s : Day} where
       InText ks hd (t ++ more) n (is_longer more o) su (bad_longer t more n b) e
 
   pub order_refused : {order sent : List ℕ} {fault : FormFault} → IsOrderFaultForGood s order fault
-      → ((more : List ℕ) → IsSentBefore s (order ++ more) sent) → IsRefused (order_message s) order sent fault
+      → ((more : List ℕ) → IsSentBeforeEnd s (order ++ more) sent) → IsRefused (order_message s) order sent fault
   order_refused stands written = record {
     stands = λ more. stands_longer more stands;
     refused = λ more. inl (stands_longer more stands);
@@ -199,14 +199,14 @@ module _ {s : Day} where
 
   -- ---- how far the reader has read
 
-  text_sent : {keys : List Keys} {w : PartWriter} {order sent : List ℕ} → IsTextRead s keys w order sent
-      → IsSentBefore s order sent
+  text_sent : {keys : List Keys} {w : PartWriter} {order sent : List ℕ} → HoldsOrderText s keys w order sent
+      → IsSentBeforeEnd s order sent
   text_sent text =
       stream.TextBegun _ text.head text.text text.text _ text.sendable.is_order text.sendable.suited
       (grind (arith, append-nil {A = ℕ})) text.taken.written text.taken.made
 
   open_yet : (stage : OrderStage) (h : HeadReader) (w : PartWriter) (order sent : List ℕ)
-      → IsStageRead s stage h w order sent → IsOpen (order_message s) order sent
+      → HoldsOrderStage s stage h w order sent → IsOpen (order_message s) order sent
   open_yet stages.Head h w order sent (head, nothing, fresh) = record {
     unrefused = λ fault. nothing_stands_yet s order fault (head_cut head);
     written = stream.NothingSent
@@ -217,18 +217,18 @@ module _ {s : Day} where
     written = text_sent text;
   }
 
-  pub order_held : {r : OrderReader} {order sent : List ℕ} → IsOrderRead s r order sent
-      → HasReadSoFar (order_message s) (IsOrderRead s r) order sent
-  order_held {r} {order} {sent} is = record { is = is; open_yet = open_yet r.stage r.head r.parts order sent is.stage }
+  pub order_held : {r : OrderReader} {order sent : List ℕ} → HoldsOrder s r order sent
+      → HasReadSoFar (order_message s) (HoldsOrder s r) order sent
+  order_held {r} {order} {sent} is = record { is = is; open_yet = open_yet r.stage r.head r.writer order sent is.stage }
 
   -- ---- in the text
 
   -- after a complete head, the reader holds the order if the keys suit the day, and refuses it otherwise
   pub text_begins : (r : OrderReader) {order text sent : List ℕ} (answer : Result (Unit {0}) FormFault)
       → r.stage ≡ stages.Text → r.read ≡ length order → IsOrder s order r.head.keys.items order []
-      → IsFreshWriter r.parts → text ≡ [] → sent ≡ []
+      → IsFreshWriter r.writer → text ≡ [] → sent ≡ []
       → MatchResult answer (λ _. All (KeysSuitDay s) r.head.keys.items) (IsFirstKeysFault s r.head.keys.items)
-      → MatchResult answer (λ _. HasReadSoFar (order_message s) (IsOrderRead s r) order sent)
+      → MatchResult answer (λ _. HasReadSoFar (order_message s) (HoldsOrder s r) order sent)
       (IsRefused (order_message s) order text)
   text_begins r {order} (Ok done) here size is fresh none nil suited =
       let first = take_all {A = ℕ} (part_size s * 0) [] (omega arith) in
@@ -254,7 +254,7 @@ module _ {s : Day} where
       no_keys_fault s r.head.keys.items fault (rw same.0 suited) found) none)
 
   -- at the end of the text, the reader outputs the last part, or finds the fault
-  pub text_ends : {keys : List Keys} {w : PartWriter} {order sent : List ℕ} (text : IsTextRead s keys w order sent)
+  pub text_ends : {keys : List Keys} {w : PartWriter} {order sent : List ℕ} (text : HoldsOrderText s keys w order sent)
       (made : List ℕ) (answer : Result (Unit {0}) FormFault)
       → IsTextEndAnswer s keys (text_letters s text.text) sent made answer
       → IsMessageAnswer (order_message s) order (sent ++ made) answer

@@ -133,10 +133,10 @@ module _ {m : Message} {old new : List ℕ → List ℕ → Type 0} {had has nex
 -- ---- the end
 
 IsStreamAnswer-closed : {m : Message} {holds : List ℕ → List ℕ → Type 0} {read text : List ℕ} {source : Port}
-    {took wrote : Option (List ℕ)} {d e f : Bool} (made : List ℕ) (told : Result (Unit {0}) Interruption)
+    {took wrote : Option (List ℕ)} {d e f : Bool} (made : List ℕ) (finished : Result (Unit {0}) Interruption)
     → HasReadSoFar m holds read text → length read ≤ read_limit → IsAtEnd source.has → HasNotFailed source → e ≡ d
-    → HasBeenEnded m read (text ++ made) told → f ≡ (e || is_device_interruption told)
-    → IsStreamAnswer m source (port_over took wrote d f) read (text ++ made) (answer_with_fault told)
+    → HasBeenEnded m read (text ++ made) finished → f ≡ (e || is_device_interruption finished)
+    → IsStreamAnswer m source (port_over took wrote d f) read (text ++ made) (answer_with_fault finished)
 IsStreamAnswer-closed made (Ok done) held few ended well same ends up =
     MessageComplete few ended ends (well, well_now _ _ up ∙ same) refl
 IsStreamAnswer-closed made (Err (stops.Refused fault)) held few ended well same ends up =
@@ -156,7 +156,7 @@ IsStreamed-closed {took = took} {taken} {wrote} (before, ended) closes =
       text = before.text ++ one.made;
       given = before.given;
       written = Appends-trans took taken wrote before.text one.made before.written one.written;
-      answers = rw closes.answers (IsStreamAnswer-closed one.made closes.told before.held few ended before.well.0
+      answers = rw closes.answers (IsStreamAnswer-closed one.made closes.finished before.held few ended before.well.0
           before.well.1 one.ended closes.failed);
     }
 

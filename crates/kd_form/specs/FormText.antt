@@ -13,7 +13,7 @@ use Rattle.kd_form.specs.Streams.{Message}
 use Rattle.kd_form.specs.Order.{IsOrder}
 use Rattle.kd_form.specs.Sending.{space_letter, text_letters}
 use Rattle.kd_form.specs.FormParts.{BeginsHeading, parts_of}
-use Rattle.kd_form.specs.Receiving.{IsPartRead, IsExpectedCount, IsEarlyFault, IsPartFault}
+use Rattle.kd_form.specs.PartReading.{IsPartRead, IsExpectedCount, IsEarlyFault, IsPartFault}
 
 -- How a part begins. `number`: the part's number. `expected`: the number of all parts, if an earlier heading gave it.
 -- `bytes_before`: how many bytes of the form come before the part.

@@ -1,5 +1,5 @@
 -- The cipher of a day's own machine (a machine set as the day says), and the size of a part.
--- Code: `OwnMachine` has one engine, and sets its windows anew for each text.
+-- Code: `DayMachine` has one engine, and sets its windows anew for each text.
 use Rattle.std.specs.Prelude.{◌≡◌, ℕ, ◌-◌, ◌%◌, List, [], ◌∷◌, ◌++◌, length, Option, Some, None, replicate}
 use Rattle.kd_state.specs.Machine.{AreOnWheels}
 use Rattle.kd_state.specs.SheetDay.{Day, OfRotors, OfPins, AreOneOfGroups}
@@ -17,8 +17,8 @@ abbrev pub cipher_from : Day → List ℕ → List ℕ → List ℕ
 cipher_from s window text = cipher (key_with_window (sheet_key s) window) text
 
 -- `key` is the key of a machine set as the day says, with any letters in its windows.
-abbrev pub IsTurnedFrom : Day → EngineKey → Type 0
-IsTurnedFrom s key = (window : List ℕ) × (key ≡ key_with_window (sheet_key s) window)
+abbrev pub IsKeyOfDaysMachine : Day → EngineKey → Type 0
+IsKeyOfDaysMachine s key = (window : List ℕ) × (key ≡ key_with_window (sheet_key s) window)
 
 -- the two letters of the day's key list on the Converter M-209; no letters on a rotor machine
 abbrev pub list_letters : Day → List ℕ

@@ -102,10 +102,10 @@ answer_with_fault (Err stop) = Err (fault_of_interruption stop)
 
 pub record IsCloseAnswer (m : Message) (old : List ℕ → List ℕ → Type 0) (sink : Port)
     (answer : Result (Unit {0}) FormFault) : Type 0 where
-  pub told : Result (Unit {0}) Interruption
-  pub ended : IsFinishAnswer m old sink told
-  pub failed : sink.has_failed ≡ (sink.had_failed || is_device_interruption told)
-  pub answers : answer ≡ answer_with_fault told
+  pub finished : Result (Unit {0}) Interruption
+  pub ended : IsFinishAnswer m old sink finished
+  pub failed : sink.has_failed ≡ (sink.had_failed || is_device_interruption finished)
+  pub answers : answer ≡ answer_with_fault finished
 
 -- ---- a read
 
@@ -154,5 +154,5 @@ IsWriteMessageAnswer m bytes sink (Err (Refused fault)) = m.refused bytes fault
 IsWriteMessageAnswer m bytes sink (Err Device) = Unit {0}
 
 -- The message has a result.
-abbrev pub HasText : Message → List ℕ → Type 0
-HasText m bytes = (text : List ℕ) × m.becomes bytes text
+abbrev pub HasResult : Message → List ℕ → Type 0
+HasResult m bytes = (text : List ℕ) × m.becomes bytes text

@@ -4,21 +4,24 @@ ghost use Rattle.kd_state.specs.TwoCiphers.{sheet_key, IsWindow};
 ghost use Rattle.kd_form.specs.InternalKey.{IsInternalKey, HaveNoInternalKey, IsTakenInTurn};
 ghost use Rattle.kd_form.specs.Making.{enciphered_choice};
 
+use super::day_machine::DayMachine;
 use super::keys::PinKeys;
-use super::own_machine::OwnMachine;
 use arrayvec::ArrayVec;
 use kd_tables::{Letter, place_on_wheel};
 
 /// Enciphers the chosen letter of `keys` twelve times, and picks the internal key; `None` if there is none.
-pub(crate) fn internal_key_of(own: &mut OwnMachine, keys: &PinKeys) -> Option<ArrayVec<Letter, 6>>
-    requires { IsWindow (sheet_key own.old) keys.now.external }
-    ensures day { own.new ≡ own.old }
+pub(crate) fn internal_key_of(
+    machine: &mut DayMachine,
+    keys: &PinKeys,
+) -> Option<ArrayVec<Letter, 6>>
+    requires { IsWindow (sheet_key machine.old) keys.now.external }
+    ensures day { machine.new ≡ machine.old }
     ensures key { MatchOption result
-        (HaveNoInternalKey (enciphered_choice own.old keys.now))
-        (λ internal. IsInternalKey (enciphered_choice own.old keys.now) internal.items) }
+        (HaveNoInternalKey (enciphered_choice machine.old keys.now))
+        (λ internal. IsInternalKey (enciphered_choice machine.old keys.now) internal.items) }
 {
     let mut letters = [keys.chosen; 12];
-    own.encipher(&keys.external, &mut letters);
+    machine.encipher(&keys.external, &mut letters);
     pick_internal_key(&letters)
 }
 

@@ -7,8 +7,8 @@ ghost use Rattle.kd_form.specs.Laws.{FormsBecomeOneText, FormsHaveOneFault};
 ghost use Rattle.kd_form.specs.Laws.{ReceivedFormsHaveNoFault, FormsStayRefused};
 ghost use Rattle.kd_form.specs.Laws.{OrdersGiveLetters, FormsGiveTheirOrders};
 
-use super::form_reader::FormReader;
-use super::order_reader::OrderReader;
+use super::receiving::form_reader::FormReader;
+use super::sending::order_reader::OrderReader;
 use super::stream::whole_message::check_message;
 use kd_state::SheetDay;
 

@@ -4,14 +4,14 @@ ghost use Rattle.kd_tables.specs.Ports.{FailureAgrees, port};
 ghost use Rattle.kd_form.specs.Streams.{is_device, is_off_key};
 ghost use Rattle.kd_form.specs.Typing.{TypesIfReady};
 
-mod chunk;
+mod chunk_letters;
 
 use super::fault::FormFault;
 use super::stream::interruption::Interruption;
 use super::stream::reader::{CHUNK, ChunkReader};
 use super::stream::stream_message;
 use arrayvec::ArrayVec;
-use chunk::type_chunk;
+use chunk_letters::type_chunk;
 use kd_state::{Engine, Machine};
 use kd_tables::{Letter, Sink, Source, put_all};
 
