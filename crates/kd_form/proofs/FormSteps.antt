@@ -11,10 +11,11 @@ pub use Rattle.kd_form.proofs.Prelude.{IsEarlyFault, IsExpectedCount}
 pub use Rattle.kd_form.proofs.Prelude.{InHeading, InNumber, InBody, IsPartFault, HoldsBody, IsBodyPlaintext}
 pub use Rattle.kd_form.proofs.Prelude.{HasBegunHeading, HoldsPart, HoldsFormStage, HoldsForm, IsHeadingFault}
 pub use Rattle.kd_form.proofs.Prelude.{HeadingMissing, HeadingOfOther, IsPartRead, PartOrder, plaintext_bytes}
-pub use Rattle.kd_form.proofs.Prelude.{IsRefusedForGood, NoHeading, form_message, IsRefused, IsMessageAnswer}
+pub use Rattle.kd_form.proofs.Prelude.{IsRefusedForGood, NoHeading, form_message, HasFaultForGood, IsMessageAnswer}
 pub use Rattle.kd_form.proofs.Prelude.{HasReadSoFar, PartsProperty, ReadsPartsTo, IsFormReadTo, IsPartFaultForGood}
 pub use Rattle.kd_form.proofs.Prelude.{IsPartFaultAtEnd, AreAllPartsRead, IsLastPart, AtPart, cut_at_headings, parts_of}
-pub use Rattle.kd_form.proofs.Prelude.{PartStart, first_part_start, next_part_start, HasLastLineStart, current_part_start}
+pub use Rattle.kd_form.proofs.Prelude.{PartStart, first_part_start, next_part_start, HasLastLineStart}
+pub use Rattle.kd_form.proofs.Prelude.{current_part_start}
 pub use Rattle.kd_form.proofs.Prelude.{plaintext_byte, space_letter, BadHeading, BadByte, false≢true, All-take}
 use Rattle.kd_form.specs.declared.receiving.body_reader.PartBody.{PartBody}
 use Rattle.kd_form.specs.declared.receiving.form_reader.{FormReader.FormReader, FormStage.FormStage}
@@ -23,7 +24,7 @@ pub use Rattle.kd_form.proofs.Headings.{begins_more, first_ends, first_more, may
 pub use Rattle.kd_form.proofs.Headings.{cut_at_headings-whole, HasBegunHeading-snoc, not_begun, ended_heading}
 pub use Rattle.kd_form.proofs.Headings.{whole_line, no_bad_byte, bad_behind}
 use Rattle.kd_form.proofs.Lines.{letters_first, head_unbroken}
-use Rattle.kd_form.proofs.OneText.{read_or_refused, reads_meet, reads_then, stands_at, stays_refused}
+use Rattle.kd_form.proofs.OneText.{read_or_refused, reads_meet, reads_then, AnswersAt-stands, stays_refused}
 use Rattle.kd_form.specs.declared.receiving.form_reader.FormStage.TheVariants as stages
 
 -- -------- the body of a part, byte by byte
@@ -102,11 +103,11 @@ are_shown others kept shown letters more few size is cut = elim (cases_lt 525 (l
   | inr short ↦ inl (grind (arith, take_all 525 (letters ++ more), take-append_seam letters, length-append letters))
 ]
 
-pub body_told : (s : Day) (h : Heading) (others : ℕ) (kept shown letters more : List ℕ) (v : Result (List ℕ) FormFault)
-    → IsHeading s h
+pub IsBodyAnswer-kept : (s : Day) (h : Heading) (others : ℕ) (kept shown letters more : List ℕ)
+    (v : Result (List ℕ) FormFault) → IsHeading s h
     → others ≤ 4 → length more ≡ others → kept ≡ take 525 (letters ++ more) → shown ≡ take (length kept - others) kept
     → IsBodyAnswer s h.part h shown v → IsBodyAnswer s h.part h letters v
-body_told s h others kept shown letters more v is few size kept_is cut told =
+IsBodyAnswer-kept s h others kept shown letters more v is few size kept_is cut told =
     elim (are_shown others kept shown letters more few size kept_is cut) [
       | inl same ↦ subst (λ ls. IsBodyAnswer s h.part h ls v) same told
       | inr long ↦ elim told [
@@ -149,7 +150,7 @@ module _ {s : Day} {b : PartBody} {number : ℕ} {expected : Option ℕ} {part b
           body = body;
           has = next.has;
           numbered = next.numbered;
-          same_count = refl;
+          same_parts = refl;
           allowed = next.allowed;
           read = subst (λ n. IsBodyAnswer s n b.heading (letters_from None body) (Ok text)) next.numbered read;
         },
@@ -248,7 +249,7 @@ module _ {s : Day} {r : FormReader} {form text : List ℕ} (h : HoldsForm s r fo
       (reads_meet s IsHere (IsPartFaultForGood s fault) ⊥
       (λ p part parts count one more held is due rest. let none : parts ≡ [] = cc in (rw none at rest).0)
       (λ p part parts count one more stands is due rest.
-      read_or_refused s (stands_at s fault p (part ∷ parts) stands).1 is due)
+      read_or_refused s (AnswersAt-stands s fault p (part ∷ parts) stands).1 is due)
       (never_refused fault) first_part_start (parts_of form) letters others reads stands).1
 
   pub held : HasReadSoFar (form_message s) (HoldsForm s r) form text
@@ -262,9 +263,9 @@ module _ {s : Day} {r : FormReader} {form text : List ℕ} (h : HoldsForm s r fo
     };
   }
 
-pub IsRefusedForGood-IsRefused : {s : Day} {form text : List ℕ} {fault : FormFault}
-    → IsRefusedForGood s form text fault → IsRefused (form_message s) form text fault
-IsRefusedForGood-IsRefused {s} {form} {text} {fault} found = record {
+pub IsRefusedForGood-HasFaultForGood : {s : Day} {form text : List ℕ} {fault : FormFault}
+    → IsRefusedForGood s form text fault → HasFaultForGood (form_message s) form text fault
+IsRefusedForGood-HasFaultForGood {s} {form} {text} {fault} found = record {
   stands = λ more. (text, stays_refused s form more text fault found);
   refused = λ more. (text, inl (stays_refused s form more text fault found));
   written = λ more. inl (stays_refused s form more text fault found);
@@ -342,12 +343,12 @@ module _ {s : Day} {r : FormReader} {form text : List ℕ} (h : HoldsForm s r fo
   pub refused_at : {fault : FormFault} {part : List ℕ} {others : List (List ℕ)} (more : List ℕ)
       → cut_at_headings (h.last ++ more) ≡ (part, others)
       → IsPartFaultForGood s fault (here h) (part ∷ others)
-      → IsRefused (form_message s) (form ++ more) text fault
+      → HasFaultForGood (form_message s) (form ++ more) text fault
   refused_at {fault} {part} {others} more are stands =
       let (letters, reads, is) =
       reaches h (IsPartFaultForGood s fault) more [] [] (part ∷ others)
       (as_parts (h.last ++ more) part others are) (inl (stands, refl)) refl in
-      IsRefusedForGood-IsRefused (AtPart (letters, reads, sym (append-nil text) ∙ is))
+      IsRefusedForGood-HasFaultForGood (AtPart (letters, reads, sym (append-nil text) ∙ is))
 
   -- ---- the part ends, as a digit comes after the five bytes `PART `
 
@@ -373,7 +374,7 @@ module _ {s : Day} {r : FormReader} {form text : List ℕ} (h : HoldsForm s r fo
 
     pub part_refused : {fault : FormFault}
         → HoldsWithMore b 4 (λ letters. IsBodyAnswer s b.heading.part b.heading letters (Err fault))
-        → IsRefused (form_message s) (form ++ byte ∷ []) text fault
+        → HasFaultForGood (form_message s) (form ++ byte ∷ []) text fault
     part_refused {fault} told =
         refused_at (byte ∷ []) (cut_off []) (next_refused ended.next fault told (length h.front))
 

@@ -48,14 +48,14 @@ gives_both one other letters more a b = grind (arith, common_steps, All-append, 
 gives_none : Gives [] []
 gives_none = record { allowed = All-nil (λ b. IsTrue (is_text_byte b)); gives = refl }
 
-letter_told : (letter : ℕ) → letter < 26
+letter_is_allowed : (letter : ℕ) → letter < 26
     → IsTrue (is_text_byte (letter + 65)) × (letter_of_byte None (letter + 65) ≡ Some letter)
-letter_told letter less = grind (arith, nat_tests)
+letter_is_allowed letter less = grind (arith, nat_tests)
 
 pub gives_word : (letters : List ℕ) → AreOfTheAlphabet letters → Gives (letters_text letters) letters
 gives_word [] are = gives_none
 gives_word (l ∷ letters) are =
-    let told = letter_told l (All-head (λ x. x < 26) l letters are) in
+    let told = letter_is_allowed l (All-head (λ x. x < 26) l letters are) in
     gives_both ((l + 65) ∷ []) (letters_text letters) (l ∷ []) letters (record {
       allowed = All-cons (λ b. IsTrue (is_text_byte b)) (l + 65) [] told.0 (All-nil (λ b. IsTrue (is_text_byte b)));
       gives = ap (λ found. cons_option found []) told.1;
@@ -230,7 +230,7 @@ parts_are_given_back s part parts (k ∷ keys) (piece ∷ pieces) form legal are
       body = body_text made.body;
       has = part_has_heading s made back.is_heading;
       numbered = back.numbered;
-      same_count = back.same_count;
+      same_parts = back.same_parts;
       allowed = given.allowed;
       read =
           subst (λ ls. IsBodyAnswer s part made.heading ls (Ok (sent_letters s piece))) (sym given.gives)

@@ -139,6 +139,8 @@ line_ends [] bytes letters (Err Incomplete) none (more, some, ended) = grind (ar
 line_ends [] bytes letters (Err Mismatch) none off = λ more line. off more line.1.ended
 line_ends (mark ∷ pattern) bytes letters answer none told = absurd (omega arith)
 
+pub ruleset pattern_marks = (line_open, line_off, line_on, line_ends)
+
 -- the empty list, and CR alone, are proper prefixes of a line end
 pub end_open : (bytes : List ℕ) → length bytes < 2 → (1 ≤ length bytes → get_or bytes 0 0 ≡ 13)
     → IsPatternFault (IsLineWithEnd []) bytes Incomplete

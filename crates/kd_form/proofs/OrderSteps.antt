@@ -6,12 +6,14 @@ pub use Rattle.kd_form.proofs.Prelude.{slice_get, codes, All, MatchResult, div_c
 pub use Rattle.kd_form.proofs.Prelude.{drop-drop, take-take, take_more, length-take-le, Day, Keys, pieces}
 pub use Rattle.kd_form.proofs.Prelude.{IsPartTextMade, part_size, KeysSuitDay, parts_needed, ArePartTextsMade}
 pub use Rattle.kd_form.proofs.Prelude.{letters_from, text_letters, IsFirstKeysFault, IsOrderFaultForGood, InHead}
-pub use Rattle.kd_form.proofs.Prelude.{InKeys, InText, NoLetter, InParts, IsWritableCount, IsSentBeforeEnd, order_message}
+pub use Rattle.kd_form.proofs.Prelude.{InKeys, InText, NoLetter, InParts, IsWritableCount, IsSentBeforeEnd}
+pub use Rattle.kd_form.proofs.Prelude.{order_message}
 pub use Rattle.kd_form.proofs.Prelude.{AreLettersTaken, IsHeadBegun, IsHeadLine, HoldsOrderText, IsTextEndAnswer}
-pub use Rattle.kd_form.proofs.Prelude.{IsFreshWriter, IsOpen, HoldsOrder, HoldsOrderStage, All-nil, PatternFault, AreKeys}
+pub use Rattle.kd_form.proofs.Prelude.{IsFreshWriter, IsOpen, HoldsOrder, HoldsOrderStage, All-nil, PatternFault}
+pub use Rattle.kd_form.proofs.Prelude.{AreKeys}
 pub use Rattle.kd_form.proofs.Prelude.{IsPatternLine, IsPatternFault, key_pattern, key_words, line_of, IsLineWithEnd}
 pub use Rattle.kd_form.proofs.Prelude.{IsKeyLine, BeginsWithKeys, IsAnyOrderHead, IsOrderHead, IsOrder}
-pub use Rattle.kd_form.proofs.Prelude.{IsOrderHeadFault, is_text_byte, FormFault, IsRefused, IsMessageAnswer}
+pub use Rattle.kd_form.proofs.Prelude.{IsOrderHeadFault, is_text_byte, FormFault, HasFaultForGood, IsMessageAnswer}
 pub use Rattle.kd_form.proofs.Prelude.{HasReadSoFar, IsAnyKeyLine, common_steps, BadByte, HeadCutShort, space_letter}
 pub use Rattle.kd_form.proofs.Prelude.{All-push, filter_map-append, ◌-◌, cases_lt, drop_at, le_of_mul-le-mul_left}
 pub use Rattle.kd_form.proofs.Prelude.{take_at}
@@ -190,7 +192,7 @@ module _ {s : Day} where
       InText ks hd (t ++ more) n (is_longer more o) su (bad_longer t more n b) e
 
   pub order_refused : {order sent : List ℕ} {fault : FormFault} → IsOrderFaultForGood s order fault
-      → ((more : List ℕ) → IsSentBeforeEnd s (order ++ more) sent) → IsRefused (order_message s) order sent fault
+      → ((more : List ℕ) → IsSentBeforeEnd s (order ++ more) sent) → HasFaultForGood (order_message s) order sent fault
   order_refused stands written = record {
     stands = λ more. stands_longer more stands;
     refused = λ more. inl (stands_longer more stands);
@@ -229,7 +231,7 @@ module _ {s : Day} where
       → IsFreshWriter r.writer → text ≡ [] → sent ≡ []
       → MatchResult answer (λ _. All (KeysSuitDay s) r.head.keys.items) (IsFirstKeysFault s r.head.keys.items)
       → MatchResult answer (λ _. HasReadSoFar (order_message s) (HoldsOrder s r) order sent)
-      (IsRefused (order_message s) order text)
+      (HasFaultForGood (order_message s) order text)
   text_begins r {order} (Ok done) here size is fresh none nil suited =
       let first = take_all {A = ℕ} (part_size s * 0) [] (omega arith) in
       order_held (record {

@@ -23,7 +23,8 @@ pub use Rattle.std.specs.List.{AllWithin, cons_option, enumerate_from, flat_map,
 pub use Rattle.arrayvec.specs.{ArrayVec.ArrayVec, ArrayVec.array_vec_len}
 pub use Rattle.kd_form.specs.FormParts.{AreFewLetters, AreHeadingWords, BeginsHeading, HasFirstLine, IsFraction}
 pub use Rattle.kd_form.specs.FormParts.{IsHeading, IsLetterCount, IsLineText, WithoutReturn, cut_at_headings, parts_of}
-pub use Rattle.kd_form.specs.FormSteps.{FitsHeadingAt, HasBegunHeading, HasLastLineStart, HoldsBody, HoldsForm, HoldsPart}
+pub use Rattle.kd_form.specs.FormSteps.{FitsHeadingAt, HasBegunHeading, HasLastLineStart, HoldsBody, HoldsForm}
+pub use Rattle.kd_form.specs.FormSteps.{HoldsPart}
 pub use Rattle.kd_form.specs.FormSteps.{HoldsFormStage, IsAtPartStart, IsBodyPlaintext, IsHeadingFault, HeadingMissing}
 pub use Rattle.kd_form.specs.FormSteps.{HeadingOfOther, current_part_start}
 pub use Rattle.kd_form.specs.FormText.{AtPart, IsPartFaultAtEnd, AreAllPartsRead, IsLastPart, IsFormReadTo}
@@ -47,7 +48,8 @@ pub use Rattle.kd_form.specs.Part.{Part, words_after_spaces, body_text, fraction
 pub use Rattle.kd_form.specs.Part.{indicator_words, part_text, pieces, line_then}
 pub use Rattle.kd_form.specs.Patterns.{AreLettersAppended, IsFilledLine, IsPatternLine, blank_count, filled_pattern}
 pub use Rattle.kd_form.specs.Patterns.{fits_mark, letters_for_mark}
-pub use Rattle.kd_form.specs.BodyCipher.{HasIndicator, HasIndicatorsAround, IsLettersAnswer, group_of_body, keys_of_body}
+pub use Rattle.kd_form.specs.BodyCipher.{HasIndicator, HasIndicatorsAround, IsLettersAnswer, group_of_body}
+pub use Rattle.kd_form.specs.BodyCipher.{keys_of_body}
 pub use Rattle.kd_form.specs.BodyCipher.{list_of_body, deciphered_key, text_of_body}
 pub use Rattle.kd_form.specs.PartReading.{HasHeading, InBody, InHeading, InNumber, IsEarlyFault, IsExpectedCount}
 pub use Rattle.kd_form.specs.PartReading.{IsPartFault, IsPartRead, IsBodyAnswer}
@@ -63,7 +65,7 @@ pub use Rattle.kd_form.specs.StreamSteps.{HasRoom, HasReadSoFar, InFeeding, IsFe
 pub use Rattle.kd_form.specs.StreamSteps.{IsReadNextAnswer, answer_with_fault, fault_of_interruption}
 pub use Rattle.kd_form.specs.StreamSteps.{is_device_interruption}
 pub use Rattle.kd_form.specs.Streams.{IsStreamAnswer, HaveNotFailed, FaultAtEnd, ByTheEnd, ByThen, IsMessageAnswer}
-pub use Rattle.kd_form.specs.Streams.{FallsShort, IsOpen, IsRefused, IsStreamed, Message, FaultBefore, SinkFails}
+pub use Rattle.kd_form.specs.Streams.{FallsShort, IsOpen, HasFaultForGood, IsStreamed, Message, FaultBefore, SinkFails}
 pub use Rattle.kd_form.specs.Streams.{FaultForGood, TooLong, MessageComplete, is_device, is_off_key}
 pub use Rattle.kd_form.specs.Typing.{IsAllowedUpTo, IsTextFault, HasTyped, IsTypedChunk, cipher_text, text_message}
 pub use Rattle.kd_form.specs.Typing.{typed_letters}

@@ -11,7 +11,7 @@ pub use Rattle.kd_form.proofs.Prelude.{IsCloseAnswer, IsChunkRead, IsReadNextAns
 pub use Rattle.kd_form.proofs.Prelude.{answer_with_fault, is_device_interruption, length-take-le, ◌∷◌, IsFalse, get_or}
 pub use Rattle.kd_form.proofs.Prelude.{suc, drop-cons, map-append, take_all, All-append, filter_map-append}
 pub use Rattle.kd_form.proofs.Prelude.{is_text_byte, Parts, cipher_in_turn, engine_cipher, cipher, physical_cipher}
-pub use Rattle.kd_form.proofs.Prelude.{BadByte, IsRefused, cipher_text, text_message, IsTextFault, IsTypedChunk}
+pub use Rattle.kd_form.proofs.Prelude.{BadByte, HasFaultForGood, cipher_text, text_message, IsTextFault, IsTypedChunk}
 pub use Rattle.kd_form.proofs.Prelude.{IsAllowedUpTo, HasTyped, take_more, rules, TooLong, port, All-nil, letters_text}
 pub use Rattle.kd_form.proofs.Prelude.{typed_letters, false≢true, NotReady, FaultBefore}
 pub use Rattle.std.proofs.KnownBytes.{Consumes-nil, Consumes-kept, Consumes-trans, Appends-nil, Appends-trans}
@@ -101,7 +101,8 @@ IsStreamAnswer-stopped : {m : Message} {new : List ℕ → List ℕ → Type 0} 
 IsStreamAnswer-stopped p q few (AtSource open' fails is) = grind arith
 IsStreamAnswer-stopped {m} {read = read} {text} {stop = stops.Refused fault} p q few (InFeeding is well up) =
     FaultForGood fault few (subst (λ b. m.stands b fault) (append-nil read) (is.stands []))
-    (subst (λ b. m.before (Some fault) b text) (append-nil read) (is.written [])) (well ∙ p, well_now _ _ up ∙ q) refl
+    (subst (λ b. m.written_before (Some fault) b text) (append-nil read) (is.written []))
+    (well ∙ p, well_now _ _ up ∙ q) refl
 IsStreamAnswer-stopped {stop = stops.Device} p q few (InFeeding is well up) =
     SinkFails is.due few (ByThen is.front is.of_bytes is.open_yet) is.of_due
     (record { failed = failed_now _ _ up; well = well ∙ p }) refl
@@ -186,7 +187,7 @@ module _ (m : Parts) where
   -- the bytes after the first one that isn't allowed make no difference
   refused_there : (t : Typist) (front rest text : List ℕ) (byte : ℕ) → HasTyped m t front text
       → IsFalse (is_text_byte byte)
-      → IsRefused (text_message (physical_cipher m)) (front ++ byte ∷ rest) text (BadByte (length front + 1))
+      → HasFaultForGood (text_message (physical_cipher m)) (front ++ byte ∷ rest) text (BadByte (length front + 1))
   refused_there t front rest text byte typed bad =
       let stands : (more : List ℕ) → IsTextFault ((front ++ byte ∷ rest) ++ more) (BadByte (length front + 1)) = λ more.
       rw append_assoc (length front, bad_behind front (rest ++ more) byte typed.allowed bad, refl) in

@@ -127,7 +127,7 @@ form_message s = record {
   stands = λ form fault. (text : List ℕ) × IsRefusedForGood s form text fault;
   refused = IsReceiveFault s;
   becomes = IsTextOf s;
-  before = IsTextBefore s;
+  written_before = IsTextBefore s;
 }
 
 -- ---- The text that an order's form has to give back.

@@ -82,7 +82,8 @@ pub record HoldsOrderText (s : Day) (keys : List Keys) (w : PartWriter) (order s
   pub taken : AreLettersTaken s keys w (text_letters s text) sent
 
 abbrev pub HoldsOrderStage : Day → OrderStage → HeadReader → PartWriter → List ℕ → List ℕ → Type 0
-HoldsOrderStage s stages.Head h w order sent = IsHeadBegun s h.keys.items h.line.items order × (sent ≡ []) × IsFreshWriter w
+HoldsOrderStage s stages.Head h w order sent = IsHeadBegun s h.keys.items h.line.items order × (sent ≡ [])
+    × IsFreshWriter w
 HoldsOrderStage s stages.Text h w order sent = HoldsOrderText s h.keys.items w order sent
 
 pub record HoldsOrder (s : Day) (r : OrderReader) (order sent : List ℕ) : Type 0 where

@@ -32,7 +32,7 @@ pub record IsPartRead (s : Day) (number parts : ℕ) (part text : List ℕ) : Ty
   pub body : List ℕ
   pub has : HasHeading s part heading body
   pub numbered : heading.part ≡ number
-  pub same_count : heading.parts ≡ parts
+  pub same_parts : heading.parts ≡ parts
   pub allowed : All (λ b. IsTrue (is_text_byte b)) body
   pub read : IsBodyAnswer s number heading (letters_from None body) (Ok text)
 

@@ -42,5 +42,5 @@ order_message s = record {
   stands = IsOrderFaultForGood s;
   refused = IsSendFault s;
   becomes = IsFormOf s;
-  before = λ reason order sent. IsSentBeforeEnd s order sent;
+  written_before = λ reason order sent. IsSentBeforeEnd s order sent;
 }

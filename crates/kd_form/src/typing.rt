@@ -72,10 +72,10 @@ impl ChunkReader<Machine> for Typist {
         bytes: &[u8],
         sink: &mut W,
     ) -> Result<(), Interruption> {
-        let front = type_chunk(&mut self.engine, bytes, &mut self.letters, &mut self.lamps);
-        self.read += front;
+        let allowed = type_chunk(&mut self.engine, bytes, &mut self.letters, &mut self.lamps);
+        self.read += allowed;
         put_all(sink, &self.lamps)?;
-        if front < bytes.len() {
+        if allowed < bytes.len() {
             return Err(Interruption::Refused(FormFault::BadByte(self.read + 1)));
         }
         Ok(())

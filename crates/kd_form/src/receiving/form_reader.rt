@@ -65,7 +65,7 @@ impl MessageReader for FormReader {
         self.read += 1;
         match &mut self.stage {
             FormStage::Heading(line) => {
-                if !may_follow(line.as_slice(), byte) {
+                if !can_follow(line.as_slice(), byte) {
                     return Err(FormFault::BadHeading(self.number));
                 }
                 if byte != b'\n' {
@@ -88,7 +88,7 @@ impl MessageReader for FormReader {
                 body.decipher_into(day, 4, output)?;
                 self.expected = Some(body.heading.parts);
                 self.number += 1;
-                self.stage = FormStage::Heading(heading_from(byte));
+                self.stage = FormStage::Heading(heading_line_start(byte));
                 Ok(())
             }
         }
@@ -136,7 +136,7 @@ fn fault_in_heading(
 /// Whether `byte` may follow `line` in a heading line.
 ///
 /// Only the first six bytes, `PART ` and a digit, are tested here. The rest is tested when the line has ended.
-fn may_follow(line: &[u8], byte: u8) -> bool
+fn can_follow(line: &[u8], byte: u8) -> bool
     ensures { IsTrue result ↔ FitsHeadingAt (length line.now) byte }
 {
     match heading_prefix_byte(line.len()) {
@@ -146,7 +146,7 @@ fn may_follow(line: &[u8], byte: u8) -> bool
 }
 
 /// The first bytes of a heading line: `PART ` and `digit`.
-fn heading_from(digit: u8) -> ArrayVec<u8, KEPT_LINE>
+fn heading_line_start(digit: u8) -> ArrayVec<u8, KEPT_LINE>
     ensures { result.items ≡ codes "PART " ++ digit ∷ [] }
 {
     let mut line = ArrayVec::new();

@@ -87,7 +87,7 @@ fn read_line(day: &SheetDay, count: usize, line: &[u8]) -> Result<Option<Keys>, 
         (λ keys. AreKeys day.now keys × IsKeyLine keys line.now × (count < 99)))
         (IsPatternFault (IsHeadLine day.now count) line.now) }
 {
-    if count < 99 && is_key_line(line) {
+    if count < 99 && has_key_line_start(line) {
         let letters = read_pattern(key_pattern(day), line)?;
         Ok(Some(keys_of(day, letters.as_slice())))
     } else {
@@ -97,7 +97,7 @@ fn read_line(day: &SheetDay, count: usize, line: &[u8]) -> Result<Option<Keys>, 
 }
 
 /// Whether the first of `bytes` is P, the first letter of a line of keys.
-fn is_key_line(bytes: &[u8]) -> bool
+fn has_key_line_start(bytes: &[u8]) -> bool
     ensures { IsTrue result ↔ (slice_index bytes.now 0 ≡ 80) }
 {
     matches!(bytes, [b'P', ..])

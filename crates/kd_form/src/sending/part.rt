@@ -1,4 +1,4 @@
-//! Makes one part of a form from its machine keys and its machine piece of the text.
+//! Makes one part of a form from the part's keys and its piece of the text.
 ghost use Rattle.std.specs.Prelude.{◌≡◌, ◌≤◌, ℕ, List, length};
 ghost use Rattle.kd_form.specs.InternalKey.{IsInternalKey};
 ghost use Rattle.kd_form.specs.Keys.{AreKeys};
@@ -133,7 +133,7 @@ fn pin_letters(machine: &mut DayMachine, keys: &PinKeys, text: &[Letter]) -> Arr
     let internal = internal_key_of(machine, keys).unwrap();
     let text = fill_last_group(text);
     let enciphered = machine.encipher_text::<500>(internal.as_slice(), text.as_slice());
-    let indicators = indicators_of(machine.day, keys);
+    let indicators = pin_indicators(machine.day, keys);
     let mut letters = ArrayVec::new();
     append_letters(&mut letters, indicators.as_slice());
     append_letters(&mut letters, enciphered.as_slice());
@@ -142,7 +142,7 @@ fn pin_letters(machine: &mut DayMachine, keys: &PinKeys, text: &[Letter]) -> Arr
 }
 
 /// The ten indicators: the chosen letter twice, the external letters, and the day's two list letters.
-pub(crate) fn indicators_of(day: &SheetDay, keys: &PinKeys) -> ArrayVec<Letter, 10>
+fn pin_indicators(day: &SheetDay, keys: &PinKeys) -> ArrayVec<Letter, 10>
     requires { AreKeys day.now (Keys.Pin keys.now) }
     ensures value { result.items ≡ pin_indicators day.now keys.now }
     ensures ten { length result.items ≡ 10 }

@@ -37,7 +37,7 @@ pub(crate) fn read_pattern(
 }
 
 /// Reads `bytes` as a line that fits `pattern`, and its line end; appends the letter at each `_`.
-#[tactic(auto, using(crate::proofs::Lines::line_open, crate::proofs::Lines::line_off, crate::proofs::Lines::line_on, crate::proofs::Lines::line_ends))]
+#[tactic(auto, using(crate::proofs::Lines::pattern_marks))]
 fn read_pattern_letters(
     pattern: &[u8],
     bytes: &[u8],
@@ -49,7 +49,7 @@ fn read_pattern_letters(
         (IsPatternFault (IsPatternLine pattern.now) bytes.now) }
 {
     let Some((mark, marks)) = pattern.split_first() else {
-        return read_end(bytes);
+        return check_line_end(bytes);
     };
     let Some((byte, rest)) = bytes.split_first() else {
         return Err(PatternFault::Incomplete);
@@ -81,7 +81,7 @@ fn take_marked_letter(letters: &mut ArrayVec<Letter, MOST_BLANKS>, mark: u8, byt
 
 /// Checks that `bytes` are a line end: LF, or CR and LF.
 #[tactic(auto, using(crate::proofs::Lines::end_open, crate::proofs::Lines::end_off))]
-fn read_end(bytes: &[u8]) -> Result<(), PatternFault>
+fn check_line_end(bytes: &[u8]) -> Result<(), PatternFault>
     ensures { MatchResult result
         (λ _. IsLineWithEnd [] bytes.now)
         (IsPatternFault (IsLineWithEnd []) bytes.now) }

@@ -55,7 +55,7 @@ fn write_letters(letters: &[Letter], bytes: &mut [u8])
 fn collect_letters(bytes: &[u8], letters: &mut ArrayVec<Letter, CHUNK>) -> usize
     requires few { length bytes.now ≤ CHUNK }
     requires places { array_vec_len letters.old ≡ length bytes.now }
-    ensures front { IsAllowedUpTo bytes.now result }
+    ensures allowed { IsAllowedUpTo bytes.now result }
     ensures letters { letters.new.items ≡ typed_letters (take result bytes.now) }
 {
     // Most chunks have only letters, so the bytes needn't be tested one by one.
@@ -96,13 +96,13 @@ pub(super) fn type_chunk(
     lamps: &mut ArrayVec<u8, CHUNK>,
 ) -> usize
     requires { length bytes.now ≤ CHUNK }
-    ensures front { IsAllowedUpTo bytes.now result }
+    ensures allowed { IsAllowedUpTo bytes.now result }
     ensures lights { IsTypedChunk engine.old engine.new (take result bytes.now) lamps.new.items }
 {
     set_length(letters, bytes.len());
-    let front = collect_letters(bytes, letters);
+    let allowed = collect_letters(bytes, letters);
     engine.run(letters);
     set_length(lamps, letters.len());
     write_letters(letters, lamps);
-    front
+    allowed
 }

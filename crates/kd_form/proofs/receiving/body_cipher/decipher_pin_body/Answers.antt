@@ -1,4 +1,4 @@
-use Rattle.kd_form.proofs.MadeParts.{list_told, refl, ◌∙◌, ap, Ok, arith}
+use Rattle.kd_form.proofs.MadeParts.{list_of_day, refl, ◌∙◌, ap, Ok, arith}
 use Rattle.kd_form.proofs.Prelude.{list_of_body, sym, GoesOn, HasFault}
 use Rattle.std.proofs.lemmas.{Bool.{Decides.Decides-eqb, not-false}, Slice.Eq.slice_eq-Decides}
 use Rattle.kd_form.proofs.receiving.body_cipher.decipher_pin_body.Goals as goal
@@ -18,7 +18,7 @@ returns-then-ne c =
     let on_wheels =
     rw (c.new-machine.ensures, c.keys_of_body-keys.ensures) at (c.can_show.ensures.window.0 c.if-not-can_show.false) in
     let equal = slice_eq-Decides Decides-eqb (list_of_body c.args.letters.now) c.unwrap-due.result _ refl in
-    let due = list_told _ _ _ c.list.ensures c.unwrap-due.ensures in
+    let due = list_of_day _ _ _ c.list.ensures c.unwrap-due.ensures in
     GoesOn tt around (GoesOn tt on_wheels
     (HasFault _ ((λ _ listed. grind (arith, equal.1 (listed ∙ sym due))), refl) refl))
 
@@ -30,7 +30,7 @@ returns-in-Some c =
     let equal = slice_eq-Decides Decides-eqb (list_of_body c.args.letters.now) c.unwrap-due.result _ refl in
     let listed =
     equal.0 (not-false _ (sym c.ne.ensures ∙ c.if-ne.false))
-    ∙ list_told _ _ _ c.list.ensures c.unwrap-due.ensures in
+    ∙ list_of_day _ _ _ c.list.ensures c.unwrap-due.ensures in
     let own = c.can_show.ensures.day ∙ c.new-machine.ensures in
     let first = rw (own, keys) at c.in-Some.ensures.key in
     let is = rw (c.internal_key_of.ensures.day ∙ own, c.as_slice.ensures.value) at c.encipher_text.ensures.text in
@@ -44,7 +44,8 @@ returns-in-None c =
     let equal = slice_eq-Decides Decides-eqb (list_of_body c.args.letters.now) c.unwrap-due.result _ refl in
     let listed =
     equal.0 (not-false _ (sym c.ne.ensures ∙ c.if-ne.false))
-    ∙ list_told _ _ _ c.list.ensures c.unwrap-due.ensures in
-    let spent = rw (c.can_show.ensures.day ∙ c.new-machine.ensures, c.keys_of_body-keys.ensures) at c.in-None.ensures.key in
+    ∙ list_of_day _ _ _ c.list.ensures c.unwrap-due.ensures in
+    let day = c.can_show.ensures.day ∙ c.new-machine.ensures in
+    let spent = rw (day, c.keys_of_body-keys.ensures) at c.in-None.ensures.key in
     GoesOn tt around (GoesOn tt on_wheels (GoesOn tt listed
     (HasFault _ ((λ key is. spent is.places key is.picked), refl) refl)))

@@ -4,7 +4,7 @@ use Rattle.kd_form.proofs.sending.order_head.read_line.Goals as goal
 pub returns-in_err-letters : goal.returns-in_err-letters
 returns-in_err-letters c =
     rw (err_is _ _ c.from_residual.ensures.1)
-    (next_keys _ _ _ _ (c.is_key_line.ensures.0 c.if-is_key_line.true) c.if-count-lt99.true
+    (next_keys _ _ _ _ (c.has_key_line_start.ensures.0 c.if-has_key_line_start.true) c.if-count-lt99.true
     (keys_broken _ _ _ (rw c.key_pattern.ensures.pattern at c.in_err-letters.ensures)))
 
 pub returns-in_ok-letters : goal.returns-in_ok-letters

@@ -13,8 +13,8 @@ loop-place-preserved c =
       room = omega (arith, c.push_some_letter.ensures.room, c.loop-place.invariant.room);
     }
 
-pub returns-then-read_capitals-clause-front : goal.returns-then-read_capitals-clause-front
-returns-then-read_capitals-clause-front c =
+pub returns-then-read_capitals-clause-allowed : goal.returns-then-read_capitals-clause-allowed
+returns-then-read_capitals-clause-allowed c =
     let typed = gives_word c.read_capitals.new.letters c.if-read_capitals.ensures.within in
     record {
       within = omega arith;

@@ -1,5 +1,6 @@
 use Rattle.kd_form.proofs.FormSteps.{err_is, first_longer, goes_on, held, grows, in_stage, take_kept}
-use Rattle.kd_form.proofs.FormSteps.{IsHeadingFault-IsEarlyFault, IsRefusedForGood-IsRefused, refused_at, four_letters}
+use Rattle.kd_form.proofs.FormSteps.{IsHeadingFault-IsEarlyFault, IsRefusedForGood-HasFaultForGood, refused_at}
+use Rattle.kd_form.proofs.FormSteps.{four_letters}
 use Rattle.kd_form.proofs.FormSteps.{part_refused, part_read, HasBegunHeading-snoc, not_begun, cut_at_headings-line}
 use Rattle.kd_form.proofs.FormSteps.{ended_heading, bad_behind, ◌≢◌, take, All-push, All-nil, IsTrue, is_text_byte}
 use Rattle.kd_form.proofs.FormSteps.{IsLineText, line_of, heading_words, [], ◌∷◌, ◌++◌, ◌+◌, ◌-◌, ◌≡◌, ℕ, List, length}
@@ -8,14 +9,14 @@ use Rattle.kd_form.proofs.FormSteps.{BadHeading, BadByte, InBody, arith, sym, �
 use Rattle.kd_form.specs.declared.receiving.form_reader.FormStage.TheVariants as stages
 use Rattle.kd_form.proofs.receiving.form_reader.FormReaderMessageReader.feed.Goals as goal
 
-pub returns-then-not-may_follow : goal.returns-then-not-may_follow
-returns-then-not-may_follow c = λ form text so_far.
+pub returns-then-not-can_follow : goal.returns-then-not-can_follow
+returns-then-not-can_follow c = λ form text so_far.
     let h = so_far.is in
     let there = in_stage h c.in-Heading.is in
     let (few, none) = not_begun h.last _ c.args.byte there.0.kept
-    (λ fits. false≢true (sym c.if-not-may_follow.true ∙ c.may_follow.ensures.1 (rw c.as_slice.ensures.value fits))) in
+    (λ fits. false≢true (sym c.if-not-can_follow.true ∙ c.can_follow.ensures.1 (rw c.as_slice.ensures.value fits))) in
     let (front, nil) = h.first (there.1 few) in
-    IsRefusedForGood-IsRefused (NoHeading
+    IsRefusedForGood-HasFaultForGood (NoHeading
     (λ more begun. none more (subst (λ l. BeginsHeading ((l ++ c.args.byte ∷ []) ++ more))
     (rw front at h.joined) begun))
     (h.is ∙ ap (plaintext_bytes c.args.day.now) nil) (ap BadHeading (there.1 few)))
@@ -24,7 +25,7 @@ pub returns-then-byte-ne10 : goal.returns-then-byte-ne10
 returns-then-byte-ne10 c = λ form text so_far.
     let h = so_far.is in
     let (there, first) = in_stage h c.in-Heading.is in
-    let fits = rw c.as_slice.ensures.value at (c.may_follow.ensures.0 c.if-not-may_follow.false) in
+    let fits = rw c.as_slice.ensures.value at (c.can_follow.ensures.0 c.if-not-can_follow.false) in
     held (grows h (stages.Heading c.push_if_room.new.items) _ c.args.byte c.requires.empty
     (cut_at_headings-line h.last c.args.byte there.unbroken) (
       record {
@@ -132,7 +133,7 @@ returns-in_err-heading-in-Heading c = λ form text so_far.
 pub returns-in_ok-decipher_into-in-Body : goal.returns-in_ok-decipher_into-in-Body
 returns-in_ok-decipher_into-in-Body c = λ form text so_far.
     held (part_read so_far.is c.in-Body.is (c.is_next_heading_digit.ensures.0 c.if-not-is_next_heading_digit.false)
-    c.in_ok-decipher_into-in-Body.ensures.given c.heading_from.ensures)
+    c.in_ok-decipher_into-in-Body.ensures.given c.heading_line_start.ensures)
 
 pub returns-in_err-decipher_into-in-Body : goal.returns-in_err-decipher_into-in-Body
 returns-in_err-decipher_into-in-Body c = λ form text so_far.
