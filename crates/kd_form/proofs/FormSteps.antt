@@ -1,22 +1,21 @@
 -- What the reader of a form holds after one more byte, and its answer at the end.
 pub use Rattle.kd_form.proofs.Prelude.{err_is, [], ◌≡◌, ◌≢◌, ◌⊎◌, inl, inr, ℕ, ◌+◌, ◌-◌, ◌≤◌, List, ◌∷◌, ◌++◌, length}
 pub use Rattle.kd_form.proofs.Prelude.{take, refl, sym, ap, subst, ◌∙◌, append_assoc, length-append, Ok, Err, arith}
-pub use Rattle.kd_form.proofs.Prelude.{codes, All, IsTrue, Option, Some, None, MatchOption, option_to_list, map-append}
-pub use Rattle.kd_form.proofs.Prelude.{take-append_seam, cases_lt, cases_eq, append-nil, take_all, take-take}
-pub use Rattle.kd_form.proofs.Prelude.{take-append-le, length-take, length-take-le, filter_map-append, All-nil}
-pub use Rattle.kd_form.proofs.Prelude.{All-push, ArrayVec, is_text_byte, Day, line_of, IsFirstPart, FormFault, Heading}
-pub use Rattle.kd_form.proofs.Prelude.{IsLineText, heading_words, letter_of_byte, letters_from, IsHeading}
-pub use Rattle.kd_form.proofs.Prelude.{BeginsHeading, Result, HasFault, GoesOn, IsBodyAnswer, HasHeading}
-pub use Rattle.kd_form.proofs.Prelude.{IsEarlyFault, IsExpectedCount}
-pub use Rattle.kd_form.proofs.Prelude.{InHeading, InNumber, InBody, IsPartFault, HoldsBody, IsBodyPlaintext}
-pub use Rattle.kd_form.proofs.Prelude.{HasBegunHeading, HoldsPart, HoldsFormStage, HoldsForm, IsHeadingFault}
-pub use Rattle.kd_form.proofs.Prelude.{HeadingMissing, HeadingOfOther, IsPartRead, PartOrder, plaintext_bytes}
-pub use Rattle.kd_form.proofs.Prelude.{IsRefusedForGood, NoHeading, form_message, HasFaultForGood, IsMessageAnswer}
-pub use Rattle.kd_form.proofs.Prelude.{HasReadSoFar, PartsProperty, ReadsPartsTo, IsFormReadTo, IsPartFaultForGood}
-pub use Rattle.kd_form.proofs.Prelude.{IsPartFaultAtEnd, AreAllPartsRead, IsLastPart, AtPart, cut_at_headings, parts_of}
-pub use Rattle.kd_form.proofs.Prelude.{PartStart, first_part_start, next_part_start, HasLastLineStart}
-pub use Rattle.kd_form.proofs.Prelude.{current_part_start}
-pub use Rattle.kd_form.proofs.Prelude.{plaintext_byte, space_letter, BadHeading, BadByte, false≢true, All-take}
+pub use Rattle.kd_form.proofs.Prelude.{codes, All, IsTrue, Option, Some, None, MatchOption, option_to_list}
+pub use Rattle.kd_form.proofs.Prelude.{map-append, take-append_seam, cases_lt, cases_eq, append-nil, take_all}
+pub use Rattle.kd_form.proofs.Prelude.{take-take, take-append-le, length-take, length-take-le, filter_map-append}
+pub use Rattle.kd_form.proofs.Prelude.{All-nil, All-push, ArrayVec, is_text_byte, Day, line_of, IsFirstPart}
+pub use Rattle.kd_form.proofs.Prelude.{FormFault, Heading, IsLineText, heading_words, letter_of_byte, letters_from}
+pub use Rattle.kd_form.proofs.Prelude.{IsHeading, BeginsHeading, Result, HasFault, GoesOn, IsBodyAnswer, HasHeading}
+pub use Rattle.kd_form.proofs.Prelude.{IsEarlyFault, IsExpectedCount, InHeading, InNumber, InBody, IsPartFault}
+pub use Rattle.kd_form.proofs.Prelude.{HoldsBody, IsBodyPlaintext, HasBegunHeading, HoldsPart, HoldsFormStage}
+pub use Rattle.kd_form.proofs.Prelude.{HoldsForm, IsHeadingFault, HeadingMissing, HeadingOfOther, IsPartRead}
+pub use Rattle.kd_form.proofs.Prelude.{PartOrder, plaintext_bytes, IsRefusedForGood, NoHeading, form_message}
+pub use Rattle.kd_form.proofs.Prelude.{HasFaultForGood, IsMessageAnswer, HasReadSoFar, PartsProperty, ReadsPartsTo}
+pub use Rattle.kd_form.proofs.Prelude.{IsFormReadTo, IsPartFaultForGood, IsPartFaultAtEnd, AreAllPartsRead}
+pub use Rattle.kd_form.proofs.Prelude.{IsLastPart, AtPart, cut_at_headings, parts_of, PartStart, first_part_start}
+pub use Rattle.kd_form.proofs.Prelude.{next_part_start, HasLastLineStart, current_part_start, plaintext_byte}
+pub use Rattle.kd_form.proofs.Prelude.{space_letter, BadHeading, BadByte, false≢true, All-take}
 use Rattle.kd_form.specs.declared.receiving.body_reader.PartBody.{PartBody}
 use Rattle.kd_form.specs.declared.receiving.form_reader.{FormReader.FormReader, FormStage.FormStage}
 pub use Rattle.kd_form.proofs.Headings.{at_most, has_byte, one_heading, begins_there, as_parts, BeginsHeading-digit}

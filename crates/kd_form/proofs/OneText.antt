@@ -14,10 +14,9 @@ pub use Rattle.kd_form.proofs.Prelude.{FailureAgrees, Parts, IsEarlyFault, form_
 pub use Rattle.kd_form.proofs.Prelude.{IsStreamAnswer, HaveNotFailed, is_device, is_off_key, text_message, IsWithout}
 pub use Rattle.kd_form.proofs.Prelude.{FormsBecomeOneText, FormsHaveOneFault, FormsStayRefused}
 pub use Rattle.kd_form.proofs.Prelude.{ReceivedFormsHaveNoFault, plaintext_with_end, false≢true}
-use Rattle.kd_form.proofs.OneOrder.{HasOneAnswer-either, HasOneAnswer-FindsThen}
-use Rattle.kd_form.proofs.OneOrder.{HasOneAnswer-DemandsThen, HasOneAnswer-UnlessFoundThen, one_internal_key}
-use Rattle.kd_form.proofs.OneOrder.{one_bad_byte, no_bad_byte, HasOneAnswer, Answer, UnlessFoundThen, DemandsThen}
-use Rattle.kd_form.proofs.OneOrder.{FindsOrFaultThen}
+use Rattle.kd_form.proofs.OneOrder.{HasOneAnswer-either, HasOneAnswer-FindsThen, HasOneAnswer-DemandsThen}
+use Rattle.kd_form.proofs.OneOrder.{HasOneAnswer-UnlessFoundThen, one_internal_key, one_bad_byte, no_bad_byte}
+use Rattle.kd_form.proofs.OneOrder.{HasOneAnswer, Answer, UnlessFoundThen, DemandsThen, FindsOrFaultThen}
 use Rattle.kd_form.proofs.Headings.{one_heading, begins_there, begins_more, first_there, ended_heading, heading_there}
 use Rattle.kd_form.proofs.Headings.{IsAlike, cut_at_headings-IsAlike, as_parts, first_done, cut_at_headings-whole}
 

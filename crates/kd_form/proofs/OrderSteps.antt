@@ -1,22 +1,20 @@
 -- What the reader of an order holds after one more byte, and its answer at the end.
 pub use Rattle.kd_form.proofs.Prelude.{append-nil, length-take, [], ◌≡◌, ◌≢◌, ℕ, zero, suc, ◌+◌, ◌*◌, ◌<◌, ◌≤◌, inl}
-pub use Rattle.kd_form.proofs.Prelude.{inr, List, ◌∷◌, ◌++◌, Some, length, take, drop, refl, sym, ap, ◌∙◌, append_assoc}
-pub use Rattle.kd_form.proofs.Prelude.{length-append, length-drop, arith, get_or, Option, Result, Ok, Err, IsTrue}
-pub use Rattle.kd_form.proofs.Prelude.{slice_get, codes, All, MatchResult, div_ceil, take_all, drop_all, drop-take}
-pub use Rattle.kd_form.proofs.Prelude.{drop-drop, take-take, take_more, length-take-le, Day, Keys, pieces}
+pub use Rattle.kd_form.proofs.Prelude.{inr, List, ◌∷◌, ◌++◌, Some, length, take, drop, refl, sym, ap, ◌∙◌}
+pub use Rattle.kd_form.proofs.Prelude.{append_assoc, length-append, length-drop, arith, get_or, Option, Result, Ok}
+pub use Rattle.kd_form.proofs.Prelude.{Err, IsTrue, slice_get, codes, All, MatchResult, div_ceil, take_all, drop_all}
+pub use Rattle.kd_form.proofs.Prelude.{drop-take, drop-drop, take-take, take_more, length-take-le, Day, Keys, pieces}
 pub use Rattle.kd_form.proofs.Prelude.{IsPartTextMade, part_size, KeysSuitDay, parts_needed, ArePartTextsMade}
 pub use Rattle.kd_form.proofs.Prelude.{letters_from, text_letters, IsFirstKeysFault, IsOrderFaultForGood, InHead}
 pub use Rattle.kd_form.proofs.Prelude.{InKeys, InText, NoLetter, InParts, IsWritableCount, IsSentBeforeEnd}
-pub use Rattle.kd_form.proofs.Prelude.{order_message}
-pub use Rattle.kd_form.proofs.Prelude.{AreLettersTaken, IsHeadBegun, IsHeadLine, HoldsOrderText, IsTextEndAnswer}
-pub use Rattle.kd_form.proofs.Prelude.{IsFreshWriter, IsOpen, HoldsOrder, HoldsOrderStage, All-nil, PatternFault}
-pub use Rattle.kd_form.proofs.Prelude.{AreKeys}
-pub use Rattle.kd_form.proofs.Prelude.{IsPatternLine, IsPatternFault, key_pattern, key_words, line_of, IsLineWithEnd}
-pub use Rattle.kd_form.proofs.Prelude.{IsKeyLine, BeginsWithKeys, IsAnyOrderHead, IsOrderHead, IsOrder}
-pub use Rattle.kd_form.proofs.Prelude.{IsOrderHeadFault, is_text_byte, FormFault, HasFaultForGood, IsMessageAnswer}
-pub use Rattle.kd_form.proofs.Prelude.{HasReadSoFar, IsAnyKeyLine, common_steps, BadByte, HeadCutShort, space_letter}
-pub use Rattle.kd_form.proofs.Prelude.{All-push, filter_map-append, ◌-◌, cases_lt, drop_at, le_of_mul-le-mul_left}
-pub use Rattle.kd_form.proofs.Prelude.{take_at}
+pub use Rattle.kd_form.proofs.Prelude.{order_message, AreLettersTaken, IsHeadBegun, IsHeadLine, HoldsOrderText}
+pub use Rattle.kd_form.proofs.Prelude.{IsTextEndAnswer, IsFreshWriter, IsOpen, HoldsOrder, HoldsOrderStage, All-nil}
+pub use Rattle.kd_form.proofs.Prelude.{PatternFault, AreKeys, IsPatternLine, IsPatternFault, key_pattern, key_words}
+pub use Rattle.kd_form.proofs.Prelude.{line_of, IsLineWithEnd, IsKeyLine, BeginsWithKeys, IsAnyOrderHead, IsOrderHead}
+pub use Rattle.kd_form.proofs.Prelude.{IsOrder, IsOrderHeadFault, is_text_byte, FormFault, HasFaultForGood}
+pub use Rattle.kd_form.proofs.Prelude.{IsMessageAnswer, HasReadSoFar, IsAnyKeyLine, common_steps, BadByte}
+pub use Rattle.kd_form.proofs.Prelude.{HeadCutShort, space_letter, All-push, filter_map-append, ◌-◌, cases_lt}
+pub use Rattle.kd_form.proofs.Prelude.{drop_at, le_of_mul-le-mul_left, take_at}
 use Rattle.std.proofs.lemmas.{Grind.div_ceil_times, Option.slice_get_within, Option.get_or_from_slice_get}
 use Rattle.kd_form.specs.declared.sending.{part_writer.PartWriter.PartWriter, order_head.HeadReader.HeadReader}
 use Rattle.kd_form.specs.declared.sending.order_reader.{OrderReader.OrderReader, OrderStage.OrderStage}

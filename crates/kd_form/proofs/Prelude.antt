@@ -24,9 +24,8 @@ pub use Rattle.arrayvec.specs.{ArrayVec.ArrayVec, ArrayVec.array_vec_len}
 pub use Rattle.kd_form.specs.FormParts.{AreFewLetters, AreHeadingWords, BeginsHeading, HasFirstLine, IsFraction}
 pub use Rattle.kd_form.specs.FormParts.{IsHeading, IsLetterCount, IsLineText, WithoutReturn, cut_at_headings, parts_of}
 pub use Rattle.kd_form.specs.FormSteps.{FitsHeadingAt, HasBegunHeading, HasLastLineStart, HoldsBody, HoldsForm}
-pub use Rattle.kd_form.specs.FormSteps.{HoldsPart}
-pub use Rattle.kd_form.specs.FormSteps.{HoldsFormStage, IsAtPartStart, IsBodyPlaintext, IsHeadingFault, HeadingMissing}
-pub use Rattle.kd_form.specs.FormSteps.{HeadingOfOther, current_part_start}
+pub use Rattle.kd_form.specs.FormSteps.{HoldsPart, HoldsFormStage, IsAtPartStart, IsBodyPlaintext, IsHeadingFault}
+pub use Rattle.kd_form.specs.FormSteps.{HeadingMissing, HeadingOfOther, current_part_start}
 pub use Rattle.kd_form.specs.FormText.{AtPart, IsPartFaultAtEnd, AreAllPartsRead, IsLastPart, IsFormReadTo}
 pub use Rattle.kd_form.specs.FormText.{IsReceiveFault, IsRefusedForGood, IsTextOf, NoHeading, PartsProperty, PartStart}
 pub use Rattle.kd_form.specs.FormText.{ReadsPartsTo, IsPartFaultForGood, first_part_start, form_message, plaintext_byte}
@@ -49,8 +48,7 @@ pub use Rattle.kd_form.specs.Part.{indicator_words, part_text, pieces, line_then
 pub use Rattle.kd_form.specs.Patterns.{AreLettersAppended, IsFilledLine, IsPatternLine, blank_count, filled_pattern}
 pub use Rattle.kd_form.specs.Patterns.{fits_mark, letters_for_mark}
 pub use Rattle.kd_form.specs.BodyCipher.{HasIndicator, HasIndicatorsAround, IsLettersAnswer, group_of_body}
-pub use Rattle.kd_form.specs.BodyCipher.{keys_of_body}
-pub use Rattle.kd_form.specs.BodyCipher.{list_of_body, deciphered_key, text_of_body}
+pub use Rattle.kd_form.specs.BodyCipher.{keys_of_body, list_of_body, deciphered_key, text_of_body}
 pub use Rattle.kd_form.specs.PartReading.{HasHeading, InBody, InHeading, InNumber, IsEarlyFault, IsExpectedCount}
 pub use Rattle.kd_form.specs.PartReading.{IsPartFault, IsPartRead, IsBodyAnswer}
 pub use Rattle.kd_form.specs.OrderSteps.{AreLettersTaken, IsFreshWriter, IsHeadBegun, IsHeadLine, IsTextEndAnswer}

@@ -1,7 +1,6 @@
 //! Reads the body of a part of a form byte by byte.
-ghost use Rattle.std.specs.Prelude.{codes, ◌≡◌, ◌≢◌, ◌↔◌, ◌<◌, ◌≤◌, ℕ, List, [], ◌∷◌, ◌++◌, length};
-ghost use Rattle.std.specs.Prelude.{take, slice_index, IsTrue, MatchOption, OnErr};
-ghost use Rattle.std.specs.Prelude.{OnOk};
+ghost use Rattle.std.specs.Prelude.{codes, ◌≡◌, ◌≢◌, ◌↔◌, ◌<◌, ◌≤◌, ℕ, List, [], ◌∷◌, ◌++◌, length, take};
+ghost use Rattle.std.specs.Prelude.{slice_index, IsTrue, MatchOption, OnErr, OnOk};
 ghost use Rattle.std.specs.Option.{option_to_list};
 ghost use Rattle.kd_tables.specs.Text.{is_text_byte};
 ghost use Rattle.kd_state.specs.Words.{line_of};
@@ -16,7 +15,7 @@ use super::plaintext::plaintext_bytes;
 use crate::bounded_list::push_if_room;
 use crate::fault::FormFault;
 use crate::heading::Heading;
-use crate::stream::reader::ReaderOutput;
+use crate::stream::reader::Output;
 use crate::text_bytes::letter_of_byte;
 use arrayvec::ArrayVec;
 use kd_state::{SheetDay, is_word};
@@ -83,7 +82,7 @@ impl PartBody {
         &self,
         day: &SheetDay,
         others: usize,
-        output: &mut ReaderOutput,
+        output: &mut Output,
     ) -> Result<(), FormFault>
         requires heading { IsHeading day.now self.now.heading }
         requires some { others ≤ length self.now.letters.items }
@@ -122,21 +121,5 @@ fn keep_byte(line: &mut ArrayVec<u8, LINE_START>, byte: u8)
         line.clear();
     } else {
         push_if_room(line, byte);
-    }
-}
-
-/// The byte of `PART ` at `place`, counted from 0; `None` if `place` is past these five bytes.
-pub(crate) fn heading_prefix_byte(place: usize) -> Option<u8>
-    ensures { MatchOption result
-        (5 ≤ place)
-        (λ byte. (place < 5) × (byte ≡ slice_index (codes "PART ") place)) }
-{
-    match place {
-        0 => Some(b'P'),
-        1 => Some(b'A'),
-        2 => Some(b'R'),
-        3 => Some(b'T'),
-        4 => Some(b' '),
-        _ => None,
     }
 }

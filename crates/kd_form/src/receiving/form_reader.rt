@@ -6,12 +6,12 @@ ghost use Rattle.kd_form.specs.PartReading.{IsExpectedCount, IsPartFault};
 ghost use Rattle.kd_form.specs.FormText.{form_message};
 ghost use Rattle.kd_form.specs.FormSteps.{FitsHeadingAt, IsExpectedHeading, IsHeadingFault, HoldsLine, HoldsForm};
 
-use super::body_reader::{PartBody, heading_prefix_byte};
+use super::body_reader::PartBody;
 use super::heading_reader::{heading_of_ended_line, heading_of_open_line};
 use crate::bounded_list::push_if_room;
 use crate::fault::FormFault;
 use crate::heading::Heading;
-use crate::stream::reader::{MessageReader, ReaderOutput};
+use crate::stream::reader::{MessageReader, Output};
 use crate::text_bytes::is_text_byte;
 use arrayvec::ArrayVec;
 use kd_state::SheetDay;
@@ -56,12 +56,7 @@ impl MessageReader for FormReader {
         }
     }
 
-    fn feed(
-        &mut self,
-        day: &SheetDay,
-        byte: u8,
-        output: &mut ReaderOutput,
-    ) -> Result<(), FormFault> {
+    fn feed(&mut self, day: &SheetDay, byte: u8, output: &mut Output) -> Result<(), FormFault> {
         self.read += 1;
         match &mut self.stage {
             FormStage::Heading(line) => {
@@ -94,7 +89,7 @@ impl MessageReader for FormReader {
         }
     }
 
-    fn end(&mut self, day: &SheetDay, output: &mut ReaderOutput) -> Result<(), FormFault> {
+    fn end(&mut self, day: &SheetDay, output: &mut Output) -> Result<(), FormFault> {
         match &self.stage {
             FormStage::Heading(line) => Err(fault_in_heading(
                 day,
@@ -139,8 +134,8 @@ fn fault_in_heading(
 fn can_follow(line: &[u8], byte: u8) -> bool
     ensures { IsTrue result ↔ FitsHeadingAt (length line.now) byte }
 {
-    match heading_prefix_byte(line.len()) {
-        Some(due) => byte == due,
+    match b"PART ".get(line.len()) {
+        Some(due) => byte == *due,
         None => line.len() > 5 || byte.is_ascii_digit(),
     }
 }

@@ -1,13 +1,11 @@
 //! Reads an order byte by byte, and makes the parts of the order's form.
-//!
-//! An order has a line of keys for each part, then the line TEXT, and then the text to send.
 ghost use Rattle.std.specs.Prelude.{◌≡◌, [], ◌∷◌, ◌++◌};
 
 use super::key_checks::check_keys;
 use super::order_head::{HeadReader, HeadStep};
 use super::part_writer::PartWriter;
 use crate::fault::FormFault;
-use crate::stream::reader::{MessageReader, ReaderOutput};
+use crate::stream::reader::{MessageReader, Output};
 use crate::text_bytes::is_text_byte;
 use kd_state::SheetDay;
 
@@ -47,12 +45,7 @@ impl MessageReader for OrderReader {
         }
     }
 
-    fn feed(
-        &mut self,
-        day: &SheetDay,
-        byte: u8,
-        output: &mut ReaderOutput,
-    ) -> Result<(), FormFault> {
+    fn feed(&mut self, day: &SheetDay, byte: u8, output: &mut Output) -> Result<(), FormFault> {
         self.read += 1;
         match self.stage {
             OrderStage::Head => match self.head.take(day, byte) {
@@ -73,7 +66,7 @@ impl MessageReader for OrderReader {
         }
     }
 
-    fn end(&mut self, day: &SheetDay, output: &mut ReaderOutput) -> Result<(), FormFault> {
+    fn end(&mut self, day: &SheetDay, output: &mut Output) -> Result<(), FormFault> {
         match self.stage {
             OrderStage::Head => Err(FormFault::BadByte(self.read + 1)),
             OrderStage::Text => self.writer.end(day, self.head.keys(), output),

@@ -3,9 +3,8 @@ ghost use Rattle.std.specs.Prelude.{◌≡◌, ◌≤◌, ℕ, List, length};
 ghost use Rattle.kd_form.specs.InternalKey.{IsInternalKey};
 ghost use Rattle.kd_form.specs.Keys.{AreKeys};
 ghost use Rattle.kd_form.specs.Part.{part_text};
-ghost use Rattle.kd_form.specs.Making.{KeysSuitDay, IsPartTextMade, part_of, part_size};
-ghost use Rattle.kd_form.specs.Making.{indicator_of, rotor_letters, enciphered_choice};
-ghost use Rattle.kd_form.specs.Making.{pin_indicators, pin_letters, fill_last_group};
+ghost use Rattle.kd_form.specs.Making.{KeysSuitDay, IsPartTextMade, part_of, part_size, indicator_of, rotor_letters};
+ghost use Rattle.kd_form.specs.Making.{enciphered_choice, pin_indicators, pin_letters, fill_last_group};
 
 use super::body_writer::push_body;
 use super::heading_writer::push_heading;

@@ -1,6 +1,5 @@
 //! Collects the letters of an order's text, and makes the parts of the order's form from them.
-ghost use Rattle.std.specs.Prelude.{◌≡◌, ◌<◌, ◌≤◌, ◌+◌, ◌^◌, List, ℕ, [], ◌∷◌, ◌++◌, length, Some};
-ghost use Rattle.std.specs.Prelude.{slice_get};
+ghost use Rattle.std.specs.Prelude.{◌≡◌, ◌<◌, ◌≤◌, ◌+◌, ◌^◌, List, ℕ, [], ◌∷◌, ◌++◌, length, Some, slice_get};
 ghost use Rattle.kd_form.specs.declared.keys.Keys.{Keys};
 ghost use Rattle.kd_form.specs.Making.{IsPartTextMade, part_size};
 ghost use Rattle.kd_form.specs.Sending.{text_letters};
@@ -9,7 +8,7 @@ ghost use Rattle.kd_form.specs.OrderSteps.{AreSuitedKeys, AreLettersTaken, IsTex
 use super::part::{make_part, part_size};
 use crate::fault::FormFault;
 use crate::keys::Keys;
-use crate::stream::reader::ReaderOutput;
+use crate::stream::reader::Output;
 use crate::text_bytes::{letter_of_byte, space_letter};
 use arrayvec::ArrayVec;
 use kd_state::SheetDay;
@@ -39,13 +38,7 @@ impl PartWriter {
     }
 
     /// Takes the next byte of the text, and hands the letter that it gives, if any, to `take_letter`.
-    pub(crate) fn take(
-        &mut self,
-        day: &SheetDay,
-        keys: &[Keys],
-        byte: u8,
-        output: &mut ReaderOutput,
-    )
+    pub(crate) fn take(&mut self, day: &SheetDay, keys: &[Keys], byte: u8, output: &mut Output)
         requires taken { (letters sent : List ℕ) × AreLettersTaken day.now keys.now self.old letters sent
             × (length letters < 2 ^ 63) }
         requires empty { output.old.items ≡ [] }
@@ -62,13 +55,7 @@ impl PartWriter {
     ///
     /// But the last part, for which the last line of keys is used, is written by `end`. Once the last part is full,
     /// letters are only counted.
-    fn take_letter(
-        &mut self,
-        day: &SheetDay,
-        keys: &[Keys],
-        letter: Letter,
-        output: &mut ReaderOutput,
-    )
+    fn take_letter(&mut self, day: &SheetDay, keys: &[Keys], letter: Letter, output: &mut Output)
         requires taken { (letters sent : List ℕ) × AreLettersTaken day.now keys.now self.old letters sent
             × (length letters < 2 ^ 63) }
         requires empty { output.old.items ≡ [] }
@@ -91,7 +78,7 @@ impl PartWriter {
         &mut self,
         day: &SheetDay,
         keys: &[Keys],
-        output: &mut ReaderOutput,
+        output: &mut Output,
     ) -> Result<(), FormFault>
         requires taken { (letters sent : List ℕ) × AreLettersTaken day.now keys.now self.old letters sent }
         requires empty { output.old.items ≡ [] }
@@ -111,7 +98,7 @@ impl PartWriter {
     }
 
     /// Writes the next part to `output`. Its text is the letters collected so far.
-    fn write_part(&mut self, day: &SheetDay, keys: &[Keys], output: &mut ReaderOutput)
+    fn write_part(&mut self, day: &SheetDay, keys: &[Keys], output: &mut Output)
         requires keys { AreSuitedKeys day.now keys.now }
         requires another { self.old.written < length keys.now }
         requires few { length self.old.letters.items ≤ part_size day.now }
@@ -124,14 +111,9 @@ impl PartWriter {
         ensures written { self.new.written ≡ self.old.written + 1 }
     {
         let part = self.written + 1;
-        let part_keys = &keys[usize::from(self.written)];
-        let text = make_part(
-            day,
-            part,
-            keys.len() as u8,
-            part_keys,
-            self.letters.as_slice(),
-        );
+        let parts = keys.len() as u8;
+        let keys = &keys[usize::from(self.written)];
+        let text = make_part(day, part, parts, keys, self.letters.as_slice());
         output
             .try_extend_from_slice(text.as_str().as_bytes())
             .unwrap();

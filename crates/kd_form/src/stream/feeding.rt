@@ -5,7 +5,7 @@ ghost use Rattle.kd_form.specs.StreamSteps.{HasRoom, IsFeedAllAnswer, IsFinishAn
 ghost use Rattle.kd_form.specs.StreamSteps.{is_device_interruption};
 
 use super::interruption::Interruption;
-use super::reader::{CHUNK, ChunkReader, MessageReader, ReaderOutput};
+use super::reader::{CHUNK, ChunkReader, MessageReader, Output};
 use crate::fault::FormFault;
 use arrayvec::ArrayVec;
 use kd_state::SheetDay;
@@ -24,7 +24,7 @@ pub(crate) fn feed_all<M: MessageReader, W: Sink>(
         bytes.now (port W.taken W.has_failed sink.old sink.new) result }
     ensures failed { W.has_failed sink.new ≡ (W.has_failed sink.old || is_device_interruption result) }
 {
-    let mut output: ReaderOutput = ArrayVec::new();
+    let mut output: Output = ArrayVec::new();
     for byte in bytes {
         feed_one(reader, day, *byte, &mut output, sink)?;
     }
@@ -36,7 +36,7 @@ fn feed_one<M: MessageReader, W: Sink>(
     reader: &mut M,
     day: &SheetDay,
     byte: u8,
-    output: &mut ReaderOutput,
+    output: &mut Output,
     sink: &mut W,
 ) -> Result<(), Interruption>
     requires room { HasRoom (M.message day.now) (M.holds day.now reader.old) 1 }
@@ -71,7 +71,7 @@ impl<M: MessageReader> ChunkReader<SheetDay> for M {
     }
 
     fn finish<W: Sink>(&mut self, context: &SheetDay, sink: &mut W) -> Result<(), Interruption> {
-        let mut output: ReaderOutput = ArrayVec::new();
+        let mut output: Output = ArrayVec::new();
         let answer = self.end(context, &mut output);
         put_all(sink, output.as_slice())?;
         answer?;
