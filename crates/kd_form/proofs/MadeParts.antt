@@ -18,7 +18,7 @@ pub use Rattle.kd_form.proofs.Prelude.{All-append, All-cons, All-replicate, twic
 pub use Rattle.kd_form.proofs.Prelude.{sent_letters, AreKeys, nat_tests, AreRising, GoesOn}
 use Rattle.{kd_enigma.specs.Cipher.{path, product}}
 use Rattle.{kd_state.specs.TwoCiphers.{EngineKey, engine_key_after, key_with_window}}
-use Rattle.kd_form.specs.Making.{IsKeyOfDaysMachine}
+use Rattle.kd_form.specs.PartMaking.{IsKeyOfDaysMachine}
 use Rattle.kd_tables.specs.{Permutation.{alphabet, followed_by}, Rings.ring_of}
 use Rattle.std.proofs.lemmas.List.FromFn.{get_or-range_with_len, length-enumerate_from, length-range_with_len}
 

@@ -38,9 +38,9 @@ pub use Rattle.kd_form.specs.Keys.{AreKeys, key_words}
 pub use Rattle.kd_form.specs.Laws.{FormsBecomeOneText, FormsGiveTheirOrders, FormsHaveOneFault, FormsStayRefused}
 pub use Rattle.kd_form.specs.Laws.{OrdersGiveLetters, ReceivedFormsHaveNoFault}
 pub use Rattle.kd_form.specs.{OnTheKey.{IsKeyFault, OffKey}}
-pub use Rattle.kd_form.specs.Making.{IsPartMade, IsPartTextMade, KeysSuitDay, cipher_from, enciphered_choice}
-pub use Rattle.kd_form.specs.Making.{fill_last_group, list_letters, part_size, pin_indicators, pin_letters}
-pub use Rattle.kd_form.specs.Making.{rotor_letters}
+pub use Rattle.kd_form.specs.PartMaking.{IsPartMade, IsPartTextMade, KeysSuitDay, cipher_from, enciphered_choice}
+pub use Rattle.kd_form.specs.PartMaking.{fill_last_group, list_letters, part_size, pin_indicators, pin_letters}
+pub use Rattle.kd_form.specs.PartMaking.{rotor_letters}
 pub use Rattle.kd_form.specs.Order.{BeginsWithKeys, IsPatternFault, IsAnyOrderHead, IsLineWithEnd, IsOrderHead}
 pub use Rattle.kd_form.specs.Order.{IsOrderHeadFault, IsKeyLine, IsOrder}
 pub use Rattle.kd_form.specs.Part.{Part, words_after_spaces, body_text, fraction_text, letter_groups, heading_words}

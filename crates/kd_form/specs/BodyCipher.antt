@@ -12,7 +12,7 @@ use Rattle.kd_form.specs.declared.fault.FormFault.TheVariants.{IndicatorsDiffer}
 use Rattle.kd_form.specs.declared.keys.PinKeys.{PinKeys}
 use Rattle.kd_form.specs.declared.heading.Indicator.{Indicator}
 use Rattle.kd_form.specs.InternalKey.{IsInternalKey}
-use Rattle.kd_form.specs.Making.{cipher_from, list_letters, enciphered_choice}
+use Rattle.kd_form.specs.PartMaking.{cipher_from, list_letters, enciphered_choice}
 
 -- ---- The letters of a body on a rotor machine: two fillers, the group, and the enciphered text.
 -- Source: the singly enciphered message key of the Wehrmacht.

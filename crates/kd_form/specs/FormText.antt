@@ -8,7 +8,7 @@ use Rattle.kd_state.specs.Words.{IsFirstPart}
 use Rattle.kd_form.specs.declared.fault.FormFault.{FormFault}
 use Rattle.kd_form.specs.declared.fault.FormFault.TheVariants.{BadHeading, PartOrder}
 use Rattle.kd_form.specs.declared.keys.Keys.{Keys}
-use Rattle.kd_form.specs.Making.{fill_last_group}
+use Rattle.kd_form.specs.PartMaking.{fill_last_group}
 use Rattle.kd_form.specs.Streams.{Message}
 use Rattle.kd_form.specs.Order.{IsOrder}
 use Rattle.kd_form.specs.Sending.{space_letter, text_letters}

@@ -2,7 +2,7 @@ pub mod Keys
 pub mod FaultText
 pub mod InternalKey
 pub mod Part
-pub mod Making
+pub mod PartMaking
 pub mod Patterns
 pub mod Order
 pub mod Sending

@@ -15,7 +15,7 @@ use Rattle.kd_form.specs.declared.sending.order_reader.OrderStage.{OrderStage}
 use Rattle.kd_form.specs.declared.sending.order_reader.OrderStage.TheVariants as stages
 use Rattle.kd_form.specs.Keys.{AreKeys}
 use Rattle.kd_form.specs.Part.{pieces}
-use Rattle.kd_form.specs.Making.{KeysSuitDay, part_size}
+use Rattle.kd_form.specs.PartMaking.{KeysSuitDay, part_size}
 use Rattle.kd_form.specs.Order.{BeginsWithKeys, IsPatternFault, IsLineWithEnd, IsOrderHeadFault, IsOrder}
 use Rattle.kd_form.specs.KeyPatterns.{IsAnyKeyLine}
 use Rattle.kd_form.specs.Sending.{text_letters, parts_needed, ArePartTextsMade, IsSendable}

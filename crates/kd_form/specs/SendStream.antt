@@ -5,7 +5,7 @@ use Rattle.kd_tables.specs.Text.{is_text_byte}
 use Rattle.kd_state.specs.SheetDay.{Day}
 use Rattle.kd_form.specs.declared.keys.Keys.{Keys}
 use Rattle.kd_form.specs.Part.{pieces}
-use Rattle.kd_form.specs.Making.{KeysSuitDay, part_size}
+use Rattle.kd_form.specs.PartMaking.{KeysSuitDay, part_size}
 use Rattle.kd_form.specs.Order.{IsOrder}
 use Rattle.kd_form.specs.Sending.{text_letters, IsOrderFaultForGood, IsSendFault, ArePartTextsMade, IsFormOf}
 use Rattle.kd_form.specs.Streams.{Message}

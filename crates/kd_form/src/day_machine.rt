@@ -3,7 +3,7 @@ ghost use Rattle.std.specs.Prelude.{◌≡◌, ◌↔◌, ◌≤◌, ◌<◌, le
 ghost use Rattle.std.specs.Bool.{OnTrue};
 ghost use Rattle.kd_state.specs.TwoCiphers.{sheet_key, IsWindow};
 ghost use Rattle.kd_form.specs.KeyPatterns.{IsRotorDayWith, IsConverterDay};
-ghost use Rattle.kd_form.specs.Making.{cipher_from};
+ghost use Rattle.kd_form.specs.PartMaking.{cipher_from};
 
 use super::bounded_list::append_letters;
 use arrayvec::ArrayVec;
@@ -21,7 +21,7 @@ pub(crate) struct DayMachine<'day> {
 
 impl<'day> Model for DayMachine<'day> {
     ghost use Rattle.kd_state.specs.SheetDay.{Day};
-    ghost use Rattle.kd_form.specs.Making.{IsKeyOfDaysMachine};
+    ghost use Rattle.kd_form.specs.PartMaking.{IsKeyOfDaysMachine};
 
     ghost Value = { Day };
 

@@ -2,7 +2,7 @@
 ghost use Rattle.std.specs.Prelude.{◌≡◌, ◌≤◌, ◌<◌, ◌+◌, ◌++◌, ◌∷◌, MatchOption};
 ghost use Rattle.kd_state.specs.TwoCiphers.{sheet_key, IsWindow};
 ghost use Rattle.kd_form.specs.InternalKey.{IsInternalKey, HaveNoInternalKey, IsTakenInTurn};
-ghost use Rattle.kd_form.specs.Making.{enciphered_choice};
+ghost use Rattle.kd_form.specs.PartMaking.{enciphered_choice};
 
 use super::day_machine::DayMachine;
 use super::keys::PinKeys;

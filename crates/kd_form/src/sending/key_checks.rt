@@ -1,7 +1,7 @@
 //! Checks that the keys of an order suit the day.
 ghost use Rattle.std.specs.Prelude.{◌≤◌, length, All, MatchResult};
 ghost use Rattle.kd_form.specs.Keys.{AreKeys};
-ghost use Rattle.kd_form.specs.Making.{KeysSuitDay};
+ghost use Rattle.kd_form.specs.PartMaking.{KeysSuitDay};
 ghost use Rattle.kd_form.specs.Sending.{IsKeysFault, IsFirstKeysFault};
 
 use crate::day_machine::DayMachine;

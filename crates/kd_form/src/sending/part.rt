@@ -3,8 +3,9 @@ ghost use Rattle.std.specs.Prelude.{◌≡◌, ◌≤◌, ℕ, List, length};
 ghost use Rattle.kd_form.specs.InternalKey.{IsInternalKey};
 ghost use Rattle.kd_form.specs.Keys.{AreKeys};
 ghost use Rattle.kd_form.specs.Part.{part_text};
-ghost use Rattle.kd_form.specs.Making.{KeysSuitDay, IsPartTextMade, part_of, part_size, indicator_of, rotor_letters};
-ghost use Rattle.kd_form.specs.Making.{enciphered_choice, pin_indicators, pin_letters, fill_last_group};
+ghost use Rattle.kd_form.specs.PartMaking.{KeysSuitDay, IsPartTextMade, part_of, part_size, indicator_of};
+ghost use Rattle.kd_form.specs.PartMaking.{rotor_letters};
+ghost use Rattle.kd_form.specs.PartMaking.{enciphered_choice, pin_indicators, pin_letters, fill_last_group};
 
 use super::body_writer::push_body;
 use super::heading_writer::push_heading;

@@ -1,7 +1,7 @@
 //! Collects the letters of an order's text, and makes the parts of the order's form from them.
 ghost use Rattle.std.specs.Prelude.{◌≡◌, ◌<◌, ◌≤◌, ◌+◌, ◌^◌, List, ℕ, [], ◌∷◌, ◌++◌, length, Some, slice_get};
 ghost use Rattle.kd_form.specs.declared.keys.Keys.{Keys};
-ghost use Rattle.kd_form.specs.Making.{IsPartTextMade, part_size};
+ghost use Rattle.kd_form.specs.PartMaking.{IsPartTextMade, part_size};
 ghost use Rattle.kd_form.specs.Sending.{text_letters};
 ghost use Rattle.kd_form.specs.OrderSteps.{AreSuitedKeys, AreLettersTaken, IsTextEndAnswer, IsFreshWriter};
 

@@ -10,12 +10,7 @@ returns-in-Ok-Some c order is =
     let ended = rw (c.as_slice.ensures.value, c.push.ensures.items) at keyed in
     rw (c.push-in-Ok-Some.ensures.items, c.clear.ensures) (record {
       lines = one_more is (λ rest. rest ≡ []) _ (c.args.byte ∷ []) [] are ended refl;
-      few =
-          omega (
-            arith,
-            rw c.len.ensures.value at room,
-            length-append c.args.self.now.keys.items (c.in-Ok-Some.keys ∷ []),
-          );
+      few = grind (arith, length-append, rw c.len.ensures.value at room);
       begins = (codes "TEXT\n", (λ none. cc), inr (inl refl));
     })
 
