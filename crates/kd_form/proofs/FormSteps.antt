@@ -133,7 +133,7 @@ HoldsWithMore b others P =
 pub record IsNext (s : Day) (b : PartBody) (number : ℕ) (expected : Option ℕ) (part body more : List ℕ) : Type 0 where
   pub has : HasHeading s part b.heading body
   pub numbered : b.heading.part ≡ number
-  pub due : IsExpectedCount expected b.heading.parts
+  pub as_expected : IsExpectedCount expected b.heading.parts
   pub allowed : All (λ b. IsTrue (is_text_byte b)) body
   pub kept : b.letters.items ≡ take 525 (letters_from None body ++ more)
 
@@ -166,7 +166,7 @@ module _ {s : Day} {b : PartBody} {number : ℕ} {expected : Option ℕ} {part b
         body = body;
         has = next.has;
         numbered = next.numbered;
-        due = next.due;
+        as_expected = next.as_expected;
         allowed = next.allowed;
         found = subst (λ n. IsBodyAnswer s n b.heading (letters_from None body) (Err fault)) next.numbered found;
       })
@@ -196,7 +196,7 @@ module _ {s : Day} {number : ℕ} {expected : Option ℕ} {part : List ℕ} wher
       none b.heading held.body (body_heading held.holds)
   HoldsFormStage-not_early start (stages.Body b) held broken (InNumber h rest has other is) =
       let same = one_heading s part b.heading h held.body rest (body_heading held.holds) has in
-      grind (arith, same, held.numbered, held.due)
+      grind (arith, same, held.numbered, held.as_expected)
   HoldsFormStage-not_early start (stages.Body b) held broken (InBody h rest place has numbered due bad is) =
       let same = one_heading s part b.heading h held.body rest (body_heading held.holds) has in
       no_bad_byte rest place (rw same.1 at held.holds.allowed) bad
@@ -313,7 +313,7 @@ EndsInHeading-holds {b = b} mine begun =
           first = inl (holds.line, record { joined = sym last.broken; without = holds.first.without }, holds.text);
         };
         numbered = mine.numbered;
-        due = mine.due;
+        as_expected = mine.as_expected;
         allowed = subst (All (λ b. IsTrue (is_text_byte b))) (take-append_seam last.settled (codes "PART "))
             (All-take (λ b. IsTrue (is_text_byte b)) (length last.settled) _ (rw lines at holds.allowed));
         kept = holds.kept ∙ ap (λ l. take 525 (letters_from None l)) lines
@@ -428,7 +428,7 @@ module _ {s : Day} {r : FormReader} {form text : List ℕ} (h : HoldsForm s r fo
       ends_read B so =
           let (one, read, is) = next_read next_last given told in
           ends_so h B one given (inr
-          (b.heading.parts, one, [], read, mine.due, (so, refl), sym (append-nil one))) is
+          (b.heading.parts, one, [], read, mine.as_expected, (so, refl), sym (append-nil one))) is
 
       pub closes : {made : List ℕ} → b.heading.parts ≡ r.number → made ≡ given ++ 10 ∷ []
           → IsMessageAnswer (form_message s) form (text ++ made) (Ok tt)

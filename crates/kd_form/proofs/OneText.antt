@@ -113,7 +113,7 @@ module _ (s : Day) where
   part_fault (inl (InNumber h body has other is)) = inr ((h, body), has, inl (grind arith))
   part_fault (inl (InBody h body place has numbered due bad is)) =
       inr ((h, body), has, inr ((numbered, due), inl (place, bad, ap Err is)))
-  part_fault (inr a) = inr ((a.heading, a.body), a.has, inr ((a.numbered, a.due), inr (a.allowed, a.found)))
+  part_fault (inr a) = inr ((a.heading, a.body), a.has, inr ((a.numbered, a.as_expected), inr (a.allowed, a.found)))
 
   part_read : {number parts : ℕ} {part text : List ℕ} → (expected : Option ℕ) (start : ℕ)
       → IsPartRead s number parts part text → IsExpectedCount expected parts

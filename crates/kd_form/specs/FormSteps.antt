@@ -61,7 +61,7 @@ pub record HoldsPart (s : Day) (b : PartBody) (number : ℕ) (expected : Option 
   pub body : List ℕ
   pub holds : HoldsBody s b part body
   pub numbered : b.heading.part ≡ number
-  pub due : IsExpectedCount expected b.heading.parts
+  pub as_expected : IsExpectedCount expected b.heading.parts
 
 abbrev pub HoldsFormStage : Day → FormStage → ℕ → Option ℕ → List ℕ → Type 0
 HoldsFormStage s (stages.Heading line) number expected part = HoldsLine line.items part × (length part < 6 → number ≡ 1)
@@ -96,7 +96,7 @@ IsEndedHeading s part found =
 pub record IsExpectedHeading (number : ℕ) (expected : Option ℕ) (found : Option Heading) (h : Heading) : Type 0 where
   pub is : found ≡ Some h
   pub numbered : h.part ≡ number
-  pub due : IsExpectedCount expected h.parts
+  pub as_expected : IsExpectedCount expected h.parts
 
 -- Why `found` is refused: it is `None`, or its heading has a wrong part number or a wrong number of parts.
 pub data IsHeadingFault (number : ℕ) (expected : Option ℕ) (found : Option Heading) (fault : FormFault) : Type 0 where

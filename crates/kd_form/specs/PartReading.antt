@@ -61,7 +61,7 @@ pub record IsLateFault (s : Day) (number : ℕ) (expected : Option ℕ) (part : 
   pub body : List ℕ
   pub has : HasHeading s part heading body
   pub numbered : heading.part ≡ number
-  pub due : IsExpectedCount expected heading.parts
+  pub as_expected : IsExpectedCount expected heading.parts
   pub allowed : All (λ b. IsTrue (is_text_byte b)) body
   pub found : IsBodyAnswer s number heading (letters_from None body) (Err fault)
 

@@ -20,7 +20,7 @@ pub record IsAllowedPrefix (text front : List ℕ) : Type 0 where
 -- `written` is the number of parts that can be written once `letters` letters have been read; in all there are `parts`
 -- parts. A part has at most `size` letters, and can be written once a letter of the next part has been read.
 pub record IsWritableCount (size parts letters written : ℕ) : Type 0 where
-  pub due : (written ≡ 0) ⊎ ((written < parts) × (size * written < letters))
+  pub writable : (written ≡ 0) ⊎ ((written < parts) × (size * written < letters))
   pub most : (other : ℕ) → other < parts → size * other < letters → other ≤ written
 
 -- `sent` is written before the end of the order is read. If the head isn't complete, or the keys don't suit the day,

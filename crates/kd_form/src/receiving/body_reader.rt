@@ -27,6 +27,9 @@ use kd_tables::Letter;
 /// the next heading.
 const KEPT_LETTERS: usize = 525;
 
+/// How many letters of the next heading line are kept with a body's letters: the four of `PART`.
+pub(crate) const HEADING_LETTERS: usize = 4;
+
 /// How many bytes of a line are kept: enough to see whether it is a heading line.
 const LINE_START: usize = 6;
 

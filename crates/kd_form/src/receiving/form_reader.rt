@@ -6,7 +6,7 @@ ghost use Rattle.kd_form.specs.PartReading.{IsExpectedCount, IsPartFault};
 ghost use Rattle.kd_form.specs.FormText.{form_message};
 ghost use Rattle.kd_form.specs.FormSteps.{FitsHeadingAt, IsExpectedHeading, IsHeadingFault, HoldsLine, HoldsForm};
 
-use super::body_reader::PartBody;
+use super::body_reader::{HEADING_LETTERS, PartBody};
 use super::heading_reader::{heading_of_ended_line, heading_of_open_line};
 use crate::bounded_list::push_if_room;
 use crate::fault::FormFault;
@@ -80,7 +80,7 @@ impl MessageReader for FormReader {
                     body.push(byte);
                     return Ok(());
                 }
-                body.decipher_into(day, 4, output)?;
+                body.decipher_into(day, HEADING_LETTERS, output)?;
                 self.expected = Some(body.heading.parts);
                 self.number += 1;
                 self.stage = FormStage::Heading(heading_line_start(byte));

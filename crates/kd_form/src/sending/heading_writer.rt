@@ -34,16 +34,10 @@ fn push_indicator<const N: usize>(text: &mut ArrayString<N>, indicator: &Option<
         ≡ text.old.bytes ++ words_after_spaces (indicator_words indicator.now) }
     ensures len { array_string_len text.new ≤ array_string_len text.old + 10 }
 {
-    if let Some(
-        Indicator {
-            ground_setting,
-            enciphered_key,
-        },
-    ) = indicator
-    {
+    if let Some(indicator) = indicator {
         text.push_str(" ");
-        push_letters(text, ground_setting.as_slice());
+        push_letters(text, indicator.ground_setting.as_slice());
         text.push_str(" ");
-        push_letters(text, enciphered_key.as_slice());
+        push_letters(text, indicator.enciphered_key.as_slice());
     }
 }

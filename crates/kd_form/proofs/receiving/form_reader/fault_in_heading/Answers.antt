@@ -4,15 +4,15 @@ use Rattle.kd_form.proofs.receiving.form_reader.fault_in_heading.Goals as goal
 
 pub returns-in-Ok : goal.returns-in-Ok
 returns-in-Ok c = λ part held start.
-    let due = c.in-Ok.ensures in
+    let found = c.in-Ok.ensures in
     let has =
-    rw due.is at (c.heading_of_open_line-heading.ensures part held.unbroken (c.as_slice.ensures.value ∙ held.kept)) in
+    rw found.is at (c.heading_of_open_line-heading.ensures part held.unbroken (c.as_slice.ensures.value ∙ held.kept)) in
     inr (record {
       heading = _;
       body = [];
       has = has;
-      numbered = due.numbered;
-      due = due.due;
+      numbered = found.numbered;
+      as_expected = found.as_expected;
       allowed = All-nil (λ b. IsTrue (is_text_byte b));
       found = HasFault _ ((λ _ none. grind (arith, none, has.is_heading.letters)), refl) refl;
     })

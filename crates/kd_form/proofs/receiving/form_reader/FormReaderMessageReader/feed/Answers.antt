@@ -54,7 +54,7 @@ returns-then-not-is_text_byte c = λ form text so_far.
       InBody _ body (length there.body) (record {
         is_heading = holds.is_heading;
         first = inl (holds.line, first, holds.text);
-      }) there.numbered there.due
+      }) there.numbered there.as_expected
           (bad_behind there.body [] c.args.byte holds.allowed (sym c.is_text_byte.ensures ∙ c.if-not-is_text_byte.true))
           (ap BadByte place),
     )
@@ -70,7 +70,7 @@ returns-then-not-is_next_heading_digit c = λ form text so_far.
       body = there.body ++ c.args.byte ∷ [];
       holds = c.push.ensures.body _ h.last there.body there.holds;
       numbered = rw c.push.ensures.heading there.numbered;
-      due = rw c.push.ensures.heading there.due;
+      as_expected = rw c.push.ensures.heading there.as_expected;
     }))
 
 pub overflow_add-self-in-Body : goal.overflow_add-self-in-Body
@@ -88,10 +88,10 @@ pub returns-in_ok-heading-in-Heading : goal.returns-in_ok-heading-in-Heading
 returns-in_ok-heading-in-Heading c = λ form text so_far.
     let h = so_far.is in
     let there = (in_stage h c.in-Heading.is).0 in
-    let due = c.in_ok-heading-in-Heading.ensures in
+    let found = c.in_ok-heading-in-Heading.ensures in
     let told =
     c.heading_of_ended_line-heading.ensures h.last there.unbroken (c.as_slice-in-Heading.ensures.value ∙ there.kept) in
-    let (is_heading, text_is) = rw due.is at told in
+    let (is_heading, text_is) = rw found.is at told in
     let heads = c.new.ensures.heading in
     rw c.if-byte-ne10.false (held (grows h (stages.Body c.new.result) _ 10 c.requires.empty
     (cut_at_headings-line h.last 10 there.unbroken) (record {
@@ -113,8 +113,8 @@ returns-in_ok-heading-in-Heading c = λ form text so_far.
         allowed = All-nil (λ b. IsTrue (is_text_byte b));
         kept = c.new.ensures.letters;
       };
-      numbered = rw heads due.numbered;
-      due = rw heads due.due;
+      numbered = rw heads found.numbered;
+      as_expected = rw heads found.as_expected;
     })))
 
 pub returns-in_err-heading-in-Heading : goal.returns-in_err-heading-in-Heading
