@@ -1,5 +1,5 @@
 //! Reads the letters of a part's body: tests the indicators and the group, and deciphers the text.
-ghost use Rattle.std.specs.Prelude.{◌≡◌, ◌+◌, ◌^◌, ◌<◌, ◌≤◌, ◌↔◌, Some, length, IsTrue, MatchResult};
+ghost use Rattle.std.specs.Prelude.{◌≡◌, ◌<◌, ◌≤◌, ◌↔◌, Some, length, IsTrue, MatchResult};
 ghost use Rattle.kd_form.specs.BodyCipher.{HasIndicator, IsRotorAnswer, IsPinAnswer};
 ghost use Rattle.kd_form.specs.BodyCipher.{HasIndicatorsAround, keys_of_body};
 ghost use Rattle.kd_form.specs.KeyPatterns.{IsConverterDay};

@@ -1,12 +1,8 @@
 //! Reads the body of a part of a form byte by byte.
 ghost use Rattle.std.specs.Prelude.{codes, ◌≡◌, ◌≢◌, ◌↔◌, ◌<◌, ◌≤◌, ℕ, List, [], ◌∷◌, ◌++◌, length, take};
-ghost use Rattle.std.specs.Prelude.{slice_index, IsTrue, MatchOption, OnErr, OnOk};
+ghost use Rattle.std.specs.Prelude.{IsTrue, OnErr, OnOk};
 ghost use Rattle.std.specs.Option.{option_to_list};
 ghost use Rattle.kd_tables.specs.Text.{is_text_byte};
-ghost use Rattle.kd_state.specs.Words.{line_of};
-ghost use Rattle.kd_form.specs.Order.{IsLineWithEnd};
-ghost use Rattle.kd_form.specs.Part.{heading_words};
-ghost use Rattle.kd_form.specs.Sending.{letters_from};
 ghost use Rattle.kd_form.specs.FormParts.{IsHeading};
 ghost use Rattle.kd_form.specs.FormSteps.{HoldsBody, IsDecipherAnswer};
 

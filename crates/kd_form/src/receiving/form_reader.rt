@@ -1,6 +1,5 @@
 //! Reads a form byte by byte: divides it into parts, and each part into heading line and body.
-ghost use Rattle.std.specs.Prelude.{codes, ◌≡◌, ◌≢◌, ◌⊎◌, ◌↔◌, ◌+◌, ◌≤◌, ℕ, List, [], ◌∷◌, ◌++◌};
-ghost use Rattle.std.specs.Prelude.{length, take, IsTrue, MatchResult};
+ghost use Rattle.std.specs.Prelude.{codes, ◌≡◌, ◌↔◌, ◌+◌, ℕ, List, [], ◌∷◌, ◌++◌, length, IsTrue, MatchResult};
 ghost use Rattle.kd_form.specs.declared.heading.Heading.{Heading};
 ghost use Rattle.kd_form.specs.PartReading.{IsExpectedCount, IsPartFault};
 ghost use Rattle.kd_form.specs.FormText.{form_message};

@@ -1,5 +1,5 @@
 //! Reads the heading line of a part of a form.
-ghost use Rattle.std.specs.Prelude.{◌≡◌, ◌≢◌, ◌⊎◌, ◌↔◌, ℕ, ◌^◌, ◌<◌, List, [], ◌∷◌, ◌++◌};
+ghost use Rattle.std.specs.Prelude.{◌≡◌, ◌≢◌, ◌⊎◌, ◌↔◌, ℕ, ◌<◌, List, []};
 ghost use Rattle.std.specs.Prelude.{All, decimal, map, take, IsTrue, MatchOption};
 ghost use Rattle.kd_tables.specs.Text.{letters_text};
 ghost use Rattle.kd_state.specs.Machine.{AreLetters};

@@ -1,7 +1,7 @@
 //! Reads one chunk of a message from the source, feeds it to the reader, and writes the result.
 ghost use Rattle.std.specs.Prelude.{◌≡◌, ◌<◌, ◌≤◌, ◌||◌, [], ◌∷◌, length, OnOk};
 ghost use Rattle.kd_tables.specs.Ports.{port};
-ghost use Rattle.kd_form.specs.StreamSteps.{HasRoom, IsFeedAllAnswer, IsFinishAnswer, IsCloseAnswer, IsReadNextAnswer};
+ghost use Rattle.kd_form.specs.StreamSteps.{HasRoom, IsFeedAllAnswer, IsCloseAnswer, IsReadNextAnswer};
 ghost use Rattle.kd_form.specs.StreamSteps.{is_device_interruption};
 
 use super::interruption::Interruption;
