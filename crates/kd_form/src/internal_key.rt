@@ -36,13 +36,13 @@ fn pick_internal_key(letters: &[Letter]) -> Option<ArrayVec<Letter, 6>>
 {
     let mut key = ArrayVec::new();
     for letter in letters {
-        take_in_turn(&mut key, *letter);
+        push_if_on_next_wheel(&mut key, *letter);
     }
     if key.is_full() { Some(key) } else { None }
 }
 
 /// Appends `letter` if it is on the first wheel that has no letter in `key` yet.
-fn take_in_turn(key: &mut ArrayVec<Letter, 6>, letter: Letter)
+fn push_if_on_next_wheel(key: &mut ArrayVec<Letter, 6>, letter: Letter)
     ensures { IsTakenInTurn key.old.items letter key.new.items }
 {
     if place_on_wheel(key.len() as u8 + 1, letter).is_some() {

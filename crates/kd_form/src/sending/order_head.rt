@@ -5,7 +5,7 @@ ghost use Rattle.kd_form.specs.Keys.{AreKeys};
 ghost use Rattle.kd_form.specs.Order.{IsPatternFault, IsLineWithEnd, IsKeyLine};
 ghost use Rattle.kd_form.specs.OrderSteps.{IsHeadStep, IsHeadBegun, IsHeadLine};
 
-use super::key_line::{key_pattern, keys_of};
+use super::key_line::{key_pattern, keys_of_letters};
 use super::pattern_line::{PatternFault, read_pattern};
 use crate::keys::Keys;
 use arrayvec::ArrayVec;
@@ -64,7 +64,7 @@ impl HeadReader {
     {
         prove!(key_pattern(day).len() <= 21);
         self.line.push(byte);
-        match read_line(day, self.keys.len(), self.line.as_slice()) {
+        match read_head_line(day, self.keys.len(), self.line.as_slice()) {
             Ok(Some(keys)) => {
                 self.keys.push(keys);
                 self.line.clear();
@@ -81,7 +81,7 @@ impl HeadReader {
 ///
 /// The first byte decides whether the line is read as keys or as TEXT. After 99 lines of keys, only TEXT is allowed.
 #[tactic(auto, using(crate::proofs::OrderSteps::next_text))]
-fn read_line(day: &SheetDay, count: usize, line: &[u8]) -> Result<Option<Keys>, PatternFault>
+fn read_head_line(day: &SheetDay, count: usize, line: &[u8]) -> Result<Option<Keys>, PatternFault>
     ensures { MatchResult result
         (λ found. MatchOption found (IsLineWithEnd (codes "TEXT") line.now)
         (λ keys. AreKeys day.now keys × IsKeyLine keys line.now × (count < 99)))
@@ -89,7 +89,7 @@ fn read_line(day: &SheetDay, count: usize, line: &[u8]) -> Result<Option<Keys>, 
 {
     if count < 99 && has_key_line_start(line) {
         let letters = read_pattern(key_pattern(day), line)?;
-        Ok(Some(keys_of(day, letters.as_slice())))
+        Ok(Some(keys_of_letters(day, letters.as_slice())))
     } else {
         read_pattern(b"TEXT", line)?;
         Ok(None)

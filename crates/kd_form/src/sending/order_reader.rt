@@ -1,5 +1,4 @@
 //! Reads an order byte by byte, and makes the parts of the order's form.
-
 use super::key_checks::check_keys;
 use super::order_head::{HeadReader, HeadStep};
 use super::part_writer::PartWriter;

@@ -1,5 +1,5 @@
 use Rattle.kd_form.proofs.{Lines.{err_is, keys_broken, keys_read, ◌∙◌}, OrderSteps.next_keys}
-use Rattle.kd_form.proofs.sending.order_head.read_line.Goals as goal
+use Rattle.kd_form.proofs.sending.order_head.read_head_line.Goals as goal
 
 pub returns-in_err-letters : goal.returns-in_err-letters
 returns-in_err-letters c =
@@ -10,7 +10,7 @@ returns-in_err-letters c =
 pub returns-in_ok-letters : goal.returns-in_ok-letters
 returns-in_ok-letters c =
     let read =
-    keys_read _ _ c.in_ok-letters.letters.items c.keys_of.result
+    keys_read _ _ c.in_ok-letters.letters.items c.keys_of_letters.result
     (rw c.key_pattern.ensures.pattern at c.in_ok-letters.ensures)
-    (c.keys_of.ensures.letters ∙ c.as_slice.ensures.value) c.keys_of.ensures.keys in
+    (c.keys_of_letters.ensures.letters ∙ c.as_slice.ensures.value) c.keys_of_letters.ensures.keys in
     (read.0, read.1, c.if-count-lt99.true)
