@@ -209,20 +209,20 @@ module _ {s : Day} {r : FormReader} {form text : List ℕ} (h : HoldsForm s r fo
 
   -- if the last part, with more bytes, is read until the parts left satisfy `B`, so is the whole form with these
   -- bytes
-  pub reaches : (B : PartsProperty) (more made letters : List ℕ) (parts : List (List ℕ))
+  pub IsFormReadTo-more : (B : PartsProperty) (more made letters : List ℕ) (parts : List (List ℕ))
       → parts_of (h.last ++ more) ≡ parts
       → ReadsPartsTo s B here parts letters → made ≡ plaintext_bytes s letters
       → IsFormReadTo s B (form ++ more) (text ++ made)
-  reaches B more made letters parts are reads given = (
+  IsFormReadTo-more B more made letters parts are reads given = (
     h.letters ++ letters,
     grind (arith, h.cuts more, reads_then s here B first_part_start h.parts parts h.letters letters),
     cc (h.is, given, map-append (plaintext_byte (space_letter s)) h.letters letters),
   )
 
-  pub ends_so : (B : PartsProperty) (letters made : List ℕ) → ReadsPartsTo s B here (h.last ∷ []) letters
+  pub IsFormReadTo-last : (B : PartsProperty) (letters made : List ℕ) → ReadsPartsTo s B here (h.last ∷ []) letters
       → made ≡ plaintext_bytes s letters → IsFormReadTo s B form (text ++ made)
-  ends_so B letters made reads given = subst (λ f. IsFormReadTo s B f (text ++ made)) (append-nil form)
-      (reaches B [] made letters (h.last ∷ [])
+  IsFormReadTo-last B letters made reads given = subst (λ f. IsFormReadTo s B f (text ++ made)) (append-nil form)
+      (IsFormReadTo-more B [] made letters (h.last ∷ [])
       (cc (cut_at_headings-whole h.last h.alone, h.alone, append-nil h.last)) reads given)
 
   abbrev IsHere : PartsProperty
@@ -244,21 +244,21 @@ module _ {s : Day} {r : FormReader} {form text : List ℕ} (h : HoldsForm s r fo
         none [] (subst BeginsHeading (sym h.joined ∙ sym (append-nil form)) (begins_more h.front h.last begun))
   ]
   unrefused before fault (AtPart (others, stands, so)) =
-      let (letters, reads, is) = ends_so IsHere [] [] (inl ((refl, refl), refl)) refl in
+      let (letters, reads, is) = IsFormReadTo-last IsHere [] [] (inl ((refl, refl), refl)) refl in
       (reads_meet s IsHere (IsPartFaultForGood s fault) ⊥
       (λ p part parts count one more held is due rest. let none : parts ≡ [] = cc in (rw none at rest).0)
       (λ p part parts count one more stands is due rest.
       read_or_refused s (AnswersAt-stands s fault p (part ∷ parts) stands).1 is due)
       (never_refused fault) first_part_start (parts_of form) letters others reads stands).1
 
-  pub held : HasReadSoFar (form_message s) (HoldsForm s r) form text
-  held = record {
+  pub HasReadSoFar-form : HasReadSoFar (form_message s) (HoldsForm s r) form text
+  HasReadSoFar-form = record {
     is = h;
     open_yet = record {
       unrefused = λ fault found. unrefused found.0 fault found.1;
       written =
           subst (IsFormReadTo s IsLastPart form) (append-nil text)
-          (ends_so IsLastPart [] [] (inl ((h.last, refl), refl)) refl);
+          (IsFormReadTo-last IsLastPart [] [] (inl ((h.last, refl), refl)) refl);
     };
   }
 
@@ -332,20 +332,20 @@ module _ {s : Day} {r : FormReader} {form text : List ℕ} (h : HoldsForm s r fo
   in_stage is = subst (λ st. HoldsFormStage s st r.number r.expected h.last) is h.stage
 
   -- after one more byte of the current part, the reader holds the form with this byte
-  pub grows : (stage : FormStage) (made : List ℕ) (byte : ℕ) → made ≡ []
+  pub HoldsForm-byte : (stage : FormStage) (made : List ℕ) (byte : ℕ) → made ≡ []
       → cut_at_headings (h.last ++ byte ∷ []) ≡ (h.last ++ byte ∷ [], [])
       → HoldsFormStage s stage r.number r.expected (h.last ++ byte ∷ [])
       → HoldsForm s (reader_after r stage) (form ++ byte ∷ []) (text ++ made)
-  grows stage made byte none one there = grind (arith, append_assoc, append-nil, length-append)
+  HoldsForm-byte stage made byte none one there = grind (arith, append_assoc, append-nil, length-append)
 
   -- if a fault stands at the last part once more bytes have come, the form with these bytes is refused
-  pub refused_at : {fault : FormFault} {part : List ℕ} {others : List (List ℕ)} (more : List ℕ)
+  pub HasFaultForGood-last_part : {fault : FormFault} {part : List ℕ} {others : List (List ℕ)} (more : List ℕ)
       → cut_at_headings (h.last ++ more) ≡ (part, others)
       → IsPartFaultForGood s fault (here h) (part ∷ others)
       → HasFaultForGood (form_message s) (form ++ more) text fault
-  refused_at {fault} {part} {others} more are stands =
+  HasFaultForGood-last_part {fault} {part} {others} more are stands =
       let (letters, reads, is) =
-      reaches h (IsPartFaultForGood s fault) more [] [] (part ∷ others)
+      IsFormReadTo-more h (IsPartFaultForGood s fault) more [] [] (part ∷ others)
       (as_parts (h.last ++ more) part others are) (inl (stands, refl)) refl in
       IsRefusedForGood-HasFaultForGood (AtPart (letters, reads, sym (append-nil text) ∙ is))
 
@@ -371,13 +371,13 @@ module _ {s : Day} {r : FormReader} {form text : List ℕ} (h : HoldsForm s r fo
         ≡ (whole, parts_of (codes "PART " ++ byte ∷ more))
     cut_off more = grind (arith, ended.split, append_assoc, first_ends front more byte)
 
-    pub part_refused : {fault : FormFault}
+    pub HasFaultForGood-part : {fault : FormFault}
         → HoldsWithMore b 4 (λ letters. IsBodyAnswer s b.heading.part b.heading letters (Err fault))
         → HasFaultForGood (form_message s) (form ++ byte ∷ []) text fault
-    part_refused {fault} told =
-        refused_at (byte ∷ []) (cut_off []) (next_refused ended.next fault told (length h.front))
+    HasFaultForGood-part {fault} told =
+        HasFaultForGood-last_part (byte ∷ []) (cut_off []) (next_refused ended.next fault told (length h.front))
 
-    pub part_read : {made : List ℕ} {line : ArrayVec ℕ}
+    pub HoldsForm-next_part : {made : List ℕ} {line : ArrayVec ℕ}
         → HoldsWithMore b 4 (λ letters. IsBodyPlaintext s b.heading letters made)
         → line.items ≡ codes "PART " ++ byte ∷ [] → HoldsForm s (record {
           read = r.read + 1;
@@ -385,7 +385,7 @@ module _ {s : Day} {r : FormReader} {form text : List ℕ} (h : HoldsForm s r fo
           expected = Some b.heading.parts;
           stage = stages.Heading line;
         }) (form ++ byte ∷ []) (text ++ made)
-    part_read told is_head =
+    HoldsForm-next_part told is_head =
         let heads : List ℕ = codes "PART " ++ byte ∷ [] in
         let has = ended.next.has in
         let (one, read, given) = next_read ended.next _ told in
@@ -407,11 +407,11 @@ module _ {s : Day} {r : FormReader} {form text : List ℕ} (h : HoldsForm s r fo
 
   -- ---- the end
 
-  pub closes_refused : {made : List ℕ} {fault : FormFault}
+  pub IsMessageAnswer-part_fault : {made : List ℕ} {fault : FormFault}
       → ((start : ℕ) → IsPartFault s r.number r.expected start h.last fault) → made ≡ []
       → IsMessageAnswer (form_message s) form (text ++ made) (Err fault)
-  closes_refused {made} {fault} found none =
-      let ends = ends_so h (IsPartFaultAtEnd s fault) [] made (inl (found (length h.front), refl)) none in
+  IsMessageAnswer-part_fault {made} {fault} found none =
+      let ends = IsFormReadTo-last h (IsPartFaultAtEnd s fault) [] made (inl (found (length h.front), refl)) none in
       ((text ++ made, inr ends), inr ends)
 
   module _ {b : PartBody} (stage : r.stage ≡ stages.Body b) where
@@ -423,23 +423,23 @@ module _ {s : Day} {r : FormReader} {form text : List ℕ} (h : HoldsForm s r fo
 
     module _ {given : List ℕ} (told : HoldsWithMore b 0 (λ letters. IsBodyPlaintext s b.heading letters given)) where
       -- at the end of the form, the last part is read too; if `B` then holds, the whole form is read up to there
-      ends_read : (B : PartsProperty) → B (next_part_start (here h) b.heading.parts h.last) []
+      IsFormReadTo-end : (B : PartsProperty) → B (next_part_start (here h) b.heading.parts h.last) []
           → IsFormReadTo s B form (text ++ given)
-      ends_read B so =
+      IsFormReadTo-end B so =
           let (one, read, is) = next_read next_last given told in
-          ends_so h B one given (inr
+          IsFormReadTo-last h B one given (inr
           (b.heading.parts, one, [], read, mine.as_expected, (so, refl), sym (append-nil one))) is
 
-      pub closes : {made : List ℕ} → b.heading.parts ≡ r.number → made ≡ given ++ 10 ∷ []
+      pub IsMessageAnswer-text : {made : List ℕ} → b.heading.parts ≡ r.number → made ≡ given ++ 10 ∷ []
           → IsMessageAnswer (form_message s) form (text ++ made) (Ok tt)
-      closes same is =
-          let (letters, read, text_is) = ends_read AreAllPartsRead
+      IsMessageAnswer-text same is =
+          let (letters, read, text_is) = IsFormReadTo-end AreAllPartsRead
           (b.heading.parts, refl, ap (λ n. n + 1) (sym same)) in
           record { letters = letters; read = read; is = cc (is, text_is, append_assoc text given (10 ∷ [])) }
 
-      pub closes_short : b.heading.parts ≢ r.number
+      pub IsMessageAnswer-parts_missing : b.heading.parts ≢ r.number
           → IsMessageAnswer (form_message s) form (text ++ given) (Err PartOrder)
-      closes_short other =
+      IsMessageAnswer-parts_missing other =
           let few : r.number + 1 ≤ b.heading.parts = omega (arith, mine.numbered, mine.holds.is_heading.number) in
-          let ends = ends_read (IsPartFaultAtEnd s PartOrder) (refl, b.heading.parts, refl, few) in
+          let ends = IsFormReadTo-end (IsPartFaultAtEnd s PartOrder) (refl, b.heading.parts, refl, few) in
           ((text ++ given, inr ends), inr ends)

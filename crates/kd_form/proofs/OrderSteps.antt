@@ -163,13 +163,13 @@ letters_few for_space [] = omega arith
 letters_few for_space (byte ∷ text) = grind (arith, letters_first, letters_few for_space text, length-append)
 
 module _ {s : Day} where
-  pub is_longer : {order head text : List ℕ} {keys : List Keys} (more : List ℕ) → IsOrder s order keys head text
+  pub IsOrder-append : {order head text : List ℕ} {keys : List Keys} (more : List ℕ) → IsOrder s order keys head text
       → IsOrder s (order ++ more) keys head (text ++ more)
-  is_longer more is = grind (arith, append_assoc {A = ℕ})
+  IsOrder-append more is = grind (arith, append_assoc {A = ℕ})
 
-  pub fault_longer : {order : List ℕ} {position : ℕ} (more : List ℕ) → IsOrderHeadFault s order position
+  pub IsOrderHeadFault-append : {order : List ℕ} {position : ℕ} (more : List ℕ) → IsOrderHeadFault s order position
       → position ≤ length order → IsOrderHeadFault s (order ++ more) position
-  fault_longer {order} {position} more fault inside = record {
+  IsOrderHeadFault-append {order} {position} more fault inside = record {
     before = fault.before;
     rest = fault.rest ++ more;
     joined = ap (λ o. o ++ more) fault.joined ∙ append_assoc fault.before fault.rest more;
@@ -181,19 +181,19 @@ module _ {s : Day} where
         fault.stops byte (drop 1 fault.rest) beyond (grind arith);
   }
 
-  pub stands_longer : {order : List ℕ} {fault : FormFault} (more : List ℕ) → IsOrderFaultForGood s order fault
-      → IsOrderFaultForGood s (order ++ more) fault
-  stands_longer {order} more (InHead p h few e) =
-      InHead p (fault_longer more h few) (omega (arith, few, length-append order more)) e
-  stands_longer more (InKeys ks hd t o k) = InKeys ks hd (t ++ more) (is_longer more o) k
-  stands_longer more (InText ks hd t n o su b e) =
-      InText ks hd (t ++ more) n (is_longer more o) su (bad_longer t more n b) e
+  pub IsOrderFaultForGood-append : {order : List ℕ} {fault : FormFault} (more : List ℕ)
+      → IsOrderFaultForGood s order fault → IsOrderFaultForGood s (order ++ more) fault
+  IsOrderFaultForGood-append {order} more (InHead p h few e) =
+      InHead p (IsOrderHeadFault-append more h few) (omega (arith, few, length-append order more)) e
+  IsOrderFaultForGood-append more (InKeys ks hd t o k) = InKeys ks hd (t ++ more) (IsOrder-append more o) k
+  IsOrderFaultForGood-append more (InText ks hd t n o su b e) =
+      InText ks hd (t ++ more) n (IsOrder-append more o) su (bad_longer t more n b) e
 
-  pub order_refused : {order sent : List ℕ} {fault : FormFault} → IsOrderFaultForGood s order fault
+  pub HasFaultForGood-order : {order sent : List ℕ} {fault : FormFault} → IsOrderFaultForGood s order fault
       → ((more : List ℕ) → IsSentBeforeEnd s (order ++ more) sent) → HasFaultForGood (order_message s) order sent fault
-  order_refused stands written = record {
-    stands = λ more. stands_longer more stands;
-    refused = λ more. inl (stands_longer more stands);
+  HasFaultForGood-order stands written = record {
+    stands = λ more. IsOrderFaultForGood-append more stands;
+    refused = λ more. inl (IsOrderFaultForGood-append more stands);
     written = written;
   }
 
@@ -217,9 +217,10 @@ module _ {s : Day} where
     written = text_sent text;
   }
 
-  pub order_held : {r : OrderReader} {order sent : List ℕ} → HoldsOrder s r order sent
+  pub HasReadSoFar-order : {r : OrderReader} {order sent : List ℕ} → HoldsOrder s r order sent
       → HasReadSoFar (order_message s) (HoldsOrder s r) order sent
-  order_held {r} {order} {sent} is = record { is = is; open_yet = open_yet r.stage r.head r.writer order sent is.stage }
+  HasReadSoFar-order {r} {order} {sent} is =
+      record { is = is; open_yet = open_yet r.stage r.head r.writer order sent is.stage }
 
   -- ---- in the text
 
@@ -232,7 +233,7 @@ module _ {s : Day} where
       (HasFaultForGood (order_message s) order text)
   text_begins r {order} (Ok done) here size is fresh none nil suited =
       let first = take_all {A = ℕ} (part_size s * 0) [] (omega arith) in
-      order_held (record {
+      HasReadSoFar-order (record {
         counted = size;
         stage = rw here (record {
           head = order;
@@ -248,20 +249,20 @@ module _ {s : Day} where
         });
       })
   text_begins r {order} (Err fault) here size is fresh none nil found =
-      order_refused (InKeys r.head.keys.items order [] is found)
+      HasFaultForGood-order (InKeys r.head.keys.items order [] is found)
       (λ more. stream.NothingSent (λ others front beyond other suited.
-      let same = one_order s (order ++ more) _ others order front more beyond (is_longer more is) other in
+      let same = one_order s (order ++ more) _ others order front more beyond (IsOrder-append more is) other in
       no_keys_fault s r.head.keys.items fault (rw same.0 suited) found) none)
 
   -- at the end of the text, the reader outputs the last part, or finds the fault
-  pub text_ends : {keys : List Keys} {w : PartWriter} {order sent : List ℕ} (text : HoldsOrderText s keys w order sent)
-      (made : List ℕ) (answer : Result (Unit {0}) FormFault)
+  pub IsMessageAnswer-order : {keys : List Keys} {w : PartWriter} {order sent : List ℕ}
+      (text : HoldsOrderText s keys w order sent) (made : List ℕ) (answer : Result (Unit {0}) FormFault)
       → IsTextEndAnswer s keys (text_letters s text.text) sent made answer
       → IsMessageAnswer (order_message s) order (sent ++ made) answer
-  text_ends text made (Ok done) (some, counted, is) = grind arith
-  text_ends {sent = sent} text made (Err fault) (nothing, inl (none, is)) =
+  IsMessageAnswer-order text made (Ok done) (some, counted, is) = grind arith
+  IsMessageAnswer-order {sent = sent} text made (Err fault) (nothing, inl (none, is)) =
       (inr (NoLetter _ _ _ text.sendable none is), rw (nothing, append-nil sent) (text_sent text))
-  text_ends {sent = sent} text made (Err fault) (nothing, inr (some, other, is)) =
+  IsMessageAnswer-order {sent = sent} text made (Err fault) (nothing, inr (some, other, is)) =
       (inr (InParts _ _ _ text.sendable some other is), rw (nothing, append-nil sent) (text_sent text))
 
 pub counted_on : {read : ℕ} (order : List ℕ) (byte : ℕ) → read ≡ length order → read + 1 ≡ length (order ++ byte ∷ [])

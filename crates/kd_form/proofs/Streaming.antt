@@ -174,9 +174,9 @@ module _ (m : Parts) where
   text_is : (t : Typist) (bytes text : List ℕ) → HasTyped m t bytes text → text ≡ cipher_text (physical_cipher m) bytes
   text_is t bytes text typed = grind (arith, append-nil text, append-nil bytes, bytes)
 
-  pub typed_held : (t : Typist) (bytes text : List ℕ) → HasTyped m t bytes text
+  pub HasReadSoFar-typed : (t : Typist) (bytes text : List ℕ) → HasTyped m t bytes text
       → HasReadSoFar (text_message (physical_cipher m)) (HasTyped m t) bytes text
-  typed_held t bytes text typed = record {
+  HasReadSoFar-typed t bytes text typed = record {
     is = typed;
     open_yet = record {
       unrefused = λ fault found. no_bad_byte bytes found.0 typed.allowed found.1;
@@ -185,10 +185,10 @@ module _ (m : Parts) where
   }
 
   -- the bytes after the first one that isn't allowed make no difference
-  refused_there : (t : Typist) (front rest text : List ℕ) (byte : ℕ) → HasTyped m t front text
+  HasFaultForGood-typed : (t : Typist) (front rest text : List ℕ) (byte : ℕ) → HasTyped m t front text
       → IsFalse (is_text_byte byte)
       → HasFaultForGood (text_message (physical_cipher m)) (front ++ byte ∷ rest) text (BadByte (length front + 1))
-  refused_there t front rest text byte typed bad =
+  HasFaultForGood-typed t front rest text byte typed bad =
       let stands : (more : List ℕ) → IsTextFault ((front ++ byte ∷ rest) ++ more) (BadByte (length front + 1)) = λ more.
       rw append_assoc (length front, bad_behind front (rest ++ more) byte typed.allowed bad, refl) in
       record {
@@ -201,9 +201,9 @@ module _ (m : Parts) where
 
   module _ (old new : Typist) (more lamps : List ℕ) (n : ℕ) (front : IsAllowedUpTo more n)
       (lights : IsTypedChunk old.engine new.engine (take n more) lamps) (counted : new.read ≡ old.read + n) where
-    typed_on : (bytes text : List ℕ) → HasTyped m old bytes text
+    HasTyped-append : (bytes text : List ℕ) → HasTyped m old bytes text
         → HasTyped m new (bytes ++ take n more) (text ++ lamps)
-    typed_on bytes text typed = record {
+    HasTyped-append bytes text typed = record {
       counted =
           omega (arith, counted, typed.counted, length-append bytes (take n more), length-take-le n more front.within);
       allowed = All-append (λ b. IsTrue (is_text_byte b)) bytes (take n more) typed.allowed front.allowed;
@@ -214,7 +214,8 @@ module _ (m : Parts) where
         → IsFeedAllAnswer (text_message (physical_cipher m)) (HasTyped m old) (HasTyped m new) more
         (port_over took wrote d f) (Ok tt)
     read_whole took wrote d f wrote_all all bytes text held =
-        let typed = typed_held new (bytes ++ take n more) (text ++ lamps) (typed_on bytes text held.is) in
+        let typed =
+        HasReadSoFar-typed new (bytes ++ take n more) (text ++ lamps) (HasTyped-append bytes text held.is) in
         record { made = lamps; written = wrote_all; fed = rw (take_all n more all) at typed }
 
     pub read_refused : (took wrote : Option (List ℕ)) (d f : Bool) → Appends took wrote lamps → n < length more
@@ -222,9 +223,9 @@ module _ (m : Parts) where
         (port_over took wrote d f)
         (Err (stops.Refused (BadByte (new.read + 1))))
     read_refused took wrote d f wrote_all inside bytes text held =
-        let typed = typed_on bytes text held.is in
+        let typed = HasTyped-append bytes text held.is in
         let rest = drop (suc n) more in
-        let there = refused_there new (bytes ++ take n more) rest (text ++ lamps) (get_or more n 0) typed in
+        let there = HasFaultForGood-typed new (bytes ++ take n more) rest (text ++ lamps) (get_or more n 0) typed in
         let fed = there (front.next inside) in
         let joined = up_to more n in
         record { made = lamps; written = wrote_all; fed = grind (arith, fed, append_assoc, joined, typed.counted) }
@@ -235,7 +236,7 @@ module _ (m : Parts) where
         (Err stops.Device)
     read_in_part took wrote d f part =
         fed_whole (take-append-drop n more) (fed_up_to _ (λ bytes text held. fed_in_part lamps
-        (typed_held new (bytes ++ take n more) (text ++ lamps) (typed_on bytes text held.is)) part))
+        (HasReadSoFar-typed new (bytes ++ take n more) (text ++ lamps) (HasTyped-append bytes text held.is)) part))
 
 pub typed_ends : (m : Parts) (t : Typist)
     → MessageEnds (text_message (physical_cipher m)) (HasTyped m t) (10 ∷ []) (Ok tt)

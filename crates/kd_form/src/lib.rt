@@ -1,4 +1,7 @@
 //! Messages: typed texts, orders and forms. Each is enciphered or deciphered while its bytes arrive.
+//!
+//! The modules `typing`, `sending` and `receiving` each have the reader of one kind of message. The module `stream`
+//! feeds a reader with the bytes of a source, and writes the reader's output to a sink.
 #![tactic(auto)]
 
 mod bounded_list;

@@ -1,4 +1,5 @@
-use Rattle.kd_form.proofs.FormSteps.{err_is, next_last, next_refused, closes, closes_refused, closes_short, in_stage}
+use Rattle.kd_form.proofs.FormSteps.{err_is, next_last, next_refused, IsMessageAnswer-text}
+use Rattle.kd_form.proofs.FormSteps.{IsMessageAnswer-part_fault, IsMessageAnswer-parts_missing, in_stage}
 use Rattle.kd_form.proofs.FormSteps.{ℕ, ap, ArrayVec, ◌∙◌}
 use Rattle.kd_form.proofs.receiving.form_reader.FormReaderMessageReader.end.Goals as goal
 
@@ -7,18 +8,20 @@ decipher_into-requires-clause-heading c = (in_stage c.requires.room.held.is c.in
 
 pub returns-in-Heading : goal.returns-in-Heading
 returns-in-Heading c = λ form text so_far.
-    closes_refused so_far.is (c.fault_in_heading.ensures _ (in_stage so_far.is c.in-Heading.is).0) c.requires.empty
+    let found = c.fault_in_heading.ensures _ (in_stage so_far.is c.in-Heading.is).0 in
+    IsMessageAnswer-part_fault so_far.is found c.requires.empty
 
 pub returns-then-body-self : goal.returns-then-body-self
 returns-then-body-self c = λ form text so_far.
-    closes_short so_far.is c.in-Body.is c.in_ok-decipher_into-in-Body.ensures.given c.if-body-self.true
+    IsMessageAnswer-parts_missing so_far.is c.in-Body.is c.in_ok-decipher_into-in-Body.ensures.given c.if-body-self.true
 
 pub returns-else-body-self : goal.returns-else-body-self
 returns-else-body-self c = λ form text so_far.
-    closes so_far.is c.in-Body.is c.in_ok-decipher_into-in-Body.ensures.given c.if-body-self.false c.push.ensures.items
+    IsMessageAnswer-text so_far.is c.in-Body.is c.in_ok-decipher_into-in-Body.ensures.given c.if-body-self.false
+    c.push.ensures.items
 
 pub returns-in_err-decipher_into-in-Body : goal.returns-in_err-decipher_into-in-Body
 returns-in_err-decipher_into-in-Body c = λ form text so_far.
-    rw (err_is _ _ c.from_residual.ensures.1) (closes_refused so_far.is
+    rw (err_is _ _ c.from_residual.ensures.1) (IsMessageAnswer-part_fault so_far.is
     (next_refused (next_last so_far.is c.in-Body.is) _ c.in_err-decipher_into-in-Body.ensures.given)
     (ap (λ (v : ArrayVec ℕ). v.items) c.in_err-decipher_into-in-Body.ensures.unchanged ∙ c.requires.empty))

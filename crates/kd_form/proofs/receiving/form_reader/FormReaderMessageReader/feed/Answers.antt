@@ -1,7 +1,10 @@
-use Rattle.kd_form.proofs.FormSteps.{err_is, first_longer, goes_on, held, grows, in_stage, take_kept}
-use Rattle.kd_form.proofs.FormSteps.{IsHeadingFault-IsEarlyFault, IsRefusedForGood-HasFaultForGood, refused_at}
+use Rattle.kd_form.proofs.FormSteps.{err_is, first_longer, goes_on, HasReadSoFar-form, HoldsForm-byte, in_stage}
+use Rattle.kd_form.proofs.FormSteps.{take_kept}
+use Rattle.kd_form.proofs.FormSteps.{IsHeadingFault-IsEarlyFault, IsRefusedForGood-HasFaultForGood}
+use Rattle.kd_form.proofs.FormSteps.{HasFaultForGood-last_part}
 use Rattle.kd_form.proofs.FormSteps.{four_letters}
-use Rattle.kd_form.proofs.FormSteps.{part_refused, part_read, HasBegunHeading-snoc, not_begun, cut_at_headings-line}
+use Rattle.kd_form.proofs.FormSteps.{HasFaultForGood-part, HoldsForm-next_part, HasBegunHeading-snoc, not_begun}
+use Rattle.kd_form.proofs.FormSteps.{cut_at_headings-line}
 use Rattle.kd_form.proofs.FormSteps.{ended_heading, bad_behind, ◌≢◌, take, All-push, All-nil, IsTrue, is_text_byte}
 use Rattle.kd_form.proofs.FormSteps.{IsLineText, line_of, heading_words, [], ◌∷◌, ◌++◌, ◌+◌, ◌-◌, ◌≡◌, ℕ, List, length}
 use Rattle.kd_form.proofs.FormSteps.{length-append, refl, inl, ap, subst, plaintext_bytes, BeginsHeading, NoHeading}
@@ -26,7 +29,7 @@ returns-then-byte-ne10 c = λ form text so_far.
     let h = so_far.is in
     let (there, first) = in_stage h c.in-Heading.is in
     let fits = rw c.as_slice.ensures.value at (c.can_follow.ensures.0 c.if-not-can_follow.false) in
-    held (grows h (stages.Heading c.push_if_room.new.items) _ c.args.byte c.requires.empty
+    HasReadSoFar-form (HoldsForm-byte h (stages.Heading c.push_if_room.new.items) _ c.args.byte c.requires.empty
     (cut_at_headings-line h.last c.args.byte there.unbroken) (
       record {
         kept =
@@ -48,7 +51,7 @@ returns-then-not-is_text_byte c = λ form text so_far.
     let place : c.args.self.now.read + 1 ≡ length h.front + (length (h.last ++ c.args.byte ∷ []) - length body)
     + length there.body + 1 =
     omega (arith, h.counted, ap length h.joined, length-append {A = ℕ}, ap length holds.first.joined) in
-    refused_at h (c.args.byte ∷ []) (goes_on c.args.byte holds h.alone
+    HasFaultForGood-last_part h (c.args.byte ∷ []) (goes_on c.args.byte holds h.alone
     (λ digit. false≢true (sym c.if-not-is_next_heading_digit.true ∙ c.is_next_heading_digit.ensures.1 digit))) (
       (holds.line, body, first),
       InBody _ body (length there.body) (record {
@@ -63,7 +66,7 @@ pub returns-then-not-is_next_heading_digit : goal.returns-then-not-is_next_headi
 returns-then-not-is_next_heading_digit c = λ form text so_far.
     let h = so_far.is in
     let there = in_stage h c.in-Body.is in
-    held (grows h (stages.Body c.push.new.self) _ c.args.byte c.requires.empty
+    HasReadSoFar-form (HoldsForm-byte h (stages.Body c.push.new.self) _ c.args.byte c.requires.empty
     (goes_on c.args.byte there.holds h.alone
     (λ digit. false≢true (sym c.if-not-is_next_heading_digit.true ∙ c.is_next_heading_digit.ensures.1 digit)))
     (record {
@@ -93,7 +96,7 @@ returns-in_ok-heading-in-Heading c = λ form text so_far.
     c.heading_of_ended_line-heading.ensures h.last there.unbroken (c.as_slice-in-Heading.ensures.value ∙ there.kept) in
     let (is_heading, text_is) = rw found.is at told in
     let heads = c.new.ensures.heading in
-    rw c.if-byte-ne10.false (held (grows h (stages.Body c.new.result) _ 10 c.requires.empty
+    rw c.if-byte-ne10.false (HasReadSoFar-form (HoldsForm-byte h (stages.Body c.new.result) _ 10 c.requires.empty
     (cut_at_headings-line h.last 10 there.unbroken) (record {
       body = [];
       holds = record {
@@ -124,7 +127,7 @@ returns-in_err-heading-in-Heading c = λ form text so_far.
     let ended =
     c.heading_of_ended_line-heading.ensures h.last there.unbroken (c.as_slice-in-Heading.ensures.value ∙ there.kept) in
     rw (err_is _ _ c.from_residual.ensures.1, c.if-byte-ne10.false)
-    (refused_at h (10 ∷ []) (cut_at_headings-line h.last 10 there.unbroken) (
+    (HasFaultForGood-last_part h (10 ∷ []) (cut_at_headings-line h.last 10 there.unbroken) (
       (h.last, [], record { joined = refl; without = there.unbroken }),
       IsHeadingFault-IsEarlyFault (length h.front) (grind (arith, ended_heading, ended, there.unbroken))
           c.in_err-heading-in-Heading.ensures,
@@ -132,12 +135,13 @@ returns-in_err-heading-in-Heading c = λ form text so_far.
 
 pub returns-in_ok-decipher_into-in-Body : goal.returns-in_ok-decipher_into-in-Body
 returns-in_ok-decipher_into-in-Body c = λ form text so_far.
-    held (part_read so_far.is c.in-Body.is (c.is_next_heading_digit.ensures.0 c.if-not-is_next_heading_digit.false)
+    HasReadSoFar-form (HoldsForm-next_part so_far.is c.in-Body.is
+    (c.is_next_heading_digit.ensures.0 c.if-not-is_next_heading_digit.false)
     c.in_ok-decipher_into-in-Body.ensures.given c.heading_line_start.ensures)
 
 pub returns-in_err-decipher_into-in-Body : goal.returns-in_err-decipher_into-in-Body
 returns-in_err-decipher_into-in-Body c = λ form text so_far.
     rw (err_is _ _ c.from_residual-in_err-decipher_into-in-Body.ensures.1)
-    (part_refused so_far.is c.in-Body.is
+    (HasFaultForGood-part so_far.is c.in-Body.is
     (c.is_next_heading_digit.ensures.0 c.if-not-is_next_heading_digit.false)
     c.in_err-decipher_into-in-Body.ensures.given)

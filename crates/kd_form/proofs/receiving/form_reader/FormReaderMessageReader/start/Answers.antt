@@ -1,8 +1,8 @@
-use Rattle.kd_form.proofs.FormSteps.{held, [], ◌≢◌, refl, inl, arith, All-nil}
+use Rattle.kd_form.proofs.FormSteps.{HasReadSoFar-form, [], ◌≢◌, refl, inl, arith, All-nil}
 use Rattle.kd_form.proofs.receiving.form_reader.FormReaderMessageReader.start.Goals as goal
 
 pub returns : goal.returns
-returns c = held {s = c.args._day.now} {form = []} {text = []} (record {
+returns c = HasReadSoFar-form {s = c.args._day.now} {form = []} {text = []} (record {
   front = [];
   last = [];
   parts = [];

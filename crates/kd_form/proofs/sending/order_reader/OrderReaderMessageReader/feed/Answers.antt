@@ -1,4 +1,5 @@
-use Rattle.kd_form.proofs.OrderSteps.{counted_on, fault_longer, is_longer, letters_few, order_held, order_refused}
+use Rattle.kd_form.proofs.OrderSteps.{counted_on, IsOrderHeadFault-append, IsOrder-append, letters_few}
+use Rattle.kd_form.proofs.OrderSteps.{HasReadSoFar-order, HasFaultForGood-order}
 use Rattle.kd_form.proofs.OrderSteps.{text_begins, space_letter, ◌≡◌, length, length-append, append_assoc, arith}
 use Rattle.kd_form.proofs.OrderSteps.{All-push}
 use Rattle.kd_form.proofs.OrderSteps.{IsTrue, is_text_byte, filter_map-append, InHead, InText, BadByte, [], ◌∷◌, ◌++◌}
@@ -17,11 +18,12 @@ returns-then-not-is_text_byte c bytes text held =
     let bad = sym c.is_text_byte.ensures ∙ c.if-not-is_text_byte.true in
     let place : c.args.self.now.read + 1 ≡ length here.head + length here.text + 1 =
     omega (arith, held.is.counted, ap length so_far.is_order.joined, length-append here.head here.text) in
-    order_refused (InText _ here.head (here.text ++ c.args.byte ∷ []) _ (is_longer (c.args.byte ∷ []) so_far.is_order)
-    so_far.suited (bad_behind here.text [] c.args.byte so_far.allowed bad) (ap BadByte place))
+    HasFaultForGood-order (InText _ here.head (here.text ++ c.args.byte ∷ []) _
+    (IsOrder-append (c.args.byte ∷ []) so_far.is_order) so_far.suited
+    (bad_behind here.text [] c.args.byte so_far.allowed bad) (ap BadByte place))
     (λ more. stream.TextBegun _ here.head (here.text ++ c.args.byte ∷ more) here.text _
-    (rw (append_assoc bytes (c.args.byte ∷ []) more) (is_longer (c.args.byte ∷ more) so_far.is_order)) so_far.suited
-    (record {
+    (rw (append_assoc bytes (c.args.byte ∷ []) more) (IsOrder-append (c.args.byte ∷ more) so_far.is_order))
+    so_far.suited (record {
       rest = c.args.byte ∷ more;
       joined = refl;
       allowed = so_far.allowed;
@@ -43,7 +45,7 @@ take-requires-in-Text-clause-taken c =
 pub returns-in-Open : goal.returns-in-Open
 returns-in-Open c bytes text held =
     let here = rw c.in-Head.is at held.is.stage in
-    order_held (record {
+    HasReadSoFar-order (record {
       counted = counted_on bytes c.args.byte held.is.counted;
       stage = rw c.in-Head.is (c.in-Open.ensures bytes here.0, cc (here.1, c.requires.empty), here.2);
     })
@@ -52,9 +54,9 @@ pub returns-in-Bad : goal.returns-in-Bad
 returns-in-Bad c bytes text held =
     let here = rw c.in-Head.is at held.is.stage in
     let fault = c.in-Bad.ensures bytes here.0 in
-    order_refused (InHead _ fault (omega arith) (ap BadByte (counted_on bytes c.args.byte held.is.counted)))
+    HasFaultForGood-order (InHead _ fault (omega arith) (ap BadByte (counted_on bytes c.args.byte held.is.counted)))
     (λ more. stream.NothingSent (λ keys front after is suited. no_head_fault _ _ keys front after _ is
-    (fault_longer more fault (omega arith))) here.1)
+    (IsOrderHeadFault-append more fault (omega arith))) here.1)
 
 pub returns-in-Text-take : goal.returns-in-Text-take
 returns-in-Text-take c bytes text held =
@@ -74,13 +76,13 @@ returns-else-not-is_text_byte c bytes text held =
     let letters = text_letters c.args.day.now here.text in
     let taken = c.take-in-Text.ensures letters text (rw c.keys-in-Text.ensures here.taken) in
     let allowed = sym c.is_text_byte.ensures ∙ c.if-not-is_text_byte.false in
-    order_held (record {
+    HasReadSoFar-order (record {
       counted = counted_on bytes c.args.byte held.is.counted;
       stage = rw c.in-Text.is (record {
         head = here.head;
         text = here.text ++ c.args.byte ∷ [];
         sendable = record {
-          is_order = is_longer (c.args.byte ∷ []) here.sendable.is_order;
+          is_order = IsOrder-append (c.args.byte ∷ []) here.sendable.is_order;
           suited = here.sendable.suited;
           allowed = All-push (λ b. IsTrue (is_text_byte b)) here.text c.args.byte here.sendable.allowed allowed;
         };

@@ -1,8 +1,8 @@
-use Rattle.kd_form.proofs.OrderSteps.{order_held, [], refl, inl, inr, arith, codes}
+use Rattle.kd_form.proofs.OrderSteps.{HasReadSoFar-order, [], refl, inl, inr, arith, codes}
 use Rattle.kd_form.proofs.sending.order_reader.OrderReaderMessageReader.start.Goals as goal
 
 pub returns : goal.returns
-returns c = order_held {s = c.args._day.now} {order = []} {sent = []} (record {
+returns c = HasReadSoFar-order {s = c.args._day.now} {order = []} {sent = []} (record {
   counted = refl;
   stage = (
     rw (c.new.ensures.keys, c.new.ensures.line)
