@@ -340,8 +340,7 @@ module _ {s : Day} {r : FormReader} {form text : List ℕ} (h : HoldsForm s r fo
 
   -- if a fault stands at the last part once more bytes have come, the form with these bytes is refused
   pub HasFaultForGood-last_part : {fault : FormFault} {part : List ℕ} {others : List (List ℕ)} (more : List ℕ)
-      → cut_at_headings (h.last ++ more) ≡ (part, others)
-      → IsPartFaultForGood s fault (here h) (part ∷ others)
+      → cut_at_headings (h.last ++ more) ≡ (part, others) → IsPartFaultForGood s fault (here h) (part ∷ others)
       → HasFaultForGood (form_message s) (form ++ more) text fault
   HasFaultForGood-last_part {fault} {part} {others} more are stands =
       let (letters, reads, is) =

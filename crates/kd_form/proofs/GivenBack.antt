@@ -126,8 +126,7 @@ part_begins_heading s made more is = grind (arith, append_assoc, words_begin)
 
 -- a written part after an LF is one part of the form, if another part or nothing follows
 pub part_is_first : (s : Day) (made : Part) (rest : List ℕ) (others : List (List ℕ)) → IsHeading s made.heading
-    → All (λ letter. letter < 26) made.body
-    → cut_at_headings (10 ∷ rest) ≡ (10 ∷ [], others)
+    → All (λ letter. letter < 26) made.body → cut_at_headings (10 ∷ rest) ≡ (10 ∷ [], others)
     → cut_at_headings (10 ∷ (part_text made ++ rest)) ≡ (10 ∷ [], part_text made ∷ others)
 part_is_first s made rest others is are follows =
     let line : List ℕ = line_of (heading_words made.heading) in
@@ -203,8 +202,7 @@ record AreGivenBack (s : Day) (part parts count : ℕ) (pieces : List (List ℕ)
       (flat_map (sent_letters s) pieces)
 
 parts_are_given_back : (s : Day) (part parts : ℕ) (keys : List Keys) (pieces : List (List ℕ)) (form : List ℕ)
-    → IsLegalDay s
-    → All (AreKeys s) keys → All (KeysSuitDay s) keys → All (IsPiece s) pieces → 1 ≤ part
+    → IsLegalDay s → All (AreKeys s) keys → All (KeysSuitDay s) keys → All (IsPiece s) pieces → 1 ≤ part
     → part + length keys ≡ parts + 1
     → parts ≤ 99 → ArePartTextsMade s part parts keys pieces form → AreGivenBack s part parts (length keys) pieces form
 parts_are_given_back s part parts [] [] form legal are suited all first last few made = rw made (record {

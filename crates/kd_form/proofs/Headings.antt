@@ -81,8 +81,7 @@ fits_there bytes place begun = grind (arith, common_steps, BeginsHeading-bytes b
 
 -- if the bytes can begin a heading, and a byte fits after them, they can do so with this byte too
 pub HasBegunHeading-snoc : (part line : List ℕ) (byte : ℕ) → line ≡ take 64 part → HasBegunHeading part
-    → FitsHeadingAt (length line) byte
-    → HasBegunHeading (part ++ byte ∷ [])
+    → FitsHeadingAt (length line) byte → HasBegunHeading (part ++ byte ∷ [])
 HasBegunHeading-snoc part line byte e d g = grind
     (arith, common_steps, begins_more, length-take, take_more, BeginsHeading-digit)
 
@@ -176,8 +175,7 @@ first_more (x ∷ front) tail byte unbroken none not =
 
 -- the first digit of a heading ends the part before it
 pub first_ends : (front more : List ℕ) (digit : ℕ) → (cut_at_headings (front ++ 10 ∷ codes "PART ")).1 ≡ [] → 48 ≤ digit
-    → digit ≤ 57
-    → cut_at_headings (front ++ 10 ∷ (codes "PART " ++ digit ∷ more))
+    → digit ≤ 57 → cut_at_headings (front ++ 10 ∷ (codes "PART " ++ digit ∷ more))
     ≡ (front ++ 10 ∷ [], parts_of (codes "PART " ++ digit ∷ more))
 first_ends [] more digit none low high = grind (arith, at_cut, BeginsHeading-digit)
 first_ends (x ∷ front) more digit none low high =
@@ -391,8 +389,7 @@ one_line_text line text other e d = grind (arith, append_cancel_right)
 -- ---- the first 64 bytes of a line determine its heading
 
 heading_length : (s : Day) (found : Option ℕ) (h : Heading) → MatchOption found (IsConverterDay s) (IsRotorDayWith s)
-    → IsHeading s h
-    → length (line_of (heading_words h)) ≤ 50
+    → IsHeading s h → length (line_of (heading_words h)) ≤ 50
 heading_length s found h has is =
     let count = length-decimal-le 3 h.letters in
     let one = length-decimal-le 2 h.part in
@@ -414,8 +411,7 @@ IsOpenHeading-line s found part line (Some h) has told unbroken kept =
 
 pub IsEndedHeading-line : (s : Day) (found : Option ℕ) (part line text : List ℕ) (answer : Option Heading)
     → MatchOption found (IsConverterDay s) (IsRotorDayWith s) → IsLineText line text → IsHeadingAnswer s answer text
-    → IsWithout 10 part
-    → line ≡ take 64 part
+    → IsWithout 10 part → line ≡ take 64 part
     → MatchOption answer ((h : Heading) (body : List ℕ) → ¬ (HasHeading s (part ++ 10 ∷ []) h body))
     (λ h. IsHeading s h × IsLineText part (line_of (heading_words h)))
 IsEndedHeading-line s found part line text None has cut told unbroken kept = λ h body there.
