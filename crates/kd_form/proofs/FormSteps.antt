@@ -1,30 +1,30 @@
 -- What the reader of a form holds after one more byte, and its answer at the end.
 pub use Rattle.kd_form.proofs.Prelude.{err_is, [], ◌≡◌, ◌≢◌, ◌⊎◌, inl, inr, ℕ, ◌+◌, ◌-◌, ◌≤◌, List, ◌∷◌, ◌++◌, length}
 pub use Rattle.kd_form.proofs.Prelude.{take, refl, sym, ap, subst, ◌∙◌, append_assoc, length-append, Ok, Err, arith}
-pub use Rattle.kd_form.proofs.Prelude.{codes, All, IsTrue, Option, Some, None, MatchOption, option_to_list, map-append}
-pub use Rattle.kd_form.proofs.Prelude.{take-append_seam, cases_lt, cases_eq, append-nil, take_all, take-take}
-pub use Rattle.kd_form.proofs.Prelude.{take-append-le, length-take, length-take-le, filter_map-append, All-nil}
-pub use Rattle.kd_form.proofs.Prelude.{All-push, ArrayVec, is_text_byte, Day, line_of, IsFirstPart, FormFault, Heading}
-pub use Rattle.kd_form.proofs.Prelude.{IsLineText, heading_words, letter_of_byte, letters_from, IsHeading}
-pub use Rattle.kd_form.proofs.Prelude.{BeginsHeading, Result, HasFault, GoesOn, IsBodyAnswer, HasHeading}
-pub use Rattle.kd_form.proofs.Prelude.{IsEarlyFault, IsExpectedCount}
-pub use Rattle.kd_form.proofs.Prelude.{InHeading, InNumber, InBody, IsPartFault, HoldsBody, IsBodyPlaintext}
-pub use Rattle.kd_form.proofs.Prelude.{HasBegunHeading, HoldsPart, HoldsStage, HoldsForm, IsHeadingFault}
-pub use Rattle.kd_form.proofs.Prelude.{HeadingMissing, HeadingOfOther, IsPartRead, PartOrder, plaintext_bytes}
-pub use Rattle.kd_form.proofs.Prelude.{IsRefusedForGood, NoHeading, form_message, IsRefused, IsMessageAnswer}
-pub use Rattle.kd_form.proofs.Prelude.{HasReadSoFar, PartsProperty, ReadsPartsTo, IsFormReadTo, IsPartFaultForGood}
-pub use Rattle.kd_form.proofs.Prelude.{IsPartFaultAtEnd, AreAllPartsRead, IsLastPart, AtPart, cut_at_headings, parts_of}
-pub use Rattle.kd_form.proofs.Prelude.{PartStart, first_part_start, next_part_start, HasTail, current_part_start}
-pub use Rattle.kd_form.proofs.Prelude.{plaintext_byte, space_letter, BadHeading, BadByte, false≢true, All-take}
-use Rattle.kd_form.specs.declared.{part_body.PartBody.PartBody}
-use Rattle.kd_form.specs.declared.{form_reader.{FormReader.FormReader, FormStage.FormStage}}
+pub use Rattle.kd_form.proofs.Prelude.{codes, All, IsTrue, Option, Some, None, MatchOption, option_to_list}
+pub use Rattle.kd_form.proofs.Prelude.{map-append, take-append_seam, cases_lt, cases_eq, append-nil, take_all}
+pub use Rattle.kd_form.proofs.Prelude.{take-take, take-append-le, length-take, length-take-le, filter_map-append}
+pub use Rattle.kd_form.proofs.Prelude.{All-nil, All-push, ArrayVec, is_text_byte, Day, line_of, IsFirstPart}
+pub use Rattle.kd_form.proofs.Prelude.{FormFault, Heading, IsLineText, heading_words, letter_of_byte, letters_from}
+pub use Rattle.kd_form.proofs.Prelude.{IsHeading, BeginsHeading, Result, HasFault, GoesOn, IsBodyAnswer, HasHeading}
+pub use Rattle.kd_form.proofs.Prelude.{IsEarlyFault, IsExpectedCount, InHeading, InNumber, InBody, IsPartFault}
+pub use Rattle.kd_form.proofs.Prelude.{HoldsBody, IsBodyPlaintext, HasBegunHeading, HoldsPart, HoldsFormStage}
+pub use Rattle.kd_form.proofs.Prelude.{HoldsForm, IsHeadingFault, HeadingMissing, HeadingOfOther, IsPartRead}
+pub use Rattle.kd_form.proofs.Prelude.{PartOrder, plaintext_bytes, IsRefusedForGood, NoHeading, form_message}
+pub use Rattle.kd_form.proofs.Prelude.{HasFaultForGood, IsMessageAnswer, HasReadSoFar, PartsProperty, ReadsPartsTo}
+pub use Rattle.kd_form.proofs.Prelude.{IsFormReadTo, IsPartFaultForGood, IsPartFaultAtEnd, AreAllPartsRead}
+pub use Rattle.kd_form.proofs.Prelude.{IsLastPart, AtPart, cut_at_headings, parts_of, PartStart, first_part_start}
+pub use Rattle.kd_form.proofs.Prelude.{next_part_start, HasLastLineStart, current_part_start, plaintext_byte}
+pub use Rattle.kd_form.proofs.Prelude.{space_letter, BadHeading, BadByte, false≢true, All-take}
+use Rattle.kd_form.specs.declared.receiving.body_reader.PartBody.{PartBody}
+use Rattle.kd_form.specs.declared.receiving.form_reader.{FormReader.FormReader, FormStage.FormStage}
 pub use Rattle.kd_form.proofs.Headings.{at_most, has_byte, one_heading, begins_there, as_parts, BeginsHeading-digit}
 pub use Rattle.kd_form.proofs.Headings.{begins_more, first_ends, first_more, may_begin, cut_at_headings-line}
 pub use Rattle.kd_form.proofs.Headings.{cut_at_headings-whole, HasBegunHeading-snoc, not_begun, ended_heading}
 pub use Rattle.kd_form.proofs.Headings.{whole_line, no_bad_byte, bad_behind}
 use Rattle.kd_form.proofs.Lines.{letters_first, head_unbroken}
-use Rattle.kd_form.proofs.OneText.{read_or_refused, reads_meet, reads_then, stands_at, stays_refused}
-use Rattle.kd_form.specs.declared.form_reader.FormStage.TheVariants as stages
+use Rattle.kd_form.proofs.OneText.{read_or_refused, reads_meet, reads_then, AnswersAt-stands, stays_refused}
+use Rattle.kd_form.specs.declared.receiving.form_reader.FormStage.TheVariants as stages
 
 -- -------- the body of a part, byte by byte
 
@@ -48,8 +48,8 @@ pub first_longer : {part line body : List ℕ} (byte : ℕ) → IsFirstPart 10 p
 first_longer byte first = grind (arith, append_assoc)
 
 -- one more byte makes the last line longer; an LF begins an empty line
-tail_more : (line body first now : List ℕ) (byte : ℕ) → HasTail line body first → (byte ≡ 10 → now ≡ [])
-    → (byte ≢ 10 → now ≡ take 6 (first ++ byte ∷ [])) → HasTail line (body ++ byte ∷ []) now
+tail_more : (line body first now : List ℕ) (byte : ℕ) → HasLastLineStart line body first → (byte ≡ 10 → now ≡ [])
+    → (byte ≢ 10 → now ≡ take 6 (first ++ byte ∷ [])) → HasLastLineStart line (body ++ byte ∷ []) now
 tail_more line body first now byte was ends longer = elim (cases_eq byte 10) [
   | inl is ↦ record {
     settled = body ++ byte ∷ [];
@@ -102,11 +102,11 @@ are_shown others kept shown letters more few size is cut = elim (cases_lt 525 (l
   | inr short ↦ inl (grind (arith, take_all 525 (letters ++ more), take-append_seam letters, length-append letters))
 ]
 
-pub body_told : (s : Day) (h : Heading) (others : ℕ) (kept shown letters more : List ℕ) (v : Result (List ℕ) FormFault)
-    → IsHeading s h
+pub IsBodyAnswer-kept : (s : Day) (h : Heading) (others : ℕ) (kept shown letters more : List ℕ)
+    (v : Result (List ℕ) FormFault) → IsHeading s h
     → others ≤ 4 → length more ≡ others → kept ≡ take 525 (letters ++ more) → shown ≡ take (length kept - others) kept
     → IsBodyAnswer s h.part h shown v → IsBodyAnswer s h.part h letters v
-body_told s h others kept shown letters more v is few size kept_is cut told =
+IsBodyAnswer-kept s h others kept shown letters more v is few size kept_is cut told =
     elim (are_shown others kept shown letters more few size kept_is cut) [
       | inl same ↦ subst (λ ls. IsBodyAnswer s h.part h ls v) same told
       | inr long ↦ elim told [
@@ -133,7 +133,7 @@ HoldsWithMore b others P =
 pub record IsNext (s : Day) (b : PartBody) (number : ℕ) (expected : Option ℕ) (part body more : List ℕ) : Type 0 where
   pub has : HasHeading s part b.heading body
   pub numbered : b.heading.part ≡ number
-  pub due : IsExpectedCount expected b.heading.parts
+  pub as_expected : IsExpectedCount expected b.heading.parts
   pub allowed : All (λ b. IsTrue (is_text_byte b)) body
   pub kept : b.letters.items ≡ take 525 (letters_from None body ++ more)
 
@@ -149,7 +149,7 @@ module _ {s : Day} {b : PartBody} {number : ℕ} {expected : Option ℕ} {part b
           body = body;
           has = next.has;
           numbered = next.numbered;
-          so_many = refl;
+          same_parts = refl;
           allowed = next.allowed;
           read = subst (λ n. IsBodyAnswer s n b.heading (letters_from None body) (Ok text)) next.numbered read;
         },
@@ -166,7 +166,7 @@ module _ {s : Day} {b : PartBody} {number : ℕ} {expected : Option ℕ} {part b
         body = body;
         has = next.has;
         numbered = next.numbered;
-        due = next.due;
+        as_expected = next.as_expected;
         allowed = next.allowed;
         found = subst (λ n. IsBodyAnswer s n b.heading (letters_from None body) (Err fault)) next.numbered found;
       })
@@ -182,22 +182,22 @@ IsHeadingFault-IsEarlyFault start told (HeadingOfOther h there wrong is) = InNum
 -- -------- the reader of a form, byte by byte
 
 has_begun : (s : Day) (stage : FormStage) (number : ℕ) (expected : Option ℕ) {part : List ℕ}
-    → HoldsStage s stage number expected part → HasBegunHeading part
+    → HoldsFormStage s stage number expected part → HasBegunHeading part
 has_begun s (stages.Heading line) number expected held = held.0.begins
 has_begun s (stages.Body b) number expected held = inr (begins_there s _ b.heading held.body (body_heading held.holds))
 
 module _ {s : Day} {number : ℕ} {expected : Option ℕ} {part : List ℕ} where
-  HoldsStage-not_early : {line body : List ℕ} {fault : FormFault} (start : ℕ) (stage : FormStage)
-      → HoldsStage s stage number expected part → IsFirstPart 10 part line body
+  HoldsFormStage-not_early : {line body : List ℕ} {fault : FormFault} (start : ℕ) (stage : FormStage)
+      → HoldsFormStage s stage number expected part → IsFirstPart 10 part line body
       → ¬ (IsEarlyFault s number expected start part fault)
-  HoldsStage-not_early {line} {body} start (stages.Heading shown) held broken early =
+  HoldsFormStage-not_early {line} {body} start (stages.Heading shown) held broken early =
       has_byte 10 line body (rw broken.joined at held.0.unbroken)
-  HoldsStage-not_early start (stages.Body b) held broken (InHeading none is) =
+  HoldsFormStage-not_early start (stages.Body b) held broken (InHeading none is) =
       none b.heading held.body (body_heading held.holds)
-  HoldsStage-not_early start (stages.Body b) held broken (InNumber h rest has other is) =
+  HoldsFormStage-not_early start (stages.Body b) held broken (InNumber h rest has other is) =
       let same = one_heading s part b.heading h held.body rest (body_heading held.holds) has in
-      grind (arith, same, held.numbered, held.due)
-  HoldsStage-not_early start (stages.Body b) held broken (InBody h rest place has numbered due bad is) =
+      grind (arith, same, held.numbered, held.as_expected)
+  HoldsFormStage-not_early start (stages.Body b) held broken (InBody h rest place has numbered due bad is) =
       let same = one_heading s part b.heading h held.body rest (body_heading held.holds) has in
       no_bad_byte rest place (rw same.1 at held.holds.allowed) bad
 
@@ -209,20 +209,20 @@ module _ {s : Day} {r : FormReader} {form text : List ℕ} (h : HoldsForm s r fo
 
   -- if the last part, with more bytes, is read until the parts left satisfy `B`, so is the whole form with these
   -- bytes
-  pub reaches : (B : PartsProperty) (more made letters : List ℕ) (parts : List (List ℕ))
+  pub IsFormReadTo-more : (B : PartsProperty) (more made letters : List ℕ) (parts : List (List ℕ))
       → parts_of (h.last ++ more) ≡ parts
       → ReadsPartsTo s B here parts letters → made ≡ plaintext_bytes s letters
       → IsFormReadTo s B (form ++ more) (text ++ made)
-  reaches B more made letters parts are reads given = (
+  IsFormReadTo-more B more made letters parts are reads given = (
     h.letters ++ letters,
     grind (arith, h.cuts more, reads_then s here B first_part_start h.parts parts h.letters letters),
     cc (h.is, given, map-append (plaintext_byte (space_letter s)) h.letters letters),
   )
 
-  pub ends_so : (B : PartsProperty) (letters made : List ℕ) → ReadsPartsTo s B here (h.last ∷ []) letters
+  pub IsFormReadTo-last : (B : PartsProperty) (letters made : List ℕ) → ReadsPartsTo s B here (h.last ∷ []) letters
       → made ≡ plaintext_bytes s letters → IsFormReadTo s B form (text ++ made)
-  ends_so B letters made reads given = subst (λ f. IsFormReadTo s B f (text ++ made)) (append-nil form)
-      (reaches B [] made letters (h.last ∷ [])
+  IsFormReadTo-last B letters made reads given = subst (λ f. IsFormReadTo s B f (text ++ made)) (append-nil form)
+      (IsFormReadTo-more B [] made letters (h.last ∷ [])
       (cc (cut_at_headings-whole h.last h.alone, h.alone, append-nil h.last)) reads given)
 
   abbrev IsHere : PartsProperty
@@ -233,7 +233,7 @@ module _ {s : Day} {r : FormReader} {form text : List ℕ} (h : HoldsForm s r fo
       → ¬ (IsPartFaultForGood s fault p parts)
   never_refused fault p parts (there, alone) stands =
       let ((line, body, broken), early) = rw (there, alone) at stands in
-      HoldsStage-not_early (length h.front) r.stage h.stage broken early
+      HoldsFormStage-not_early (length h.front) r.stage h.stage broken early
 
   unrefused : (before : List ℕ) (fault : FormFault) → ¬ (IsRefusedForGood s form before fault)
   unrefused before fault (NoHeading none empty is) = elim h.begun [
@@ -244,27 +244,27 @@ module _ {s : Day} {r : FormReader} {form text : List ℕ} (h : HoldsForm s r fo
         none [] (subst BeginsHeading (sym h.joined ∙ sym (append-nil form)) (begins_more h.front h.last begun))
   ]
   unrefused before fault (AtPart (others, stands, so)) =
-      let (letters, reads, is) = ends_so IsHere [] [] (inl ((refl, refl), refl)) refl in
+      let (letters, reads, is) = IsFormReadTo-last IsHere [] [] (inl ((refl, refl), refl)) refl in
       (reads_meet s IsHere (IsPartFaultForGood s fault) ⊥
       (λ p part parts count one more held is due rest. let none : parts ≡ [] = cc in (rw none at rest).0)
       (λ p part parts count one more stands is due rest.
-      read_or_refused s (stands_at s fault p (part ∷ parts) stands).1 is due)
+      read_or_refused s (AnswersAt-stands s fault p (part ∷ parts) stands).1 is due)
       (never_refused fault) first_part_start (parts_of form) letters others reads stands).1
 
-  pub held : HasReadSoFar (form_message s) (HoldsForm s r) form text
-  held = record {
+  pub HasReadSoFar-form : HasReadSoFar (form_message s) (HoldsForm s r) form text
+  HasReadSoFar-form = record {
     is = h;
     open_yet = record {
       unrefused = λ fault found. unrefused found.0 fault found.1;
       written =
           subst (IsFormReadTo s IsLastPart form) (append-nil text)
-          (ends_so IsLastPart [] [] (inl ((h.last, refl), refl)) refl);
+          (IsFormReadTo-last IsLastPart [] [] (inl ((h.last, refl), refl)) refl);
     };
   }
 
-pub IsRefusedForGood-IsRefused : {s : Day} {form text : List ℕ} {fault : FormFault}
-    → IsRefusedForGood s form text fault → IsRefused (form_message s) form text fault
-IsRefusedForGood-IsRefused {s} {form} {text} {fault} found = record {
+pub IsRefusedForGood-HasFaultForGood : {s : Day} {form text : List ℕ} {fault : FormFault}
+    → IsRefusedForGood s form text fault → HasFaultForGood (form_message s) form text fault
+IsRefusedForGood-HasFaultForGood {s} {form} {text} {fault} found = record {
   stands = λ more. (text, stays_refused s form more text fault found);
   refused = λ more. (text, inl (stays_refused s form more text fault found));
   written = λ more. inl (stays_refused s form more text fault found);
@@ -313,7 +313,7 @@ EndsInHeading-holds {b = b} mine begun =
           first = inl (holds.line, record { joined = sym last.broken; without = holds.first.without }, holds.text);
         };
         numbered = mine.numbered;
-        due = mine.due;
+        as_expected = mine.as_expected;
         allowed = subst (All (λ b. IsTrue (is_text_byte b))) (take-append_seam last.settled (codes "PART "))
             (All-take (λ b. IsTrue (is_text_byte b)) (length last.settled) _ (rw lines at holds.allowed));
         kept = holds.kept ∙ ap (λ l. take 525 (letters_from None l)) lines
@@ -325,29 +325,28 @@ EndsInHeading-holds {b = b} mine begun =
 
 -- the reader at `stage`, after one more byte
 abbrev pub reader_after : FormReader → FormStage → FormReader
-reader_after r stage = record r { position = r.position + 1; stage = stage }
+reader_after r stage = record r { read = r.read + 1; stage = stage }
 
 module _ {s : Day} {r : FormReader} {form text : List ℕ} (h : HoldsForm s r form text) where
-  pub in_stage : {stage : FormStage} → r.stage ≡ stage → HoldsStage s stage r.number r.expected h.last
-  in_stage is = subst (λ st. HoldsStage s st r.number r.expected h.last) is h.stage
+  pub in_stage : {stage : FormStage} → r.stage ≡ stage → HoldsFormStage s stage r.number r.expected h.last
+  in_stage is = subst (λ st. HoldsFormStage s st r.number r.expected h.last) is h.stage
 
   -- after one more byte of the current part, the reader holds the form with this byte
-  pub grows : (stage : FormStage) (made : List ℕ) (byte : ℕ) → made ≡ []
+  pub HoldsForm-byte : (stage : FormStage) (made : List ℕ) (byte : ℕ) → made ≡ []
       → cut_at_headings (h.last ++ byte ∷ []) ≡ (h.last ++ byte ∷ [], [])
-      → HoldsStage s stage r.number r.expected (h.last ++ byte ∷ [])
+      → HoldsFormStage s stage r.number r.expected (h.last ++ byte ∷ [])
       → HoldsForm s (reader_after r stage) (form ++ byte ∷ []) (text ++ made)
-  grows stage made byte none one there = grind (arith, append_assoc, append-nil, length-append)
+  HoldsForm-byte stage made byte none one there = grind (arith, append_assoc, append-nil, length-append)
 
   -- if a fault stands at the last part once more bytes have come, the form with these bytes is refused
-  pub refused_at : {fault : FormFault} {part : List ℕ} {others : List (List ℕ)} (more : List ℕ)
-      → cut_at_headings (h.last ++ more) ≡ (part, others)
-      → IsPartFaultForGood s fault (here h) (part ∷ others)
-      → IsRefused (form_message s) (form ++ more) text fault
-  refused_at {fault} {part} {others} more are stands =
+  pub HasFaultForGood-last_part : {fault : FormFault} {part : List ℕ} {others : List (List ℕ)} (more : List ℕ)
+      → cut_at_headings (h.last ++ more) ≡ (part, others) → IsPartFaultForGood s fault (here h) (part ∷ others)
+      → HasFaultForGood (form_message s) (form ++ more) text fault
+  HasFaultForGood-last_part {fault} {part} {others} more are stands =
       let (letters, reads, is) =
-      reaches h (IsPartFaultForGood s fault) more [] [] (part ∷ others)
+      IsFormReadTo-more h (IsPartFaultForGood s fault) more [] [] (part ∷ others)
       (as_parts (h.last ++ more) part others are) (inl (stands, refl)) refl in
-      IsRefusedForGood-IsRefused (AtPart (letters, reads, sym (append-nil text) ∙ is))
+      IsRefusedForGood-HasFaultForGood (AtPart (letters, reads, sym (append-nil text) ∙ is))
 
   -- ---- the part ends, as a digit comes after the five bytes `PART `
 
@@ -371,21 +370,21 @@ module _ {s : Day} {r : FormReader} {form text : List ℕ} (h : HoldsForm s r fo
         ≡ (whole, parts_of (codes "PART " ++ byte ∷ more))
     cut_off more = grind (arith, ended.split, append_assoc, first_ends front more byte)
 
-    pub part_refused : {fault : FormFault}
+    pub HasFaultForGood-part : {fault : FormFault}
         → HoldsWithMore b 4 (λ letters. IsBodyAnswer s b.heading.part b.heading letters (Err fault))
-        → IsRefused (form_message s) (form ++ byte ∷ []) text fault
-    part_refused {fault} told =
-        refused_at (byte ∷ []) (cut_off []) (next_refused ended.next fault told (length h.front))
+        → HasFaultForGood (form_message s) (form ++ byte ∷ []) text fault
+    HasFaultForGood-part {fault} told =
+        HasFaultForGood-last_part (byte ∷ []) (cut_off []) (next_refused ended.next fault told (length h.front))
 
-    pub part_read : {made : List ℕ} {line : ArrayVec ℕ}
+    pub HoldsForm-next_part : {made : List ℕ} {line : ArrayVec ℕ}
         → HoldsWithMore b 4 (λ letters. IsBodyPlaintext s b.heading letters made)
         → line.items ≡ codes "PART " ++ byte ∷ [] → HoldsForm s (record {
-          position = r.position + 1;
+          read = r.read + 1;
           number = r.number + 1;
           expected = Some b.heading.parts;
           stage = stages.Heading line;
         }) (form ++ byte ∷ []) (text ++ made)
-    part_read told is_head =
+    HoldsForm-next_part told is_head =
         let heads : List ℕ = codes "PART " ++ byte ∷ [] in
         let has = ended.next.has in
         let (one, read, given) = next_read ended.next _ told in
@@ -407,11 +406,11 @@ module _ {s : Day} {r : FormReader} {form text : List ℕ} (h : HoldsForm s r fo
 
   -- ---- the end
 
-  pub closes_refused : {made : List ℕ} {fault : FormFault}
+  pub IsMessageAnswer-part_fault : {made : List ℕ} {fault : FormFault}
       → ((start : ℕ) → IsPartFault s r.number r.expected start h.last fault) → made ≡ []
       → IsMessageAnswer (form_message s) form (text ++ made) (Err fault)
-  closes_refused {made} {fault} found none =
-      let ends = ends_so h (IsPartFaultAtEnd s fault) [] made (inl (found (length h.front), refl)) none in
+  IsMessageAnswer-part_fault {made} {fault} found none =
+      let ends = IsFormReadTo-last h (IsPartFaultAtEnd s fault) [] made (inl (found (length h.front), refl)) none in
       ((text ++ made, inr ends), inr ends)
 
   module _ {b : PartBody} (stage : r.stage ≡ stages.Body b) where
@@ -423,23 +422,23 @@ module _ {s : Day} {r : FormReader} {form text : List ℕ} (h : HoldsForm s r fo
 
     module _ {given : List ℕ} (told : HoldsWithMore b 0 (λ letters. IsBodyPlaintext s b.heading letters given)) where
       -- at the end of the form, the last part is read too; if `B` then holds, the whole form is read up to there
-      ends_read : (B : PartsProperty) → B (next_part_start (here h) b.heading.parts h.last) []
+      IsFormReadTo-end : (B : PartsProperty) → B (next_part_start (here h) b.heading.parts h.last) []
           → IsFormReadTo s B form (text ++ given)
-      ends_read B so =
+      IsFormReadTo-end B so =
           let (one, read, is) = next_read next_last given told in
-          ends_so h B one given (inr
-          (b.heading.parts, one, [], read, mine.due, (so, refl), sym (append-nil one))) is
+          IsFormReadTo-last h B one given (inr
+          (b.heading.parts, one, [], read, mine.as_expected, (so, refl), sym (append-nil one))) is
 
-      pub closes : {made : List ℕ} → b.heading.parts ≡ r.number → made ≡ given ++ 10 ∷ []
+      pub IsMessageAnswer-text : {made : List ℕ} → b.heading.parts ≡ r.number → made ≡ given ++ 10 ∷ []
           → IsMessageAnswer (form_message s) form (text ++ made) (Ok tt)
-      closes same is =
-          let (letters, read, text_is) = ends_read AreAllPartsRead
+      IsMessageAnswer-text same is =
+          let (letters, read, text_is) = IsFormReadTo-end AreAllPartsRead
           (b.heading.parts, refl, ap (λ n. n + 1) (sym same)) in
           record { letters = letters; read = read; is = cc (is, text_is, append_assoc text given (10 ∷ [])) }
 
-      pub closes_short : b.heading.parts ≢ r.number
+      pub IsMessageAnswer-parts_missing : b.heading.parts ≢ r.number
           → IsMessageAnswer (form_message s) form (text ++ given) (Err PartOrder)
-      closes_short other =
+      IsMessageAnswer-parts_missing other =
           let few : r.number + 1 ≤ b.heading.parts = omega (arith, mine.numbered, mine.holds.is_heading.number) in
-          let ends = ends_read (IsPartFaultAtEnd s PartOrder) (refl, b.heading.parts, refl, few) in
+          let ends = IsFormReadTo-end (IsPartFaultAtEnd s PartOrder) (refl, b.heading.parts, refl, few) in
           ((text ++ given, inr ends), inr ends)

@@ -48,14 +48,14 @@ gives_both one other letters more a b = grind (arith, common_steps, All-append, 
 gives_none : Gives [] []
 gives_none = record { allowed = All-nil (λ b. IsTrue (is_text_byte b)); gives = refl }
 
-letter_told : (letter : ℕ) → letter < 26
+letter_is_allowed : (letter : ℕ) → letter < 26
     → IsTrue (is_text_byte (letter + 65)) × (letter_of_byte None (letter + 65) ≡ Some letter)
-letter_told letter less = grind (arith, nat_tests)
+letter_is_allowed letter less = grind (arith, nat_tests)
 
 pub gives_word : (letters : List ℕ) → AreOfTheAlphabet letters → Gives (letters_text letters) letters
 gives_word [] are = gives_none
 gives_word (l ∷ letters) are =
-    let told = letter_told l (All-head (λ x. x < 26) l letters are) in
+    let told = letter_is_allowed l (All-head (λ x. x < 26) l letters are) in
     gives_both ((l + 65) ∷ []) (letters_text letters) (l ∷ []) letters (record {
       allowed = All-cons (λ b. IsTrue (is_text_byte b)) (l + 65) [] told.0 (All-nil (λ b. IsTrue (is_text_byte b)));
       gives = ap (λ found. cons_option found []) told.1;
@@ -126,8 +126,7 @@ part_begins_heading s made more is = grind (arith, append_assoc, words_begin)
 
 -- a written part after an LF is one part of the form, if another part or nothing follows
 pub part_is_first : (s : Day) (made : Part) (rest : List ℕ) (others : List (List ℕ)) → IsHeading s made.heading
-    → All (λ letter. letter < 26) made.body
-    → cut_at_headings (10 ∷ rest) ≡ (10 ∷ [], others)
+    → All (λ letter. letter < 26) made.body → cut_at_headings (10 ∷ rest) ≡ (10 ∷ [], others)
     → cut_at_headings (10 ∷ (part_text made ++ rest)) ≡ (10 ∷ [], part_text made ∷ others)
 part_is_first s made rest others is are follows =
     let line : List ℕ = line_of (heading_words made.heading) in
@@ -203,8 +202,7 @@ record AreGivenBack (s : Day) (part parts count : ℕ) (pieces : List (List ℕ)
       (flat_map (sent_letters s) pieces)
 
 parts_are_given_back : (s : Day) (part parts : ℕ) (keys : List Keys) (pieces : List (List ℕ)) (form : List ℕ)
-    → IsLegalDay s
-    → All (AreKeys s) keys → All (KeysSuitDay s) keys → All (IsPiece s) pieces → 1 ≤ part
+    → IsLegalDay s → All (AreKeys s) keys → All (KeysSuitDay s) keys → All (IsPiece s) pieces → 1 ≤ part
     → part + length keys ≡ parts + 1
     → parts ≤ 99 → ArePartTextsMade s part parts keys pieces form → AreGivenBack s part parts (length keys) pieces form
 parts_are_given_back s part parts [] [] form legal are suited all first last few made = rw made (record {
@@ -230,7 +228,7 @@ parts_are_given_back s part parts (k ∷ keys) (piece ∷ pieces) form legal are
       body = body_text made.body;
       has = part_has_heading s made back.is_heading;
       numbered = back.numbered;
-      so_many = back.so_many;
+      same_parts = back.same_parts;
       allowed = given.allowed;
       read =
           subst (λ ls. IsBodyAnswer s part made.heading ls (Ok (sent_letters s piece))) (sym given.gives)

@@ -81,8 +81,7 @@ fits_there bytes place begun = grind (arith, common_steps, BeginsHeading-bytes b
 
 -- if the bytes can begin a heading, and a byte fits after them, they can do so with this byte too
 pub HasBegunHeading-snoc : (part line : List ℕ) (byte : ℕ) → line ≡ take 64 part → HasBegunHeading part
-    → FitsHeadingAt (length line) byte
-    → HasBegunHeading (part ++ byte ∷ [])
+    → FitsHeadingAt (length line) byte → HasBegunHeading (part ++ byte ∷ [])
 HasBegunHeading-snoc part line byte e d g = grind
     (arith, common_steps, begins_more, length-take, take_more, BeginsHeading-digit)
 
@@ -176,8 +175,7 @@ first_more (x ∷ front) tail byte unbroken none not =
 
 -- the first digit of a heading ends the part before it
 pub first_ends : (front more : List ℕ) (digit : ℕ) → (cut_at_headings (front ++ 10 ∷ codes "PART ")).1 ≡ [] → 48 ≤ digit
-    → digit ≤ 57
-    → cut_at_headings (front ++ 10 ∷ (codes "PART " ++ digit ∷ more))
+    → digit ≤ 57 → cut_at_headings (front ++ 10 ∷ (codes "PART " ++ digit ∷ more))
     ≡ (front ++ 10 ∷ [], parts_of (codes "PART " ++ digit ∷ more))
 first_ends [] more digit none low high = grind (arith, at_cut, BeginsHeading-digit)
 first_ends (x ∷ front) more digit none low high =
@@ -353,12 +351,12 @@ IsHeadingAnswer s answer line =
     MatchOption answer ((h : Heading) → IsHeading s h → line_of (heading_words h) ≢ line)
     (λ h. IsHeading s h × (line_of (heading_words h) ≡ line))
 
-pub heading_told : (s : Day) (found : Option ℕ) (line : List ℕ) (words shown : List (List ℕ)) (answer : Option Heading)
-    → MatchOption found (IsConverterDay s) (IsRotorDayWith s) → words ≡ words_of line → shown ≡ words
-    → AreHeadingWords s shown answer → IsHeadingAnswer s answer line
-heading_told s found line words shown None has are same told =
+pub IsHeadingAnswer-words : (s : Day) (found : Option ℕ) (line : List ℕ) (words shown : List (List ℕ))
+    (answer : Option Heading) → MatchOption found (IsConverterDay s) (IsRotorDayWith s) → words ≡ words_of line
+    → shown ≡ words → AreHeadingWords s shown answer → IsHeadingAnswer s answer line
+IsHeadingAnswer-words s found line words shown None has are same told =
     λ h is line_is. told h is (sym (line_words s found h line has is line_is) ∙ sym are ∙ sym same)
-heading_told s found line words shown (Some h) has are same told =
+IsHeadingAnswer-words s found line words shown (Some h) has are same told =
     (told.0, ap line_of (told.1 ∙ same ∙ are) ∙ parts_make_lines line)
 
 -- ---- no byte of a heading's line is below the space
@@ -391,39 +389,37 @@ one_line_text line text other e d = grind (arith, append_cancel_right)
 -- ---- the first 64 bytes of a line determine its heading
 
 heading_length : (s : Day) (found : Option ℕ) (h : Heading) → MatchOption found (IsConverterDay s) (IsRotorDayWith s)
-    → IsHeading s h
-    → length (line_of (heading_words h)) ≤ 50
+    → IsHeading s h → length (line_of (heading_words h)) ≤ 50
 heading_length s found h has is =
     let count = length-decimal-le 3 h.letters in
     let one = length-decimal-le 2 h.part in
     let all = length-decimal-le 2 h.parts in
     grind (arith, are_small s h is, at_most s h.letters is.letters, count, one, all, length-append {A = ℕ}, length-map)
 
-pub open_told : (s : Day) (found : Option ℕ) (part line : List ℕ) (answer : Option Heading)
+pub IsOpenHeading-line : (s : Day) (found : Option ℕ) (part line : List ℕ) (answer : Option Heading)
     → MatchOption found (IsConverterDay s) (IsRotorDayWith s) → IsHeadingAnswer s answer line → IsWithout 10 part
     → line ≡ take 64 part
     → MatchOption answer ((h : Heading) (body : List ℕ) → ¬ (HasHeading s part h body)) (λ h. HasHeading s part h [])
-open_told s found part line None has told unbroken kept = λ h body there.
+IsOpenHeading-line s found part line None has told unbroken kept = λ h body there.
     let is : line_of (heading_words h) ≡ part = grind (arith, has_byte) in
     let size = heading_length s found h has there.is_heading in
     told h there.is_heading (is ∙ sym (kept ∙ take_all 64 part (omega (arith, ap length is, size))))
-open_told s found part line (Some h) has told unbroken kept =
+IsOpenHeading-line s found part line (Some h) has told unbroken kept =
     let size = heading_length s found h has told.0 in
     let whole : line ≡ part = whole_line 64 part line kept (grind (arith, told.1, size)) in
     record { is_heading = told.0; first = inr (unbroken, cc (whole, told.1), refl) }
 
-pub ended_told : (s : Day) (found : Option ℕ) (part line text : List ℕ) (answer : Option Heading)
+pub IsEndedHeading-line : (s : Day) (found : Option ℕ) (part line text : List ℕ) (answer : Option Heading)
     → MatchOption found (IsConverterDay s) (IsRotorDayWith s) → IsLineText line text → IsHeadingAnswer s answer text
-    → IsWithout 10 part
-    → line ≡ take 64 part
+    → IsWithout 10 part → line ≡ take 64 part
     → MatchOption answer ((h : Heading) (body : List ℕ) → ¬ (HasHeading s (part ++ 10 ∷ []) h body))
     (λ h. IsHeading s h × IsLineText part (line_of (heading_words h)))
-ended_told s found part line text None has cut told unbroken kept = λ h body there.
+IsEndedHeading-line s found part line text None has cut told unbroken kept = λ h body there.
     let shown = (heading_there s part [] h body unbroken there).0 in
     let size = heading_length s found h has there.is_heading in
     let whole : line ≡ part = kept ∙ take_all 64 part (grind (arith, shown, size, length-append {A = ℕ})) in
     told h there.is_heading (one_line_text part _ text shown (rw whole at cut))
-ended_told s found part line text (Some h) has cut told unbroken kept =
+IsEndedHeading-line s found part line text (Some h) has cut told unbroken kept =
     let size = heading_length s found h has told.0 in
     (told.0, rw (whole_line 64 part line kept (grind (arith, size, length-append {A = ℕ})), ← told.1) at cut)
 

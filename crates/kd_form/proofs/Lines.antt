@@ -1,6 +1,6 @@
 -- Prefixes of a list up to an item with a property, plain text, and the lines of an order's head.
 use Rattle.{std.specs.Cmp.Lexicographic.pointwise_decides, kd_state.specs.Machine.AreLetters}
-use Rattle.kd_form.specs.declared.pattern_line.PatternFault.TheVariants.{Incomplete, Mismatch}
+use Rattle.kd_form.specs.declared.sending.pattern_line.PatternFault.TheVariants.{Incomplete, Mismatch}
 pub use Rattle.kd_form.proofs.Prelude.{err_is, ◌≡◌, ◌≢◌, ℕ, ◌+◌, ◌≤◌, ◌<◌, true, List, [], ◌∷◌, ◌++◌, refl, subst, Day}
 pub use Rattle.kd_form.proofs.Prelude.{length-append, arith, take, ap, ◌∙◌, length, sym, codes, All, nat_le, IsTrue}
 pub use Rattle.kd_form.proofs.Prelude.{is_text_byte, list_all, nat_tests, take_all, length-take, AllPass-from_list_all}
@@ -138,6 +138,8 @@ line_ends [] bytes letters (Ok done) none ended = grind (arith, AreLetters-nil, 
 line_ends [] bytes letters (Err Incomplete) none (more, some, ended) = grind (arith, AreLetters-nil)
 line_ends [] bytes letters (Err Mismatch) none off = λ more line. off more line.1.ended
 line_ends (mark ∷ pattern) bytes letters answer none told = absurd (omega arith)
+
+pub ruleset pattern_marks = (line_open, line_off, line_on, line_ends)
 
 -- the empty list, and CR alone, are proper prefixes of a line end
 pub end_open : (bytes : List ℕ) → length bytes < 2 → (1 ≤ length bytes → get_or bytes 0 0 ≡ 13)

@@ -18,7 +18,8 @@ pub use Rattle.kd_form.proofs.Prelude.{All-append, All-cons, All-replicate, twic
 pub use Rattle.kd_form.proofs.Prelude.{sent_letters, AreKeys, nat_tests, AreRising, GoesOn}
 use Rattle.{kd_enigma.specs.Cipher.{path, product}}
 use Rattle.{kd_state.specs.TwoCiphers.{EngineKey, engine_key_after, key_with_window}}
-use Rattle.{kd_form.specs.Making.IsTurnedFrom, kd_tables.specs.{Permutation.{alphabet, followed_by}, Rings.ring_of}}
+use Rattle.kd_form.specs.PartMaking.{IsKeyOfDaysMachine}
+use Rattle.kd_tables.specs.{Permutation.{alphabet, followed_by}, Rings.ring_of}
 use Rattle.std.proofs.lemmas.List.FromFn.{get_or-range_with_len, length-enumerate_from, length-range_with_len}
 
 pub enciphered_length : (s : Day) (window text : List ℕ) → length (cipher_from s window text) ≡ length text
@@ -50,14 +51,14 @@ pub ruleset stay_letters = (common_steps, enciphered_letters)
 
 -- ---- the day's own machine stays on the day's key, whatever is enciphered on it
 
-pub own_at_first : (s : Day) (key : EngineKey) → key ≡ sheet_key s → IsTurnedFrom s key
-own_at_first (OfRotors s) key is = (_, is)
-own_at_first (OfPins s) key is = (_, is)
+pub new_has_days_key : (s : Day) (key : EngineKey) → key ≡ sheet_key s → IsKeyOfDaysMachine s key
+new_has_days_key (OfRotors s) key is = (_, is)
+new_has_days_key (OfPins s) key is = (_, is)
 
-pub own_when_left : (s : Day) (key left : EngineKey) (window : List ℕ) (count : ℕ) → IsTurnedFrom s key
-    → left ≡ engine_key_after (key_with_window key window) count → IsTurnedFrom s left
-own_when_left (OfRotors s) key left window count (shown, is) left_is = grind arith
-own_when_left (OfPins s) key left window count (shown, is) left_is = grind arith
+pub run_keeps_days_key : (s : Day) (key left : EngineKey) (window : List ℕ) (count : ℕ) → IsKeyOfDaysMachine s key
+    → left ≡ engine_key_after (key_with_window key window) count → IsKeyOfDaysMachine s left
+run_keeps_days_key (OfRotors s) key left window count (shown, is) left_is = grind arith
+run_keeps_days_key (OfPins s) key left window count (shown, is) left_is = grind arith
 
 -- -------- skipping letters finds the first rising places, letter by letter and wheel by wheel
 
@@ -93,10 +94,10 @@ module _ (letters : List ℕ) (wheel start : ℕ) (inside : start < length lette
       none others (Picks-earlier letters (wheel + 1) (other + 1) (start + 1) others (omega arith) more)
 
   -- if the letter at `start` isn't on the wheel, each pick begins after `start`
-  later : (places : List ℕ) → ¬ (Contains (ring_of wheel) (slice_index letters start))
+  Picks-later : (places : List ℕ) → ¬ (Contains (ring_of wheel) (slice_index letters start))
       → Picks letters wheel start places → Picks letters wheel (start + 1) places
-  later [] off picks = picks
-  later (place ∷ places) off picks = grind (arith, cases_eq)
+  Picks-later [] off picks = picks
+  Picks-later (place ∷ places) off picks = grind (arith, cases_eq)
 
 -- The letters `done` are picked for the first wheels. The first pick for the other wheels, from `start` on,
 -- completes the first pick for all wheels. If the other wheels have no pick, all wheels together have none.
@@ -141,10 +142,11 @@ picking_more letters start letter done next picking inside is (OffWheel off same
   taken = picking.taken;
   made = λ more first. picking.made more (record {
     picks = Picks-earlier letters _ (start + 1) start more (omega arith) first.picks;
-    first = λ others picks. first.first others (later letters _ start inside others (rw is at off) picks);
+    first = λ others picks. first.first others (Picks-later letters _ start inside others (rw is at off) picks);
   });
   spent =
-      λ none. picking.spent (λ others picks. none others (later letters _ start inside others (rw is at off) picks));
+      λ none. picking.spent (λ others picks.
+      none others (Picks-later letters _ start inside others (rw is at off) picks));
 })
 
 -- ---- picks and rising places are the same
@@ -230,9 +232,9 @@ pub key_is_window : (s : Day) (i : Indicator) (key : List ℕ) → HasIndicator 
     → All (λ l. l < 26) key → IsWindow (sheet_key s) key
 key_is_window s i key has is within = grind (arith, enciphered_length, length-map)
 
-pub list_told : (s : Day) (found : Option (List ℕ)) (due : List ℕ) → found ≡ option_map (λ d. d.list) (pin_day s)
+pub list_of_day : (s : Day) (found : Option (List ℕ)) (due : List ℕ) → found ≡ option_map (λ d. d.list) (pin_day s)
     → found ≡ Some due → due ≡ list_letters s
-list_told s found due told is = grind arith
+list_of_day s found due told is = grind arith
 
 -- -------- a part as it is made, and what it gives back
 
@@ -246,7 +248,7 @@ pub record IsPiece (s : Day) (piece : List ℕ) : Type 0 where
 pub record GivesBack (s : Day) (part parts : ℕ) (text : List ℕ) (made : Part) : Type 0 where
   pub is_heading : IsHeading s made.heading
   pub numbered : made.heading.part ≡ part
-  pub so_many : made.heading.parts ≡ parts
+  pub same_parts : made.heading.parts ≡ parts
   pub within : All (λ letter. letter < 26) made.body
   pub counted : length made.body ≡ made.heading.letters
   pub read : IsLettersAnswer s part made.heading.indicator made.body (Ok text)
@@ -300,7 +302,7 @@ part_gives_back (OfRotors s) part parts (Rotor k) piece made legal are suits fra
     rw makes (record {
       is_heading = grind (arith, count, size, enciphered_letters day k.ground_setting k.message_key);
       numbered = refl;
-      so_many = refl;
+      same_parts = refl;
       within = grind (arith, All-append (λ letter. letter < 26), are, enciphered_letters day k.message_key piece);
       counted = refl;
       read = GoesOn tt (rw (placed.0) suits) (grind (arith, placed, key, text));
@@ -326,7 +328,7 @@ part_gives_back (OfPins s) part parts (Pin k) piece made legal are suits fractio
     rw makes (record {
       is_heading = grind (arith, count, groups);
       numbered = refl;
-      so_many = refl;
+      same_parts = refl;
       within = All-append (λ letter. letter < 26) (indicators ++ enciphered) indicators
           (All-append (λ letter. letter < 26) indicators enciphered outer
           (enciphered_letters day internal (fill_last_group piece))) outer;

@@ -1,16 +1,15 @@
 -- An order is read in one way, and becomes one form or has one fault.
-pub use Rattle.kd_form.proofs.Prelude.{common_steps, ◌≡◌, ◌≢◌, ℕ, ◌+◌, inl, inr, List, [], ◌∷◌, ◌++◌, length, refl, sym}
-pub use Rattle.kd_form.proofs.Prelude.{ap, subst, ◌∙◌, append_assoc, arith, Err, Ok, drop, ◌≤◌, ◌⊎◌, codes, All, IsTrue}
-pub use Rattle.kd_form.proofs.Prelude.{IsFalse, append_cancel_right, append-nil, All-cons, All-nil, All-map}
+pub use Rattle.kd_form.proofs.Prelude.{common_steps, ◌≡◌, ◌≢◌, ℕ, ◌+◌, inl, inr, List, [], ◌∷◌, ◌++◌, length, refl}
+pub use Rattle.kd_form.proofs.Prelude.{sym, ap, subst, ◌∙◌, append_assoc, arith, Err, Ok, drop, ◌≤◌, ◌⊎◌, codes, All}
+pub use Rattle.kd_form.proofs.Prelude.{IsTrue, IsFalse, append_cancel_right, append-nil, All-cons, All-nil, All-map}
 pub use Rattle.kd_form.proofs.Prelude.{letters_text, is_text_byte, line_of, Day, OfRotors, OfPins, Keys, Rotor, Pin}
 pub use Rattle.kd_form.proofs.Prelude.{PrecedesOrEquals, IsInternalKey, key_words, AreKeys, IsLineWithEnd}
 pub use Rattle.kd_form.proofs.Prelude.{BeginsWithKeys, IsOrder, IsOrderHead, IsOrderHeadFault, IsPartTextMade}
 pub use Rattle.kd_form.proofs.Prelude.{enciphered_choice, part_size, KeysSuitDay, pieces, ArePartTextsMade}
 pub use Rattle.kd_form.proofs.Prelude.{text_letters, parts_needed, IsFirstBadByteAt, IsKeysFault, IsFirstKeysFault}
 pub use Rattle.kd_form.proofs.Prelude.{IsOrderFaultForGood, InHead, InKeys, InText, HeadCutShort, NoLetter, InParts}
-pub use Rattle.kd_form.proofs.Prelude.{IsSendFault, IsSendable, IsFormOf, Result}
-pub use Rattle.kd_form.proofs.Prelude.{false≢true, FormFault, BadByte, EmptyText, PartKeys}
-pub use Rattle.kd_form.proofs.Prelude.{nil_from_length, length-append}
+pub use Rattle.kd_form.proofs.Prelude.{IsSendFault, IsSendable, IsFormOf, Result, false≢true, FormFault, BadByte}
+pub use Rattle.kd_form.proofs.Prelude.{EmptyText, PartKeys, nil_from_length, length-append}
 use Rattle.kd_form.proofs.Lines.{same_front, plain_keys, key_first, text_front, same_line, plain_text}
 
 -- the answer of a reader: letters, or a fault

@@ -14,10 +14,9 @@ pub use Rattle.kd_form.proofs.Prelude.{FailureAgrees, Parts, IsEarlyFault, form_
 pub use Rattle.kd_form.proofs.Prelude.{IsStreamAnswer, HaveNotFailed, is_device, is_off_key, text_message, IsWithout}
 pub use Rattle.kd_form.proofs.Prelude.{FormsBecomeOneText, FormsHaveOneFault, FormsStayRefused}
 pub use Rattle.kd_form.proofs.Prelude.{ReceivedFormsHaveNoFault, plaintext_with_end, false≢true}
-use Rattle.kd_form.proofs.OneOrder.{HasOneAnswer-either, HasOneAnswer-FindsThen}
-use Rattle.kd_form.proofs.OneOrder.{HasOneAnswer-DemandsThen, HasOneAnswer-UnlessFoundThen, one_internal_key}
-use Rattle.kd_form.proofs.OneOrder.{one_bad_byte, no_bad_byte, HasOneAnswer, Answer, UnlessFoundThen, DemandsThen}
-use Rattle.kd_form.proofs.OneOrder.{FindsOrFaultThen}
+use Rattle.kd_form.proofs.OneOrder.{HasOneAnswer-either, HasOneAnswer-FindsThen, HasOneAnswer-DemandsThen}
+use Rattle.kd_form.proofs.OneOrder.{HasOneAnswer-UnlessFoundThen, one_internal_key, one_bad_byte, no_bad_byte}
+use Rattle.kd_form.proofs.OneOrder.{HasOneAnswer, Answer, UnlessFoundThen, DemandsThen, FindsOrFaultThen}
 use Rattle.kd_form.proofs.Headings.{one_heading, begins_there, begins_more, first_there, ended_heading, heading_there}
 use Rattle.kd_form.proofs.Headings.{IsAlike, cut_at_headings-IsAlike, as_parts, first_done, cut_at_headings-whole}
 
@@ -76,15 +75,15 @@ module _ (s : Day) where
   AnswersAt v p (part ∷ parts) =
       (fault : FormFault) × IsPartFault s p.number p.expected p.bytes_before part fault × (v ≡ Err fault)
 
-  pub stands_at : (fault : FormFault) (p : PartStart) (parts : List (List ℕ)) → IsPartFaultForGood s fault p parts
-      → AnswersAt (Err fault) p parts
-  stands_at fault p [] none = absurd none
-  stands_at fault p (part ∷ []) (ended, early) = (fault, inl early, refl)
-  stands_at fault p (part ∷ next ∷ others) refused = (fault, refused, refl)
+  pub AnswersAt-stands : (fault : FormFault) (p : PartStart) (parts : List (List ℕ))
+      → IsPartFaultForGood s fault p parts → AnswersAt (Err fault) p parts
+  AnswersAt-stands fault p [] none = absurd none
+  AnswersAt-stands fault p (part ∷ []) (ended, early) = (fault, inl early, refl)
+  AnswersAt-stands fault p (part ∷ next ∷ others) refused = (fault, refused, refl)
 
-  pub ends_at : (fault : FormFault) (p : PartStart) (parts : List (List ℕ)) → IsPartFaultAtEnd s fault p parts
+  pub AnswersAt-end : (fault : FormFault) (p : PartStart) (parts : List (List ℕ)) → IsPartFaultAtEnd s fault p parts
       → AnswersAt (Err fault) p parts
-  ends_at fault p parts told = grind arith
+  AnswersAt-end fault p parts told = grind arith
 
 -- ---- the part
 
@@ -114,13 +113,13 @@ module _ (s : Day) where
   part_fault (inl (InNumber h body has other is)) = inr ((h, body), has, inl (grind arith))
   part_fault (inl (InBody h body place has numbered due bad is)) =
       inr ((h, body), has, inr ((numbered, due), inl (place, bad, ap Err is)))
-  part_fault (inr a) = inr ((a.heading, a.body), a.has, inr ((a.numbered, a.due), inr (a.allowed, a.found)))
+  part_fault (inr a) = inr ((a.heading, a.body), a.has, inr ((a.numbered, a.as_expected), inr (a.allowed, a.found)))
 
   part_read : {number parts : ℕ} {part text : List ℕ} → (expected : Option ℕ) (start : ℕ)
       → IsPartRead s number parts part text → IsExpectedCount expected parts
       → IsPartAnswer number expected start part (Ok text)
   part_read expected start a due =
-      let expects = subst (λ n. IsExpectedCount expected n) (sym a.so_many) due in
+      let expects = subst (λ n. IsExpectedCount expected n) (sym a.same_parts) due in
       inr ((a.heading, a.body), a.has, inr ((a.numbered, expects), inr (a.allowed, a.read)))
 
   -- a part can be read with only one number of parts and only one text
@@ -130,7 +129,7 @@ module _ (s : Day) where
       let headings = one_heading s part a.heading b.heading a.body b.body a.has b.has in
       let texts : Ok text ≡ Ok other =
       only_part number None 0 part (Ok text) (Ok other) (part_read None 0 a tt) (part_read None 0 b tt) in
-      (cc (a.so_many, b.so_many, headings.0), cc)
+      (cc (a.same_parts, b.same_parts, headings.0), cc)
 
   -- -------- a form becomes one text, or has one fault
 
@@ -169,10 +168,10 @@ module _ (s : Day) where
   pub never_passes : (v w : Result (Unit {0}) FormFault) → NeverPasses s (AnswersAt s v) (AnswersAt s w)
   never_passes v w p part parts count one more (fault, refused, answer) is due rest = read_or_refused refused is due
 
-  one_at : (v w : Result (Unit {0}) FormFault) (p : PartStart) (parts : List (List ℕ)) → AnswersAt s v p parts
+  AnswersAt-one : (v w : Result (Unit {0}) FormFault) (p : PartStart) (parts : List (List ℕ)) → AnswersAt s v p parts
       → AnswersAt s w p parts → v ≡ w
-  one_at v w p [] (count, is, answer) (other, also, answers) = grind arith
-  one_at v w p (part ∷ parts) (fault, refused, answer) (found, also, answers) =
+  AnswersAt-one v w p [] (count, is, answer) (other, also, answers) = grind arith
+  AnswersAt-one v w p (part ∷ parts) (fault, refused, answer) (found, also, answers) =
       let both : Err fault ≡ Err found =
       only_part p.number p.expected p.bytes_before part (Err fault) (Err found) (part_fault refused)
       (part_fault also) in cc
@@ -185,7 +184,7 @@ module _ (s : Day) where
     pub only_form : (v w : Result (Unit {0}) FormFault) (letters more : List ℕ) → IsFormAnswer v letters
         → IsFormAnswer w more → (letters ≡ more) × (v ≡ w)
     only_form v w =
-        reads_meet (AnswersAt s v) (AnswersAt s w) (v ≡ w) (never_passes v w) (never_passes w v) (one_at v w)
+        reads_meet (AnswersAt s v) (AnswersAt s w) (v ≡ w) (never_passes v w) (never_passes w v) (AnswersAt-one v w)
         first_part_start
         (parts_of form)
 
@@ -203,10 +202,10 @@ module _ (s : Day) where
         (begins_more (cut_at_headings form).0 rest (begins_there s (cut_at_headings form).0 h body has))) in
         ([], inl ((fault, inl (InHeading unheaded is), refl), refl))
     fault_answer fault (text, inl (AtPart (letters, reads, is))) =
-        let to = reads_as s (IsPartFaultForGood s fault) (AnswersAt s (Err fault)) (stands_at s fault) in
+        let to = reads_as s (IsPartFaultForGood s fault) (AnswersAt s (Err fault)) (AnswersAt-stands s fault) in
         (letters, to first_part_start (parts_of form) letters reads)
     fault_answer fault (text, inr (letters, reads, is)) =
-        let to = reads_as s (IsPartFaultAtEnd s fault) (AnswersAt s (Err fault)) (ends_at s fault) in
+        let to = reads_as s (IsPartFaultAtEnd s fault) (AnswersAt s (Err fault)) (AnswersAt-end s fault) in
         (letters, to first_part_start (parts_of form) letters reads)
 
 pub forms_become_one_text : FormsBecomeOneText
@@ -229,10 +228,10 @@ received_forms_have_no_fault s form text fault a b =
 -- -------- answers whose reason is a device or the machine
 
 -- a device failed exactly if the answer says so, and the machine isn't the reason for the answer
-pub order_told : (s : Day) (source sink : Port) (read text : List ℕ) (answer : Result (Unit {0}) FormFault)
+pub FailureAgrees-answer : (s : Day) (source sink : Port) (read text : List ℕ) (answer : Result (Unit {0}) FormFault)
     → IsStreamAnswer (order_message s) source sink read text answer
     → FailureAgrees source sink (is_device answer) × (is_off_key answer ≡ false)
-order_told s source sink read text answer answers = grind arith
+FailureAgrees-answer s source sink read text answer answers = grind arith
 
 abbrev IsOfForms : FormFault → Type 0
 IsOfForms fault = (is_device (Err fault) ≡ false) × (is_off_key (Err fault) ≡ false)
@@ -255,8 +254,8 @@ parts_refused s fault p (part ∷ parts) (f, inr late, is) =
     let same : fault ≡ f = cc in
     rw same (body_refused s p.number late.heading (letters_from None late.body) f late.found)
 
-pub refused_told : (s : Day) (form : List ℕ) (fault : FormFault) → IsReceiveFault s form fault → IsOfForms fault
-refused_told s form fault found =
+pub IsOfForms-fault : (s : Day) (form : List ℕ) (fault : FormFault) → IsReceiveFault s form fault → IsOfForms fault
+IsOfForms-fault s form fault found =
     let (letters, reads) = fault_answer s form fault found in
     (reads_meet s (AnswersAt s (Err fault)) (AnswersAt s (Err fault)) (IsOfForms fault)
     (never_passes s (Err fault) (Err fault))

@@ -1,31 +1,31 @@
 -- What the reader of an order holds after one more byte, and its answer at the end.
 pub use Rattle.kd_form.proofs.Prelude.{append-nil, length-take, [], ◌≡◌, ◌≢◌, ℕ, zero, suc, ◌+◌, ◌*◌, ◌<◌, ◌≤◌, inl}
-pub use Rattle.kd_form.proofs.Prelude.{inr, List, ◌∷◌, ◌++◌, Some, length, take, drop, refl, sym, ap, ◌∙◌, append_assoc}
-pub use Rattle.kd_form.proofs.Prelude.{length-append, length-drop, arith, get_or, Option, Result, Ok, Err, IsTrue}
-pub use Rattle.kd_form.proofs.Prelude.{slice_get, codes, All, MatchResult, div_ceil, take_all, drop_all, drop-take}
-pub use Rattle.kd_form.proofs.Prelude.{drop-drop, take-take, take_more, length-take-le, Day, Keys, pieces}
+pub use Rattle.kd_form.proofs.Prelude.{inr, List, ◌∷◌, ◌++◌, Some, length, take, drop, refl, sym, ap, ◌∙◌}
+pub use Rattle.kd_form.proofs.Prelude.{append_assoc, length-append, length-drop, arith, get_or, Option, Result, Ok}
+pub use Rattle.kd_form.proofs.Prelude.{Err, IsTrue, slice_get, codes, All, MatchResult, div_ceil, take_all, drop_all}
+pub use Rattle.kd_form.proofs.Prelude.{drop-take, drop-drop, take-take, take_more, length-take-le, Day, Keys, pieces}
 pub use Rattle.kd_form.proofs.Prelude.{IsPartTextMade, part_size, KeysSuitDay, parts_needed, ArePartTextsMade}
 pub use Rattle.kd_form.proofs.Prelude.{letters_from, text_letters, IsFirstKeysFault, IsOrderFaultForGood, InHead}
-pub use Rattle.kd_form.proofs.Prelude.{InKeys, InText, NoLetter, InParts, IsWritableCount, IsSentBefore, order_message}
-pub use Rattle.kd_form.proofs.Prelude.{AreLettersTaken, IsHeadBegun, IsHeadLine, IsTextRead, IsTextEndAnswer}
-pub use Rattle.kd_form.proofs.Prelude.{IsFreshWriter, IsOpen, IsOrderRead, IsStageRead, All-nil, PatternFault, AreKeys}
-pub use Rattle.kd_form.proofs.Prelude.{IsPatternLine, IsPatternFault, key_pattern, key_words, line_of, IsLineWithEnd}
-pub use Rattle.kd_form.proofs.Prelude.{IsKeyLine, BeginsWithKeys, IsAnyOrderHead, IsOrderHead, IsOrder}
-pub use Rattle.kd_form.proofs.Prelude.{IsOrderHeadFault, is_text_byte, FormFault, IsRefused, IsMessageAnswer}
-pub use Rattle.kd_form.proofs.Prelude.{HasReadSoFar, IsAnyKeyLine, common_steps, BadByte, HeadCutShort, space_letter}
-pub use Rattle.kd_form.proofs.Prelude.{All-push, filter_map-append, ◌-◌, cases_lt, drop_at, le_of_mul-le-mul_left}
-pub use Rattle.kd_form.proofs.Prelude.{take_at}
+pub use Rattle.kd_form.proofs.Prelude.{InKeys, InText, NoLetter, InParts, IsWritableCount, IsSentBeforeEnd}
+pub use Rattle.kd_form.proofs.Prelude.{order_message, AreLettersTaken, IsHeadBegun, IsHeadLine, HoldsOrderText}
+pub use Rattle.kd_form.proofs.Prelude.{IsTextEndAnswer, IsFreshWriter, IsOpen, HoldsOrder, HoldsOrderStage, All-nil}
+pub use Rattle.kd_form.proofs.Prelude.{PatternFault, AreKeys, IsPatternLine, IsPatternFault, key_pattern, key_words}
+pub use Rattle.kd_form.proofs.Prelude.{line_of, IsLineWithEnd, IsKeyLine, BeginsWithKeys, IsAnyOrderHead, IsOrderHead}
+pub use Rattle.kd_form.proofs.Prelude.{IsOrder, IsOrderHeadFault, is_text_byte, FormFault, HasFaultForGood}
+pub use Rattle.kd_form.proofs.Prelude.{IsMessageAnswer, HasReadSoFar, IsAnyKeyLine, common_steps, BadByte}
+pub use Rattle.kd_form.proofs.Prelude.{HeadCutShort, space_letter, All-push, filter_map-append, ◌-◌, cases_lt}
+pub use Rattle.kd_form.proofs.Prelude.{drop_at, le_of_mul-le-mul_left, take_at}
 use Rattle.std.proofs.lemmas.{Grind.div_ceil_times, Option.slice_get_within, Option.get_or_from_slice_get}
-use Rattle.kd_form.specs.declared.{order_reader.parts.PartWriter.PartWriter, order_reader.head.HeadReader.HeadReader}
-use Rattle.kd_form.specs.declared.{order_reader.OrderReader.OrderReader, order_reader.OrderStage.OrderStage}
+use Rattle.kd_form.specs.declared.sending.{part_writer.PartWriter.PartWriter, order_head.HeadReader.HeadReader}
+use Rattle.kd_form.specs.declared.sending.order_reader.{OrderReader.OrderReader, OrderStage.OrderStage}
 pub use Rattle.kd_form.proofs.MadeParts.{pieces-next, pieces-none, size_some}
 use Rattle.kd_form.proofs.Lines.{length-filled, as_form_line, key_first, lines_more, same_line, text_front, text_line}
 use Rattle.kd_form.proofs.Lines.{IsPlain, letters_first, plain_keys, plain_text}
 pub use Rattle.kd_form.proofs.OneOrder.{Shorter, Longer, all_of_the_day, prefixes, no_head_fault, no_keys_fault}
 pub use Rattle.kd_form.proofs.OneOrder.{nothing_stands, nothing_stands_yet, one_order, bad_longer, bad_behind}
 pub use Rattle.kd_form.proofs.OneOrder.{BeginsWithKeys-append}
-use Rattle.kd_form.specs.declared.pattern_line.PatternFault.TheVariants as faults
-use Rattle.kd_form.specs.declared.order_reader.OrderStage.TheVariants as stages
+use Rattle.kd_form.specs.declared.sending.pattern_line.PatternFault.TheVariants as faults
+use Rattle.kd_form.specs.declared.sending.order_reader.OrderStage.TheVariants as stages
 use Rattle.kd_form.specs.SendStream as stream
 
 -- -------- the parts of an order, letter by letter
@@ -163,13 +163,13 @@ letters_few for_space [] = omega arith
 letters_few for_space (byte ∷ text) = grind (arith, letters_first, letters_few for_space text, length-append)
 
 module _ {s : Day} where
-  pub is_longer : {order head text : List ℕ} {keys : List Keys} (more : List ℕ) → IsOrder s order keys head text
+  pub IsOrder-append : {order head text : List ℕ} {keys : List Keys} (more : List ℕ) → IsOrder s order keys head text
       → IsOrder s (order ++ more) keys head (text ++ more)
-  is_longer more is = grind (arith, append_assoc {A = ℕ})
+  IsOrder-append more is = grind (arith, append_assoc {A = ℕ})
 
-  pub fault_longer : {order : List ℕ} {position : ℕ} (more : List ℕ) → IsOrderHeadFault s order position
+  pub IsOrderHeadFault-append : {order : List ℕ} {position : ℕ} (more : List ℕ) → IsOrderHeadFault s order position
       → position ≤ length order → IsOrderHeadFault s (order ++ more) position
-  fault_longer {order} {position} more fault inside = record {
+  IsOrderHeadFault-append {order} {position} more fault inside = record {
     before = fault.before;
     rest = fault.rest ++ more;
     joined = ap (λ o. o ++ more) fault.joined ∙ append_assoc fault.before fault.rest more;
@@ -181,32 +181,32 @@ module _ {s : Day} where
         fault.stops byte (drop 1 fault.rest) beyond (grind arith);
   }
 
-  pub stands_longer : {order : List ℕ} {fault : FormFault} (more : List ℕ) → IsOrderFaultForGood s order fault
-      → IsOrderFaultForGood s (order ++ more) fault
-  stands_longer {order} more (InHead p h few e) =
-      InHead p (fault_longer more h few) (omega (arith, few, length-append order more)) e
-  stands_longer more (InKeys ks hd t o k) = InKeys ks hd (t ++ more) (is_longer more o) k
-  stands_longer more (InText ks hd t n o su b e) =
-      InText ks hd (t ++ more) n (is_longer more o) su (bad_longer t more n b) e
+  pub IsOrderFaultForGood-append : {order : List ℕ} {fault : FormFault} (more : List ℕ)
+      → IsOrderFaultForGood s order fault → IsOrderFaultForGood s (order ++ more) fault
+  IsOrderFaultForGood-append {order} more (InHead p h few e) =
+      InHead p (IsOrderHeadFault-append more h few) (omega (arith, few, length-append order more)) e
+  IsOrderFaultForGood-append more (InKeys ks hd t o k) = InKeys ks hd (t ++ more) (IsOrder-append more o) k
+  IsOrderFaultForGood-append more (InText ks hd t n o su b e) =
+      InText ks hd (t ++ more) n (IsOrder-append more o) su (bad_longer t more n b) e
 
-  pub order_refused : {order sent : List ℕ} {fault : FormFault} → IsOrderFaultForGood s order fault
-      → ((more : List ℕ) → IsSentBefore s (order ++ more) sent) → IsRefused (order_message s) order sent fault
-  order_refused stands written = record {
-    stands = λ more. stands_longer more stands;
-    refused = λ more. inl (stands_longer more stands);
+  pub HasFaultForGood-order : {order sent : List ℕ} {fault : FormFault} → IsOrderFaultForGood s order fault
+      → ((more : List ℕ) → IsSentBeforeEnd s (order ++ more) sent) → HasFaultForGood (order_message s) order sent fault
+  HasFaultForGood-order stands written = record {
+    stands = λ more. IsOrderFaultForGood-append more stands;
+    refused = λ more. inl (IsOrderFaultForGood-append more stands);
     written = written;
   }
 
   -- ---- how far the reader has read
 
-  text_sent : {keys : List Keys} {w : PartWriter} {order sent : List ℕ} → IsTextRead s keys w order sent
-      → IsSentBefore s order sent
+  text_sent : {keys : List Keys} {w : PartWriter} {order sent : List ℕ} → HoldsOrderText s keys w order sent
+      → IsSentBeforeEnd s order sent
   text_sent text =
       stream.TextBegun _ text.head text.text text.text _ text.sendable.is_order text.sendable.suited
       (grind (arith, append-nil {A = ℕ})) text.taken.written text.taken.made
 
   open_yet : (stage : OrderStage) (h : HeadReader) (w : PartWriter) (order sent : List ℕ)
-      → IsStageRead s stage h w order sent → IsOpen (order_message s) order sent
+      → HoldsOrderStage s stage h w order sent → IsOpen (order_message s) order sent
   open_yet stages.Head h w order sent (head, nothing, fresh) = record {
     unrefused = λ fault. nothing_stands_yet s order fault (head_cut head);
     written = stream.NothingSent
@@ -217,22 +217,23 @@ module _ {s : Day} where
     written = text_sent text;
   }
 
-  pub order_held : {r : OrderReader} {order sent : List ℕ} → IsOrderRead s r order sent
-      → HasReadSoFar (order_message s) (IsOrderRead s r) order sent
-  order_held {r} {order} {sent} is = record { is = is; open_yet = open_yet r.stage r.head r.parts order sent is.stage }
+  pub HasReadSoFar-order : {r : OrderReader} {order sent : List ℕ} → HoldsOrder s r order sent
+      → HasReadSoFar (order_message s) (HoldsOrder s r) order sent
+  HasReadSoFar-order {r} {order} {sent} is =
+      record { is = is; open_yet = open_yet r.stage r.head r.writer order sent is.stage }
 
   -- ---- in the text
 
   -- after a complete head, the reader holds the order if the keys suit the day, and refuses it otherwise
   pub text_begins : (r : OrderReader) {order text sent : List ℕ} (answer : Result (Unit {0}) FormFault)
       → r.stage ≡ stages.Text → r.read ≡ length order → IsOrder s order r.head.keys.items order []
-      → IsFreshWriter r.parts → text ≡ [] → sent ≡ []
+      → IsFreshWriter r.writer → text ≡ [] → sent ≡ []
       → MatchResult answer (λ _. All (KeysSuitDay s) r.head.keys.items) (IsFirstKeysFault s r.head.keys.items)
-      → MatchResult answer (λ _. HasReadSoFar (order_message s) (IsOrderRead s r) order sent)
-      (IsRefused (order_message s) order text)
+      → MatchResult answer (λ _. HasReadSoFar (order_message s) (HoldsOrder s r) order sent)
+      (HasFaultForGood (order_message s) order text)
   text_begins r {order} (Ok done) here size is fresh none nil suited =
       let first = take_all {A = ℕ} (part_size s * 0) [] (omega arith) in
-      order_held (record {
+      HasReadSoFar-order (record {
         counted = size;
         stage = rw here (record {
           head = order;
@@ -248,20 +249,20 @@ module _ {s : Day} where
         });
       })
   text_begins r {order} (Err fault) here size is fresh none nil found =
-      order_refused (InKeys r.head.keys.items order [] is found)
+      HasFaultForGood-order (InKeys r.head.keys.items order [] is found)
       (λ more. stream.NothingSent (λ others front beyond other suited.
-      let same = one_order s (order ++ more) _ others order front more beyond (is_longer more is) other in
+      let same = one_order s (order ++ more) _ others order front more beyond (IsOrder-append more is) other in
       no_keys_fault s r.head.keys.items fault (rw same.0 suited) found) none)
 
   -- at the end of the text, the reader outputs the last part, or finds the fault
-  pub text_ends : {keys : List Keys} {w : PartWriter} {order sent : List ℕ} (text : IsTextRead s keys w order sent)
-      (made : List ℕ) (answer : Result (Unit {0}) FormFault)
+  pub IsMessageAnswer-order : {keys : List Keys} {w : PartWriter} {order sent : List ℕ}
+      (text : HoldsOrderText s keys w order sent) (made : List ℕ) (answer : Result (Unit {0}) FormFault)
       → IsTextEndAnswer s keys (text_letters s text.text) sent made answer
       → IsMessageAnswer (order_message s) order (sent ++ made) answer
-  text_ends text made (Ok done) (some, counted, is) = grind arith
-  text_ends {sent = sent} text made (Err fault) (nothing, inl (none, is)) =
+  IsMessageAnswer-order text made (Ok done) (some, counted, is) = grind arith
+  IsMessageAnswer-order {sent = sent} text made (Err fault) (nothing, inl (none, is)) =
       (inr (NoLetter _ _ _ text.sendable none is), rw (nothing, append-nil sent) (text_sent text))
-  text_ends {sent = sent} text made (Err fault) (nothing, inr (some, other, is)) =
+  IsMessageAnswer-order {sent = sent} text made (Err fault) (nothing, inr (some, other, is)) =
       (inr (InParts _ _ _ text.sendable some other is), rw (nothing, append-nil sent) (text_sent text))
 
 pub counted_on : {read : ℕ} (order : List ℕ) (byte : ℕ) → read ≡ length order → read + 1 ≡ length (order ++ byte ∷ [])

@@ -23,9 +23,9 @@ pub use Rattle.std.specs.List.{AllWithin, cons_option, enumerate_from, flat_map,
 pub use Rattle.arrayvec.specs.{ArrayVec.ArrayVec, ArrayVec.array_vec_len}
 pub use Rattle.kd_form.specs.FormParts.{AreFewLetters, AreHeadingWords, BeginsHeading, HasFirstLine, IsFraction}
 pub use Rattle.kd_form.specs.FormParts.{IsHeading, IsLetterCount, IsLineText, WithoutReturn, cut_at_headings, parts_of}
-pub use Rattle.kd_form.specs.FormReading.{FitsHeadingAt, HasBegunHeading, HasTail, HoldsBody, HoldsForm, HoldsPart}
-pub use Rattle.kd_form.specs.FormReading.{HoldsStage, IsAtPartStart, IsBodyPlaintext, IsHeadingFault, HeadingMissing}
-pub use Rattle.kd_form.specs.FormReading.{HeadingOfOther, current_part_start}
+pub use Rattle.kd_form.specs.FormSteps.{FitsHeadingAt, HasBegunHeading, HasLastLineStart, HoldsBody, HoldsForm}
+pub use Rattle.kd_form.specs.FormSteps.{HoldsPart, HoldsFormStage, IsAtPartStart, IsBodyPlaintext, IsHeadingFault}
+pub use Rattle.kd_form.specs.FormSteps.{HeadingMissing, HeadingOfOther, current_part_start}
 pub use Rattle.kd_form.specs.FormText.{AtPart, IsPartFaultAtEnd, AreAllPartsRead, IsLastPart, IsFormReadTo}
 pub use Rattle.kd_form.specs.FormText.{IsReceiveFault, IsRefusedForGood, IsTextOf, NoHeading, PartsProperty, PartStart}
 pub use Rattle.kd_form.specs.FormText.{ReadsPartsTo, IsPartFaultForGood, first_part_start, form_message, plaintext_byte}
@@ -38,22 +38,22 @@ pub use Rattle.kd_form.specs.Keys.{AreKeys, key_words}
 pub use Rattle.kd_form.specs.Laws.{FormsBecomeOneText, FormsGiveTheirOrders, FormsHaveOneFault, FormsStayRefused}
 pub use Rattle.kd_form.specs.Laws.{OrdersGiveLetters, ReceivedFormsHaveNoFault}
 pub use Rattle.kd_form.specs.{OnTheKey.{IsKeyFault, OffKey}}
-pub use Rattle.kd_form.specs.Making.{IsPartMade, IsPartTextMade, KeysSuitDay, cipher_from, enciphered_choice}
-pub use Rattle.kd_form.specs.Making.{fill_last_group, list_letters, part_size, pin_indicators, pin_letters}
-pub use Rattle.kd_form.specs.Making.{rotor_letters}
+pub use Rattle.kd_form.specs.PartMaking.{IsPartMade, IsPartTextMade, KeysSuitDay, cipher_from, enciphered_choice}
+pub use Rattle.kd_form.specs.PartMaking.{fill_last_group, list_letters, part_size, pin_indicators, pin_letters}
+pub use Rattle.kd_form.specs.PartMaking.{rotor_letters}
 pub use Rattle.kd_form.specs.Order.{BeginsWithKeys, IsPatternFault, IsAnyOrderHead, IsLineWithEnd, IsOrderHead}
 pub use Rattle.kd_form.specs.Order.{IsOrderHeadFault, IsKeyLine, IsOrder}
 pub use Rattle.kd_form.specs.Part.{Part, words_after_spaces, body_text, fraction_text, letter_groups, heading_words}
 pub use Rattle.kd_form.specs.Part.{indicator_words, part_text, pieces, line_then}
 pub use Rattle.kd_form.specs.Patterns.{AreLettersAppended, IsFilledLine, IsPatternLine, blank_count, filled_pattern}
 pub use Rattle.kd_form.specs.Patterns.{fits_mark, letters_for_mark}
-pub use Rattle.kd_form.specs.Reading.{HasIndicator, HasIndicatorsAround, IsLettersAnswer, group_of_body, keys_of_body}
-pub use Rattle.kd_form.specs.Reading.{list_of_body, deciphered_key, text_of_body}
-pub use Rattle.kd_form.specs.Receiving.{HasHeading, InBody, InHeading, InNumber, IsEarlyFault, IsExpectedCount}
-pub use Rattle.kd_form.specs.Receiving.{IsPartFault, IsPartRead, IsBodyAnswer}
-pub use Rattle.kd_form.specs.SendSteps.{AreLettersTaken, IsFreshWriter, IsHeadBegun, IsHeadLine, IsTextEndAnswer}
-pub use Rattle.kd_form.specs.SendSteps.{IsOrderRead, IsStageRead, IsTextRead}
-pub use Rattle.kd_form.specs.SendStream.{IsWritableCount, IsSentBefore, order_message}
+pub use Rattle.kd_form.specs.BodyCipher.{HasIndicator, HasIndicatorsAround, IsLettersAnswer, group_of_body}
+pub use Rattle.kd_form.specs.BodyCipher.{keys_of_body, list_of_body, deciphered_key, text_of_body}
+pub use Rattle.kd_form.specs.PartReading.{HasHeading, InBody, InHeading, InNumber, IsEarlyFault, IsExpectedCount}
+pub use Rattle.kd_form.specs.PartReading.{IsPartFault, IsPartRead, IsBodyAnswer}
+pub use Rattle.kd_form.specs.OrderSteps.{AreLettersTaken, IsFreshWriter, IsHeadBegun, IsHeadLine, IsTextEndAnswer}
+pub use Rattle.kd_form.specs.OrderSteps.{HoldsOrder, HoldsOrderStage, HoldsOrderText}
+pub use Rattle.kd_form.specs.SendStream.{IsWritableCount, IsSentBeforeEnd, order_message}
 pub use Rattle.kd_form.specs.Sending.{ArePartTextsMade, HeadCutShort, InHead, InKeys, InParts, InText, IsFirstBadByteAt}
 pub use Rattle.kd_form.specs.Sending.{IsFirstKeysFault, IsFormOf, IsKeysFault, IsSendFault, IsSendable, NoLetter}
 pub use Rattle.kd_form.specs.Sending.{IsOrderFaultForGood, space_letter, letter_of_byte, letters_from, parts_needed}
@@ -63,13 +63,13 @@ pub use Rattle.kd_form.specs.StreamSteps.{HasRoom, HasReadSoFar, InFeeding, IsFe
 pub use Rattle.kd_form.specs.StreamSteps.{IsReadNextAnswer, answer_with_fault, fault_of_interruption}
 pub use Rattle.kd_form.specs.StreamSteps.{is_device_interruption}
 pub use Rattle.kd_form.specs.Streams.{IsStreamAnswer, HaveNotFailed, FaultAtEnd, ByTheEnd, ByThen, IsMessageAnswer}
-pub use Rattle.kd_form.specs.Streams.{FallsShort, IsOpen, IsRefused, IsStreamed, Message, FaultBefore, SinkFails}
+pub use Rattle.kd_form.specs.Streams.{FallsShort, IsOpen, HasFaultForGood, IsStreamed, Message, FaultBefore, SinkFails}
 pub use Rattle.kd_form.specs.Streams.{FaultForGood, TooLong, MessageComplete, is_device, is_off_key}
 pub use Rattle.kd_form.specs.Typing.{IsAllowedUpTo, IsTextFault, HasTyped, IsTypedChunk, cipher_text, text_message}
 pub use Rattle.kd_form.specs.Typing.{typed_letters}
 pub use Rattle.kd_form.specs.declared.{fault.FormFault.FormFault, heading.{Heading.Heading, Indicator.Indicator}}
 pub use Rattle.kd_form.specs.declared.keys.{Keys.{Keys, TheVariants.{Pin, Rotor}}, PinKeys.PinKeys}
-pub use Rattle.kd_form.specs.declared.pattern_line.PatternFault.{PatternFault}
+pub use Rattle.kd_form.specs.declared.sending.pattern_line.PatternFault.{PatternFault}
 pub use Rattle.kd_form.specs.declared.fault.FormFault.TheVariants.{BadByte, BadHeading, EmptyText, NotReady, PartKeys}
 pub use Rattle.kd_form.specs.declared.fault.FormFault.TheVariants.{PartOrder}
 pub use Rattle.kd_state.proofs.Lines.{IsNumeralModel-digits, lines_split_into_words, numbers_are_words}

@@ -11,7 +11,7 @@ pub use Rattle.kd_form.proofs.Prelude.{IsCloseAnswer, IsChunkRead, IsReadNextAns
 pub use Rattle.kd_form.proofs.Prelude.{answer_with_fault, is_device_interruption, length-take-le, ◌∷◌, IsFalse, get_or}
 pub use Rattle.kd_form.proofs.Prelude.{suc, drop-cons, map-append, take_all, All-append, filter_map-append}
 pub use Rattle.kd_form.proofs.Prelude.{is_text_byte, Parts, cipher_in_turn, engine_cipher, cipher, physical_cipher}
-pub use Rattle.kd_form.proofs.Prelude.{BadByte, IsRefused, cipher_text, text_message, IsTextFault, IsTypedChunk}
+pub use Rattle.kd_form.proofs.Prelude.{BadByte, HasFaultForGood, cipher_text, text_message, IsTextFault, IsTypedChunk}
 pub use Rattle.kd_form.proofs.Prelude.{IsAllowedUpTo, HasTyped, take_more, rules, TooLong, port, All-nil, letters_text}
 pub use Rattle.kd_form.proofs.Prelude.{typed_letters, false≢true, NotReady, FaultBefore}
 pub use Rattle.std.proofs.KnownBytes.{Consumes-nil, Consumes-kept, Consumes-trans, Appends-nil, Appends-trans}
@@ -101,7 +101,8 @@ IsStreamAnswer-stopped : {m : Message} {new : List ℕ → List ℕ → Type 0} 
 IsStreamAnswer-stopped p q few (AtSource open' fails is) = grind arith
 IsStreamAnswer-stopped {m} {read = read} {text} {stop = stops.Refused fault} p q few (InFeeding is well up) =
     FaultForGood fault few (subst (λ b. m.stands b fault) (append-nil read) (is.stands []))
-    (subst (λ b. m.before (Some fault) b text) (append-nil read) (is.written [])) (well ∙ p, well_now _ _ up ∙ q) refl
+    (subst (λ b. m.written_before (Some fault) b text) (append-nil read) (is.written []))
+    (well ∙ p, well_now _ _ up ∙ q) refl
 IsStreamAnswer-stopped {stop = stops.Device} p q few (InFeeding is well up) =
     SinkFails is.due few (ByThen is.front is.of_bytes is.open_yet) is.of_due
     (record { failed = failed_now _ _ up; well = well ∙ p }) refl
@@ -133,10 +134,10 @@ module _ {m : Message} {old new : List ℕ → List ℕ → Type 0} {had has nex
 -- ---- the end
 
 IsStreamAnswer-closed : {m : Message} {holds : List ℕ → List ℕ → Type 0} {read text : List ℕ} {source : Port}
-    {took wrote : Option (List ℕ)} {d e f : Bool} (made : List ℕ) (told : Result (Unit {0}) Interruption)
+    {took wrote : Option (List ℕ)} {d e f : Bool} (made : List ℕ) (finished : Result (Unit {0}) Interruption)
     → HasReadSoFar m holds read text → length read ≤ read_limit → IsAtEnd source.has → HasNotFailed source → e ≡ d
-    → HasBeenEnded m read (text ++ made) told → f ≡ (e || is_device_interruption told)
-    → IsStreamAnswer m source (port_over took wrote d f) read (text ++ made) (answer_with_fault told)
+    → HasBeenEnded m read (text ++ made) finished → f ≡ (e || is_device_interruption finished)
+    → IsStreamAnswer m source (port_over took wrote d f) read (text ++ made) (answer_with_fault finished)
 IsStreamAnswer-closed made (Ok done) held few ended well same ends up =
     MessageComplete few ended ends (well, well_now _ _ up ∙ same) refl
 IsStreamAnswer-closed made (Err (stops.Refused fault)) held few ended well same ends up =
@@ -156,7 +157,7 @@ IsStreamed-closed {took = took} {taken} {wrote} (before, ended) closes =
       text = before.text ++ one.made;
       given = before.given;
       written = Appends-trans took taken wrote before.text one.made before.written one.written;
-      answers = rw closes.answers (IsStreamAnswer-closed one.made closes.told before.held few ended before.well.0
+      answers = rw closes.answers (IsStreamAnswer-closed one.made closes.finished before.held few ended before.well.0
           before.well.1 one.ended closes.failed);
     }
 
@@ -173,9 +174,9 @@ module _ (m : Parts) where
   text_is : (t : Typist) (bytes text : List ℕ) → HasTyped m t bytes text → text ≡ cipher_text (physical_cipher m) bytes
   text_is t bytes text typed = grind (arith, append-nil text, append-nil bytes, bytes)
 
-  pub typed_held : (t : Typist) (bytes text : List ℕ) → HasTyped m t bytes text
+  pub HasReadSoFar-typed : (t : Typist) (bytes text : List ℕ) → HasTyped m t bytes text
       → HasReadSoFar (text_message (physical_cipher m)) (HasTyped m t) bytes text
-  typed_held t bytes text typed = record {
+  HasReadSoFar-typed t bytes text typed = record {
     is = typed;
     open_yet = record {
       unrefused = λ fault found. no_bad_byte bytes found.0 typed.allowed found.1;
@@ -184,10 +185,10 @@ module _ (m : Parts) where
   }
 
   -- the bytes after the first one that isn't allowed make no difference
-  refused_there : (t : Typist) (front rest text : List ℕ) (byte : ℕ) → HasTyped m t front text
+  HasFaultForGood-typed : (t : Typist) (front rest text : List ℕ) (byte : ℕ) → HasTyped m t front text
       → IsFalse (is_text_byte byte)
-      → IsRefused (text_message (physical_cipher m)) (front ++ byte ∷ rest) text (BadByte (length front + 1))
-  refused_there t front rest text byte typed bad =
+      → HasFaultForGood (text_message (physical_cipher m)) (front ++ byte ∷ rest) text (BadByte (length front + 1))
+  HasFaultForGood-typed t front rest text byte typed bad =
       let stands : (more : List ℕ) → IsTextFault ((front ++ byte ∷ rest) ++ more) (BadByte (length front + 1)) = λ more.
       rw append_assoc (length front, bad_behind front (rest ++ more) byte typed.allowed bad, refl) in
       record {
@@ -200,9 +201,9 @@ module _ (m : Parts) where
 
   module _ (old new : Typist) (more lamps : List ℕ) (n : ℕ) (front : IsAllowedUpTo more n)
       (lights : IsTypedChunk old.engine new.engine (take n more) lamps) (counted : new.read ≡ old.read + n) where
-    typed_on : (bytes text : List ℕ) → HasTyped m old bytes text
+    HasTyped-append : (bytes text : List ℕ) → HasTyped m old bytes text
         → HasTyped m new (bytes ++ take n more) (text ++ lamps)
-    typed_on bytes text typed = record {
+    HasTyped-append bytes text typed = record {
       counted =
           omega (arith, counted, typed.counted, length-append bytes (take n more), length-take-le n more front.within);
       allowed = All-append (λ b. IsTrue (is_text_byte b)) bytes (take n more) typed.allowed front.allowed;
@@ -213,7 +214,8 @@ module _ (m : Parts) where
         → IsFeedAllAnswer (text_message (physical_cipher m)) (HasTyped m old) (HasTyped m new) more
         (port_over took wrote d f) (Ok tt)
     read_whole took wrote d f wrote_all all bytes text held =
-        let typed = typed_held new (bytes ++ take n more) (text ++ lamps) (typed_on bytes text held.is) in
+        let typed =
+        HasReadSoFar-typed new (bytes ++ take n more) (text ++ lamps) (HasTyped-append bytes text held.is) in
         record { made = lamps; written = wrote_all; fed = rw (take_all n more all) at typed }
 
     pub read_refused : (took wrote : Option (List ℕ)) (d f : Bool) → Appends took wrote lamps → n < length more
@@ -221,9 +223,9 @@ module _ (m : Parts) where
         (port_over took wrote d f)
         (Err (stops.Refused (BadByte (new.read + 1))))
     read_refused took wrote d f wrote_all inside bytes text held =
-        let typed = typed_on bytes text held.is in
+        let typed = HasTyped-append bytes text held.is in
         let rest = drop (suc n) more in
-        let there = refused_there new (bytes ++ take n more) rest (text ++ lamps) (get_or more n 0) typed in
+        let there = HasFaultForGood-typed new (bytes ++ take n more) rest (text ++ lamps) (get_or more n 0) typed in
         let fed = there (front.next inside) in
         let joined = up_to more n in
         record { made = lamps; written = wrote_all; fed = grind (arith, fed, append_assoc, joined, typed.counted) }
@@ -234,7 +236,7 @@ module _ (m : Parts) where
         (Err stops.Device)
     read_in_part took wrote d f part =
         fed_whole (take-append-drop n more) (fed_up_to _ (λ bytes text held. fed_in_part lamps
-        (typed_held new (bytes ++ take n more) (text ++ lamps) (typed_on bytes text held.is)) part))
+        (HasReadSoFar-typed new (bytes ++ take n more) (text ++ lamps) (HasTyped-append bytes text held.is)) part))
 
 pub typed_ends : (m : Parts) (t : Typist)
     → MessageEnds (text_message (physical_cipher m)) (HasTyped m t) (10 ∷ []) (Ok tt)

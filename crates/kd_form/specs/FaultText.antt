@@ -10,7 +10,7 @@ form_fault_text faults.NotReady = refusal_name refusals.NotReady
 form_fault_text faults.Device = refusal_name refusals.Device
 form_fault_text faults.NoMemory = refusal_name refusals.NoMemory
 form_fault_text faults.NotOnKey = refusal_name refusals.NotOnKey
-form_fault_text (faults.BadByte place) = refusal_name refusals.BadByte ++ word_after_space (decimal place)
+form_fault_text (faults.BadByte position) = refusal_name refusals.BadByte ++ word_after_space (decimal position)
 form_fault_text faults.EmptyText = refusal_name refusals.EmptyText
 form_fault_text (faults.PartKeys needed given) =
     refusal_name refusals.PartKeys ++ word_after_space (decimal needed) ++ word_after_space (decimal given)

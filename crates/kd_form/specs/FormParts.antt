@@ -9,7 +9,7 @@ use Rattle.kd_state.specs.SheetDay.{Day, OfRotors, OfPins}
 use Rattle.kd_state.specs.Words.{IsFirstPart, IsWithout}
 use Rattle.kd_form.specs.declared.heading.Heading.{Heading}
 use Rattle.kd_form.specs.Part.{heading_words}
-use Rattle.kd_form.specs.Reading.{HasIndicator}
+use Rattle.kd_form.specs.BodyCipher.{HasIndicator}
 
 -- whether `bytes` begin as a heading line does: with `PART ` and a digit
 unfoldable pub begins_heading : List ℕ → Bool

@@ -8,12 +8,12 @@ use Rattle.kd_state.specs.Words.{IsFirstPart}
 use Rattle.kd_form.specs.declared.fault.FormFault.{FormFault}
 use Rattle.kd_form.specs.declared.fault.FormFault.TheVariants.{BadHeading, PartOrder}
 use Rattle.kd_form.specs.declared.keys.Keys.{Keys}
-use Rattle.kd_form.specs.Making.{fill_last_group}
+use Rattle.kd_form.specs.PartMaking.{fill_last_group}
 use Rattle.kd_form.specs.Streams.{Message}
 use Rattle.kd_form.specs.Order.{IsOrder}
 use Rattle.kd_form.specs.Sending.{space_letter, text_letters}
 use Rattle.kd_form.specs.FormParts.{BeginsHeading, parts_of}
-use Rattle.kd_form.specs.Receiving.{IsPartRead, IsExpectedCount, IsEarlyFault, IsPartFault}
+use Rattle.kd_form.specs.PartReading.{IsPartRead, IsExpectedCount, IsEarlyFault, IsPartFault}
 
 -- How a part begins. `number`: the part's number. `expected`: the number of all parts, if an earlier heading gave it.
 -- `bytes_before`: how many bytes of the form come before the part.
@@ -127,7 +127,7 @@ form_message s = record {
   stands = λ form fault. (text : List ℕ) × IsRefusedForGood s form text fault;
   refused = IsReceiveFault s;
   becomes = IsTextOf s;
-  before = IsTextBefore s;
+  written_before = IsTextBefore s;
 }
 
 -- ---- The text that an order's form has to give back.

@@ -5,8 +5,8 @@ use Rattle.std.specs.Prelude.{codes, ◌≡◌, ◌≢◌, ◌⊎◌, ℕ, ◌+�
 use Rattle.kd_state.specs.Words.{line_of}
 use Rattle.kd_state.specs.SheetDay.{Day}
 use Rattle.kd_form.specs.declared.keys.Keys.{Keys}
-use Rattle.kd_form.specs.declared.pattern_line.PatternFault.{PatternFault}
-use Rattle.kd_form.specs.declared.pattern_line.PatternFault.TheVariants.{Incomplete, Mismatch}
+use Rattle.kd_form.specs.declared.sending.pattern_line.PatternFault.{PatternFault}
+use Rattle.kd_form.specs.declared.sending.pattern_line.PatternFault.TheVariants.{Incomplete, Mismatch}
 use Rattle.kd_form.specs.Keys.{key_words, AreKeys}
 
 -- `bytes` are `line` and a line end: LF, or CR and LF.

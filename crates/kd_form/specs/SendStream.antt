@@ -5,7 +5,7 @@ use Rattle.kd_tables.specs.Text.{is_text_byte}
 use Rattle.kd_state.specs.SheetDay.{Day}
 use Rattle.kd_form.specs.declared.keys.Keys.{Keys}
 use Rattle.kd_form.specs.Part.{pieces}
-use Rattle.kd_form.specs.Making.{KeysSuitDay, part_size}
+use Rattle.kd_form.specs.PartMaking.{KeysSuitDay, part_size}
 use Rattle.kd_form.specs.Order.{IsOrder}
 use Rattle.kd_form.specs.Sending.{text_letters, IsOrderFaultForGood, IsSendFault, ArePartTextsMade, IsFormOf}
 use Rattle.kd_form.specs.Streams.{Message}
@@ -20,21 +20,21 @@ pub record IsAllowedPrefix (text front : List ℕ) : Type 0 where
 -- `written` is the number of parts that can be written once `letters` letters have been read; in all there are `parts`
 -- parts. A part has at most `size` letters, and can be written once a letter of the next part has been read.
 pub record IsWritableCount (size parts letters written : ℕ) : Type 0 where
-  pub due : (written ≡ 0) ⊎ ((written < parts) × (size * written < letters))
+  pub writable : (written ≡ 0) ⊎ ((written < parts) × (size * written < letters))
   pub most : (other : ℕ) → other < parts → size * other < letters → other ≤ written
 
 -- `sent` is written before the end of the order is read. If the head isn't complete, or the keys don't suit the day,
 -- nothing is written. Otherwise `sent` has the parts that `IsWritableCount` counts.
-pub data IsSentBefore (s : Day) (order sent : List ℕ) : Type 0 where
+pub data IsSentBeforeEnd (s : Day) (order sent : List ℕ) : Type 0 where
   NothingSent : ((keys : List Keys) (head text : List ℕ) → IsOrder s order keys head text
       → ¬ (All (KeysSuitDay s) keys))
-      → sent ≡ [] → IsSentBefore s order sent
+      → sent ≡ [] → IsSentBeforeEnd s order sent
   TextBegun : (keys : List Keys) (head text front : List ℕ) (written : ℕ) → IsOrder s order keys head text
       → All (KeysSuitDay s) keys
       → IsAllowedPrefix text front → IsWritableCount (part_size s) (length keys) (length (text_letters s front)) written
       → ArePartTextsMade s 1 (length keys) (take written keys)
       (pieces (part_size s) (take (part_size s * written) (text_letters s front))) sent
-      → IsSentBefore s order sent
+      → IsSentBeforeEnd s order sent
 
 -- orders, as a kind of message
 abbrev pub order_message : Day → Message
@@ -42,5 +42,5 @@ order_message s = record {
   stands = IsOrderFaultForGood s;
   refused = IsSendFault s;
   becomes = IsFormOf s;
-  before = λ reason order sent. IsSentBefore s order sent;
+  written_before = λ reason order sent. IsSentBeforeEnd s order sent;
 }

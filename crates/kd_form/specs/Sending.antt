@@ -12,7 +12,7 @@ use Rattle.kd_form.specs.declared.keys.Keys.{Keys}
 use Rattle.kd_form.specs.declared.keys.Keys.TheVariants.{Rotor, Pin}
 use Rattle.kd_form.specs.InternalKey.{HaveNoInternalKey}
 use Rattle.kd_form.specs.Part.{pieces}
-use Rattle.kd_form.specs.Making.{KeysSuitDay, IsPartTextMade, enciphered_choice, part_size}
+use Rattle.kd_form.specs.PartMaking.{KeysSuitDay, IsPartTextMade, enciphered_choice, part_size}
 use Rattle.kd_form.specs.Order.{IsOrder, IsOrderHeadFault}
 
 -- ---- The letters that an order's text gives, and how many parts they need.

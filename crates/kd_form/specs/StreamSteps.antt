@@ -8,7 +8,7 @@ use Rattle.kd_form.specs.declared.fault.FormFault.{FormFault}
 use Rattle.kd_form.specs.declared.fault.FormFault.TheVariants as faults
 use Rattle.kd_form.specs.declared.stream.interruption.Interruption.{Interruption}
 use Rattle.kd_form.specs.declared.stream.interruption.Interruption.TheVariants.{Device, Refused}
-use Rattle.kd_form.specs.Streams.{Message, IsOpen, IsRefused, IsMessageAnswer, FallsShort}
+use Rattle.kd_form.specs.Streams.{Message, IsOpen, HasFaultForGood, IsMessageAnswer, FallsShort}
 
 -- The reader has read `bytes` and output `text`. So far the bytes have no fault, and the reader's state satisfies
 -- `holds`.
@@ -30,7 +30,7 @@ abbrev pub IsFeedAnswer : Message → (List ℕ → List ℕ → Type 0) → (Li
 IsFeedAnswer m old new byte made answer =
     (bytes text : List ℕ) → HasReadSoFar m old bytes text
     → MatchResult answer (λ _. HasReadSoFar m new (bytes ++ byte ∷ []) (text ++ made))
-    (IsRefused m (bytes ++ byte ∷ []) text)
+    (HasFaultForGood m (bytes ++ byte ∷ []) text)
 
 -- At the end of the message, the reader outputs `made`: the rest of the result or, if there is a fault, the rest of the
 -- text that is written before the fault.
@@ -61,7 +61,7 @@ pub record IsPrefixOfDue (m : Message) (bytes text : List ℕ) : Type 0 where
 -- The reader has read `bytes`; or the bytes have a fault; or the sink failed.
 abbrev pub HasBeenFed : Message → (List ℕ → List ℕ → Type 0) → List ℕ → List ℕ → Result (Unit {0}) Interruption → Type 0
 HasBeenFed m new bytes text (Ok _) = HasReadSoFar m new bytes text
-HasBeenFed m new bytes text (Err (Refused fault)) = IsRefused m bytes text fault
+HasBeenFed m new bytes text (Err (Refused fault)) = HasFaultForGood m bytes text fault
 HasBeenFed m new bytes text (Err Device) = IsPrefixOfDue m bytes text
 
 -- The reader has read more bytes, and its output for them was written.
@@ -102,10 +102,10 @@ answer_with_fault (Err stop) = Err (fault_of_interruption stop)
 
 pub record IsCloseAnswer (m : Message) (old : List ℕ → List ℕ → Type 0) (sink : Port)
     (answer : Result (Unit {0}) FormFault) : Type 0 where
-  pub told : Result (Unit {0}) Interruption
-  pub ended : IsFinishAnswer m old sink told
-  pub failed : sink.has_failed ≡ (sink.had_failed || is_device_interruption told)
-  pub answers : answer ≡ answer_with_fault told
+  pub finished : Result (Unit {0}) Interruption
+  pub ended : IsFinishAnswer m old sink finished
+  pub failed : sink.has_failed ≡ (sink.had_failed || is_device_interruption finished)
+  pub answers : answer ≡ answer_with_fault finished
 
 -- ---- a read
 
@@ -154,5 +154,5 @@ IsWriteMessageAnswer m bytes sink (Err (Refused fault)) = m.refused bytes fault
 IsWriteMessageAnswer m bytes sink (Err Device) = Unit {0}
 
 -- The message has a result.
-abbrev pub HasText : Message → List ℕ → Type 0
-HasText m bytes = (text : List ℕ) × m.becomes bytes text
+abbrev pub HasResult : Message → List ℕ → Type 0
+HasResult m bytes = (text : List ℕ) × m.becomes bytes text

@@ -11,23 +11,24 @@ use Rattle.kd_form.specs.declared.fault.FormFault.TheVariants.{NotReady, Device,
 use Rattle.kd_form.specs.OnTheKey.{IsReadyOnKey, IsKeyFault}
 
 -- A kind of message, such as orders. `stands`: the first bytes of a message have a fault that no further bytes can
--- change. `refused`: a whole message has a fault. `becomes`: a whole message has a result. `before`: a text is written
--- before a fault or, without a fault, before further bytes are read.
+-- change. `refused`: a whole message has a fault. `becomes`: a whole message has a result. `written_before`: a text is
+-- written before a fault or, without a fault, before further bytes are read.
 pub record Message : Type 1 where
   pub stands : List ℕ → FormFault → Type 0
   pub refused : List ℕ → FormFault → Type 0
   pub becomes : List ℕ → List ℕ → Type 0
-  pub before : Option FormFault → List ℕ → List ℕ → Type 0
+  pub written_before : Option FormFault → List ℕ → List ℕ → Type 0
 
 -- The bytes have no fault so far. `text` is all that is written before any further byte is read.
 pub record IsOpen (m : Message) (bytes text : List ℕ) : Type 0 where
   pub unrefused : (fault : FormFault) → ¬ (m.stands bytes fault)
-  pub written : m.before None bytes text
+  pub written : m.written_before None bytes text
 
 -- The bytes are the whole message. Its result is `text`; or it has a fault, and `text` is written before the fault.
 abbrev pub IsMessageAnswer : Message → List ℕ → List ℕ → Result (Unit {0}) FormFault → Type 0
 IsMessageAnswer m bytes text answer =
-    MatchResult answer (λ _. m.becomes bytes text) (λ fault. m.refused bytes fault × m.before (Some fault) bytes text)
+    MatchResult answer (λ _. m.becomes bytes text)
+    (λ fault. m.refused bytes fault × m.written_before (Some fault) bytes text)
 
 -- ---- What a call answers, reads and writes for a message.
 -- Code: `stream_message` reads a message chunk by chunk; the readers of orders and forms take it byte by byte.
@@ -59,11 +60,12 @@ pub data IsStreamAnswer (m : Message) (source sink : Port) (read text : List ℕ
   MessageComplete : length read ≤ read_limit → IsAtEnd source.has → m.becomes read text → HaveNotFailed source sink
       → answer ≡ Ok tt
       → IsStreamAnswer m source sink read text answer
-  FaultForGood : (fault : FormFault) → length read ≤ read_limit → m.stands read fault → m.before (Some fault) read text
-      → HaveNotFailed source sink → answer ≡ Err fault → IsStreamAnswer m source sink read text answer
+  FaultForGood : (fault : FormFault) → length read ≤ read_limit → m.stands read fault
+      → m.written_before (Some fault) read text → HaveNotFailed source sink → answer ≡ Err fault
+      → IsStreamAnswer m source sink read text answer
   FaultAtEnd : (fault : FormFault) → length read ≤ read_limit → IsAtEnd source.has
       → ((other : FormFault) → ¬ (m.stands read other))
-      → m.refused read fault → m.before (Some fault) read text → HaveNotFailed source sink → answer ≡ Err fault
+      → m.refused read fault → m.written_before (Some fault) read text → HaveNotFailed source sink → answer ≡ Err fault
       → IsStreamAnswer m source sink read text answer
   TooLong : (front : List ℕ) (byte : ℕ) → read ≡ front ++ byte ∷ [] → length front ≡ read_limit → IsOpen m front text
       → HaveNotFailed source sink → answer ≡ Err ReadTooLong → IsStreamAnswer m source sink read text answer
@@ -117,7 +119,7 @@ StreamsOnKey m s message source sink answer = StreamsUnlessFault (IsKeyFault m s
 -- ---- What the code holds. No public contract cites these definitions.
 
 -- The bytes have `fault` whatever bytes follow, and `text` is written before the fault.
-pub record IsRefused (m : Message) (bytes text : List ℕ) (fault : FormFault) : Type 0 where
+pub record HasFaultForGood (m : Message) (bytes text : List ℕ) (fault : FormFault) : Type 0 where
   pub stands : (more : List ℕ) → m.stands (bytes ++ more) fault
   pub refused : (more : List ℕ) → m.refused (bytes ++ more) fault
-  pub written : (more : List ℕ) → m.before (Some fault) (bytes ++ more) text
+  pub written : (more : List ℕ) → m.written_before (Some fault) (bytes ++ more) text

@@ -33,7 +33,8 @@ text_message enciphers = record {
   stands = IsTextFault;
   refused = IsTextFault;
   becomes = λ bytes text. All (λ b. IsTrue (is_text_byte b)) bytes × (text ≡ cipher_text enciphers bytes ++ 10 ∷ []);
-  before = λ reason bytes text. (front : List ℕ) × IsAllowedPrefix bytes front × (text ≡ cipher_text enciphers front);
+  written_before = λ reason bytes text. (front : List ℕ) × IsAllowedPrefix bytes front
+      × (text ≡ cipher_text enciphers front);
 }
 
 -- A machine that isn't ready is refused. On a ready machine, the text is typed.

@@ -1,7 +1,8 @@
-//! `push_if_room`, which appends to a list until the list is full.
-ghost use Rattle.std.specs.Prelude.{◌≡◌, [], ◌∷◌, ◌++◌, take};
+//! Two functions that append to a list with bounded room: `push_if_room` and `append_letters`.
+ghost use Rattle.std.specs.Prelude.{◌≡◌, ◌≤◌, ◌+◌, [], ◌∷◌, ◌++◌, length, take};
 
 use arrayvec::ArrayVec;
+use kd_tables::Letter;
 
 /// Appends `item`, if there is room for it.
 pub(crate) fn push_if_room<T: Copy, const N: usize>(items: &mut ArrayVec<T, N>, item: T)
@@ -10,4 +11,12 @@ pub(crate) fn push_if_room<T: Copy, const N: usize>(items: &mut ArrayVec<T, N>, 
     if !items.is_full() {
         items.push(item);
     }
+}
+
+/// Appends `more` to `letters`, which must have room for it.
+pub(crate) fn append_letters<const N: usize>(letters: &mut ArrayVec<Letter, N>, more: &[Letter])
+    requires { length letters.old.items + length more.now ≤ N }
+    ensures { letters.new.items ≡ letters.old.items ++ more.now }
+{
+    letters.try_extend_from_slice(more).unwrap();
 }

@@ -52,7 +52,7 @@ impl FormFault {
             FormFault::Device => Refusal::Device.text(),
             FormFault::NoMemory => Refusal::NoMemory.text(),
             FormFault::NotOnKey => Refusal::NotOnKey.text(),
-            FormFault::BadByte(place) => Refusal::BadByte.text_at(place),
+            FormFault::BadByte(position) => Refusal::BadByte.text_at(position),
             FormFault::EmptyText => Refusal::EmptyText.text(),
             FormFault::PartKeys { needed, given } => Refusal::PartKeys.text_at_both(needed, given),
             FormFault::KeyNotOnWheel => Refusal::KeyNotOnWheel.text(),

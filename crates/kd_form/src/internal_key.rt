@@ -1,24 +1,27 @@
 //! Picks the internal key of the Converter M-209 from twelve enciphered letters.
-ghost use Rattle.std.specs.Prelude.{◌≡◌, ◌≤◌, ◌<◌, ◌+◌, ◌++◌, ◌∷◌, MatchOption};
+ghost use Rattle.std.specs.Prelude.{◌≡◌, ◌<◌, ◌+◌, MatchOption};
 ghost use Rattle.kd_state.specs.TwoCiphers.{sheet_key, IsWindow};
 ghost use Rattle.kd_form.specs.InternalKey.{IsInternalKey, HaveNoInternalKey, IsTakenInTurn};
-ghost use Rattle.kd_form.specs.Making.{enciphered_choice};
+ghost use Rattle.kd_form.specs.PartMaking.{enciphered_choice};
 
+use super::day_machine::DayMachine;
 use super::keys::PinKeys;
-use super::own_machine::OwnMachine;
 use arrayvec::ArrayVec;
 use kd_tables::{Letter, place_on_wheel};
 
 /// Enciphers the chosen letter of `keys` twelve times, and picks the internal key; `None` if there is none.
-pub(crate) fn internal_key_of(own: &mut OwnMachine, keys: &PinKeys) -> Option<ArrayVec<Letter, 6>>
-    requires { IsWindow (sheet_key own.old) keys.now.external }
-    ensures day { own.new ≡ own.old }
+pub(crate) fn internal_key_of(
+    machine: &mut DayMachine,
+    keys: &PinKeys,
+) -> Option<ArrayVec<Letter, 6>>
+    requires { IsWindow (sheet_key machine.old) keys.now.external }
+    ensures day { machine.new ≡ machine.old }
     ensures key { MatchOption result
-        (HaveNoInternalKey (enciphered_choice own.old keys.now))
-        (λ internal. IsInternalKey (enciphered_choice own.old keys.now) internal.items) }
+        (HaveNoInternalKey (enciphered_choice machine.old keys.now))
+        (λ internal. IsInternalKey (enciphered_choice machine.old keys.now) internal.items) }
 {
     let mut letters = [keys.chosen; 12];
-    own.encipher(&keys.external, &mut letters);
+    machine.encipher(&keys.external, &mut letters);
     pick_internal_key(&letters)
 }
 
@@ -33,13 +36,13 @@ fn pick_internal_key(letters: &[Letter]) -> Option<ArrayVec<Letter, 6>>
 {
     let mut key = ArrayVec::new();
     for letter in letters {
-        take_in_turn(&mut key, *letter);
+        push_if_on_next_wheel(&mut key, *letter);
     }
     if key.is_full() { Some(key) } else { None }
 }
 
 /// Appends `letter` if it is on the first wheel that has no letter in `key` yet.
-fn take_in_turn(key: &mut ArrayVec<Letter, 6>, letter: Letter)
+fn push_if_on_next_wheel(key: &mut ArrayVec<Letter, 6>, letter: Letter)
     ensures { IsTakenInTurn key.old.items letter key.new.items }
 {
     if place_on_wheel(key.len() as u8 + 1, letter).is_some() {

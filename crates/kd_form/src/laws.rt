@@ -1,14 +1,11 @@
 //! Laws: each order and each form has one result or one fault, and a form gives back its order's letters.
-ghost use Rattle.kd_form.specs.Laws.{OrderIsAnswered, FormIsAnswered};
-ghost use Rattle.kd_form.specs.Laws.{OrdersBecomeOneForm, OrdersHaveOneFault};
-ghost use Rattle.kd_form.specs.Laws.{SentOrdersHaveNoFault};
-ghost use Rattle.kd_form.specs.Laws.{OrdersStayRefused};
-ghost use Rattle.kd_form.specs.Laws.{FormsBecomeOneText, FormsHaveOneFault};
-ghost use Rattle.kd_form.specs.Laws.{ReceivedFormsHaveNoFault, FormsStayRefused};
-ghost use Rattle.kd_form.specs.Laws.{OrdersGiveLetters, FormsGiveTheirOrders};
+ghost use Rattle.kd_form.specs.Laws.{OrderIsAnswered, FormIsAnswered, OrdersBecomeOneForm, OrdersHaveOneFault};
+ghost use Rattle.kd_form.specs.Laws.{SentOrdersHaveNoFault, OrdersStayRefused, FormsBecomeOneText, FormsHaveOneFault};
+ghost use Rattle.kd_form.specs.Laws.{ReceivedFormsHaveNoFault, FormsStayRefused, OrdersGiveLetters};
+ghost use Rattle.kd_form.specs.Laws.{FormsGiveTheirOrders};
 
-use super::form_reader::FormReader;
-use super::order_reader::OrderReader;
+use super::receiving::form_reader::FormReader;
+use super::sending::order_reader::OrderReader;
 use super::stream::whole_message::check_message;
 use kd_state::SheetDay;
 

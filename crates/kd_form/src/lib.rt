@@ -1,28 +1,21 @@
 //! Messages: typed texts, orders and forms. Each is enciphered or deciphered while its bytes arrive.
+//!
+//! The modules `typing`, `sending` and `receiving` each have the reader of one kind of message. The module `stream`
+//! feeds a reader with the bytes of a source, and writes the reader's output to a sink.
 #![tactic(auto)]
 
-mod body;
 mod bounded_list;
+mod day_machine;
 mod fault;
-mod form_reader;
 mod heading;
-mod heading_line;
 mod internal_key;
-mod key_checks;
-mod key_line;
 mod keys;
 pub mod laws;
-mod making;
-mod order_reader;
-mod own_machine;
-mod part_body;
-mod part_letters;
-mod pattern_line;
-mod plaintext;
+mod on_key;
 mod receiving;
 mod sending;
 mod stream;
-mod text;
+mod text_bytes;
 mod typing;
 
 pub use fault::FormFault;

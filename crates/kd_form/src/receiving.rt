@@ -7,12 +7,18 @@ ghost use Rattle.kd_form.specs.FormText.{form_message, IsTextOf, IsReceiveFault}
 ghost use Rattle.kd_form.specs.OnTheKey.{IsAnswerOnKey};
 ghost use Rattle.kd_form.specs.Streams.{StreamsOnKey, is_device, is_off_key};
 
+mod body_cipher;
+mod body_reader;
+pub(crate) mod form_reader;
+mod heading_reader;
+mod plaintext;
+
 use super::fault::FormFault;
-use super::form_reader::FormReader;
-use super::sending::check_machine;
+use super::on_key::check_machine;
 use super::stream::reader::MessageReader;
 use super::stream::stream_message;
 use super::stream::whole_message::message_result;
+use form_reader::FormReader;
 use kd_state::{Machine, SheetDay};
 use kd_tables::{Sink, Source};
 use std::alloc::Global;

@@ -1,21 +1,31 @@
 //! Sends an order: `send` returns the order's form, and `send_stream` writes it to a sink.
 //!
 //! An order has a line of keys for each part, then the line TEXT, and then the text to send.
-ghost use Rattle.std.specs.Prelude.{◌≡◌, ◌≤◌, ℕ, List, IsTrue, MatchResult};
+ghost use Rattle.std.specs.Prelude.{◌≡◌, ℕ, List, IsTrue};
 ghost use Rattle.kd_tables.specs.Ports.{FailureAgrees, port};
-ghost use Rattle.kd_form.specs.Making.{part_size};
 ghost use Rattle.kd_form.specs.Sending.{IsSendFault, IsFormOf};
 ghost use Rattle.kd_form.specs.SendStream.{order_message};
 ghost use Rattle.kd_form.specs.Streams.{StreamsOnKey, is_device, is_off_key};
-ghost use Rattle.kd_form.specs.OnTheKey.{IsReadyOnKey, IsKeyFault, IsAnswerOnKey};
+ghost use Rattle.kd_form.specs.OnTheKey.{IsAnswerOnKey};
+
+mod body_writer;
+mod heading_writer;
+mod key_checks;
+mod key_line;
+mod order_head;
+pub(crate) mod order_reader;
+pub(crate) mod part;
+mod part_writer;
+mod pattern_line;
 
 use super::fault::FormFault;
-use super::order_reader::OrderReader;
+use super::on_key::check_machine;
 use super::stream::reader::MessageReader;
 use super::stream::stream_message;
 use super::stream::whole_message::message_result;
 use kd_state::{Machine, SheetDay};
 use kd_tables::{Sink, Source};
+use order_reader::OrderReader;
 use std::alloc::Global;
 
 /// Enciphers `order` into a form on `machine`, which must be on the day's key.
@@ -60,31 +70,4 @@ pub fn send_stream<R: Source, W: Sink>(
 {
     check_machine(machine, day)?;
     stream_message(day, &mut OrderReader::start(day), source, sink)
-}
-
-/// How many letters of text a part can have.
-pub(crate) fn part_size(day: &SheetDay) -> usize
-    ensures value { result ≡ part_size day.now }
-    ensures some { 245 ≤ result }
-    ensures few { result ≤ 500 }
-{
-    match day.list() {
-        Some(_) => 500,
-        None => 245,
-    }
-}
-
-/// Refuses a machine that isn't ready, or isn't on the day's key.
-pub(crate) fn check_machine(machine: &Machine, day: &SheetDay) -> Result<(), FormFault>
-    ensures { MatchResult result
-        (λ _. IsReadyOnKey machine.now day.now)
-        (IsKeyFault machine.now day.now) }
-{
-    if !machine.is_ready() {
-        return Err(FormFault::NotReady);
-    }
-    if !machine.on_key(day) {
-        return Err(FormFault::NotOnKey);
-    }
-    Ok(())
 }

@@ -4,14 +4,14 @@ ghost use Rattle.kd_tables.specs.Ports.{port};
 ghost use Rattle.kd_form.specs.Streams.{IsStreamed};
 ghost use Rattle.kd_form.specs.StreamSteps.{HasReadSoFar};
 
-pub(crate) mod chunk;
+mod feeding;
 pub(crate) mod interruption;
 pub(crate) mod reader;
 pub(crate) mod sinks;
 pub(crate) mod whole_message;
 
 use super::fault::FormFault;
-use chunk::{close, read_next};
+use feeding::{close, read_next};
 use kd_tables::{READ_LIMIT, Sink, Source, is_at_end};
 use reader::{CHUNK, ChunkReader};
 

@@ -4,14 +4,14 @@ ghost use Rattle.kd_tables.specs.Ports.{FailureAgrees, port};
 ghost use Rattle.kd_form.specs.Streams.{is_device, is_off_key};
 ghost use Rattle.kd_form.specs.Typing.{TypesIfReady};
 
-mod chunk;
+mod chunk_letters;
 
 use super::fault::FormFault;
 use super::stream::interruption::Interruption;
 use super::stream::reader::{CHUNK, ChunkReader};
 use super::stream::stream_message;
 use arrayvec::ArrayVec;
-use chunk::type_chunk;
+use chunk_letters::type_chunk;
 use kd_state::{Engine, Machine};
 use kd_tables::{Letter, Sink, Source, put_all};
 
@@ -72,10 +72,10 @@ impl ChunkReader<Machine> for Typist {
         bytes: &[u8],
         sink: &mut W,
     ) -> Result<(), Interruption> {
-        let front = type_chunk(&mut self.engine, bytes, &mut self.letters, &mut self.lamps);
-        self.read += front;
+        let allowed = type_chunk(&mut self.engine, bytes, &mut self.letters, &mut self.lamps);
+        self.read += allowed;
         put_all(sink, &self.lamps)?;
-        if front < bytes.len() {
+        if allowed < bytes.len() {
             return Err(Interruption::Refused(FormFault::BadByte(self.read + 1)));
         }
         Ok(())

@@ -8,7 +8,7 @@ ghost use Rattle.kd_form.specs.StreamSteps.{IsFinishAnswer, is_device_interrupti
 
 use super::interruption::Interruption;
 use crate::fault::FormFault;
-use crate::making::LONGEST;
+use crate::sending::part::LONGEST_PART;
 use arrayvec::ArrayVec;
 use kd_state::SheetDay;
 use kd_tables::Sink;
@@ -48,7 +48,7 @@ pub(crate) trait ChunkReader<Context> {
 }
 
 /// What a reader outputs after one byte: usually nothing, and at most one part.
-pub(crate) type PartText = ArrayVec<u8, LONGEST>;
+pub(crate) type Output = ArrayVec<u8, LONGEST_PART>;
 
 /// A reader of one kind of message, which takes one byte at a time, and keeps one part at a time.
 pub(crate) trait MessageReader {
@@ -65,14 +65,14 @@ pub(crate) trait MessageReader {
     /// Takes the message's next byte, and puts into `output` what can be written now.
     ///
     /// After a fault, the reader must not be called again.
-    fn feed(&mut self, day: &SheetDay, byte: u8, output: &mut PartText) -> Result<(), FormFault>
+    fn feed(&mut self, day: &SheetDay, byte: u8, output: &mut Output) -> Result<(), FormFault>
         requires room { HasRoom (message day.now) (holds day.now self.old) 1 }
         requires empty { output.old.items ≡ [] }
         ensures { IsFeedAnswer (message day.now) (holds day.now self.old) (holds day.now self.new) byte
             output.new.items result };
 
     /// Ends the message, and puts into `output` what is still to be written, even if a fault is returned.
-    fn end(&mut self, day: &SheetDay, output: &mut PartText) -> Result<(), FormFault>
+    fn end(&mut self, day: &SheetDay, output: &mut Output) -> Result<(), FormFault>
         requires room { HasRoom (message day.now) (holds day.now self.old) 0 }
         requires empty { output.old.items ≡ [] }
         ensures { IsEndAnswer (message day.now) (holds day.now self.old) output.new.items result };

@@ -1,6 +1,5 @@
 //! Two sinks: `BytesSink` keeps all bytes in memory, and `NullSink` keeps none.
-ghost use Rattle.std.specs.Prelude.{◌≡◌, [], false, Some, is_err};
-ghost use Rattle.kd_tables.specs.Ports.{Puts};
+ghost use Rattle.std.specs.Prelude.{◌≡◌, [], false, Some};
 
 use kd_tables::{Failed, Sink};
 use std::alloc::Global;

@@ -2,9 +2,9 @@
 ghost use Rattle.std.specs.Prelude.{◌≡◌, ◌||◌, MatchResult};
 ghost use Rattle.kd_tables.specs.Ports.{port};
 ghost use Rattle.kd_form.specs.OnTheKey.{IsFaultOrNoMemory};
-ghost use Rattle.kd_form.specs.StreamSteps.{IsWriteMessageAnswer, HasText, is_device_interruption};
+ghost use Rattle.kd_form.specs.StreamSteps.{IsWriteMessageAnswer, HasResult, is_device_interruption};
 
-use super::chunk::feed_all;
+use super::feeding::feed_all;
 use super::interruption::Interruption;
 use super::reader::{ChunkReader, MessageReader};
 use super::sinks::{BytesSink, NullSink};
@@ -24,7 +24,7 @@ pub(crate) fn message_result<M: MessageReader + Drop>(
     ensures { MatchResult result
         (λ text. (M.message day.now).becomes message.now text.items)
         (IsFaultOrNoMemory ((M.message day.now).refused message.now)
-        (HasText (M.message day.now) message.now)) }
+        (HasResult (M.message day.now) message.now)) }
 {
     let mut kept = BytesSink::new(alloc);
     match write_message::<M, BytesSink>(day, message, &mut kept) {
@@ -43,7 +43,7 @@ pub(crate) fn check_message<M: MessageReader + Drop>(
     message: &[u8],
 ) -> Result<(), FormFault>
     ensures { MatchResult result
-        (λ _. HasText (M.message day.now) message.now)
+        (λ _. HasResult (M.message day.now) message.now)
         ((M.message day.now).refused message.now) }
 {
     write_message::<M, NullSink>(day, message, &mut NullSink)?;

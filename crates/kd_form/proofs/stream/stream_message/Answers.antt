@@ -39,7 +39,8 @@ returns-then-not-branch g c =
       given = Consumes-trans _ _ _ before.read (ends.0 ∷ []) before.given ends.1;
       written = before.written;
       answers =
-          TooLong before.read ends.0 refl (omega (arith, before.counted, before.within, c.loop-read-test.false))
+          TooLong before.read ends.0 (refl {a = before.read ++ ends.0 ∷ []})
+          (omega (arith, before.counted, before.within, c.loop-read-test.false))
           before.held.open_yet
           (well_now _ _ c.in_ok-is_at_end.ensures.failed ∙ before.well.0, before.well.1) refl;
     }

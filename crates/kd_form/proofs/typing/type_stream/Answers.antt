@@ -1,11 +1,11 @@
-use Rattle.kd_form.proofs.Streaming.{err_is, typed_held, [], refl, sym, ap, ◌∙◌, All-nil, IsTrue, is_text_byte}
+use Rattle.kd_form.proofs.Streaming.{err_is, HasReadSoFar-typed, [], refl, sym, ap, ◌∙◌, All-nil, IsTrue, is_text_byte}
 use Rattle.kd_form.proofs.Streaming.{letters_text, typed_letters, cipher, engine_cipher, false≢true, NotReady}
 use Rattle.kd_form.proofs.Streaming.{FaultBefore}
 use Rattle.kd_form.proofs.typing.type_stream.Goals as goal
 
 pub stream_message-requires : goal.stream_message-requires
 stream_message-requires g c =
-    typed_held c.args.machine.now _ [] [] (record {
+    HasReadSoFar-typed c.args.machine.now _ [] [] (record {
       counted = refl;
       allowed = All-nil (λ b. IsTrue (is_text_byte b));
       behind = λ more. ap letters_text (sym (engine_cipher _ (typed_letters more))

@@ -3,12 +3,12 @@ use Rattle.kd_form.proofs.typing.TypistChunkReaderMachine.read_chunk.Goals as go
 
 pub returns-in_err-put_all-clause-fed : goal.returns-in_err-put_all-clause-fed
 returns-in_err-put_all-clause-fed g c =
-    let piece = c.type_chunk-front.ensures in
-    rw (err_is _ _ c.from_residual.ensures.1) (read_in_part _ _ _ _ _ _ piece.front piece.lights refl _ _ _ _
+    let piece = c.type_chunk-allowed.ensures in
+    rw (err_is _ _ c.from_residual.ensures.1) (read_in_part _ _ _ _ _ _ piece.allowed piece.lights refl _ _ _ _
     (subst (TakesPrefix _ _) c.deref.ensures.0 c.in_err-put_all.ensures.text.front))
 
-pub returns-then-front-bytes-clause-fed : goal.returns-then-front-bytes-clause-fed
-returns-then-front-bytes-clause-fed g c =
-    let piece = c.type_chunk-front.ensures in
-    read_refused _ _ _ _ _ _ piece.front piece.lights refl _ _ _ _
-    (subst (Appends _ _) c.deref.ensures.0 c.in_ok-put_all.ensures.text.whole) c.if-front-bytes.true
+pub returns-then-allowed-bytes-clause-fed : goal.returns-then-allowed-bytes-clause-fed
+returns-then-allowed-bytes-clause-fed g c =
+    let piece = c.type_chunk-allowed.ensures in
+    read_refused _ _ _ _ _ _ piece.allowed piece.lights refl _ _ _ _
+    (subst (Appends _ _) c.deref.ensures.0 c.in_ok-put_all.ensures.text.whole) c.if-allowed-bytes.true

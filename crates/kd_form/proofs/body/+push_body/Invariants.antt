@@ -1,5 +1,0 @@
-use Rattle.kd_form.proofs.Prelude.{length}
-use Rattle.kd_form.proofs.body.+push_body.Given as goal
-
-abbrev pub decreases-push_body : goal.decreases-push_body
-decreases-push_body g l = length l.letters.now

@@ -1,7 +1,0 @@
-use Rattle.kd_form.proofs.Headings.{heading_told, ap, map}
-use Rattle.kd_form.proofs.heading_line.heading_of_line.Goals as goal
-
-pub returns : goal.returns
-returns c =
-    heading_told _ _ _ _ _ _ c.slots_of.ensures c.in_ok-words.ensures
-    (ap (map (λ word. word.now)) c.as_slice.ensures.value) c.heading_of_words.ensures

@@ -1,7 +1,0 @@
-use Rattle.kd_form.proofs.Headings.{open_told}
-use Rattle.kd_form.proofs.heading_line.heading_of_open.Goals as goal
-
-pub returns : goal.returns
-returns c = λ part unbroken kept.
-    open_told c.args.day.now c.slots_of.result part c.args.line.now c.heading_of_line.result c.slots_of.ensures
-    c.heading_of_line.ensures unbroken kept

@@ -1,5 +1,0 @@
-use Rattle.kd_form.proofs.Headings.{AreSpelled}
-use Rattle.kd_form.proofs.heading_line.read_few_letters.Given as goal
-
-abbrev pub invariant-loop-byte : goal.invariant-loop-byte
-invariant-loop-byte l = AreSpelled l.word l.byte-index l.letters.items

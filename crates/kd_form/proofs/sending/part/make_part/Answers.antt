@@ -1,0 +1,15 @@
+use Rattle.kd_form.proofs.Prelude.{refl, ◌∙◌}
+use Rattle.kd_form.proofs.sending.part.make_part.Goals as goal
+
+pub returns-in-Rotor : goal.returns-in-Rotor
+returns-in-Rotor c =
+    let shown = c.as_slice.ensures.value ∙ c.rotor_letters-letters.ensures.value in
+    let day = c.indicator_of-indicator.ensures.day ∙ c.new-machine.ensures in
+    let made = rw (c.indicator_of-indicator.ensures.value, shown, day, c.new-machine.ensures) at c.part_text.ensures in
+    rw c.in-Rotor.is (_, refl, made)
+
+pub returns-in-Pin : goal.returns-in-Pin
+returns-in-Pin c =
+    let (internal, first, letters) = rw c.new-machine.ensures at c.pin_letters-letters.ensures.value in
+    let made = rw (c.as_slice-in-Pin.ensures.value, letters) at c.part_text-in-Pin.ensures in
+    rw c.in-Pin.is (_, (internal, first, refl), made)

@@ -1,0 +1,83 @@
+-- What the letters of a part's body become: the letters of the part's text, or the first fault. Parts are
+-- counted from 1.
+use Rattle.std.specs.Prelude.{◌≡◌, ℕ, ◌-◌, List, length, take, drop, slice_index, Option, Some, None}
+use Rattle.std.specs.List.{slice_range}
+use Rattle.kd_state.specs.Machine.{AreLetters}
+use Rattle.kd_state.specs.FirstFaults.{AnswerRule, ◌>>=◌, Yields, Finds, Demands}
+use Rattle.kd_state.specs.SheetDay.{Day, OfRotors, OfPins, AreADaysGroup}
+use Rattle.kd_state.specs.TwoCiphers.{sheet_key, IsWindow}
+use Rattle.kd_form.specs.declared.fault.FormFault.{FormFault}
+use Rattle.kd_form.specs.declared.fault.FormFault.TheVariants.{KeyNotOnWheel, WrongGroup, IndicatorSpent}
+use Rattle.kd_form.specs.declared.fault.FormFault.TheVariants.{IndicatorsDiffer}
+use Rattle.kd_form.specs.declared.keys.PinKeys.{PinKeys}
+use Rattle.kd_form.specs.declared.heading.Indicator.{Indicator}
+use Rattle.kd_form.specs.InternalKey.{IsInternalKey}
+use Rattle.kd_form.specs.PartMaking.{cipher_from, list_letters, enciphered_choice}
+
+-- ---- The letters of a body on a rotor machine: two fillers, the group, and the enciphered text.
+-- Source: the singly enciphered message key of the Wehrmacht.
+-- Test: a_message_of_1941
+
+-- the group in a body: the three letters after the two fillers
+abbrev pub group_of_body : List ℕ → List ℕ
+group_of_body letters = slice_range letters 2 5
+
+-- the message key: the indicator's enciphered key, deciphered with the ground setting in the windows
+abbrev pub deciphered_key : Day → Indicator → List ℕ
+deciphered_key s indicator = cipher_from s indicator.ground_setting indicator.enciphered_key
+
+-- The answer is `WrongGroup` if the body's group is none of the day's groups. Otherwise it is the text, deciphered
+-- with the message key in the windows.
+abbrev pub IsRotorAnswer : Day → ℕ → Indicator → List ℕ → AnswerRule FormFault (List ℕ)
+IsRotorAnswer s part indicator letters = do
+  _ ← Demands (AreADaysGroup s (group_of_body letters)) (WrongGroup part)
+  Yields (cipher_from s (deciphered_key s indicator) (drop 5 letters))
+
+-- ---- The letters of a body on the Converter M-209: the indicators, the text, and the indicators again.
+-- Source: War Department TM 11-380.
+-- Test: forms_are_received
+
+-- The last ten letters repeat the first ten, and the first two letters are equal.
+pub record HasIndicatorsAround (letters : List ℕ) : Type 0 where
+  pub again : take 10 letters ≡ drop (length letters - 10) letters
+  pub twice : slice_index letters 0 ≡ slice_index letters 1
+
+-- The keys in a body: the chosen letter is the second letter, and the external letters are the next six. Then come
+-- the two list letters, and then the enciphered text.
+abbrev pub keys_of_body : List ℕ → PinKeys
+keys_of_body letters = record { chosen = slice_index letters 1; external = slice_range letters 2 8 }
+
+abbrev pub list_of_body : List ℕ → List ℕ
+list_of_body letters = slice_range letters 8 10
+
+abbrev pub text_of_body : List ℕ → List ℕ
+text_of_body letters = slice_range letters 10 (length letters - 10)
+
+-- The tests, in order: the indicators before and after the text satisfy `HasIndicatorsAround`; each external letter is
+-- on its wheel; the list letters are the day's; there is an internal key. The first test that fails gives the fault.
+-- Otherwise the answer is the text, deciphered with the internal key in the windows at the start.
+abbrev pub IsPinAnswer : Day → ℕ → List ℕ → AnswerRule FormFault (List ℕ)
+IsPinAnswer s part letters = do
+  _ ← Demands (HasIndicatorsAround letters) (IndicatorsDiffer part)
+  _ ← Demands (IsWindow (sheet_key s) (keys_of_body letters).external) KeyNotOnWheel
+  _ ← Demands (list_of_body letters ≡ list_letters s) (WrongGroup part)
+  internal ← Finds (IsInternalKey (enciphered_choice s (keys_of_body letters))) (IndicatorSpent part)
+  Yields (cipher_from s internal (text_of_body letters))
+
+-- ---- The letters of a body for either kind of machine.
+-- Test: forms_are_received
+
+-- The indicator is valid for the day's model. On a rotor machine, its ground setting and its enciphered key have a
+-- letter for each slot. On the Converter M-209, there is no indicator.
+abbrev pub HasIndicator : Day → Option Indicator → Type 0
+HasIndicator (OfRotors s) (Some i) = AreLetters (length s.wheels) i.ground_setting
+    × AreLetters (length s.wheels) i.enciphered_key
+HasIndicator (OfPins s) None = Unit {0}
+HasIndicator (OfRotors s) None = ⊥
+HasIndicator (OfPins s) (Some i) = ⊥
+
+-- The answer for the letters of a body: as on a rotor machine if the heading has an indicator, otherwise as on
+-- the Converter M-209.
+abbrev pub IsLettersAnswer : Day → ℕ → Option Indicator → List ℕ → AnswerRule FormFault (List ℕ)
+IsLettersAnswer s part (Some i) letters = IsRotorAnswer s part i letters
+IsLettersAnswer s part None letters = IsPinAnswer s part letters

@@ -1,0 +1,132 @@
+-- What `FormReader` holds after it has read some bytes of a form. No public contract cites this file.
+use Rattle.std.specs.Prelude.{codes, ◌≡◌, ◌≢◌, ◌⊎◌, ℕ, ◌<◌, ◌≤◌, List, [], ◌∷◌, ◌++◌, length, take, slice_index, All}
+use Rattle.std.specs.Prelude.{IsTrue, Option, Some, None, Result, Ok, Err, MatchResult, MatchOption}
+use Rattle.kd_tables.specs.Text.{is_text_byte}
+use Rattle.kd_state.specs.SheetDay.{Day}
+use Rattle.kd_state.specs.Words.{line_of, IsFirstPart, IsWithout}
+use Rattle.kd_form.specs.declared.fault.FormFault.{FormFault}
+use Rattle.kd_form.specs.declared.fault.FormFault.TheVariants.{BadHeading, PartOrder}
+use Rattle.kd_form.specs.declared.heading.Heading.{Heading}
+use Rattle.kd_form.specs.declared.receiving.form_reader.FormReader.{FormReader}
+use Rattle.kd_form.specs.declared.receiving.form_reader.FormStage.{FormStage}
+use Rattle.kd_form.specs.declared.receiving.form_reader.FormStage.TheVariants as stages
+use Rattle.kd_form.specs.declared.receiving.body_reader.PartBody.{PartBody}
+use Rattle.kd_form.specs.Part.{heading_words}
+use Rattle.kd_form.specs.Sending.{letters_from}
+use Rattle.kd_form.specs.FormParts.{BeginsHeading, IsHeading, IsLineText, cut_at_headings, parts_of}
+use Rattle.kd_form.specs.PartReading.{HasHeading, IsExpectedCount, IsBodyAnswer}
+use Rattle.kd_form.specs.FormText.{PartStart, PartsProperty, ReadsPartsTo, first_part_start, plaintext_bytes}
+
+-- ---- the last part
+
+-- `byte` may be at `place`, counted from 0, in a line that begins with `PART ` and a digit.
+abbrev pub FitsHeadingAt : ℕ → ℕ → Type 0
+FitsHeadingAt place byte = (place < 5 → byte ≡ slice_index (codes "PART ") place)
+    × (place ≡ 5 → (48 ≤ byte) × (byte ≤ 57))
+
+-- `bytes` begin with `PART ` and a digit, or they are a prefix of `PART `.
+abbrev pub HasBegunHeading : List ℕ → Type 0
+HasBegunHeading bytes = ((count : ℕ) × (count ≤ 5) × (bytes ≡ take count (codes "PART "))) ⊎ BeginsHeading bytes
+
+-- `part` is the beginning of a heading line, without LF. `held` is `part`, cut off after 64 bytes if it is longer.
+pub record HoldsLine (held part : List ℕ) : Type 0 where
+  pub kept : held ≡ take 64 part
+  pub unbroken : IsWithout 10 part
+  pub begins : HasBegunHeading part
+
+-- `first` has the first six bytes of the last line of `body`, or the whole last line if it is shorter. `line` is the
+-- line before `body`.
+pub record HasLastLineStart (line body first : List ℕ) : Type 0 where
+  pub settled : List ℕ
+  pub tail : List ℕ
+  pub front : List ℕ
+  pub lines : body ≡ settled ++ tail
+  pub broken : line ++ 10 ∷ settled ≡ front ++ 10 ∷ []
+  pub unbroken : IsWithout 10 tail
+  pub kept : first ≡ take 6 tail
+
+-- `part` is a heading line and `body`. The reader holds, in `b`, the heading and the first 525 letters of `body`.
+pub record HoldsBody (s : Day) (b : PartBody) (part body : List ℕ) : Type 0 where
+  pub line : List ℕ
+  pub first : IsFirstPart 10 part line body
+  pub text : IsLineText line (line_of (heading_words b.heading))
+  pub is_heading : IsHeading s b.heading
+  pub last : HasLastLineStart line body b.line.items
+  pub allowed : All (λ b. IsTrue (is_text_byte b)) body
+  pub kept : b.letters.items ≡ take 525 (letters_from None body)
+
+-- `b` holds the heading and the body of `part`. The heading has the part number `number` and the expected number of
+-- parts.
+pub record HoldsPart (s : Day) (b : PartBody) (number : ℕ) (expected : Option ℕ) (part : List ℕ) : Type 0 where
+  pub body : List ℕ
+  pub holds : HoldsBody s b part body
+  pub numbered : b.heading.part ≡ number
+  pub as_expected : IsExpectedCount expected b.heading.parts
+
+abbrev pub HoldsFormStage : Day → FormStage → ℕ → Option ℕ → List ℕ → Type 0
+HoldsFormStage s (stages.Heading line) number expected part = HoldsLine line.items part × (length part < 6 → number ≡ 1)
+HoldsFormStage s (stages.Body b) number expected part = HoldsPart s b number expected part
+
+-- The letters of a body after the heading `h` are deciphered to a text, and `made` are the bytes of this text.
+abbrev pub IsBodyPlaintext : Day → Heading → List ℕ → List ℕ → Type 0
+IsBodyPlaintext s h letters made = (text : List ℕ) × IsBodyAnswer s h.part h letters (Ok text)
+    × (made ≡ plaintext_bytes s text)
+
+-- The body that `b` holds, without its last `others` letters, is deciphered to `output`, or refused.
+abbrev pub IsDecipherAnswer : Day → PartBody → ℕ → List ℕ → Result (Unit {0}) FormFault → Type 0
+IsDecipherAnswer s b others output answer =
+    (letters more : List ℕ) → length more ≡ others → b.letters.items ≡ take 525 (letters ++ more)
+    → MatchResult answer
+    (λ _. IsBodyPlaintext s b.heading letters output)
+    (λ fault. IsBodyAnswer s b.heading.part b.heading letters (Err fault))
+
+-- `part` has no LF, so it ends within its heading line. `found` is the heading in it, or `None` if there is no heading.
+abbrev pub IsOpenHeading : Day → List ℕ → Option Heading → Type 0
+IsOpenHeading s part found =
+    MatchOption found ((h : Heading) (body : List ℕ) → ¬ (HasHeading s part h body)) (λ h. HasHeading s part h [])
+
+-- `part` is a part's first line, without its LF. `found` is the heading in it, or `None` if there is no heading.
+abbrev pub IsEndedHeading : Day → List ℕ → Option Heading → Type 0
+IsEndedHeading s part found =
+    MatchOption found
+    ((h : Heading) (body : List ℕ) → ¬ (HasHeading s (part ++ 10 ∷ []) h body))
+    (λ h. IsHeading s h × IsLineText part (line_of (heading_words h)))
+
+-- `found` is the heading `h`, with the part number `number` and the expected number of parts.
+pub record IsExpectedHeading (number : ℕ) (expected : Option ℕ) (found : Option Heading) (h : Heading) : Type 0 where
+  pub is : found ≡ Some h
+  pub numbered : h.part ≡ number
+  pub as_expected : IsExpectedCount expected h.parts
+
+-- Why `found` is refused: it is `None`, or its heading has a wrong part number or a wrong number of parts.
+pub data IsHeadingFault (number : ℕ) (expected : Option ℕ) (found : Option Heading) (fault : FormFault) : Type 0 where
+  HeadingMissing : found ≡ None → fault ≡ BadHeading number → IsHeadingFault number expected found fault
+  HeadingOfOther : (h : Heading) → found ≡ Some h → (h.part ≢ number) ⊎ (¬ (IsExpectedCount expected h.parts))
+      → fault ≡ PartOrder
+      → IsHeadingFault number expected found fault
+
+-- ---- the form
+
+-- the start of the part that the reader `r` is reading; `front` are the form's bytes before this part
+abbrev pub current_part_start : FormReader → List ℕ → PartStart
+current_part_start r front = record { number = r.number; expected = r.expected; bytes_before = length front }
+
+abbrev pub IsAtPartStart : PartStart → PartsProperty
+IsAtPartStart q p parts = (p ≡ q) × (parts ≡ [])
+
+-- The reader `r` has read `form`. It has output `text` (the texts of all parts but the last), and holds the last part.
+-- Further bytes don't change the earlier parts.
+pub record HoldsForm (s : Day) (r : FormReader) (form text : List ℕ) : Type 0 where
+  pub front : List ℕ
+  pub last : List ℕ
+  pub parts : List (List ℕ)
+  pub letters : List ℕ
+  pub joined : form ≡ front ++ last
+  pub cuts : (more : List ℕ) → parts_of (form ++ more) ≡ parts ++ parts_of (last ++ more)
+  pub alone : (cut_at_headings last).1 ≡ []
+  pub begun : (front ≡ []) ⊎ BeginsHeading front
+  pub first : r.number ≡ 1 → (front ≡ []) × (letters ≡ [])
+  pub read : ReadsPartsTo s (IsAtPartStart (current_part_start r front)) first_part_start parts letters
+  pub is : text ≡ plaintext_bytes s letters
+  pub counted : r.read ≡ length form
+  pub stage : HoldsFormStage s r.stage r.number r.expected last

@@ -1,0 +1,99 @@
+-- The cipher of a day's own machine (a machine set as the day says), and the size of a part.
+-- Code: `DayMachine` has one engine, and sets its windows anew for each text.
+use Rattle.std.specs.Prelude.{◌≡◌, ℕ, ◌-◌, ◌%◌, List, [], ◌∷◌, ◌++◌, length, Option, Some, None, replicate}
+use Rattle.kd_state.specs.Machine.{AreOnWheels}
+use Rattle.kd_state.specs.SheetDay.{Day, OfRotors, OfPins, AreOneOfGroups}
+use Rattle.kd_state.specs.TwoCiphers.{EngineKey, cipher, key_with_window, sheet_key}
+use Rattle.kd_form.specs.declared.keys.Keys.{Keys}
+use Rattle.kd_form.specs.declared.keys.Keys.TheVariants.{Rotor, Pin}
+use Rattle.kd_form.specs.declared.keys.RotorKeys.{RotorKeys}
+use Rattle.kd_form.specs.declared.keys.PinKeys.{PinKeys}
+use Rattle.kd_form.specs.declared.heading.Indicator.{Indicator}
+use Rattle.kd_form.specs.InternalKey.{IsInternalKey}
+use Rattle.kd_form.specs.Part.{Part, part_text}
+
+-- the ciphertext of `text` on a machine set as the day says, with the letters of `window` in the windows at the start
+abbrev pub cipher_from : Day → List ℕ → List ℕ → List ℕ
+cipher_from s window text = cipher (key_with_window (sheet_key s) window) text
+
+-- `key` is the key of a machine set as the day says, with any letters in its windows.
+abbrev pub IsKeyOfDaysMachine : Day → EngineKey → Type 0
+IsKeyOfDaysMachine s key = (window : List ℕ) × (key ≡ key_with_window (sheet_key s) window)
+
+-- the two letters of the day's key list on the Converter M-209; no letters on a rotor machine
+abbrev pub list_letters : Day → List ℕ
+list_letters (OfRotors s) = []
+list_letters (OfPins s) = s.list
+
+-- how many letters of text a part can have
+abbrev pub part_size : Day → ℕ
+part_size (OfRotors s) = 245
+part_size (OfPins s) = 500
+
+-- part number `part` of `parts`, with `letters` as its body
+abbrev pub part_of : ℕ → ℕ → Option Indicator → List ℕ → Part
+part_of part parts indicator letters = record {
+  heading = record { part = part; parts = parts; letters = length letters; indicator = indicator };
+  body = letters;
+}
+
+-- ---- A part's letters on a rotor machine: fillers, group and enciphered text.
+-- Source: the singly enciphered message key of the Wehrmacht.
+-- Test: orders_are_sent
+
+-- the ground setting, and the message key enciphered with the ground setting in the windows
+abbrev pub indicator_of : Day → RotorKeys → Indicator
+indicator_of s k =
+    record { ground_setting = k.ground_setting; enciphered_key = cipher_from s k.ground_setting k.message_key }
+
+-- the two fillers and the group, unenciphered; then the text, enciphered with the message key
+abbrev pub rotor_letters : Day → RotorKeys → List ℕ → List ℕ
+rotor_letters s k text = k.fillers ++ k.group ++ cipher_from s k.message_key text
+
+-- ---- A part's letters on the Converter M-209: indicators, enciphered text, and the indicators again.
+-- Source: War Department TM 11-380.
+-- Test: orders_are_sent
+
+-- the chosen letter twelve times, enciphered with the external letters in the windows at the start
+abbrev pub enciphered_choice : Day → PinKeys → List ℕ
+enciphered_choice s k = cipher_from s k.external (replicate 12 k.chosen)
+
+-- the indicators: the chosen letter twice, the external letters, and the two list letters
+abbrev pub pin_indicators : Day → PinKeys → List ℕ
+pin_indicators s k = k.chosen ∷ k.chosen ∷ k.external ++ list_letters s
+
+-- `text`, with X appended until the last group of five letters is full
+abbrev pub fill_last_group : List ℕ → List ℕ
+fill_last_group text = text ++ replicate ((5 - length text % 5) % 5) 23
+
+-- the body of a part: the indicators, the enciphered text, and the indicators again; `text` is filled to whole
+-- groups, and enciphered with the internal key
+abbrev pub pin_letters : Day → PinKeys → List ℕ → List ℕ → List ℕ
+pin_letters s k internal text = pin_indicators s k ++ cipher_from s internal (fill_last_group text)
+    ++ pin_indicators s k
+
+-- ---- Which keys suit a day, and the part of a form that a text becomes with them.
+-- Test: orders_are_sent
+
+-- The keys suit the day. On a rotor machine, the keys' group is one of the day's groups. On the Converter M-209,
+-- each external letter is on its wheel, and there is an internal key.
+abbrev pub KeysSuitDay : Day → Keys → Type 0
+KeysSuitDay (OfRotors s) (Rotor k) = AreOneOfGroups s.groups k.group
+KeysSuitDay (OfPins s) (Pin k) =
+    AreOnWheels k.external × ((internal : List ℕ) × IsInternalKey (enciphered_choice (OfPins s) k) internal)
+KeysSuitDay (OfRotors s) (Pin k) = ⊥
+KeysSuitDay (OfPins s) (Rotor k) = ⊥
+
+-- `made` is part number `part` of `parts`: `text` enciphered with the keys.
+abbrev pub IsPartMade : Day → ℕ → ℕ → Keys → List ℕ → Part → Type 0
+IsPartMade s part parts (Rotor k) text made = made
+    ≡ part_of part parts (Some (indicator_of s k)) (rotor_letters s k text)
+IsPartMade s part parts (Pin k) text made =
+    (internal : List ℕ) × IsInternalKey (enciphered_choice s k) internal
+    × (made ≡ part_of part parts None (pin_letters s k internal text))
+
+-- `bytes` are part number `part` of `parts` as a form has it: the heading line, and `text` enciphered with the
+-- keys.
+abbrev pub IsPartTextMade : Day → ℕ → ℕ → Keys → List ℕ → List ℕ → Type 0
+IsPartTextMade s part parts keys text bytes = (made : Part) × IsPartMade s part parts keys text made
+    × (bytes ≡ part_text made)

@@ -1,0 +1,119 @@
+//! Reads the letters of a part's body: tests the indicators and the group, and deciphers the text.
+ghost use Rattle.std.specs.Prelude.{◌≡◌, ◌<◌, ◌≤◌, ◌↔◌, Some, length, IsTrue, MatchResult};
+ghost use Rattle.kd_form.specs.BodyCipher.{HasIndicator, IsRotorAnswer, IsPinAnswer};
+ghost use Rattle.kd_form.specs.BodyCipher.{HasIndicatorsAround, keys_of_body};
+ghost use Rattle.kd_form.specs.KeyPatterns.{IsConverterDay};
+ghost use Rattle.kd_form.specs.FormParts.{IsHeading};
+ghost use Rattle.kd_form.specs.PartReading.{IsBodyAnswer};
+
+use crate::day_machine::{DayMachine, slots_of};
+use crate::fault::FormFault;
+use crate::heading::{Heading, Indicator};
+use crate::internal_key::internal_key_of;
+use crate::keys::PinKeys;
+use arrayvec::ArrayVec;
+use kd_state::SheetDay;
+use kd_tables::Letter;
+
+/// Tests the group of a rotor machine's part, and deciphers the letters after it.
+#[tactic(auto, using(crate::proofs::MadeParts::key_is_window))]
+fn decipher_rotor_body(
+    day: &SheetDay,
+    part: u8,
+    indicator: &Indicator,
+    letters: &[Letter],
+) -> Result<ArrayVec<Letter, 500>, FormFault>
+    requires indicator { HasIndicator day.now (Some indicator.now) }
+    requires some { 5 ≤ length letters.now }
+    requires few { length letters.now ≤ 250 }
+    ensures { MatchResult result
+        (λ text. IsRotorAnswer day.now part indicator.now letters.now (Ok text.items))
+        (λ fault. IsRotorAnswer day.now part indicator.now letters.now (Err fault)) }
+{
+    prove!(indicator.enciphered_key.as_slice().len() <= 4);
+    let group = <[Letter; 3]>::try_from(&letters[2..5]).unwrap();
+    if !day.has_group(group) {
+        return Err(FormFault::WrongGroup(part));
+    }
+    let mut machine = DayMachine::new(day);
+    let message_key = machine.encipher_text::<4>(
+        indicator.ground_setting.as_slice(),
+        indicator.enciphered_key.as_slice(),
+    );
+    Ok(machine.encipher_text(message_key.as_slice(), &letters[5..]))
+}
+
+/// Whether the last ten letters repeat the first ten, and the first two letters are equal.
+#[tactic(auto, using(crate::proofs::Lines::comparing))]
+fn has_indicators_around(letters: &[Letter]) -> bool
+    requires { 20 ≤ length letters.now }
+    ensures { IsTrue result ↔ HasIndicatorsAround letters.now }
+{
+    letters[..10] == letters[letters.len() - 10..] && letters[0] == letters[1]
+}
+
+/// The keys in the indicators at the start of `letters`.
+fn keys_of_body(letters: &[Letter]) -> PinKeys
+    requires { 20 ≤ length letters.now }
+    ensures { result ≡ keys_of_body letters.now }
+{
+    let chosen = letters[1];
+    let external = <[Letter; 6]>::try_from(&letters[2..8]).unwrap();
+    PinKeys { chosen, external }
+}
+
+/// Tests the indicators of a Converter M-209's part, and deciphers the letters between them.
+fn decipher_pin_body(
+    day: &SheetDay,
+    part: u8,
+    letters: &[Letter],
+) -> Result<ArrayVec<Letter, 500>, FormFault>
+    requires pins { IsConverterDay day.now }
+    requires some { 20 ≤ length letters.now }
+    requires few { length letters.now ≤ 520 }
+    ensures { MatchResult result
+        (λ text. IsPinAnswer day.now part letters.now (Ok text.items))
+        (λ fault. IsPinAnswer day.now part letters.now (Err fault)) }
+{
+    if !has_indicators_around(letters) {
+        return Err(FormFault::IndicatorsDiffer(part));
+    }
+    let keys = keys_of_body(letters);
+    let mut machine = DayMachine::new(day);
+    if !machine.can_show(&keys.external) {
+        return Err(FormFault::KeyNotOnWheel);
+    }
+    let due = day.list().unwrap();
+    if letters[8..10] != due[..] {
+        return Err(FormFault::WrongGroup(part));
+    }
+    let text = &letters[10..letters.len() - 10];
+    match internal_key_of(&mut machine, &keys) {
+        Some(internal) => Ok(machine.encipher_text(internal.as_slice(), text)),
+        None => Err(FormFault::IndicatorSpent(part)),
+    }
+}
+
+/// Deciphers `letters`, the body of the part with the heading `heading`.
+///
+/// A body that is longer than any heading allows may be cut short, if `letters` is still longer than any heading
+/// allows: the fault is `CountWrong` either way.
+pub(crate) fn decipher_body(
+    day: &SheetDay,
+    heading: &Heading,
+    letters: &[Letter],
+) -> Result<ArrayVec<Letter, 500>, FormFault>
+    requires { IsHeading day.now heading.now }
+    ensures { MatchResult result
+        (λ text. IsBodyAnswer day.now heading.now.part heading.now letters.now (Ok text.items))
+        (λ fault. IsBodyAnswer day.now heading.now.part heading.now letters.now (Err fault)) }
+{
+    if letters.len() != heading.letters {
+        return Err(FormFault::CountWrong(heading.part));
+    }
+    prove!(slots_of(day) != Some(0));
+    match &heading.indicator {
+        Some(indicator) => decipher_rotor_body(day, heading.part, indicator, letters),
+        None => decipher_pin_body(day, heading.part, letters),
+    }
+}

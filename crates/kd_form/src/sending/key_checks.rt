@@ -1,0 +1,64 @@
+//! Checks that the keys of an order suit the day.
+ghost use Rattle.std.specs.Prelude.{◌≤◌, length, All, MatchResult};
+ghost use Rattle.kd_form.specs.Keys.{AreKeys};
+ghost use Rattle.kd_form.specs.PartMaking.{KeysSuitDay};
+ghost use Rattle.kd_form.specs.Sending.{IsKeysFault, IsFirstKeysFault};
+
+use crate::day_machine::DayMachine;
+use crate::fault::FormFault;
+use crate::internal_key::internal_key_of;
+use crate::keys::{Keys, PinKeys};
+use kd_state::SheetDay;
+
+/// Checks that the keys of all parts suit the day; otherwise returns the fault of the first part whose keys don't.
+///
+/// Not inlined: otherwise every byte read would pay for this function's stack frame.
+#[inline(never)]
+#[tactic(auto, using(crate::proofs::Prelude::err_is, crate::proofs::Lines::is_first_keys_fault))]
+pub(crate) fn check_keys(day: &SheetDay, keys: &[Keys]) -> Result<(), FormFault>
+    requires keys { All (AreKeys day.now) keys.now }
+    requires few { length keys.now ≤ 99 }
+    ensures { MatchResult result
+        (λ _. All (KeysSuitDay day.now) keys.now)
+        (IsFirstKeysFault day.now keys.now) }
+{
+    for (index, keys) in keys.iter().enumerate() {
+        check_part_keys(day, index as u8 + 1, keys)?;
+    }
+    Ok(())
+}
+
+/// Checks that the keys of part number `part` suit the day.
+fn check_part_keys(day: &SheetDay, part: u8, keys: &Keys) -> Result<(), FormFault>
+    requires { AreKeys day.now keys.now }
+    ensures { MatchResult result
+        (λ _. KeysSuitDay day.now keys.now)
+        (IsKeysFault day.now part keys.now) }
+{
+    match keys {
+        Keys::Rotor(keys) => {
+            if day.has_group(keys.group) {
+                Ok(())
+            } else {
+                Err(FormFault::WrongGroup(part))
+            }
+        }
+        Keys::Pin(keys) => check_pin_keys(&mut DayMachine::new(day), part, keys),
+    }
+}
+
+/// Checks that the keys of part number `part` suit the day of a Converter M-209.
+fn check_pin_keys(machine: &mut DayMachine, part: u8, keys: &PinKeys) -> Result<(), FormFault>
+    requires { AreKeys machine.old (Keys.Pin keys.now) }
+    ensures { MatchResult result
+        (λ _. KeysSuitDay machine.old (Keys.Pin keys.now))
+        (IsKeysFault machine.old part (Keys.Pin keys.now)) }
+{
+    if !machine.can_show(&keys.external) {
+        return Err(FormFault::KeyNotOnWheel);
+    }
+    match internal_key_of(machine, keys) {
+        Some(_) => Ok(()),
+        None => Err(FormFault::IndicatorSpent(part)),
+    }
+}
