@@ -65,7 +65,7 @@ impl<'day> DayMachine<'day> {
         self.encipher(window, &mut [])
     }
 
-    /// `text`, enciphered or deciphered with the letters of `window` in the windows at the start.
+    /// Enciphers or deciphers `text`. At the start, the machine's windows show the letters of `window`.
     #[tactic(auto, using(crate::proofs::MadeParts::stay_letters))]
     pub(crate) fn encipher_text<const N: usize>(
         &mut self,

@@ -23,7 +23,7 @@ says >>= next = ThenNext says next
 abbrev pub Yields : {F X : Type 0} → X → AnswerRule F X
 Yields x answer = answer ≡ Ok x
 
--- the rule that a value is right if it has this property, and that this fault is right if no value has the property
+-- the rule of a search: any value with the property is a right answer; if no value has it, the fault is the right answer
 abbrev pub Finds : {F X : Type 0} → (X → Type 0) → F → AnswerRule F X
 Finds Holds due (Ok x) = Holds x
 Finds {X} Holds due (Err fault) = ((x : X) → ¬ (Holds x)) × (fault ≡ due)
