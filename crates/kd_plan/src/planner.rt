@@ -1,6 +1,7 @@
 //! Plans a card: settings for everything but cables and bars, and a minimum-cost assignment for cables or bars.
 ghost use Rattle.std.specs.Prelude.{◌≡◌, ◌≢◌, ◌≤◌, ◌*◌, ◌==◌, if◌then◌else◌, IfOk, IsErr, IfSome, MatchOption, ◌↔◌};
 ghost use Rattle.std.specs.Prelude.{All, length, pos, replicate, unsigned_abs};
+ghost use Rattle.kd_card.specs.Prices.{ArePrices};
 ghost use Rattle.kd_plan.specs.{Planned.{IsPlannedCard, IsProvedPlannedCard}, Spares.SparesStayFree};
 ghost use Rattle.kd_state.specs.SheetDay.{OfRotors, OfPins, IsLegalDay, day_model};
 ghost use Rattle.kd_state.specs.{Entry.{rotor_values, pin_values}, Machine.{IsMachine, model_of}};
@@ -9,7 +10,7 @@ use super::other_model::OtherModel;
 use super::planned_lines::{planned_pin_lines, planned_rotor_lines};
 use super::spares::keep_spares_free;
 use kd_assign::{Solution, assign};
-use kd_card::{Card, Prices, Version};
+use kd_card::{Card, Prices};
 use kd_state::{
     Machine, OneModel, Parts, PinEntry, PinParts, RotorEntry, RotorParts, SheetDay, bar_costs,
     cable_costs,
@@ -19,29 +20,15 @@ use kd_state::{
 ///
 /// If there are several shortest cards, the contract leaves open which one is planned, and with which prices. If no
 /// cable and no bar has to change, all prices are 0.
-#[tactic(auto, using(crate::proofs::Planning::planned_card_is_proved))]
 pub fn plan(machine: &Machine, day: &SheetDay) -> Result<Card, OtherModel>
     ensures refused { IsErr result ↔ (model_of machine.now ≢ day_model day.now) }
     ensures card { IfOk result (λ card.
         IsProvedPlannedCard machine.now day.now card.settings.items card.prices) }
 {
-    let card = planned_card(machine, day).ok_or(OtherModel)?;
-    prove!(matches!(&card.prices.version(), Version::ByNumber));
-    Ok(card)
-}
-
-/// Plans a card, or returns `None` if the machine and the day are of different models.
-fn planned_card(machine: &Machine, day: &SheetDay) -> Option<Card>
-    ensures planned { MatchOption result
-        (model_of machine.now ≢ day_model day.now)
-        (λ card. IsPlannedCard machine.now day.now card.settings.items card.prices) }
-    ensures spares { IfSome result (λ card. SparesStayFree machine.now day.now card.settings.items) }
-    ensures machine { IsMachine machine.now }
-    ensures legal { IsLegalDay day.now }
-{
-    match machine.of_one_model(day)? {
-        OneModel::Rotor(parts, entry) => Some(rotor_card(machine, parts, entry)),
-        OneModel::Pin(parts, entry) => Some(pin_card(parts, entry)),
+    match machine.of_one_model(day) {
+        None => Err(OtherModel),
+        Some(OneModel::Rotor(parts, entry)) => Ok(rotor_card(machine, parts, entry)),
+        Some(OneModel::Pin(parts, entry)) => Ok(pin_card(parts, entry)),
     }
 }
 
@@ -56,6 +43,7 @@ fn rotor_card(machine: &Machine, parts: &RotorParts, entry: &RotorEntry) -> Card
         IsPlannedCard (Parts.Rotor parts.now) day result.settings.items result.prices }
     ensures spares { let day = OfRotors (rotor_values entry.now) in
         SparesStayFree (Parts.Rotor parts.now) day result.settings.items }
+    ensures prices { ArePrices result.prices }
 {
     let pairs = entry.pairs.as_slice();
     let costs = cable_costs(&parts.cables, pairs);
@@ -75,8 +63,9 @@ fn rotor_card(machine: &Machine, parts: &RotorParts, entry: &RotorEntry) -> Card
 /// Plans a card for a Converter M-209.
 #[tactic(auto, using(crate::proofs::Planning::is_planned_card, crate::proofs::Planning::two_at_most, crate::proofs::Planning::all_within))]
 fn pin_card(parts: &PinParts, entry: &PinEntry) -> Card
-    ensures { let day = OfPins (pin_values entry.now) in
+    ensures planned { let day = OfPins (pin_values entry.now) in
         IsPlannedCard (Parts.Pin parts.now) day result.settings.items result.prices }
+    ensures prices { ArePrices result.prices }
 {
     let costs = bar_costs(&parts.bars, &entry.rows);
     let Solution {
