@@ -2,7 +2,7 @@
 use Rattle.kd_prices.proofs.{Found.{are_numbered, belong, one_expansion}, Leading.{Leads-not_refused, needed_at}}
 use Rattle.kd_prices.proofs.Prelude.{AreSettingsNeeded, HasOneAnswer-Demands, HasOneAnswer-Finds, HasOneAnswer-ThenNext}
 use Rattle.kd_prices.proofs.Prelude.{Day, Err, List, Why, [], ap, arith, refl, subst, sym, ℕ, ◌++◌, ◌↔◌, ◌∙◌, ◌∷◌, ◌≡◌}
-use Rattle.kd_prices.proofs.Prelude.{Doubt, GoesOn, IfErr, IllegalAt, Leads, Parts, Proves, Result, Setting, false≢true}
+use Rattle.kd_prices.proofs.Prelude.{Doubt, GoesOn, IfErr, IllegalAt, Leads, Parts, Proves, Result, Setting}
 use Rattle.kd_prices.proofs.Prelude.{HasOneAnswer, IsCheckedAnswer, IsFirstNeedless, IsFirstWithout, IsNeededAnswer, Ok}
 use Rattle.kd_prices.proofs.Prelude.{IsOk, NeedlessLine, PriceParts, ThenNext-Ok, cases_order, cost_table, leads_to_one}
 use Rattle.{kd_prices.specs.Doubt.{IsCarriedAnswer, IsDoubt, IsFitsAnswer}, kd_state.specs.Setting.IsFirstIllegal}
