@@ -11,8 +11,8 @@ use Rattle.std.proofs.lemmas.List.Sorted.{IsPermutation-append_right, IsPermutat
 use Rattle.std.proofs.lemmas.List.Sorted.{IsPermutation-refl, IsPermutation-trans}
 use Rattle.std.proofs.lemmas.{List.{nil_from_length, Elements.All-map}, Slice.Zip.{firsts-zip, seconds-zip}}
 use Rattle.std.specs.{Cmp.Equal-is, List.sum_by, Ordering.is_eq, Prelude.if◌then◌else◌}
-use Rattle.kd_prices.proofs.Prelude.{append_assoc, get_or, get_or-zip, take, take_more, ◌+◌}
-use Rattle.kd_prices.proofs.Prelude.{drop, pos, take-append-drop, zero}
+use Rattle.kd_prices.proofs.Prelude.{append_assoc, get_or, get_or-zip, take, ◌+◌}
+use Rattle.kd_prices.proofs.Prelude.{drop, pos, take-append-drop}
 use Rattle.std.proofs.{Math.Seq.drop-cons, lemmas.List.{take_all, take_more_set}}
 
 -- ---- equal keys
@@ -57,9 +57,9 @@ module _ {X : Type 0} (key : X) (kind : KindOf X) (kinds : List (KindOf X)) wher
 
 -- ---- the keys in turn
 
-counted_beside : {X : Type 0} (f : X → ℕ) (keys : List X) (prices : List ℤ) → length prices ≡ length keys
+sum_by-zip : {X : Type 0} (f : X → ℕ) (keys : List X) (prices : List ℤ) → length prices ≡ length keys
     → sum_by (λ (z : X × ℤ). f z.0) (zip keys prices) ≡ sum_by f keys
-counted_beside {X} f keys prices same =
+sum_by-zip {X} f keys prices same =
     sym (fold-map _ (λ (z : X × ℤ). z.0) 0 (zip keys prices)) ∙ ap (sum_by f) (firsts-zip keys prices same)
 
 zip_set : {X : Type 0} (keys : List X) (prices : List ℤ) (place : ℕ) (key : X) (price : ℤ) → place < length keys
@@ -82,7 +82,8 @@ module _ {K X : Type 0} (format : KindFormat K X) (kinds : List K) (left : List 
       let pairs = zip keys prices in
       let within : place < length pairs = omega (arith, length-zip keys prices) in
       rw (zip_set keys prices place key price inside is, take_more_set pairs place (key, price) within, append_assoc)
-      (IsPermutation-trans (expansion (map format.kind kinds)) _ _ taken (IsPermutation-append_right (take place pairs) _ _ one))
+      (IsPermutation-trans (expansion (map format.kind kinds)) _ _ taken
+      (IsPermutation-append_right (take place pairs) _ _ one))
 
   -- If no kind with the key at `place` is left, the kinds aren't those of the keys.
   pub not_kinds_of : (eq : X → X → Bool) → eq key key ≡ true → HasNoneLeft eq left key → (others : List ℤ)
@@ -102,7 +103,7 @@ module _ {K X : Type 0} (format : KindFormat K X) (kinds : List K) (left : List 
       let before = sym (sum_by-IsPermutation f all _ taken)
       ∙ sum_by-append f (take place pairs) (expansion left) in
       let count = λ (prices : List ℤ) (many : length prices ≡ length keys).
-      counted_beside (λ x. once (eq x key)) keys prices many in
+      sum_by-zip (λ x. once (eq x key)) keys prices many in
       let whole = sum_by-IsPermutation f (zip keys others) all are.expand
       ∙ count others are.number ∙ sym (count prices many) in
       omega (arith, none, here, split, next, before, whole)

@@ -11,8 +11,8 @@ HaveOnePriceEach {X} pairs =
     (key : X) (price other : ℤ) → Contains pairs (key, price) → Contains pairs (key, other) → price ≡ other
 
 -- The key (letters, a standing or a reading) has the form that a card writes, and its price is from -9999 to 9999.
-abbrev pub IsFine : {K X : Type 0} → KindFormat K X → X × ℤ → Type 0
-IsFine format pair = format.InForm pair.0 × (unsigned_abs pair.1 ≤ 9999)
+abbrev pub IsValidKeyAndPrice : {K X : Type 0} → KindFormat K X → X × ℤ → Type 0
+IsValidKeyAndPrice format pair = format.InForm pair.0 × (unsigned_abs pair.1 ≤ 9999)
 
 -- a kind with this key and this price, and with the count 1
 abbrev pub kind_of_one : {X : Type 0} → X × ℤ → KindOf X
@@ -24,7 +24,7 @@ pub record CanBeKinds {K X : Type 0} (format : KindFormat K X) (cmp : X → X �
     : Type 0 where
   pub sorted : IsSorted (λ one other. ordering_then (cmp one.0 other.0) (int_cmp one.1 other.1)) pairs
   pub one_price : HaveOnePriceEach pairs
-  pub fine : All (IsFine format) pairs
+  pub fine : All (IsValidKeyAndPrice format) pairs
 
 -- `new` is `old`, and then added kinds. They count the key of `kind`, as often as `kind` does, and the keys in `pairs`,
 -- all with their prices. Suppose that these keys can be grouped into valid kinds. Then the added kinds are valid and

@@ -47,7 +47,7 @@ cond-exchanged : (p q : Bool) → cond {A = ℕ} (exactly_one false false) 1 0 +
 cond-exchanged p q = grind arith
 
 -- Two cables cost no more after the exchange: `cable` becomes the pair, and `spare` the column without a pair.
-cable_cost-exchanged : (spare cable : Cable) (column : Column) → is_spare spare ≡ true
+cable_cost-exchanged : (spare cable : Cable) (column : ColumnPair) → is_spare spare ≡ true
     → cable_cost spare None + cable_cost cable column ≤ cable_cost spare column + cable_cost cable None
 cable_cost-exchanged (None, None) cable column h = grind (arith, common_steps, sums_within, cond-exchanged)
 cable_cost-exchanged _ cable column h = absurd (cc)
@@ -135,7 +135,7 @@ few_spares cables pairs to many size once last number place next lt taken spare 
     omega (arith, all, few_pairs to (length pairs) once)
 
 -- ---- the settings
-put_lines : (P : Setting → Type 0) (number : ℕ) (cable : Cable) (column : Column)
+put_lines : (P : Setting → Type 0) (number : ℕ) (cable : Cable) (column : ColumnPair)
     → ((pair : ℕ × ℕ) → column ≡ Some pair → (letter : ℕ) → P (Put number letter))
     → All P (cable_moves In number (cable, column))
 put_lines P number cable None h = All-nil P

@@ -30,7 +30,7 @@ returns-in_ok-rows-in-Some-Rotor c =
     (by_found _ _ _ _ _ apart.2 (found.rows, found.columns) _
     (rw c.parts.ensures.value at found.ensures.found)
     (rw (apart.0, apart.1, c.as_slice-settings.ensures.value)
-    at (c.doubt_by_prices.ensures (Cables found.rows found.columns) refl refl refl)))
+    at (c.check_by_prices.ensures (Cables found.rows found.columns) refl refl refl)))
 
 pub returns-in_ok-rows-in-Some-Pin : goal.returns-in_ok-rows-in-Some-Pin
 returns-in_ok-rows-in-Some-Pin c =
@@ -40,4 +40,4 @@ returns-in_ok-rows-in-Some-Pin c =
     (by_found _ _ _ _ _ refl (found.rows, found.columns) _
     (rw c.parts-in-Some-Pin.ensures.value at found.ensures.found)
     (rw (apart.0, apart.1, c.as_slice-settings.ensures.value)
-    at (c.doubt_by_prices-in-Some-Pin.ensures (Bars found.rows found.columns) refl refl refl)))
+    at (c.check_by_prices-in-Some-Pin.ensures (Bars found.rows found.columns) refl refl refl)))

@@ -1,6 +1,6 @@
 use Rattle.kd_prices.proofs.Prelude.{length, map, ◌≡◌}
 use Rattle.kd_prices.proofs.Taking.{AreTaken}
-use Rattle.kd_prices.proofs.expanding.prices_of.Given as goal
+use Rattle.kd_prices.proofs.kind_prices.prices_of.Given as goal
 
 abbrev pub invariant-loop-place : goal.invariant-loop-place
 invariant-loop-place g l =

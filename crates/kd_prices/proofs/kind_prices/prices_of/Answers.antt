@@ -1,7 +1,7 @@
 use Rattle.kd_prices.proofs.Prelude.{SFits, ap, length, map, refl, rules, sym, to_z-of_z, w16, ◌∙◌}
 use Rattle.kd_prices.proofs.{Runs.refilled, Taking.{all_taken, eq_decides, not_kinds_of, one_more_taken}}
 use Rattle.std.proofs.lemmas.List.{length-set}
-use Rattle.kd_prices.proofs.expanding.prices_of.Goals as goal
+use Rattle.kd_prices.proofs.kind_prices.prices_of.Goals as goal
 
 pub loop-place-preserved : goal.loop-place-preserved
 loop-place-preserved g c =
