@@ -100,13 +100,10 @@ module _ (m : Parts) (s : Day) (settings : List Setting) (prices : PriceParts) w
       GoesOn tt by.model (GoesOn tt (belong m s prices h.numbered h.expands by.kind) (GoesOn h.numbered h.expands
       (GoesOn by.leads.0 by.leads.1 (GoesOn tt by.leads.2 (GoesOn tt by.fits (GoesOn tt by.sum by.needed))))))
 
-  says_proving : IsCheckedAnswer m s settings prices (Ok tt) → Proves m s settings prices
-  says_proving says = grind (arith, ThenNext-Ok, are_numbered)
-
   -- The result of the check is `Ok` exactly if the card proves itself.
   pub told : (answer : Result (Unit {0}) Doubt) → IsCheckedAnswer m s settings prices answer
       → IsOk answer ↔ Proves m s settings prices
-  told (Ok x) says = (λ ok. says_proving says, λ proves. refl)
+  told (Ok x) says = (λ ok. grind (arith, ThenNext-Ok, are_numbered), λ proves. refl)
   told (Err doubt) says = (
     λ ok. absurd (cc),
     λ proves. absurd (let same = only_checked (Err doubt) (Ok tt) says (proving_says proves) in cc),

@@ -46,9 +46,6 @@ pub are_numbered : (m : Parts) (s : Day) (prices numbered : PriceParts) → Expa
     → PricesSuitMachine m prices → AreModelPrices m numbered
 are_numbered m s prices numbered expands belong = grind arith
 
-same_fault : {F X : Type 0} {f g : F} → ◌≡◌ {A = Result X F} (Err f) (Err g) → f ≡ g
-same_fault e = cc
-
 -- ---- from the prices that were found to the check
 
 module _ (m : Parts) (s : Day) (settings : List Setting) (prices : PriceParts) (make : List ℤ → List ℤ → PriceParts)
@@ -63,7 +60,7 @@ module _ (m : Parts) (s : Day) (settings : List Setting) (prices : PriceParts) (
   pub by_fault : ((numbered : PriceParts) → AreModelPrices m numbered
       → make (row_prices numbered) (column_prices numbered) ≡ numbered) → (doubt : Doubt)
       → ArePricesFound m s prices make (Err doubt) → IsCheckedAnswer m s settings prices (Err doubt)
-  by_fault made doubt (HasFault fault none e) = GoesOn tt model (HasFault fault none (ap Err (same_fault e)))
+  by_fault made doubt (HasFault fault none e) = GoesOn tt model (HasFault fault none (cc))
   by_fault made doubt (GoesOn x belong none) =
       GoesOn tt model (GoesOn x belong (HasFault PriceMissing (
         (λ numbered expands.

@@ -170,9 +170,6 @@ LeavesSpares m s (Put cable letter) =
     → count_by is_spare (take cable m.cables) ≤ length s.pairs - count_by (λ cable. not (is_spare cable)) m.cables
 LeavesSpares m s _ = Unit {0}
 
-unpriced_leave : (m : RotorParts) (s : RotorDay) (x : Setting) → is_priced_setting x ≡ false → LeavesSpares m s x
-unpriced_leave m s x e = grind arith
-
 pub is_spare_at-cable_at : (m : RotorParts) (number place : ℕ) → number ≡ suc place
     → is_spare_at m.cables place ≡ is_spare (cable_at m number)
 is_spare_at-cable_at m number place e = rw e (ap is_spare (sym (unwrap_or-slice_get m.cables place (None, None))))
@@ -182,7 +179,7 @@ pub SparesStayFree-planned : (m : RotorParts) (s : RotorDay) (to : List ℕ) →
     → SparesComeLast m.cables (length s.pairs) to
     → SparesStayFree (Rotor m) (OfRotors s) (planned_lines (Rotor m) (OfRotors s) to)
 SparesStayFree-planned m s to machine legal same size once last cable letter (k, lt, e) =
-    let loose = All-unpriced (LeavesSpares m s) (unpriced_leave m s) (loose_lines (Rotor m) (OfRotors s))
+    let loose = All-unpriced (LeavesSpares m s) (λ x e. grind arith) (loose_lines (Rotor m) (OfRotors s))
     (all_counted (Rotor m) (OfRotors s) machine legal same).priced in
     let pulls = all_moves (LeavesSpares m s) Out s.pairs m.cables to 1 (λ k n cable e lt.
     All-map (LeavesSpares m s) (λ letter. Pull n letter) _ (λ i d lt'. tt)) in
