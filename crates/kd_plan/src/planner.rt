@@ -1,16 +1,17 @@
 //! Plans a card: settings for everything but cables and bars, and a minimum-cost assignment for cables or bars.
-ghost use Rattle.std.specs.Prelude.{◌≡◌, ◌≢◌, ◌≤◌, ◌*◌, ◌==◌, if◌then◌else◌, IfOk, IsErr, IfSome, MatchOption, ◌↔◌};
+ghost use Rattle.std.specs.Prelude.{◌≡◌, ◌≢◌, ◌≤◌, ◌*◌, ◌==◌, if◌then◌else◌, IfOk, IsErr, ◌↔◌};
 ghost use Rattle.std.specs.Prelude.{All, length, pos, replicate, unsigned_abs};
 ghost use Rattle.kd_card.specs.Prices.{ArePrices};
 ghost use Rattle.kd_plan.specs.{Planned.{IsPlannedCard, IsProvedPlannedCard}, Spares.SparesStayFree};
 ghost use Rattle.kd_state.specs.SheetDay.{OfRotors, OfPins, IsLegalDay, day_model};
 ghost use Rattle.kd_state.specs.{Entry.{rotor_values, pin_values}, Machine.{IsMachine, model_of}};
 
+use super::bar_lines::push_lugs;
+use super::cable_lines::{CableMove, push_moves};
 use super::other_model::OtherModel;
-use super::planned_lines::{planned_pin_lines, planned_rotor_lines};
 use super::spares::keep_spares_free;
 use kd_assign::{Solution, assign};
-use kd_card::{Card, Prices};
+use kd_card::{Card, Prices, pin_settings, rotor_settings};
 use kd_state::{
     Machine, OneModel, Parts, PinEntry, PinParts, RotorEntry, RotorParts, SheetDay, bar_costs,
     cable_costs,
@@ -32,7 +33,9 @@ pub fn plan(machine: &Machine, day: &SheetDay) -> Result<Card, OtherModel>
     }
 }
 
-/// Plans a card for a rotor machine. `parts` are the parts of `machine`.
+/// Plans a card for a rotor machine: settings for loose things, then all PULL settings, then all PUT settings.
+///
+/// `parts` are the parts of `machine`.
 #[tactic(auto, using(crate::proofs::Planning::is_planned_card, crate::proofs::Planning::four_at_most, crate::proofs::Planning::all_within))]
 fn rotor_card(machine: &Machine, parts: &RotorParts, entry: &RotorEntry) -> Card
     requires parts { machine.now ≡ Parts.Rotor parts.now }
@@ -56,11 +59,13 @@ fn rotor_card(machine: &Machine, parts: &RotorParts, entry: &RotorEntry) -> Card
     } = assign(&costs);
     keep_spares_free(&parts.cables, pairs, &mut to);
     let prices = Prices::cables(prices_or_zeros(total, row), prices_or_zeros(total, col)).unwrap();
-    let settings = planned_rotor_lines(machine, parts, entry, &to);
+    let mut settings = rotor_settings(machine, parts, entry);
+    push_moves(&mut settings, CableMove::Out, 1, &parts.cables, pairs, &to);
+    push_moves(&mut settings, CableMove::In, 1, &parts.cables, pairs, &to);
     Card { settings, prices }
 }
 
-/// Plans a card for a Converter M-209.
+/// Plans a card for a Converter M-209: settings for loose things, and then all LUG settings.
 #[tactic(auto, using(crate::proofs::Planning::is_planned_card, crate::proofs::Planning::two_at_most, crate::proofs::Planning::all_within))]
 fn pin_card(parts: &PinParts, entry: &PinEntry) -> Card
     ensures planned { let day = OfPins (pin_values entry.now) in
@@ -76,7 +81,8 @@ fn pin_card(parts: &PinParts, entry: &PinEntry) -> Card
         ..
     } = assign(&costs);
     let prices = Prices::bars(prices_or_zeros(total, row), prices_or_zeros(total, col)).unwrap();
-    let settings = planned_pin_lines(parts, entry, &to);
+    let mut settings = pin_settings(parts, entry);
+    push_lugs(&mut settings, 1, &parts.bars, &entry.rows, &to);
     Card { settings, prices }
 }
 
