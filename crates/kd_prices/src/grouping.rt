@@ -52,14 +52,13 @@ fn push_kinds<K: Kind, const N: usize>(
 {
     match pairs {
         [] => kinds.push(K::of(kind)),
+        [pair, rest @ ..] if is_of_kind(pair, &kind) => {
+            let count = kind.count + 1;
+            push_kinds(KindOf { count, ..kind }, rest, kinds);
+        }
         [pair, rest @ ..] => {
-            if is_of_kind(pair, &kind) {
-                let count = kind.count + 1;
-                push_kinds(KindOf { count, ..kind }, rest, kinds);
-            } else {
-                kinds.push(K::of(kind));
-                push_kinds(kind_of_one(pair), rest, kinds);
-            }
+            kinds.push(K::of(kind));
+            push_kinds(kind_of_one(pair), rest, kinds);
         }
     }
 }

@@ -11,7 +11,7 @@ use kd_card::{Kind, KindOf};
 /// `None` if a key has no kind, or if `keys` doesn't have each key as often as the count of its kind says.
 pub(crate) fn prices_of<K: Kind, const N: usize>(
     keys: &[K::Key],
-    kinds: ArrayVec<K, N>,
+    mut kinds: ArrayVec<K, N>,
 ) -> Option<[i16; N]>
     requires number { length keys.now ≡ N }
     requires kinds { IsGroup K.format N kinds.items }
@@ -19,7 +19,6 @@ pub(crate) fn prices_of<K: Kind, const N: usize>(
         ((prices : List ℤ) → ¬ (AreKindsOf K.format keys.now prices kinds.items))
         (λ prices. AreKindsOf K.format keys.now prices kinds.items × ArePricesInRange prices) }
 {
-    let mut kinds = kinds;
     let mut prices = [0; N];
     for (place, key) in keys.iter().enumerate() {
         prices[place] = take_one(key, kinds.as_mut_slice())?;
