@@ -1,5 +1,5 @@
 -- A card that proves itself has no doubt, and a card has at most one.
-use Rattle.kd_prices.proofs.{Found.{are_numbered, belong, one_expansion}, Leading.{Leads-not_refused, needed_at}}
+use Rattle.kd_prices.proofs.{Found.{are_numbered, belong, one_expansion}, Leading.{leads_on, needed_at}}
 use Rattle.kd_prices.proofs.Prelude.{AreSettingsNeeded, HasOneAnswer-Demands, HasOneAnswer-Finds, HasOneAnswer-ThenNext}
 use Rattle.kd_prices.proofs.Prelude.{Day, Err, List, Why, [], ap, arith, refl, subst, sym, ℕ, ◌++◌, ◌↔◌, ◌∙◌, ◌∷◌, ◌≡◌}
 use Rattle.kd_prices.proofs.Prelude.{Doubt, GoesOn, IfErr, IllegalAt, Leads, Parts, Proves, Result, Setting}
@@ -34,8 +34,7 @@ IsFirstWithout-one Holds number row column i j h k = grind (arith, cases_order, 
 IsFirstIllegal-not_Leads : {m : Parts} {settings : List Setting} {line : ℕ} {why : Why}
     (h : IsFirstIllegal m settings line why) (n : Parts) (rest : List Setting)
     → ¬ (Leads m (h.front ++ h.setting ∷ rest) n)
-IsFirstIllegal-not_Leads {m} h n rest =
-    Leads-not_refused m h.between n h.front rest h.setting _ h.leads h.refused
+IsFirstIllegal-not_Leads {m} h n rest leads = grind (arith, leads_on, h.leads, h.refused)
 
 -- If a setting of a list isn't needed, this holds in each list that begins with the settings up to this one.
 IsFirstNeedless-not_needed : {m : Parts} {s : Day} {settings : List Setting} {line : ℕ}

@@ -109,11 +109,3 @@ pub bar_kinds_found : (m : PinParts) (s : PinDay) (row : List BarKind) (col : Li
 bar_kinds_found m s row col are many also =
     kinds_found bar_format row_format m.bars s.rows row col (Pin m) (OfPins s) _ Bars tt
     (λ found one two. grind arith) (λ found expands. grind arith)
-
-pub cables_made : (m : RotorParts) (numbered : PriceParts) → AreModelPrices (Rotor m) numbered
-    → Cables (row_prices numbered) (column_prices numbered) ≡ numbered
-cables_made m numbered are = grind arith
-
-pub bars_made : (m : PinParts) (numbered : PriceParts) → AreModelPrices (Pin m) numbered
-    → Bars (row_prices numbered) (column_prices numbered) ≡ numbered
-bars_made m numbered are = grind arith

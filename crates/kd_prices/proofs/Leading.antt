@@ -1,10 +1,10 @@
 -- Lists of settings that lead from one machine to another, split and joined.
 use Rattle.kd_card.{proofs.Months.Shortest.Falling.model_of-changed, specs.Proving.is_priced_setting}
 use Rattle.kd_prices.proofs.Prelude.{AreSettingsNeeded, IsSettingNeeded, proving_cards_are_shortest, take-append-drop}
-use Rattle.kd_prices.proofs.Prelude.{Day, Err, Ok, Why, [], ap, drop, sym, take, ℕ, ◌++◌, ◌+◌, ◌<◌, ◌∙◌, ◌∷◌, ◌≡◌}
-use Rattle.kd_prices.proofs.Prelude.{Doubt, Leads, List, Parts, Setting, Some, arith, get_or, length, subst, take_more}
+use Rattle.kd_prices.proofs.Prelude.{Day, Err, Ok, [], ap, drop, sym, take, ℕ, ◌++◌, ◌+◌, ◌<◌, ◌∙◌, ◌∷◌, ◌≡◌}
+use Rattle.kd_prices.proofs.Prelude.{Doubt, Leads, List, Parts, Setting, arith, get_or, length, subst, take_more}
 use Rattle.kd_prices.proofs.Prelude.{IsNeededAnswer, NeedlessLine, RestIsShortest, Result, length-append, machine_after}
-use Rattle.kd_prices.proofs.Prelude.{day_model, leads_join, leads_next, length-drop, length-take, model_of, why_refused}
+use Rattle.kd_prices.proofs.Prelude.{day_model, leads_join, leads_next, length-drop, length-take, model_of}
 use Rattle.kd_state.specs.{Costs.loose_count, Setting.Carries}
 use Rattle.std.proofs.{Math.Seq.drop-cons, lemmas.List.length-take-le}
 use Rattle.std.specs.{Prelude.IsFalse, Result.{MatchResult, result_and}}
@@ -22,11 +22,6 @@ pub needed_at : (m between : Parts) (s : Day) (front rest : List Setting) (x : S
 needed_at m between s [] rest x leads needed = subst (λ machine. IsSettingNeeded machine s x) (sym leads) needed.0
 needed_at m between s (y ∷ front) rest x leads needed =
     grind (arith, needed_at (machine_after m y) between s front rest x)
-
--- In a list that leads to a machine, no setting is refused.
-pub Leads-not_refused : (m between n : Parts) (front rest : List Setting) (x : Setting) (why : Why)
-    → Leads m front between → why_refused between x ≡ Some why → Leads m (front ++ x ∷ rest) n → ⊥
-Leads-not_refused m between n front rest x why first refused leads = grind (arith, leads_on)
 
 -- If all settings of `front` are needed, and `x` is needed after them, then all settings of both are needed.
 needed_join : (m n : Parts) (s : Day) (front : List Setting) (x : Setting) → Leads m front n
