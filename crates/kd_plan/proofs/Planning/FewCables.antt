@@ -7,8 +7,7 @@ unfoldable pub use Sparing.*
 all_first : (cables : List Cable) (first : ℕ) → first ≤ length cables
     → ((k : ℕ) → first ≤ k → is_spare_at cables k ≡ true)
     → count_by is_spare (take first cables) + count_by (λ cable. not (is_spare cable)) cables ≡ first
-all_first [] zero few free = refl
-all_first [] (suc first) few free = absurd (omega arith)
+all_first [] first few free = grind (arith, common_steps)
 all_first (cable ∷ cables) zero few free =
     let rest = all_first cables zero (omega arith) (λ k low. free (suc k) (omega arith)) in
     simp sum_by-cons (grind (arith, nat_tests, free zero (omega arith)))
@@ -68,12 +67,7 @@ one_step number (Rotor start) s (Rotor m) (Pull cable letter) settings none few 
       | inr fits ↦ omega arith
     ] in
     (within, (rw length-set now.0, set_within number m cable _ now.1 within there))
-one_step number (Rotor start) (OfPins s) (Rotor m) (Put cable letter) settings none few now free allowed = absurd free
-one_step number (Rotor start) s (Rotor m) x settings none few now free allowed = (tt, now)
-one_step number (Pin start) s (Pin m) (Put cable letter) settings none few now free allowed = absurd (cc)
-one_step number (Pin start) s (Pin m) (Pull cable letter) settings none few now free allowed = absurd (cc)
-one_step number (Pin start) s (Pin m) x settings none few now free allowed = (tt, tt)
-one_step number start s m x settings none few now free allowed = absurd now
+one_step number start s m x settings none few now free allowed = grind arith
 
 module _ (number : ℕ) (start : Parts) (s : Day) (none : UsesNoneAbove number start) (few : HasPairsUpTo number s) where
   serve : (settings : List Setting) (m n : Parts) → HasFewInUse number start m → SparesStayFree start s settings
@@ -86,7 +80,5 @@ module _ (number : ℕ) (start : Parts) (s : Day) (none : UsesNoneAbove number s
       (All-cons (NamesNoneAbove number) x settings one.0 rest.0, rest.1)
 
 pub few_cables_serve : FewCablesServe
-few_cables_serve number (Rotor m) n s settings none few spares leads =
-    serve number (Rotor m) s none few settings (Rotor m) n (refl, none) spares leads
-few_cables_serve number (Pin m) n s settings none few spares leads =
-    serve number (Pin m) s none few settings (Pin m) n tt spares leads
+few_cables_serve number m n s settings none few spares leads =
+    serve number m s none few settings m n (grind arith) spares leads

@@ -101,8 +101,7 @@ pairs-counted : (cables : List Cable) (to : List ℕ) (pairs first : ℕ) → le
     → ((k : ℕ) → k < length to → comes_before cables k first ≡ true → get_or to k 0 < pairs)
     → count_by (λ cable. not (is_spare cable)) cables + count_by is_spare (take first cables)
     ≤ count_by (λ j. nat_lt j pairs) to
-pairs-counted [] to pairs zero size taken = omega arith
-pairs-counted [] to pairs (suc first) size taken = omega arith
+pairs-counted [] to pairs first size taken = grind (arith, common_steps)
 pairs-counted (cable ∷ cables) [] pairs first size taken = absurd (omega arith)
 pairs-counted (cable ∷ cables) (j ∷ to) pairs zero size taken =
     let rest = pairs-counted cables to pairs zero (omega arith)
@@ -149,11 +148,10 @@ all_moves : (P : Setting → Type 0) (direction : CableMove) (pairs : List (ℕ 
     (number : ℕ) → ((k n : ℕ) (cable : Cable) → n ≡ number + k → k < length to
     → All P (cable_moves direction n (cable, column_at pairs (get_or to k 0))))
     → All P (lines_from (cable_moves direction) number (cables_with_columns cables pairs to))
-all_moves P direction pairs [] to number h = All-nil P
-all_moves P direction pairs (cable ∷ cables) [] number h = All-nil P
 all_moves P direction pairs (cable ∷ cables) (j ∷ to) number h =
     All-append P _ _ (h zero number cable (omega arith) (omega arith))
     (all_moves P direction pairs cables to (number + 1) (λ k n x e lt. h (suc k) n x (omega arith) (omega arith)))
+all_moves P direction pairs _ _ number h = All-nil P
 
 -- If `P` holds of each setting that isn't priced, it holds of all settings in a list without priced ones.
 All-unpriced : (P : Setting → Type 0) → ((x : Setting) → is_priced_setting x ≡ false → P x) → (xs : List Setting)
