@@ -13,10 +13,8 @@ one_front : {X : Type 0} (Good : List X → Type 0) (front other after behind : 
     → ((rest : List X) → ¬ (Good (front ++ x ∷ rest))) → ((rest : List X) → ¬ (Good (other ++ y ∷ rest)))
     → (front ≡ other) × (x ≡ y)
 one_front Good [] [] after behind x y e good fine bad worse = (refl, cc)
-one_front Good [] (z ∷ other) after behind x y e good fine bad worse =
-    let same : z ≡ x = cc in absurd (bad other (subst (λ w. Good (w ∷ other)) same fine))
-one_front Good (z ∷ front) [] after behind x y e good fine bad worse =
-    let same : z ≡ y = cc in absurd (worse front (subst (λ w. Good (w ∷ front)) same good))
+one_front Good [] (z ∷ other) after behind x y e good fine bad worse = grind (arith, bad other)
+one_front Good (z ∷ front) [] after behind x y e good fine bad worse = grind (arith, worse front)
 one_front {X = X} Good (z ∷ front) (w ∷ other) after behind x y e good fine bad worse =
     let same : w ≡ z = cc in
     let tails = one_front (λ xs. Good (z ∷ xs)) front other after behind x y (cc) good

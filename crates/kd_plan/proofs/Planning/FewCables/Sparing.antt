@@ -127,10 +127,8 @@ few_spares : (cables : List Cable) (pairs : List (ℕ × ℕ)) (to : List ℕ) �
     → get_or to place 0 < length pairs → is_spare_at cables place ≡ true
     → count_by is_spare (take number cables) ≤ length pairs - count_by (λ cable. not (is_spare cable)) cables
 few_spares cables pairs to many size once last number place next lt taken spare =
-    let all = pairs-counted cables to (length pairs) number (omega arith) (λ k lt' e. elim (cases_eq k place) [
-      | inl same ↦ omega (arith, ap (λ i. get_or to i 0) same)
-      | inr other ↦ last place k lt spare taken (omega arith) (grind (arith, nat_tests))
-    ]) in
+    let all = pairs-counted cables to (length pairs) number (omega arith) (λ k lt' e.
+    grind (arith, nat_tests, cases_eq, last place k lt spare taken)) in
     omega (arith, all, few_pairs to (length pairs) once)
 
 -- ---- the settings
