@@ -1,5 +1,5 @@
 //! Converts cables and columns to `Ends` and `Column`, whose order is the order of a card's lines.
-ghost use Rattle.std.specs.Prelude.{◌≡◌, ◌+◌, ◌++◌, ◌≤◌, length, zip};
+ghost use Rattle.std.specs.Prelude.{◌≡◌, ◌≤◌, length, zip};
 ghost use Rattle.kd_card.specs.Proving.{columns_in_order};
 
 use arrayvec::ArrayVec;
