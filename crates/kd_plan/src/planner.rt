@@ -1,15 +1,17 @@
 //! Plans a card: settings for everything but cables and bars, and a minimum-cost assignment for cables or bars.
-ghost use Rattle.std.specs.Prelude.{◌≡◌, ◌≢◌, ◌≤◌, ◌*◌, ◌==◌, if◌then◌else◌, IfOk, IsErr, IfSome, MatchOption, ◌↔◌};
+ghost use Rattle.std.specs.Prelude.{◌≡◌, ◌≢◌, ◌≤◌, ◌*◌, ◌==◌, if◌then◌else◌, IfOk, IsErr, ◌↔◌};
 ghost use Rattle.std.specs.Prelude.{All, length, pos, replicate, unsigned_abs};
+ghost use Rattle.kd_card.specs.Prices.{ArePrices};
 ghost use Rattle.kd_plan.specs.{Planned.{IsPlannedCard, IsProvedPlannedCard}, Spares.SparesStayFree};
 ghost use Rattle.kd_state.specs.SheetDay.{OfRotors, OfPins, IsLegalDay, day_model};
 ghost use Rattle.kd_state.specs.{Entry.{rotor_values, pin_values}, Machine.{IsMachine, model_of}};
 
+use super::bar_lines::push_lugs;
+use super::cable_lines::{CableMove, push_moves};
 use super::other_model::OtherModel;
-use super::planned_lines::{planned_pin_lines, planned_rotor_lines};
 use super::spares::keep_spares_free;
 use kd_assign::{Solution, assign};
-use kd_card::{Card, Prices, Version};
+use kd_card::{Card, Prices, pin_settings, rotor_settings};
 use kd_state::{
     Machine, OneModel, Parts, PinEntry, PinParts, RotorEntry, RotorParts, SheetDay, bar_costs,
     cable_costs,
@@ -19,33 +21,21 @@ use kd_state::{
 ///
 /// If there are several shortest cards, the contract leaves open which one is planned, and with which prices. If no
 /// cable and no bar has to change, all prices are 0.
-#[tactic(auto, using(crate::proofs::Planning::planned_card_is_proved))]
 pub fn plan(machine: &Machine, day: &SheetDay) -> Result<Card, OtherModel>
     ensures refused { IsErr result ↔ (model_of machine.now ≢ day_model day.now) }
     ensures card { IfOk result (λ card.
         IsProvedPlannedCard machine.now day.now card.settings.items card.prices) }
 {
-    let card = planned_card(machine, day).ok_or(OtherModel)?;
-    prove!(matches!(&card.prices.version(), Version::ByNumber));
-    Ok(card)
-}
-
-/// Plans a card, or returns `None` if the machine and the day are of different models.
-fn planned_card(machine: &Machine, day: &SheetDay) -> Option<Card>
-    ensures planned { MatchOption result
-        (model_of machine.now ≢ day_model day.now)
-        (λ card. IsPlannedCard machine.now day.now card.settings.items card.prices) }
-    ensures spares { IfSome result (λ card. SparesStayFree machine.now day.now card.settings.items) }
-    ensures machine { IsMachine machine.now }
-    ensures legal { IsLegalDay day.now }
-{
-    match machine.of_one_model(day)? {
-        OneModel::Rotor(parts, entry) => Some(rotor_card(machine, parts, entry)),
-        OneModel::Pin(parts, entry) => Some(pin_card(parts, entry)),
+    match machine.of_one_model(day) {
+        None => Err(OtherModel),
+        Some(OneModel::Rotor(parts, entry)) => Ok(rotor_card(machine, parts, entry)),
+        Some(OneModel::Pin(parts, entry)) => Ok(pin_card(parts, entry)),
     }
 }
 
-/// Plans a card for a rotor machine. `parts` are the parts of `machine`.
+/// Plans a card for a rotor machine: settings for loose things, then all PULL settings, then all PUT settings.
+///
+/// `parts` are the parts of `machine`.
 #[tactic(auto, using(crate::proofs::Planning::is_planned_card, crate::proofs::Planning::four_at_most, crate::proofs::Planning::all_within))]
 fn rotor_card(machine: &Machine, parts: &RotorParts, entry: &RotorEntry) -> Card
     requires parts { machine.now ≡ Parts.Rotor parts.now }
@@ -56,6 +46,7 @@ fn rotor_card(machine: &Machine, parts: &RotorParts, entry: &RotorEntry) -> Card
         IsPlannedCard (Parts.Rotor parts.now) day result.settings.items result.prices }
     ensures spares { let day = OfRotors (rotor_values entry.now) in
         SparesStayFree (Parts.Rotor parts.now) day result.settings.items }
+    ensures prices { ArePrices result.prices }
 {
     let pairs = entry.pairs.as_slice();
     let costs = cable_costs(&parts.cables, pairs);
@@ -68,15 +59,18 @@ fn rotor_card(machine: &Machine, parts: &RotorParts, entry: &RotorEntry) -> Card
     } = assign(&costs);
     keep_spares_free(&parts.cables, pairs, &mut to);
     let prices = Prices::cables(prices_or_zeros(total, row), prices_or_zeros(total, col)).unwrap();
-    let settings = planned_rotor_lines(machine, parts, entry, &to);
+    let mut settings = rotor_settings(machine, parts, entry);
+    push_moves(&mut settings, CableMove::Out, 1, &parts.cables, pairs, &to);
+    push_moves(&mut settings, CableMove::In, 1, &parts.cables, pairs, &to);
     Card { settings, prices }
 }
 
-/// Plans a card for a Converter M-209.
+/// Plans a card for a Converter M-209: settings for loose things, and then all LUG settings.
 #[tactic(auto, using(crate::proofs::Planning::is_planned_card, crate::proofs::Planning::two_at_most, crate::proofs::Planning::all_within))]
 fn pin_card(parts: &PinParts, entry: &PinEntry) -> Card
-    ensures { let day = OfPins (pin_values entry.now) in
+    ensures planned { let day = OfPins (pin_values entry.now) in
         IsPlannedCard (Parts.Pin parts.now) day result.settings.items result.prices }
+    ensures prices { ArePrices result.prices }
 {
     let costs = bar_costs(&parts.bars, &entry.rows);
     let Solution {
@@ -87,7 +81,8 @@ fn pin_card(parts: &PinParts, entry: &PinEntry) -> Card
         ..
     } = assign(&costs);
     let prices = Prices::bars(prices_or_zeros(total, row), prices_or_zeros(total, col)).unwrap();
-    let settings = planned_pin_lines(parts, entry, &to);
+    let mut settings = pin_settings(parts, entry);
+    push_lugs(&mut settings, 1, &parts.bars, &entry.rows, &to);
     Card { settings, prices }
 }
 

@@ -20,7 +20,7 @@ pub(crate) fn keep_spares_free(cables: &[Cable; 13], pairs: &[(Letter, Letter)],
 {
     for spare in (0..13).rev() {
         if is_spare(&cables[spare]) && usize::from(to[spare]) < pairs.len() {
-            match find_left_out(spare, cables, pairs.len(), to) {
+            match find_cable_without_pair(spare, cables, pairs.len(), to) {
                 Some(place) => to.swap(spare, place),
                 None => return,
             }
@@ -32,7 +32,12 @@ pub(crate) fn keep_spares_free(cables: &[Cable; 13], pairs: &[(Letter, Letter)],
 ///
 /// A cable comes before `spare` if it is in use, or has a lower number. Cables are counted from 0. `pairs` is the
 /// number of pairs.
-fn find_left_out(spare: usize, cables: &[Cable; 13], pairs: usize, to: &[u8; 13]) -> Option<usize>
+fn find_cable_without_pair(
+    spare: usize,
+    cables: &[Cable; 13],
+    pairs: usize,
+    to: &[u8; 13],
+) -> Option<usize>
     ensures { MatchOption result
         ((place : ℕ) → place < 13 → IsTrue (comes_before cables.now place spare)
         → slice_index to.now place < pairs)

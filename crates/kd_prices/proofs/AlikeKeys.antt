@@ -20,9 +20,6 @@ in_each_order cables = map (λ cable. cable_in_order cable.0 cable.1) cables
 abbrev are_ends : Option ℕ × Option ℕ → Type 0
 are_ends ends = AreEnds ends.0 ends.1
 
-two_ordered : (a b : ℕ) → cable_in_order (Some a) (Some b) ≡ (Some a, Some b) → eqb a b ≡ false → a < b
-two_ordered a b e apart = grind (arith, nat_tests)
-
 cables_in_form : (cables : List (Option ℕ × Option ℕ)) → in_each_order cables ≡ cables
     → AllByRecursion (λ letter. letter < 26) (letters_in_cables cables)
     → IsDistinct eqb (letters_in_cables cables) → AllByRecursion are_ends cables
@@ -32,7 +29,7 @@ cables_in_form ((None, None) ∷ cables) e within apart = (tt, cables_in_form ca
 cables_in_form ((None, Some b) ∷ cables) e within apart = grind arith
 cables_in_form ((Some a, None) ∷ cables) e within apart = (within.0, cables_in_form cables (cc) within.1 apart.1)
 cables_in_form ((Some a, Some b) ∷ cables) e within apart =
-    grind (arith, two_ordered, cables_in_form cables (cc) within.1.1 apart.1.1)
+    grind (arith, nat_tests, cables_in_form cables (cc) within.1.1 apart.1.1)
 
 abbrev cables_of : Parts → List (Option ℕ × Option ℕ)
 cables_of (Rotor m) = m.cables

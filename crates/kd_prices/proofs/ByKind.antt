@@ -7,16 +7,17 @@ use Rattle.kd_prices.proofs.Prelude.{AreKindsOf, CanBeByKind, MatchOption, cable
 use Rattle.kd_prices.proofs.Prelude.{AreModelPrices, IsPermutation, column_prices, columns_in_order, thirteen_columns}
 use Rattle.kd_prices.proofs.Prelude.{ArePrices, CableKind, IsMachine, List, ReadAlike, day_model, expansion, version_of}
 use Rattle.kd_prices.proofs.Prelude.{ArePricesInRange, Bars, Contains-permutation, HaveOnePriceEach, length_permutation}
-use Rattle.kd_prices.proofs.Prelude.{BarKind, ByKind, Cables, Expands, IfSome, IsFine, IsGroup, None, RowKind, price_at}
+use Rattle.kd_prices.proofs.Prelude.{BarKind, ByKind, Cables, Expands, IfSome, IsGroup, None, RowKind, price_at}
 use Rattle.kd_prices.proofs.Prelude.{CableKinds, IsLegalDay, KindFormat, PriceParts, RotorParts, StandAlike, bar_format}
-use Rattle.kd_prices.proofs.Prelude.{IsSome, OfPins, Option, Parts, PinDay, Rotor, Some, arith, length, refl, subst}
+use Rattle.kd_prices.proofs.Prelude.{IsSome, IsValidKeyAndPrice, OfPins, Option, Parts, PinDay, Rotor, Some, arith, length, refl, subst}
 use Rattle.kd_prices.proofs.Prelude.{columns_of, get_or-zip, length-map, length-zip, row_format, row_prices, table_rows}
 
 -- what `kinds_of` ensures of the kinds of `keys` with `prices`
 abbrev pub AreGrouped : {K X : Type 0} → KindFormat K X → List X → List ℤ → List K → Type 0
 AreGrouped format keys prices kinds = record {
   expand : IsPermutation (zip keys prices) (expansion (map format.kind kinds));
-  in_order : HaveOnePriceEach (zip keys prices) → All (IsFine format) (zip keys prices) → AreKinds format None kinds;
+  in_order : HaveOnePriceEach (zip keys prices) → All (IsValidKeyAndPrice format) (zip keys prices)
+      → AreKinds format None kinds;
 }
 
 -- The kinds are those of the keys with these prices, and they are valid exactly if equal keys have equal prices.
@@ -34,7 +35,7 @@ are_kinds_for format keys d Alike told forms n many prices number reach kinds gr
     let pairs = zip keys prices in
     let all = expansion (map format.kind kinds) in
     let iff = one_price_is keys d Alike told prices n many number in
-    let fine : All (IsFine format) pairs =
+    let fine : All (IsValidKeyAndPrice format) pairs =
     λ i z inside. grind (arith, get_or-zip, length-zip keys prices, forms i z.0, reach i z.1) in
     let same = length_permutation pairs all grouped.expand in
     record {

@@ -1,8 +1,8 @@
 -- A card that proves itself has no doubt, and a card has at most one.
-use Rattle.kd_prices.proofs.{Found.{are_numbered, belong, one_expansion}, Leading.{Leads-not_refused, needed_at}}
+use Rattle.kd_prices.proofs.{Found.{are_numbered, belong, one_expansion}, Leading.{leads_on, needed_at}}
 use Rattle.kd_prices.proofs.Prelude.{AreSettingsNeeded, HasOneAnswer-Demands, HasOneAnswer-Finds, HasOneAnswer-ThenNext}
 use Rattle.kd_prices.proofs.Prelude.{Day, Err, List, Why, [], ap, arith, refl, subst, sym, ℕ, ◌++◌, ◌↔◌, ◌∙◌, ◌∷◌, ◌≡◌}
-use Rattle.kd_prices.proofs.Prelude.{Doubt, GoesOn, IfErr, IllegalAt, Leads, Parts, Proves, Result, Setting, false≢true}
+use Rattle.kd_prices.proofs.Prelude.{Doubt, GoesOn, IfErr, IllegalAt, Leads, Parts, Proves, Result, Setting}
 use Rattle.kd_prices.proofs.Prelude.{HasOneAnswer, IsCheckedAnswer, IsFirstNeedless, IsFirstWithout, IsNeededAnswer, Ok}
 use Rattle.kd_prices.proofs.Prelude.{IsOk, NeedlessLine, PriceParts, ThenNext-Ok, cases_order, cost_table, leads_to_one}
 use Rattle.{kd_prices.specs.Doubt.{IsCarriedAnswer, IsDoubt, IsFitsAnswer}, kd_state.specs.Setting.IsFirstIllegal}
@@ -13,10 +13,8 @@ one_front : {X : Type 0} (Good : List X → Type 0) (front other after behind : 
     → ((rest : List X) → ¬ (Good (front ++ x ∷ rest))) → ((rest : List X) → ¬ (Good (other ++ y ∷ rest)))
     → (front ≡ other) × (x ≡ y)
 one_front Good [] [] after behind x y e good fine bad worse = (refl, cc)
-one_front Good [] (z ∷ other) after behind x y e good fine bad worse =
-    let same : z ≡ x = cc in absurd (bad other (subst (λ w. Good (w ∷ other)) same fine))
-one_front Good (z ∷ front) [] after behind x y e good fine bad worse =
-    let same : z ≡ y = cc in absurd (worse front (subst (λ w. Good (w ∷ front)) same good))
+one_front Good [] (z ∷ other) after behind x y e good fine bad worse = grind (arith, bad other)
+one_front Good (z ∷ front) [] after behind x y e good fine bad worse = grind (arith, worse front)
 one_front {X = X} Good (z ∷ front) (w ∷ other) after behind x y e good fine bad worse =
     let same : w ≡ z = cc in
     let tails = one_front (λ xs. Good (z ∷ xs)) front other after behind x y (cc) good
@@ -34,8 +32,7 @@ IsFirstWithout-one Holds number row column i j h k = grind (arith, cases_order, 
 IsFirstIllegal-not_Leads : {m : Parts} {settings : List Setting} {line : ℕ} {why : Why}
     (h : IsFirstIllegal m settings line why) (n : Parts) (rest : List Setting)
     → ¬ (Leads m (h.front ++ h.setting ∷ rest) n)
-IsFirstIllegal-not_Leads {m} h n rest =
-    Leads-not_refused m h.between n h.front rest h.setting _ h.leads h.refused
+IsFirstIllegal-not_Leads {m} h n rest leads = grind (arith, leads_on, h.leads, h.refused)
 
 -- If a setting of a list isn't needed, this holds in each list that begins with the settings up to this one.
 IsFirstNeedless-not_needed : {m : Parts} {s : Day} {settings : List Setting} {line : ℕ}
@@ -100,13 +97,10 @@ module _ (m : Parts) (s : Day) (settings : List Setting) (prices : PriceParts) w
       GoesOn tt by.model (GoesOn tt (belong m s prices h.numbered h.expands by.kind) (GoesOn h.numbered h.expands
       (GoesOn by.leads.0 by.leads.1 (GoesOn tt by.leads.2 (GoesOn tt by.fits (GoesOn tt by.sum by.needed))))))
 
-  says_proving : IsCheckedAnswer m s settings prices (Ok tt) → Proves m s settings prices
-  says_proving says = grind (arith, ThenNext-Ok, are_numbered)
-
   -- The result of the check is `Ok` exactly if the card proves itself.
   pub told : (answer : Result (Unit {0}) Doubt) → IsCheckedAnswer m s settings prices answer
       → IsOk answer ↔ Proves m s settings prices
-  told (Ok x) says = (λ ok. says_proving says, λ proves. refl)
+  told (Ok x) says = (λ ok. grind (arith, ThenNext-Ok, are_numbered), λ proves. refl)
   told (Err doubt) says = (
     λ ok. absurd (cc),
     λ proves. absurd (let same = only_checked (Err doubt) (Ok tt) says (proving_says proves) in cc),

@@ -1,12 +1,12 @@
 -- If a result is right for the prices that were found for rows and columns, it is right for the check of the card.
 use Rattle.kd_prices.proofs.Prelude.{AreExpanded, AreKindsOf, Day, MatchOption, PriceMissing, cable_format, pair_format}
 use Rattle.kd_prices.proofs.Prelude.{AreModelPrices, ArePricesInRange, IsCheckedAnswer, column_prices, columns_in_order}
-use Rattle.kd_prices.proofs.Prelude.{ArePrices, BarKind, BarKinds, BelongTo, ByNumber, CableKind, day_model, version_of}
+use Rattle.kd_prices.proofs.Prelude.{ArePrices, BarKind, BarKinds, ByNumber, CableKind, day_model, version_of}
 use Rattle.kd_prices.proofs.Prelude.{Bars, List, None, Parts, Pin, Rotor, Same, Some, arith, refl, subst, sym, ◌∙◌, ◌≡◌}
 use Rattle.kd_prices.proofs.Prelude.{CableKinds, KindFormat, PriceParts, RotorParts, bar_format, row_format, row_prices}
 use Rattle.kd_prices.proofs.Prelude.{Cables, Doubt, GoesOn, OfPins, Option, PinDay, Result, RowKind, Setting, length, ℤ}
 use Rattle.kd_prices.proofs.Prelude.{Err, Expanded, Expands, HasFault, OfRotors, PairKind, PinParts, RotorDay, model_of}
-use Rattle.kd_prices.{proofs.{Prelude.{Ok, ap}, Runs.prices_alike}, specs.Doubt.{ArePricesFound, IsByNumberAnswer}}
+use Rattle.kd_prices.{proofs.{Prelude.{Ok, PricesSuitMachine, ap}, Runs.prices_alike}, specs.Doubt.{ArePricesFound, IsByNumberAnswer}}
 use Rattle.std.specs.Option.{ok_or, option_zip}
 
 -- ---- prices by kind
@@ -39,15 +39,12 @@ one_expansion m s prices numbered other (Expanded are good is) (Expanded also fi
 
 -- Prices, and the prices by number that they expand to, are for the same format of machine.
 pub belong : (m : Parts) (s : Day) (prices numbered : PriceParts) → Expands m s prices numbered
-    → AreModelPrices m numbered → BelongTo m prices
+    → AreModelPrices m numbered → PricesSuitMachine m prices
 belong m s prices numbered expands are = grind arith
 
 pub are_numbered : (m : Parts) (s : Day) (prices numbered : PriceParts) → Expands m s prices numbered
-    → BelongTo m prices → AreModelPrices m numbered
+    → PricesSuitMachine m prices → AreModelPrices m numbered
 are_numbered m s prices numbered expands belong = grind arith
-
-same_fault : {F X : Type 0} {f g : F} → ◌≡◌ {A = Result X F} (Err f) (Err g) → f ≡ g
-same_fault e = cc
 
 -- ---- from the prices that were found to the check
 
@@ -63,7 +60,7 @@ module _ (m : Parts) (s : Day) (settings : List Setting) (prices : PriceParts) (
   pub by_fault : ((numbered : PriceParts) → AreModelPrices m numbered
       → make (row_prices numbered) (column_prices numbered) ≡ numbered) → (doubt : Doubt)
       → ArePricesFound m s prices make (Err doubt) → IsCheckedAnswer m s settings prices (Err doubt)
-  by_fault made doubt (HasFault fault none e) = GoesOn tt model (HasFault fault none (ap Err (same_fault e)))
+  by_fault made doubt (HasFault fault none e) = GoesOn tt model (HasFault fault none (cc))
   by_fault made doubt (GoesOn x belong none) =
       GoesOn tt model (GoesOn x belong (HasFault PriceMissing (
         (λ numbered expands.
@@ -83,7 +80,7 @@ AreFound format keys kinds found =
 
 module _ {R X C Y : Type 0} (rows : KindFormat R X) (columns : KindFormat C Y) (xs : List X) (ys : List Y)
     (row : List R) (col : List C) (m : Parts) (s : Day) (prices : PriceParts) (make : List ℤ → List ℤ → PriceParts)
-    (belong : BelongTo m prices)
+    (belong : PricesSuitMachine m prices)
     (to : (found : List ℤ × List ℤ) → AreFound rows xs row (Some found.0) → AreFound columns ys col (Some found.1)
     → Expands m s prices (make found.0 found.1))
     (from : (found : List ℤ × List ℤ) → Expands m s prices (make found.0 found.1)
@@ -112,11 +109,3 @@ pub bar_kinds_found : (m : PinParts) (s : PinDay) (row : List BarKind) (col : Li
 bar_kinds_found m s row col are many also =
     kinds_found bar_format row_format m.bars s.rows row col (Pin m) (OfPins s) _ Bars tt
     (λ found one two. grind arith) (λ found expands. grind arith)
-
-pub cables_made : (m : RotorParts) (numbered : PriceParts) → AreModelPrices (Rotor m) numbered
-    → Cables (row_prices numbered) (column_prices numbered) ≡ numbered
-cables_made m numbered are = grind arith
-
-pub bars_made : (m : PinParts) (numbered : PriceParts) → AreModelPrices (Pin m) numbered
-    → Bars (row_prices numbered) (column_prices numbered) ≡ numbered
-bars_made m numbered are = grind arith

@@ -1,10 +1,10 @@
 -- Lists of settings that lead from one machine to another, split and joined.
 use Rattle.kd_card.{proofs.Months.Shortest.Falling.model_of-changed, specs.Proving.is_priced_setting}
 use Rattle.kd_prices.proofs.Prelude.{AreSettingsNeeded, IsSettingNeeded, proving_cards_are_shortest, take-append-drop}
-use Rattle.kd_prices.proofs.Prelude.{Day, Err, Ok, Why, [], ap, drop, sym, take, ℕ, ◌++◌, ◌+◌, ◌<◌, ◌∙◌, ◌∷◌, ◌≡◌}
-use Rattle.kd_prices.proofs.Prelude.{Doubt, Leads, List, Parts, Setting, Some, arith, get_or, length, subst, take_more}
+use Rattle.kd_prices.proofs.Prelude.{Day, Err, Ok, [], ap, drop, sym, take, ℕ, ◌++◌, ◌+◌, ◌<◌, ◌∙◌, ◌∷◌, ◌≡◌}
+use Rattle.kd_prices.proofs.Prelude.{Doubt, Leads, List, Parts, Setting, arith, get_or, length, subst, take_more}
 use Rattle.kd_prices.proofs.Prelude.{IsNeededAnswer, NeedlessLine, RestIsShortest, Result, length-append, machine_after}
-use Rattle.kd_prices.proofs.Prelude.{day_model, leads_join, leads_next, length-drop, length-take, model_of, why_refused}
+use Rattle.kd_prices.proofs.Prelude.{day_model, leads_join, leads_next, length-drop, length-take, model_of}
 use Rattle.kd_state.specs.{Costs.loose_count, Setting.Carries}
 use Rattle.std.proofs.{Math.Seq.drop-cons, lemmas.List.length-take-le}
 use Rattle.std.specs.{Prelude.IsFalse, Result.{MatchResult, result_and}}
@@ -23,11 +23,6 @@ needed_at m between s [] rest x leads needed = subst (λ machine. IsSettingNeede
 needed_at m between s (y ∷ front) rest x leads needed =
     grind (arith, needed_at (machine_after m y) between s front rest x)
 
--- In a list that leads to a machine, no setting is refused.
-pub Leads-not_refused : (m between n : Parts) (front rest : List Setting) (x : Setting) (why : Why)
-    → Leads m front between → why_refused between x ≡ Some why → Leads m (front ++ x ∷ rest) n → ⊥
-Leads-not_refused m between n front rest x why first refused leads = grind (arith, leads_on)
-
 -- If all settings of `front` are needed, and `x` is needed after them, then all settings of both are needed.
 needed_join : (m n : Parts) (s : Day) (front : List Setting) (x : Setting) → Leads m front n
     → AreSettingsNeeded m s front → IsSettingNeeded n s x → AreSettingsNeeded m s (front ++ x ∷ [])
@@ -37,26 +32,26 @@ needed_join m n s (y ∷ front) x leads needed here =
 
 -- The settings before `place` have been carried out. `needed` is `Ok` if all of them were needed, and otherwise has
 -- the first one that wasn't.
-pub record IsWalked (m n : Parts) (s : Day) (xs : List Setting) (place loose : ℕ)
+pub record IsCarriedUpTo (m n : Parts) (s : Day) (xs : List Setting) (place loose : ℕ)
     (needed : Result (Unit {0}) Doubt) : Type 0 where
   pub leads : Leads m (take place xs) n
   pub model : model_of n ≡ day_model s
   pub loose_is : loose ≡ loose_count n s
-  pub judged : MatchResult needed (λ _. AreSettingsNeeded m s (take place xs))
+  pub need_is : MatchResult needed (λ _. AreSettingsNeeded m s (take place xs))
       (λ doubt. IsNeededAnswer m s xs (Err doubt))
 
 module _ (m n : Parts) (s : Day) (xs : List Setting) (place : ℕ) (x : Setting) (inside : place < length xs)
     (is : get_or xs place x ≡ x) (leads : Leads m (take place xs) n) where
-  judged_on : (needed here : Result (Unit {0}) Doubt)
+  need_result-next : (needed here : Result (Unit {0}) Doubt)
       → MatchResult needed (λ _. AreSettingsNeeded m s (take place xs)) (λ doubt. IsNeededAnswer m s xs (Err doubt))
       → MatchResult here (λ _. IsSettingNeeded n s x)
       (λ doubt. (doubt ≡ NeedlessLine (place + 1)) × ¬ (IsSettingNeeded n s x))
       → MatchResult (result_and needed here) (λ _. AreSettingsNeeded m s (take (place + 1) xs))
       (λ doubt. IsNeededAnswer m s xs (Err doubt))
-  judged_on (Err doubt) here so_far tells = so_far
-  judged_on (Ok all) (Ok one) so_far tells =
+  need_result-next (Err doubt) here so_far tells = so_far
+  need_result-next (Ok all) (Ok one) so_far tells =
       grind (arith, take_more xs place x inside, inside, needed_join m n s (take place xs) x leads so_far tells)
-  judged_on (Ok all) (Err doubt) so_far tells =
+  need_result-next (Ok all) (Err doubt) so_far tells =
       grind (
         arith,
         take-append-drop place xs,
@@ -66,19 +61,19 @@ module _ (m n : Parts) (s : Day) (xs : List Setting) (place : ℕ) (x : Setting)
       )
 
 -- One more setting is carried out.
-pub walks_on : {m n o : Parts} {s : Day} {xs : List Setting} {place loose left : ℕ} {needed : Result (Unit {0}) Doubt}
-    (x : Setting)
-    (here : Result (Unit {0}) Doubt) → place < length xs → get_or xs place x ≡ x → IsWalked m n s xs place loose needed
+pub IsCarriedUpTo-next : {m n o : Parts} {s : Day} {xs : List Setting} {place loose left : ℕ}
+    {needed : Result (Unit {0}) Doubt} (x : Setting) (here : Result (Unit {0}) Doubt)
+    → place < length xs → get_or xs place x ≡ x → IsCarriedUpTo m n s xs place loose needed
     → Carries n x o → left ≡ loose_count o s
     → MatchResult here (λ _. IsFalse (is_priced_setting x) → loose ≡ left + 1)
     (λ doubt. (doubt ≡ NeedlessLine (place + 1)) × ¬ (IsFalse (is_priced_setting x) → loose ≡ left + 1))
-    → IsWalked m o s xs (place + 1) left (result_and needed here)
-walks_on {m} {n} {o} {s} {xs} {place} {needed} x here inside is walked carries left tells = record {
-  leads = leads_next m n o xs place x inside is walked.leads carries;
-  model = ap model_of carries.made ∙ model_of-changed n x ∙ walked.model;
+    → IsCarriedUpTo m o s xs (place + 1) left (result_and needed here)
+IsCarriedUpTo-next {m} {n} {o} {s} {xs} {place} {needed} x here inside is carried carries left tells = record {
+  leads = leads_next m n o xs place x inside is carried.leads carries;
+  model = ap model_of carries.made ∙ model_of-changed n x ∙ carried.model;
   loose_is = left;
-  judged = judged_on m n s xs place x inside is walked.leads needed here walked.judged
-      (rw (← carries.made, ← walked.loose_is, ← left) tells);
+  need_is = need_result-next m n s xs place x inside is carried.leads needed here carried.need_is
+      (rw (← carries.made, ← carried.loose_is, ← left) tells);
 }
 
 -- After its first lines, the rest of a card that proves itself is a shortest list.

@@ -11,8 +11,8 @@ pub use Rattle.kd_card.specs.declared.{kinds.KindOf.KindOf, prices.Version.TheVa
 pub use Rattle.kd_card.specs.declared.prices.PriceParts.{PriceParts, TheVariants.{BarKinds, Bars, CableKinds, Cables}}
 pub use Rattle.kd_enigma.specs.Plugs.{NoLetterTwice, letters_in_pairs}
 pub use Rattle.kd_prices.specs.{Alike.{ReadAlike, StandAlike}, Fitting.{FitsAtColumn, ListsFitAt}}
-pub use Rattle.kd_prices.specs.Doubt.{BelongTo, IsCheckedAnswer, IsFirstNeedless, IsFirstWithout, IsNeededAnswer}
-pub use Rattle.kd_prices.specs.Grouping.{AppendsKinds, CanBeKinds, HaveOnePriceEach, IsFine, kind_of_one}
+pub use Rattle.kd_prices.specs.Doubt.{IsCheckedAnswer, IsFirstNeedless, IsFirstWithout, IsNeededAnswer, PricesSuitMachine}
+pub use Rattle.kd_prices.specs.Grouping.{AppendsKinds, CanBeKinds, HaveOnePriceEach, IsValidKeyAndPrice, kind_of_one}
 pub use Rattle.kd_prices.specs.{KindCards.CanBeByKind, Laws.{AlikePricesAreEqual, AreEqualWhereAlike, RestIsShortest}}
 pub use Rattle.kd_prices.specs.declared.doubt.Doubt.{Doubt, TheVariants.{IllegalAt, OtherModel, SumDiffers}}
 pub use Rattle.kd_prices.specs.declared.doubt.Doubt.TheVariants.{NeedlessLine, NotTheSheet, PriceMissing, PriceTooHigh}

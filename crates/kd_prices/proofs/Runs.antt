@@ -5,8 +5,8 @@ use Rattle.kd_prices.proofs.Prelude.{All-append, All-weaker, AreKindsOf, CanBeKi
 use Rattle.kd_prices.proofs.Prelude.{All-contains_itself, Contains-permutation, HaveOnePriceEach, IsPermutation-sym, []}
 use Rattle.kd_prices.proofs.Prelude.{All-head, All-nil, All-tail, AreKinds, Contains, Greater, Ordering, map, replicate}
 use Rattle.kd_prices.proofs.Prelude.{AppendsKinds, IsTotalOrder, append_assoc, common_steps, kind_of_one, tied_itself}
-use Rattle.kd_prices.proofs.Prelude.{Equal, IsFine, IsKind, KindOf, Less, List, None, Option, arith, false, length, suc}
-use Rattle.kd_prices.proofs.Prelude.{Some, ap, refl, zip, ℤ, ◌++◌, ◌+◌, ◌↔◌, ◌∙◌, ◌∷◌, ◌≡◌, ◌≢◌, ◌≤◌, ◌⊎◌}
+use Rattle.kd_prices.proofs.Prelude.{Equal, IsKind, IsValidKeyAndPrice, KindOf, Less, List, None, Option, arith, false, length}
+use Rattle.kd_prices.proofs.Prelude.{Some, ap, refl, suc, zip, ℤ, ◌++◌, ◌+◌, ◌↔◌, ◌∙◌, ◌∷◌, ◌≡◌, ◌≢◌, ◌≤◌, ◌⊎◌}
 use Rattle.std.proofs.lemmas.List.{get_or-replicate, replicate_more, Elements.Contains-append_cases}
 use Rattle.std.specs.{List.{refill, Sorted.IsSorted}, Ordering.{int_cmp, is_lt, ordering_reverse, ordering_then}}
 
@@ -31,13 +31,13 @@ module _ {K X : Type 0} (format : KindFormat K X) (cmp : X → X → Ordering) w
     sorted = λ k d low inside. rw add-one (rw add-one at (can.sorted (suc k) d (omega arith) (omega (arith, inside))));
     one_price = λ key price other a b.
         can.one_price key price other (suc a.0, omega (arith, a.1), a.2) (suc b.0, omega (arith, b.1), b.2);
-    fine = All-tail (IsFine format) pair pairs can.fine;
+    fine = All-tail (IsValidKeyAndPrice format) pair pairs can.fine;
   }
 
   pub all_kinds : (pairs sorted rest : List (X × ℤ)) (pair : X × ℤ) (kinds : List K) → IsPermutation pairs sorted
       → IsSorted (λ one other. ordering_then (cmp one.0 other.0) (int_cmp one.1 other.1)) sorted
       → sorted ≡ pair ∷ rest → AppendsKinds format cmp (kind_of_one pair) rest [] kinds
-      → HaveOnePriceEach pairs → All (IsFine format) pairs → AreKinds format None kinds
+      → HaveOnePriceEach pairs → All (IsValidKeyAndPrice format) pairs → AreKinds format None kinds
   all_kinds pairs sorted rest pair kinds moved rise split appends one fine =
       let back = Contains-permutation sorted pairs in
       let moved_back = IsPermutation-sym pairs sorted moved in
@@ -45,7 +45,7 @@ module _ {K X : Type 0} (format : KindFormat K X) (cmp : X → X → Ordering) w
         sorted = rise;
         one_price = λ key price other a b.
             one key price other (back (key, price) moved_back a) (back (key, other) moved_back b);
-        fine = All-permutation (IsFine format) pairs sorted moved fine;
+        fine = All-permutation (IsValidKeyAndPrice format) pairs sorted moved fine;
       } in
       rw appends.is (appends.in_order None (rw split at can) (λ first same. tt))
 
@@ -53,7 +53,7 @@ module _ {K X : Type 0} (format : KindFormat K X) (cmp : X → X → Ordering) w
     valid : (made : K) (pairs : List (X × ℤ)) → format.kind made ≡ kind
         → CanBeKinds format cmp ((kind.key, kind.price) ∷ pairs) → IsKind format made
     valid made pairs is can =
-        let fine = All-head (IsFine format) (kind.key, kind.price) pairs can.fine in
+        let fine = All-head (IsValidKeyAndPrice format) (kind.key, kind.price) pairs can.fine in
         record { form = rw is fine.0; some = rw is some; most = rw is few; reach = rw is fine.1 }
 
     pub appends_one : (made : K) → format.kind made ≡ kind → new ≡ old ++ made ∷ []

@@ -1,17 +1,19 @@
 -- Keys are taken out of kinds, one by one. If all can be taken, the kinds' prices are the prices of the keys.
-use Rattle.{kd_card.specs.Kinds.counted, kd_prices.specs.Grouping.{HasNoneLeft, HaveKeys, TakesAll, TakesOne}}
+use Rattle.{kd_card.specs.Kinds.counted, kd_prices.specs.Grouping.{HasNoneLeft, TakesOne}}
 use Rattle.kd_prices.proofs.Prelude.{All, [], ap, map, set, suc, sym, zip, ℕ, ℤ, ◌-◌, ◌<◌, ◌↔◌, ◌∙◌, ◌∷◌, ◌≡◌, ◌≤◌}
 use Rattle.kd_prices.proofs.Prelude.{All-append, AreKindsOf, Bool, MatchOption, common_steps, tied_itself, unsigned_abs}
 use Rattle.kd_prices.proofs.Prelude.{All-nil, ArePricesInRange, IsPermutation-sym, length-replicate, length_permutation}
 use Rattle.kd_prices.proofs.Prelude.{All-permutation, All-replicate, IsPermutation, IsTotalOrder, KindOf, length-append}
 use Rattle.kd_prices.proofs.Prelude.{AreKinds, KindFormat, List, Ordering, append-nil, expansion, length-zip, replicate}
-use Rattle.kd_prices.proofs.Prelude.{Equal, IsGroup, None, Option, Some, arith, false, length, refl, subst, true, ◌++◌}
+use Rattle.kd_prices.proofs.Prelude.{Equal, IsGroup, None, Option, Some, arith, length, refl, subst, true, ◌++◌}
 use Rattle.std.proofs.lemmas.List.{Folds.{fold-map, sum_by-replicate}, Sums.{sum_by-append, sum_by-cons}}
 use Rattle.std.proofs.lemmas.List.Sorted.{IsPermutation-append_right, IsPermutation-middle, sum_by-IsPermutation}
-use Rattle.std.proofs.lemmas.List.Sorted.{IsPermutation-cons, IsPermutation-refl, IsPermutation-trans}
+use Rattle.std.proofs.lemmas.List.Sorted.{IsPermutation-refl, IsPermutation-trans}
 use Rattle.std.proofs.lemmas.{List.{nil_from_length, Elements.All-map}, Slice.Zip.{firsts-zip, seconds-zip}}
-use Rattle.std.specs.{Bool.then_some, Cmp.Equal-is, List.sum_by, Ordering.is_eq, Prelude.if◌then◌else◌}
-use borrow.Rule.Slice.PartMut.{put_mid}
+use Rattle.std.specs.{Cmp.Equal-is, List.sum_by, Ordering.is_eq, Prelude.if◌then◌else◌}
+use Rattle.kd_prices.proofs.Prelude.{append_assoc, get_or, get_or-zip, take, ◌+◌}
+use Rattle.kd_prices.proofs.Prelude.{drop, pos, take-append-drop}
+use Rattle.std.proofs.{Math.Seq.drop-cons, lemmas.List.{take_all, take_more_set}}
 
 -- ---- equal keys
 
@@ -53,33 +55,60 @@ module _ {X : Type 0} (key : X) (kind : KindOf X) (kinds : List (KindOf X)) wher
       IsPermutation-trans (run ++ expansion kinds) _ _ (IsPermutation-append_right run _ _ takes)
       (IsPermutation-middle run (key, price) (expansion left))
 
--- ---- all keys
+-- ---- the keys in turn
 
-pub put_rest : (xs ys : List ℤ) (x : ℤ) → 0 < length xs → put_mid 1 (length (set xs 0 x) - 1) (set xs 0 x) ys ≡ x ∷ ys
-put_rest [] ys x some = absurd (omega arith)
-put_rest (y ∷ xs) ys x some = grind (arith, common_steps)
+sum_by-zip : {X : Type 0} (f : X → ℕ) (keys : List X) (prices : List ℤ) → length prices ≡ length keys
+    → sum_by (λ (z : X × ℤ). f z.0) (zip keys prices) ≡ sum_by f keys
+sum_by-zip {X} f keys prices same =
+    sym (fold-map _ (λ (z : X × ℤ). z.0) 0 (zip keys prices)) ∙ ap (sum_by f) (firsts-zip keys prices same)
 
-module _ {X : Type 0} (eq : X → X → Bool) (kinds : List (KindOf X)) (key : X) (keys : List X) where
-  pub takes_none : eq key key ≡ true → HasNoneLeft eq kinds key → ¬ (HaveKeys eq kinds (key ∷ keys))
-  takes_none same none have =
-      omega (arith, have key, none, ap once same, sum_by-cons (λ other. once (eq other key)) key keys)
+zip_set : {X : Type 0} (keys : List X) (prices : List ℤ) (place : ℕ) (key : X) (price : ℤ) → place < length keys
+    → get_or keys place key ≡ key → zip keys (set prices place price) ≡ set (zip keys prices) place (key, price)
+zip_set (x ∷ keys) (p ∷ prices) (suc place) key price inside is =
+    grind (arith, common_steps, zip_set keys prices place key price)
+zip_set keys prices place key price inside is = grind (arith, common_steps)
 
-  pub takes_more : (price : ℤ) (prices : List ℤ) (new left : List (KindOf X)) (done : Bool)
-      → TakesOne kinds key price new → TakesAll eq new keys prices left done
-      → TakesAll eq kinds (key ∷ keys) (price ∷ prices) left done
-  takes_more price prices new left true one all =
-      IsPermutation-trans (expansion kinds) _ _ one (IsPermutation-cons (key, price) (expansion new) _ all)
-  takes_more price prices new left false one none = λ have. none (λ other.
-      let moved = sum_by-IsPermutation (λ (z : X × ℤ). once (eq z.0 other)) (expansion kinds) _ one in
-      let first = sum_by-cons (λ (z : X × ℤ). once (eq z.0 other)) (key, price) (expansion new) in
-      omega (arith, have other, sum_by-cons (λ x. once (eq x other)) key keys))
+-- The keys before `place` are taken out of `kinds`, with their prices; `left` are the kinds that remain.
+abbrev pub AreTaken : {X : Type 0} → List (KindOf X) → List X → List ℤ → ℕ → List (KindOf X) → Type 0
+AreTaken kinds keys prices place left = IsPermutation (expansion kinds) (take place (zip keys prices) ++ expansion left)
+
+module _ {K X : Type 0} (format : KindFormat K X) (kinds : List K) (left : List (KindOf X)) (keys : List X)
+    (prices : List ℤ) (place : ℕ) (key : X)
+    (inside : place < length keys) (is : get_or keys place key ≡ key) (many : length prices ≡ length keys)
+    (taken : AreTaken (map format.kind kinds) keys prices place left) where
+  pub one_more_taken : (price : ℤ) (new : List (KindOf X)) → TakesOne left key price new
+      → AreTaken (map format.kind kinds) keys (set prices place price) (place + 1) new
+  one_more_taken price new one =
+      let pairs = zip keys prices in
+      let within : place < length pairs = omega (arith, length-zip keys prices) in
+      rw (zip_set keys prices place key price inside is, take_more_set pairs place (key, price) within, append_assoc)
+      (IsPermutation-trans (expansion (map format.kind kinds)) _ _ taken
+      (IsPermutation-append_right (take place pairs) _ _ one))
+
+  -- If no kind with the key at `place` is left, the kinds aren't those of the keys.
+  pub not_kinds_of : (eq : X → X → Bool) → eq key key ≡ true → HasNoneLeft eq left key → (others : List ℤ)
+      → ¬ (AreKindsOf format keys others kinds)
+  not_kinds_of eq equal none others are =
+      let f : X × ℤ → ℕ = λ z. once (eq z.0 key) in
+      let pairs = zip keys prices in
+      let d : X × ℤ = (key, pos 0) in
+      let within : place < length pairs = omega (arith, length-zip keys prices) in
+      let here : f (get_or pairs place d) ≡ 1 =
+      ap f (get_or-zip keys prices place d inside (omega arith)) ∙ ap (λ x. once (eq x key)) is ∙ ap once equal in
+      let split = ap (sum_by f) (sym (take-append-drop place pairs))
+      ∙ sum_by-append f (take place pairs) (drop place pairs) in
+      let next = ap (sum_by f) (drop-cons pairs place d within)
+      ∙ sum_by-cons f (get_or pairs place d) (drop (suc place) pairs) in
+      let all = expansion (map format.kind kinds) in
+      let before = sym (sum_by-IsPermutation f all _ taken)
+      ∙ sum_by-append f (take place pairs) (expansion left) in
+      let count = λ (prices : List ℤ) (many : length prices ≡ length keys).
+      sum_by-zip (λ x. once (eq x key)) keys prices many in
+      let whole = sum_by-IsPermutation f (zip keys others) all are.expand
+      ∙ count others are.number ∙ sym (count prices many) in
+      omega (arith, none, here, split, next, before, whole)
 
 -- ---- the prices of kinds
-
-counted_beside : {X : Type 0} (f : X → ℕ) (keys : List X) (prices : List ℤ) → length prices ≡ length keys
-    → sum_by (λ (z : X × ℤ). f z.0) (zip keys prices) ≡ sum_by f keys
-counted_beside {X} f keys prices same =
-    sym (fold-map _ (λ (z : X × ℤ). z.0) 0 (zip keys prices)) ∙ ap (sum_by f) (firsts-zip keys prices same)
 
 abbrev IsNear : {X : Type 0} → X × ℤ → Type 0
 IsNear z = unsigned_abs z.1 ≤ 9999
@@ -95,14 +124,15 @@ module _ {K X : Type 0} (format : KindFormat K X) where
   all_near last (kind ∷ kinds) are =
       grind (arith, common_steps, All-append, All-replicate, are.0.reach, all_near (Some kind) kinds are.2)
 
-  pub prices_taken : (eq : X → X → Bool) (kinds : List K) (keys : List X) (prices : List ℤ) (left : List (KindOf X))
-      → IsGroup format (length keys) kinds → length prices ≡ length keys
-      → (done : Bool) → TakesAll eq (map format.kind kinds) keys prices left done
-      → MatchOption (then_some done prices) ((prices : List ℤ) → ¬ (AreKindsOf format keys prices kinds))
-      (λ prices. AreKindsOf format keys prices kinds × ArePricesInRange prices)
-  prices_taken eq kinds keys prices left group number true moved =
+  pub all_taken : (kinds : List K) (keys : List X) (prices : List ℤ) (place : ℕ) (left : List (KindOf X))
+      → IsGroup format (length keys) kinds → length prices ≡ length keys → length keys ≤ place
+      → AreTaken (map format.kind kinds) keys prices place left
+      → AreKindsOf format keys prices kinds × ArePricesInRange prices
+  all_taken kinds keys prices place left group number most taken =
       let pairs = zip keys prices in
       let all = expansion (map format.kind kinds) in
+      let whole = take_all place pairs (omega (arith, length-zip keys prices)) in
+      let moved = rw whole at taken in
       let lengths = length_permutation all (pairs ++ expansion left) moved in
       let same = length-append pairs (expansion left) in
       let none = nil_from_length (expansion left) (omega (arith, size kinds, length-zip keys prices, group.count)) in
@@ -111,6 +141,3 @@ module _ {K X : Type 0} (format : KindFormat K X) where
         subst ArePricesInRange (seconds-zip keys prices number) (All-map (λ price. unsigned_abs price ≤ 9999) (λ z. z.1)
             pairs (All-permutation (λ (z : X × ℤ). IsNear z) all pairs kept (all_near None kinds group.in_order))),
       )
-  prices_taken eq kinds keys prices left group number false none = λ others are. none (λ key.
-      let beside = counted_beside (λ x. once (eq x key)) keys others are.number in
-      omega (arith, beside, sum_by-IsPermutation (λ (z : X × ℤ). once (eq z.0 key)) (zip keys others) _ are.expand))

@@ -12,16 +12,16 @@ use Rattle.kd_prices.specs.declared.doubt.Doubt.{Doubt, TheVariants.{IllegalAt, 
 
 -- The prices suit the machine: they are prices of cables and columns for a rotor machine, or of bars and rows for a
 -- Converter M-209.
-abbrev pub BelongTo : Parts → PriceParts → Type 0
-BelongTo (Rotor m) (Cables row col) = Unit {0}
-BelongTo (Rotor m) (CableKinds row col) = Unit {0}
-BelongTo (Pin m) (Bars row col) = Unit {0}
-BelongTo (Pin m) (BarKinds row col) = Unit {0}
-BelongTo _ _ = ⊥
+abbrev pub PricesSuitMachine : Parts → PriceParts → Type 0
+PricesSuitMachine (Rotor m) (Cables row col) = Unit {0}
+PricesSuitMachine (Rotor m) (CableKinds row col) = Unit {0}
+PricesSuitMachine (Pin m) (Bars row col) = Unit {0}
+PricesSuitMachine (Pin m) (BarKinds row col) = Unit {0}
+PricesSuitMachine _ _ = ⊥
 
 -- Row by row, the cell in row `i` and column `j` comes before the cell in row `row` and column `column`.
-abbrev pub ComesBefore : ℕ → ℕ → ℕ → ℕ → Type 0
-ComesBefore i j row column = (i < row) ⊎ ((i ≡ row) × (j < column))
+abbrev pub CellComesBefore : ℕ → ℕ → ℕ → ℕ → Type 0
+CellComesBefore i j row column = (i < row) ⊎ ((i ≡ row) × (j < column))
 
 -- The cells of a table are ordered row by row. The first cell where `Holds` is false is in row `row` and column
 -- `column`, counted from 0. The table has `number` rows and `number` columns.
@@ -29,7 +29,7 @@ pub record IsFirstWithout (Holds : ℕ → ℕ → Type 0) (number row column : 
   pub row_within : row < number
   pub column_within : column < number
   pub here : ¬ (Holds row column)
-  pub before : (i j : ℕ) → j < number → ComesBefore i j row column → Holds i j
+  pub before : (i j : ℕ) → j < number → CellComesBefore i j row column → Holds i j
 
 -- The setting on line `line`, counted from 1, is the first of `settings` that isn't needed.
 pub record IsFirstNeedless (m : Parts) (s : Day) (settings : List Setting) (line : ℕ) : Type 0 where
@@ -78,7 +78,7 @@ IsByNumberAnswer m s settings prices = do
 abbrev pub IsCheckedAnswer : Parts → Day → List Setting → PriceParts → AnswerRule Doubt (Unit {0})
 IsCheckedAnswer m s settings prices = do
   _ ← Demands (model_of m ≡ day_model s) OtherModel
-  _ ← Demands (BelongTo m prices) OtherModel
+  _ ← Demands (PricesSuitMachine m prices) OtherModel
   numbered ← Finds (λ numbered. Expands m s prices numbered) PriceMissing
   IsByNumberAnswer m s settings numbered
 
@@ -101,5 +101,5 @@ IsByPricesAnswer m s settings number rows columns answer =
 abbrev pub ArePricesFound : Parts → Day → PriceParts → (List ℤ → List ℤ → PriceParts)
     → AnswerRule Doubt (List ℤ × List ℤ)
 ArePricesFound m s prices make = do
-  _ ← Demands (BelongTo m prices) OtherModel
+  _ ← Demands (PricesSuitMachine m prices) OtherModel
   Finds (λ (found : List ℤ × List ℤ). Expands m s prices (make found.0 found.1)) PriceMissing

@@ -1,7 +1,7 @@
 -- Grouping keys with prices into kinds, and finding the price of a key in the kinds. A key is the letters of a cable,
 -- the pair of a column, a standing or a reading. No contract of a public function cites these definitions.
-use Rattle.std.specs.Prelude.{Bool, IsPermutation, List, Option, count_by, false, replicate, true, unsigned_abs, ◌++◌}
-use Rattle.std.specs.{List.{Contains, zip, Sorted.IsSorted}, Prelude.{All, map, ℤ, ◌∷◌, ◌≡◌, ◌≤◌}}
+use Rattle.std.specs.Prelude.{Bool, IsPermutation, List, Option, count_by, replicate, unsigned_abs, ◌++◌}
+use Rattle.std.specs.{List.{Contains, Sorted.IsSorted}, Prelude.{All, map, ℤ, ◌∷◌, ◌≡◌, ◌≤◌}}
 use Rattle.std.specs.{Ordering.{int_cmp, ordering_then}, declared.cmp.Ordering.Ordering}
 use Rattle.kd_card.specs.{Kinds.{AreKinds, ComesAfter, KindFormat, expansion}, declared.kinds.KindOf.KindOf}
 
@@ -11,8 +11,8 @@ HaveOnePriceEach {X} pairs =
     (key : X) (price other : ℤ) → Contains pairs (key, price) → Contains pairs (key, other) → price ≡ other
 
 -- The key (letters, a standing or a reading) has the form that a card writes, and its price is from -9999 to 9999.
-abbrev pub IsFine : {K X : Type 0} → KindFormat K X → X × ℤ → Type 0
-IsFine format pair = format.InForm pair.0 × (unsigned_abs pair.1 ≤ 9999)
+abbrev pub IsValidKeyAndPrice : {K X : Type 0} → KindFormat K X → X × ℤ → Type 0
+IsValidKeyAndPrice format pair = format.InForm pair.0 × (unsigned_abs pair.1 ≤ 9999)
 
 -- a kind with this key and this price, and with the count 1
 abbrev pub kind_of_one : {X : Type 0} → X × ℤ → KindOf X
@@ -24,7 +24,7 @@ pub record CanBeKinds {K X : Type 0} (format : KindFormat K X) (cmp : X → X �
     : Type 0 where
   pub sorted : IsSorted (λ one other. ordering_then (cmp one.0 other.0) (int_cmp one.1 other.1)) pairs
   pub one_price : HaveOnePriceEach pairs
-  pub fine : All (IsFine format) pairs
+  pub fine : All (IsValidKeyAndPrice format) pairs
 
 -- `new` is `old`, and then added kinds. They count the key of `kind`, as often as `kind` does, and the keys in `pairs`,
 -- all with their prices. Suppose that these keys can be grouped into valid kinds. Then the added kinds are valid and
@@ -48,16 +48,3 @@ HasNoneLeft eq kinds key = count_by (λ other. eq other.0 key) (expansion kinds)
 -- this price.
 abbrev pub TakesOne : {X : Type 0} → List (KindOf X) → X → ℤ → List (KindOf X) → Type 0
 TakesOne kinds key price left = IsPermutation (expansion kinds) ((key, price) ∷ expansion left)
-
--- The kinds count each key (letters, standing or reading) at least as often as the key is in the list.
-abbrev pub HaveKeys : {X : Type 0} → (X → X → Bool) → List (KindOf X) → List X → Type 0
-HaveKeys {X} eq kinds keys =
-    (key : X)
-    → count_by (λ other. eq other key) keys ≤ count_by (λ other. eq other.0 key) (expansion kinds)
-
--- If the Bool is true, the items of `keys`, with their prices in `prices`, were taken out of `kinds`, and `left` are
--- the kinds that remain. The Bool is false if some key is in `keys` more often than in `kinds`.
-abbrev pub TakesAll : {X : Type 0} → (X → X → Bool) → List (KindOf X) → List X → List ℤ → List (KindOf X) → Bool
-    → Type 0
-TakesAll eq kinds keys prices left true = IsPermutation (expansion kinds) (zip keys prices ++ expansion left)
-TakesAll eq kinds keys prices left false = ¬ (HaveKeys eq kinds keys)

@@ -7,11 +7,11 @@ ghost use Rattle.kd_card.specs.{Proving.Proves, declared.prices.PriceParts.TheVa
 ghost use Rattle.kd_card.specs.Prices.{ArePrices, ArePricesInRange};
 ghost use Rattle.kd_prices.specs.Doubt.{IsDoubt, IsCheckedAnswer, IsByPricesAnswer, ArePricesFound};
 
+use super::carried::{carry_settings, is_priced_setting};
 use super::doubt::Doubt;
-use super::expanding::prices_of;
 use super::fitting::first_too_high;
 use super::kind_keys::{columns_of, ends_of};
-use super::walking::{carry_settings, is_priced_setting};
+use super::kind_prices::prices_of;
 use kd_card::{Card, PriceParts, sum_of_prices};
 use kd_state::{
     Machine, OneModel, PinEntry, PinParts, RotorEntry, RotorParts, Setting, SheetDay, bar_costs,
@@ -41,12 +41,12 @@ fn first_doubt(machine: &Machine, day: &SheetDay, card: &Card) -> Result<(), Dou
         Some(OneModel::Rotor(parts, entry)) => {
             let (rows, columns) = cable_prices(parts, entry, card.prices.parts())?;
             let costs = cable_costs(&parts.cables, entry.pairs.as_slice());
-            doubt_by_prices(machine, day, settings, &costs, &rows, &columns)
+            check_by_prices(machine, day, settings, &costs, &rows, &columns)
         }
         Some(OneModel::Pin(parts, entry)) => {
             let (rows, columns) = bar_prices(parts, entry, card.prices.parts())?;
             let costs = bar_costs(&parts.bars, &entry.rows);
-            doubt_by_prices(machine, day, settings, &costs, &rows, &columns)
+            check_by_prices(machine, day, settings, &costs, &rows, &columns)
         }
     }
 }
@@ -95,7 +95,7 @@ fn bar_prices(
 }
 
 /// Finds the first doubt about a card's `settings`, given a price for each row and column of the table of costs.
-fn doubt_by_prices<const N: usize>(
+fn check_by_prices<const N: usize>(
     machine: &Machine,
     day: &SheetDay,
     settings: &[Setting],
@@ -122,5 +122,5 @@ fn doubt_by_prices<const N: usize>(
     if sum_of_prices(rows, columns) != priced as i32 {
         return Err(Doubt::SumDiffers);
     }
-    carried.needed
+    carried.need_result
 }

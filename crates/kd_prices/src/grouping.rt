@@ -1,7 +1,7 @@
 //! Groups keys with prices into kinds: equal keys with equal prices become one kind, which has their count.
 ghost use Rattle.std.specs.Prelude.{◌≡◌, ◌↔◌, ◌+◌, ◌<◌, ◌≤◌, length, map, IsPermutation, All, IsTrue, true, None};
 ghost use Rattle.kd_card.specs.Kinds.{AreKinds, expansion};
-ghost use Rattle.kd_prices.specs.Grouping.{HaveOnePriceEach, IsFine, AppendsKinds, kind_of_one};
+ghost use Rattle.kd_prices.specs.Grouping.{HaveOnePriceEach, IsValidKeyAndPrice, AppendsKinds, kind_of_one};
 
 use arrayvec::ArrayVec;
 use kd_card::{Kind, KindKey, KindOf};
@@ -13,7 +13,7 @@ use kd_card::{Kind, KindKey, KindOf};
 pub(crate) fn kinds_of<K: Kind, const N: usize>(pairs: ArrayVec<(K::Key, i16), N>) -> ArrayVec<K, N>
     requires small { N ≤ 255 }
     ensures expand { IsPermutation pairs.items (expansion (map K.format.kind result.items)) }
-    ensures in_order { HaveOnePriceEach pairs.items → All (IsFine K.format) pairs.items
+    ensures in_order { HaveOnePriceEach pairs.items → All (IsValidKeyAndPrice K.format) pairs.items
         → AreKinds K.format None result.items }
 {
     let mut pairs = pairs;
@@ -52,14 +52,13 @@ fn push_kinds<K: Kind, const N: usize>(
 {
     match pairs {
         [] => kinds.push(K::of(kind)),
+        [pair, rest @ ..] if is_of_kind(pair, &kind) => {
+            let count = kind.count + 1;
+            push_kinds(KindOf { count, ..kind }, rest, kinds);
+        }
         [pair, rest @ ..] => {
-            if is_of_kind(pair, &kind) {
-                let count = kind.count + 1;
-                push_kinds(KindOf { count, ..kind }, rest, kinds);
-            } else {
-                kinds.push(K::of(kind));
-                push_kinds(kind_of_one(pair), rest, kinds);
-            }
+            kinds.push(K::of(kind));
+            push_kinds(kind_of_one(pair), rest, kinds);
         }
     }
 }

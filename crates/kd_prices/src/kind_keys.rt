@@ -1,5 +1,5 @@
 //! Converts cables and columns to `Ends` and `Column`, whose order is the order of a card's lines.
-ghost use Rattle.std.specs.Prelude.{◌≡◌, ◌+◌, ◌++◌, ◌≤◌, length, zip};
+ghost use Rattle.std.specs.Prelude.{◌≡◌, ◌≤◌, length, zip};
 ghost use Rattle.kd_card.specs.Proving.{columns_in_order};
 
 use arrayvec::ArrayVec;
@@ -34,7 +34,7 @@ pub(crate) fn columns_of(pairs: &[(Letter, Letter)]) -> ArrayVec<Column, 13>
 }
 
 /// Pairs each key in `keys` with the price at the same place in `prices`.
-pub(crate) fn beside<T: KindKey, const N: usize>(
+pub(crate) fn with_prices<T: KindKey, const N: usize>(
     keys: &[T],
     prices: &[i16; N],
 ) -> ArrayVec<(T, i16), N>
@@ -42,23 +42,8 @@ pub(crate) fn beside<T: KindKey, const N: usize>(
     ensures { result.items ≡ zip keys.now prices.now }
 {
     let mut pairs = ArrayVec::new();
-    push_pairs(&mut pairs, keys, prices);
-    pairs
-}
-
-/// Appends each key in `keys`, with its price, to `pairs`.
-fn push_pairs<T: KindKey, const N: usize>(
-    pairs: &mut ArrayVec<(T, i16), N>,
-    keys: &[T],
-    prices: &[i16],
-)
-    requires { length pairs.old.items + length keys.now ≤ N }
-    ensures { pairs.new.items ≡ pairs.old.items ++ zip keys.now prices.now }
-{
-    if let [key, keys @ ..] = keys
-        && let [price, prices @ ..] = prices
-    {
-        pairs.push((*key, *price));
-        push_pairs(pairs, keys, prices);
+    for (place, key) in keys.iter().enumerate() {
+        pairs.push((*key, prices[place]));
     }
+    pairs
 }

@@ -2,15 +2,15 @@
 //! price for each kind.
 #![tactic(auto)]
 
+mod carried;
 mod checking;
 mod doubt;
-mod expanding;
 mod fitting;
 mod grouping;
 mod kind_cards;
 mod kind_keys;
+mod kind_prices;
 pub mod laws;
-mod walking;
 
 pub use checking::check;
 pub use doubt::Doubt;

@@ -7,8 +7,7 @@ unfoldable pub use Sparing.*
 all_first : (cables : List Cable) (first : ℕ) → first ≤ length cables
     → ((k : ℕ) → first ≤ k → is_spare_at cables k ≡ true)
     → count_by is_spare (take first cables) + count_by (λ cable. not (is_spare cable)) cables ≡ first
-all_first [] zero few free = refl
-all_first [] (suc first) few free = absurd (omega arith)
+all_first [] first few free = grind (arith, common_steps)
 all_first (cable ∷ cables) zero few free =
     let rest = all_first cables zero (omega arith) (λ k low. free (suc k) (omega arith)) in
     simp sum_by-cons (grind (arith, nat_tests, free zero (omega arith)))
@@ -30,9 +29,6 @@ put_within number m s none few (suc place) letter within h =
       | inr fits ↦ omega arith
     ]
 
-in_use : (cable : Cable) (letter : ℕ) → has_letter (cable_letters cable) letter ≡ true → is_spare cable ≡ false
-in_use cable letter h = grind arith
-
 -- A change of a cable whose number is at most `number` leaves the cables above `number` spare.
 set_within : (number : ℕ) (m : RotorParts) (cable : ℕ) (ends : Cable) → UsesNoneAbove number (Rotor m) → cable ≤ number
     → is_none (numbered_item m.cables cable) ≡ false
@@ -45,9 +41,6 @@ abbrev HasFewInUse : ℕ → Parts → Parts → Type 0
 HasFewInUse number (Rotor start) (Rotor m) = (length m.cables ≡ length start.cables) × UsesNoneAbove number (Rotor m)
 HasFewInUse number (Pin start) (Pin m) = Unit {0}
 HasFewInUse number _ _ = ⊥
-
-HasFewInUse-UsesNoneAbove : (number : ℕ) (start m : Parts) → HasFewInUse number start m → UsesNoneAbove number m
-HasFewInUse-UsesNoneAbove number start m few = grind arith
 
 SparesStayFree-tail : (m : Parts) (s : Day) (x : Setting) (settings : List Setting) → SparesStayFree m s (x ∷ settings)
     → SparesStayFree m s settings
@@ -68,31 +61,24 @@ one_step number (Rotor start) (OfRotors s) (Rotor m) (Put cable letter) settings
     (within, (rw length-set now.0, set_within number m cable _ now.1 within there))
 one_step number (Rotor start) s (Rotor m) (Pull cable letter) settings none few now free allowed =
     let there : is_none (numbered_item m.cables cable) ≡ false = grind arith in
-    let used = in_use (cable_at m cable) letter (grind arith) in
+    let used : is_spare (cable_at m cable) ≡ false = grind arith in
     let within : cable ≤ number = elim (cases_lt number cable) [
       | inl above ↦ let spare = now.1 cable above in absurd (cc)
       | inr fits ↦ omega arith
     ] in
     (within, (rw length-set now.0, set_within number m cable _ now.1 within there))
-one_step number (Rotor start) (OfPins s) (Rotor m) (Put cable letter) settings none few now free allowed = absurd free
-one_step number (Rotor start) s (Rotor m) x settings none few now free allowed = (tt, now)
-one_step number (Pin start) s (Pin m) (Put cable letter) settings none few now free allowed = absurd (cc)
-one_step number (Pin start) s (Pin m) (Pull cable letter) settings none few now free allowed = absurd (cc)
-one_step number (Pin start) s (Pin m) x settings none few now free allowed = (tt, tt)
-one_step number start s m x settings none few now free allowed = absurd now
+one_step number start s m x settings none few now free allowed = grind arith
 
 module _ (number : ℕ) (start : Parts) (s : Day) (none : UsesNoneAbove number start) (few : HasPairsUpTo number s) where
   serve : (settings : List Setting) (m n : Parts) → HasFewInUse number start m → SparesStayFree start s settings
       → Leads m settings n → All (NamesNoneAbove number) settings × UsesNoneAbove number n
   serve [] m n now free leads =
-      (All-nil (NamesNoneAbove number), rw leads (HasFewInUse-UsesNoneAbove number start m now))
+      let unused : UsesNoneAbove number m = grind arith in (All-nil (NamesNoneAbove number), rw leads unused)
   serve (x ∷ settings) m n now free (between, carries, leads) =
       let one = one_step number start s m x settings none few now free carries.allowed in
       let rest = serve settings between n (rw carries.made one.1) (SparesStayFree-tail start s x settings free) leads in
       (All-cons (NamesNoneAbove number) x settings one.0 rest.0, rest.1)
 
 pub few_cables_serve : FewCablesServe
-few_cables_serve number (Rotor m) n s settings none few spares leads =
-    serve number (Rotor m) s none few settings (Rotor m) n (refl, none) spares leads
-few_cables_serve number (Pin m) n s settings none few spares leads =
-    serve number (Pin m) s none few settings (Pin m) n tt spares leads
+few_cables_serve number m n s settings none few spares leads =
+    serve number m s none few settings m n (grind arith) spares leads

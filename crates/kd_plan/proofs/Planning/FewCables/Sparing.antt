@@ -47,7 +47,7 @@ cond-exchanged : (p q : Bool) → cond {A = ℕ} (exactly_one false false) 1 0 +
 cond-exchanged p q = grind arith
 
 -- Two cables cost no more after the exchange: `cable` becomes the pair, and `spare` the column without a pair.
-cable_cost-exchanged : (spare cable : Cable) (column : Column) → is_spare spare ≡ true
+cable_cost-exchanged : (spare cable : Cable) (column : ColumnPair) → is_spare spare ≡ true
     → cable_cost spare None + cable_cost cable column ≤ cable_cost spare column + cable_cost cable None
 cable_cost-exchanged (None, None) cable column h = grind (arith, common_steps, sums_within, cond-exchanged)
 cable_cost-exchanged _ cable column h = absurd (cc)
@@ -101,8 +101,7 @@ pairs-counted : (cables : List Cable) (to : List ℕ) (pairs first : ℕ) → le
     → ((k : ℕ) → k < length to → comes_before cables k first ≡ true → get_or to k 0 < pairs)
     → count_by (λ cable. not (is_spare cable)) cables + count_by is_spare (take first cables)
     ≤ count_by (λ j. nat_lt j pairs) to
-pairs-counted [] to pairs zero size taken = omega arith
-pairs-counted [] to pairs (suc first) size taken = omega arith
+pairs-counted [] to pairs first size taken = grind (arith, common_steps)
 pairs-counted (cable ∷ cables) [] pairs first size taken = absurd (omega arith)
 pairs-counted (cable ∷ cables) (j ∷ to) pairs zero size taken =
     let rest = pairs-counted cables to pairs zero (omega arith)
@@ -128,14 +127,12 @@ few_spares : (cables : List Cable) (pairs : List (ℕ × ℕ)) (to : List ℕ) �
     → get_or to place 0 < length pairs → is_spare_at cables place ≡ true
     → count_by is_spare (take number cables) ≤ length pairs - count_by (λ cable. not (is_spare cable)) cables
 few_spares cables pairs to many size once last number place next lt taken spare =
-    let all = pairs-counted cables to (length pairs) number (omega arith) (λ k lt' e. elim (cases_eq k place) [
-      | inl same ↦ omega (arith, ap (λ i. get_or to i 0) same)
-      | inr other ↦ last place k lt spare taken (omega arith) (grind (arith, nat_tests))
-    ]) in
+    let all = pairs-counted cables to (length pairs) number (omega arith) (λ k lt' e.
+    grind (arith, nat_tests, cases_eq, last place k lt spare taken)) in
     omega (arith, all, few_pairs to (length pairs) once)
 
 -- ---- the settings
-put_lines : (P : Setting → Type 0) (number : ℕ) (cable : Cable) (column : Column)
+put_lines : (P : Setting → Type 0) (number : ℕ) (cable : Cable) (column : ColumnPair)
     → ((pair : ℕ × ℕ) → column ≡ Some pair → (letter : ℕ) → P (Put number letter))
     → All P (cable_moves In number (cable, column))
 put_lines P number cable None h = All-nil P
@@ -149,11 +146,10 @@ all_moves : (P : Setting → Type 0) (direction : CableMove) (pairs : List (ℕ 
     (number : ℕ) → ((k n : ℕ) (cable : Cable) → n ≡ number + k → k < length to
     → All P (cable_moves direction n (cable, column_at pairs (get_or to k 0))))
     → All P (lines_from (cable_moves direction) number (cables_with_columns cables pairs to))
-all_moves P direction pairs [] to number h = All-nil P
-all_moves P direction pairs (cable ∷ cables) [] number h = All-nil P
 all_moves P direction pairs (cable ∷ cables) (j ∷ to) number h =
     All-append P _ _ (h zero number cable (omega arith) (omega arith))
     (all_moves P direction pairs cables to (number + 1) (λ k n x e lt. h (suc k) n x (omega arith) (omega arith)))
+all_moves P direction pairs _ _ number h = All-nil P
 
 -- If `P` holds of each setting that isn't priced, it holds of all settings in a list without priced ones.
 All-unpriced : (P : Setting → Type 0) → ((x : Setting) → is_priced_setting x ≡ false → P x) → (xs : List Setting)
@@ -170,9 +166,6 @@ LeavesSpares m s (Put cable letter) =
     → count_by is_spare (take cable m.cables) ≤ length s.pairs - count_by (λ cable. not (is_spare cable)) m.cables
 LeavesSpares m s _ = Unit {0}
 
-unpriced_leave : (m : RotorParts) (s : RotorDay) (x : Setting) → is_priced_setting x ≡ false → LeavesSpares m s x
-unpriced_leave m s x e = grind arith
-
 pub is_spare_at-cable_at : (m : RotorParts) (number place : ℕ) → number ≡ suc place
     → is_spare_at m.cables place ≡ is_spare (cable_at m number)
 is_spare_at-cable_at m number place e = rw e (ap is_spare (sym (unwrap_or-slice_get m.cables place (None, None))))
@@ -182,7 +175,7 @@ pub SparesStayFree-planned : (m : RotorParts) (s : RotorDay) (to : List ℕ) →
     → SparesComeLast m.cables (length s.pairs) to
     → SparesStayFree (Rotor m) (OfRotors s) (planned_lines (Rotor m) (OfRotors s) to)
 SparesStayFree-planned m s to machine legal same size once last cable letter (k, lt, e) =
-    let loose = All-unpriced (LeavesSpares m s) (unpriced_leave m s) (loose_lines (Rotor m) (OfRotors s))
+    let loose = All-unpriced (LeavesSpares m s) (λ x e. grind arith) (loose_lines (Rotor m) (OfRotors s))
     (all_counted (Rotor m) (OfRotors s) machine legal same).priced in
     let pulls = all_moves (LeavesSpares m s) Out s.pairs m.cables to 1 (λ k n cable e lt.
     All-map (LeavesSpares m s) (λ letter. Pull n letter) _ (λ i d lt'. tt)) in

@@ -1,5 +1,5 @@
-use Rattle.kd_prices.proofs.Found.{bars_made, by_fault, by_found, cables_made}
-use Rattle.kd_prices.proofs.Prelude.{Bars, Cables, HasFault, OtherModel, err_from_is_err_and, refl}
+use Rattle.kd_prices.proofs.Found.{by_fault, by_found}
+use Rattle.kd_prices.proofs.Prelude.{Bars, Cables, HasFault, OtherModel, arith, err_from_is_err_and, refl}
 use Rattle.kd_prices.proofs.checking.first_doubt.Goals as goal
 
 pub returns-in-None : goal.returns-in-None
@@ -10,7 +10,7 @@ returns-in_err-rows-in-Some-Rotor c =
     let apart = rw c.in-Some-Rotor.field-0-is at c.in-Some-Rotor.ensures.parted in
     let is = err_from_is_err_and c.from_residual.result c.from_residual.ensures.1 in
     rw (is.1, is.2, apart.0, apart.1)
-    (by_fault _ _ _ _ _ apart.2 (cables_made c.in-Some-Rotor.parts.now) _
+    (by_fault _ _ _ _ _ apart.2 (λ numbered are. grind arith) _
     (rw c.parts.ensures.value at c.in_err-rows-in-Some-Rotor.ensures.found))
 
 pub returns-in_err-rows-in-Some-Pin : goal.returns-in_err-rows-in-Some-Pin
@@ -19,7 +19,7 @@ returns-in_err-rows-in-Some-Pin c =
     let is = err_from_is_err_and c.from_residual-in_err-rows-in-Some-Pin.result
     c.from_residual-in_err-rows-in-Some-Pin.ensures.1 in
     rw (is.1, is.2, apart.0, apart.1)
-    (by_fault _ _ _ _ _ refl (bars_made c.in-Some-Pin.parts.now) _
+    (by_fault _ _ _ _ _ refl (λ numbered are. grind arith) _
     (rw c.parts-in-Some-Pin.ensures.value at c.in_err-rows-in-Some-Pin.ensures.found))
 
 pub returns-in_ok-rows-in-Some-Rotor : goal.returns-in_ok-rows-in-Some-Rotor
@@ -30,7 +30,7 @@ returns-in_ok-rows-in-Some-Rotor c =
     (by_found _ _ _ _ _ apart.2 (found.rows, found.columns) _
     (rw c.parts.ensures.value at found.ensures.found)
     (rw (apart.0, apart.1, c.as_slice-settings.ensures.value)
-    at (c.doubt_by_prices.ensures (Cables found.rows found.columns) refl refl refl)))
+    at (c.check_by_prices.ensures (Cables found.rows found.columns) refl refl refl)))
 
 pub returns-in_ok-rows-in-Some-Pin : goal.returns-in_ok-rows-in-Some-Pin
 returns-in_ok-rows-in-Some-Pin c =
@@ -40,4 +40,4 @@ returns-in_ok-rows-in-Some-Pin c =
     (by_found _ _ _ _ _ refl (found.rows, found.columns) _
     (rw c.parts-in-Some-Pin.ensures.value at found.ensures.found)
     (rw (apart.0, apart.1, c.as_slice-settings.ensures.value)
-    at (c.doubt_by_prices-in-Some-Pin.ensures (Bars found.rows found.columns) refl refl refl)))
+    at (c.check_by_prices-in-Some-Pin.ensures (Bars found.rows found.columns) refl refl refl)))

@@ -9,8 +9,8 @@ returns-in-empty g t c =
     (appends_one g.K.Kind.format g.K.Key.Ord.cmp c.args.kind c.requires.some (omega arith) c.args.kinds.now.items
     c.push.new.self.items c.of.result c.of.ensures c.push.ensures.items)
 
-pub returns-then-is_of_kind : goal.returns-then-is_of_kind
-returns-then-is_of_kind g t c =
+pub returns-in-len1-up : goal.returns-in-len1-up
+returns-in-len1-up g t c =
     let pair = c.pair-item.result in
     let kind = c.args.kind in
     let rest = take (length c.args.pairs.now - 1) (drop 1 c.args.pairs.now) in
@@ -25,11 +25,12 @@ returns-then-is_of_kind g t c =
     c.push_kinds.new.kinds.items pair rest (both_same (equal.0 is.0) is.1)
     (rw (to_z-of_z w16 kind.price fits) at c.push_kinds.ensures))
 
-pub returns-else-is_of_kind : goal.returns-else-is_of_kind
-returns-else-is_of_kind g t c =
+pub returns-in-len1-up-2 : goal.returns-in-len1-up-2
+returns-in-len1-up-2 g t c =
     let pair = c.pair-item.result in
     let kind = c.args.kind in
     let rest = take (length c.args.pairs.now - 1) (drop 1 c.args.pairs.now) in
+    let same : c.pair-item-2.result ≡ pair = grind (arith, common_steps) in
     let split : c.args.pairs.now ≡ pair ∷ rest = grind (arith, common_steps) in
     let cmp = g.K.Key.Ord.cmp in
     let total = g.met.K.Key.Ord.total in
@@ -37,7 +38,7 @@ returns-else-is_of_kind g t c =
     let equal = eq_decides cmp total g.K.Key.PartialEq.eq g.met.K.Key.Ord.matches_eq told pair.0 kind.key in
     rw split
     (begins_another g.K.Kind.format cmp kind c.requires.some (omega arith) c.args.kinds.now.items
-    c.push_kinds-else-is_of_kind.new.kinds.items total told g.met.K.Kind.ordered c.of-else-is_of_kind.result pair rest
-    c.of-else-is_of_kind.ensures
-    (λ same. let alike = c.is_of_kind.ensures.1 (equal.1 same.0, same.1) in cc)
-    (rw (c.kind_of_one.ensures, c.push-else-is_of_kind.ensures.items) at c.push_kinds-else-is_of_kind.ensures))
+    c.push_kinds-in-len1-up-2.new.kinds.items total told g.met.K.Kind.ordered c.of-in-len1-up-2.result pair rest
+    c.of-in-len1-up-2.ensures
+    (λ is. let alike = c.is_of_kind.ensures.1 (equal.1 is.0, is.1) in cc)
+    (rw (c.kind_of_one.ensures, same, c.push-in-len1-up-2.ensures.items) at c.push_kinds-in-len1-up-2.ensures))

@@ -8,11 +8,11 @@ returns-in-Rotor-Cables c =
     let so = c.in_ok-parts.ensures in
     let parted = subst (AreTakenApart _ _) h.is-0 so.parted in
     let rows =
-    rw (c.beside.ensures, c.as_slice-in-Rotor-Cables.ensures.value, c.ends_of-ends.ensures.value)
+    rw (c.with_prices.ensures, c.as_slice-in-Rotor-Cables.ensures.value, c.ends_of-ends.ensures.value)
     at c.kinds_of.ensures in
     let columns =
     rw (
-      c.beside-in-Rotor-Cables.ensures,
+      c.with_prices-in-Rotor-Cables.ensures,
       c.as_slice-in-Rotor-Cables-3.ensures.value,
       c.columns_of-pairs.ensures.value,
       c.as_slice.ensures.value,
@@ -30,8 +30,8 @@ returns-in-Pin-Bars c =
     let h = c.in-Pin-Bars in
     let so = c.in_ok-parts.ensures in
     let parted = subst (AreTakenApart _ _) h.is-0 so.parted in
-    let rows = rw c.beside-in-Pin-Bars.ensures at c.kinds_of-in-Pin-Bars.ensures in
-    let columns = rw c.beside-in-Pin-Bars-2.ensures at c.kinds_of-in-Pin-Bars-2.ensures in
+    let rows = rw c.with_prices-in-Pin-Bars.ensures at c.kinds_of-in-Pin-Bars.ensures in
+    let columns = rw c.with_prices-in-Pin-Bars-2.ensures at c.kinds_of-in-Pin-Bars-2.ensures in
     rw (sym c.parts.ensures.value ∙ h.is-1, parted.0, parted.1)
     (bars_by_kind h.parts.now _ h.rows h.columns c.kinds_of-in-Pin-Bars.result.items
     c.kinds_of-in-Pin-Bars-2.result.items (subst IsMachine parted.0 so.machine) (subst IsLegalDay parted.1 so.day)

@@ -1,7 +1,7 @@
 //! Finds the price of each cable, column, bar or row on a card where each kind has one price.
 ghost use Rattle.std.specs.Prelude.{◌≡◌, ◌↔◌, ◌<◌, length, map, ℤ, List, true, IsTrue, MatchOption};
 ghost use Rattle.kd_card.specs.{Kinds.{AreKindsOf, IsGroup}, Prices.ArePricesInRange};
-ghost use Rattle.kd_prices.specs.Grouping.{HasNoneLeft, TakesOne, TakesAll};
+ghost use Rattle.kd_prices.specs.Grouping.{HasNoneLeft, TakesOne};
 
 use arrayvec::ArrayVec;
 use kd_card::{Kind, KindOf};
@@ -11,7 +11,7 @@ use kd_card::{Kind, KindOf};
 /// `None` if a key has no kind, or if `keys` doesn't have each key as often as the count of its kind says.
 pub(crate) fn prices_of<K: Kind, const N: usize>(
     keys: &[K::Key],
-    kinds: ArrayVec<K, N>,
+    mut kinds: ArrayVec<K, N>,
 ) -> Option<[i16; N]>
     requires number { length keys.now ≡ N }
     requires kinds { IsGroup K.format N kinds.items }
@@ -19,30 +19,11 @@ pub(crate) fn prices_of<K: Kind, const N: usize>(
         ((prices : List ℤ) → ¬ (AreKindsOf K.format keys.now prices kinds.items))
         (λ prices. AreKindsOf K.format keys.now prices kinds.items × ArePricesInRange prices) }
 {
-    let mut kinds = kinds;
     let mut prices = [0; N];
-    take_prices(keys, kinds.as_mut_slice(), &mut prices).then_some(prices)
-}
-
-/// For each key in `keys`, lowers its kind's count by one, and writes the kind's price to the key's place in `prices`.
-///
-/// Returns `false` if some key is in `keys` more often than `kinds` count it.
-fn take_prices<K: Kind>(keys: &[K::Key], kinds: &mut [K], prices: &mut [i16]) -> bool
-    requires prices { length prices.old ≡ length keys.now }
-    ensures len { length prices.new ≡ length prices.old }
-    ensures taken { TakesAll K.Key.eq (map K.format.kind kinds.old) keys.now prices.new
-        (map K.format.kind kinds.new) result }
-{
-    match keys {
-        [] => true,
-        [key, rest @ ..] => match take_one(key, kinds) {
-            Some(price) => {
-                prices[0] = price;
-                take_prices(rest, kinds, &mut prices[1..])
-            }
-            None => false,
-        },
+    for (place, key) in keys.iter().enumerate() {
+        prices[place] = take_one(key, kinds.as_mut_slice())?;
     }
+    Some(prices)
 }
 
 /// Lowers the count of a kind with the key `key` by one, and returns the kind's price.

@@ -1,5 +1,5 @@
 use Rattle.kd_prices.proofs.{Prelude.{SFits, map, rules, to_z-of_z, w16}, Taking.{eq_decides, takes_first, takes_later}}
-use Rattle.kd_prices.proofs.expanding.+take_one.Goals as goal
+use Rattle.kd_prices.proofs.kind_prices.+take_one.Goals as goal
 
 pub returns-then-has_one_left : goal.returns-then-has_one_left
 returns-then-has_one_left g t c =

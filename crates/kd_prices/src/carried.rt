@@ -12,7 +12,7 @@ use kd_state::{Machine, Setting, SheetDay};
 #[derive(Drop)]
 pub(crate) struct Carried {
     pub reached: Machine,
-    pub needed: Result<(), Doubt>,
+    pub need_result: Result<(), Doubt>,
 }
 
 /// Carries out `settings` in turn. Returns the machine reached, and whether each setting was needed.
@@ -27,21 +27,24 @@ pub(crate) fn carry_settings(
 ) -> Result<Carried, Doubt>
     requires { model_of machine.now ≡ day_model day.now }
     ensures leads { IfOk result (λ carried. Leads machine.now settings.now carried.reached) }
-    ensures needed { IfOk result (λ carried. IsNeededAnswer machine.now day.now settings.now carried.needed) }
+    ensures needed { IfOk result (λ carried. IsNeededAnswer machine.now day.now settings.now carried.need_result) }
     ensures refused { IfErr result (λ doubt. IsCarriedAnswer machine.now settings.now (Err doubt)) }
 {
     let mut reached = *machine;
     let mut loose = loose_count(machine, day);
-    let mut needed = Ok(());
+    let mut need_result = Ok(());
     for (place, setting) in settings.iter().enumerate() {
         if let Err(illegal) = reached.carry(*setting) {
             return Err(Doubt::IllegalAt(place + 1, illegal.why));
         }
         let left = loose_count(&reached, day);
-        needed = needed.and(check_need(setting, place + 1, loose, left));
+        need_result = need_result.and(check_need(setting, place + 1, loose, left));
         loose = left;
     }
-    Ok(Carried { reached, needed })
+    Ok(Carried {
+        reached,
+        need_result,
+    })
 }
 
 /// Checks that `setting`, on line `line`, is needed: it changes a cable or a bar, or lowers the number of loose things

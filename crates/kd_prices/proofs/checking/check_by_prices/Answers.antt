@@ -2,7 +2,7 @@ use Rattle.kd_prices.proofs.Prelude.{GoesOn, List, SFits, arith, price_sum, row_
 use Rattle.kd_prices.proofs.Prelude.{HasFault, ListsFitAt, NotTheSheet, PriceParts, PricesFitAt, SumDiffers, false≢true}
 use Rattle.kd_prices.proofs.Prelude.{IsFirstWithout, PriceTooHigh, ap, column_prices, err_from_is_err_and, priced_count}
 use Rattle.kd_prices.proofs.Prelude.{of_z, pos, refl, rules, sym, to_z, w32, ℕ, ℤ, ◌+◌, ◌<◌, ◌^◌, ◌∙◌, ◌≡◌, ◌≢◌}
-use Rattle.kd_prices.proofs.checking.doubt_by_prices.Goals as goal
+use Rattle.kd_prices.proofs.checking.check_by_prices.Goals as goal
 
 pub returns-in_err-carried : goal.returns-in_err-carried
 returns-in_err-carried g c = λ prices row column many.
