@@ -29,11 +29,23 @@ record AreAllPriceLines (by : Version) (bytes : List ℕ) (prices : PriceParts) 
   text : bytes ≡ lines_text (price_lines prices) ++ rest
   are : ArePrices prices
 
-by_number : (table : CostTable) (rows columns : List ℤ) {bytes middle rest : List ℕ}
-    → HasPrices bytes (first_text ByNumber table) (price_count table) rows middle
-    → HasPrices middle (column_word table) (price_count table) columns rest
-    → AreAllPriceLines ByNumber bytes (parts_by_number table rows columns) rest
-by_number table rows columns a b = grind (arith, common_steps, two_lines)
+-- If two lists of prices are read from `bytes`, these are the lines of the prices, and then the rest; and both lists
+-- are valid.
+pub lists_said : (row_word column_word : List ℕ) (number line : ℕ) {bytes : List ℕ} (x : List ℤ × List ℤ × List ℕ)
+    → IsListsAnswer row_word column_word number line bytes (Ok x)
+    → (bytes ≡ lines_text (price_words row_word x.0 ∷ price_words column_word x.1 ∷ []) ++ x.2)
+    × IsPriceList number x.0 × IsPriceList number x.1
+lists_said row_word column_word number line {bytes} x says =
+    let rows = ThenNext-Ok says in
+    let columns = ThenNext-Ok rows.next in
+    let row = line_said rows.found rows.says in
+    let column = line_said columns.found columns.says in
+    rw (Yields-Ok columns.next) (
+      row.text ∙ ap (line_then (price_words row_word rows.found.0)) column.text
+          ∙ sym (two_lines (price_words row_word rows.found.0) (price_words column_word columns.found.0) columns.found.1),
+      row.list,
+      column.list,
+    )
 
 -- If two groups of kinds are read from `bytes`, these are the lines of the kinds, and then the rest; and both
 -- groups are valid.
@@ -46,11 +58,14 @@ groups_said {R} {C} rows columns number line {bytes} x says =
 
 of_table : (version : Version) (table : CostTable) (line : ℕ) {bytes : List ℕ} (x : PriceParts × List ℕ)
     → IsTablePricesAnswer version table line bytes (Ok x) → AreAllPriceLines version bytes x.0 x.1
-of_table ByNumber table line {bytes} x says =
-    let rows = ThenNext-Ok says in
-    let columns = ThenNext-Ok rows.next in
-    rw (Yields-Ok columns.next) (by_number table rows.found.0 columns.found.0 (line_said rows.found rows.says)
-    (line_said columns.found columns.says))
+of_table ByNumber OfCables line {bytes} x says =
+    let lists = ThenNext-Ok says in
+    let said = lists_said (codes "CABLES") (codes "PAIRS") 13 line lists.found lists.says in
+    rw (Yields-Ok lists.next) (record { version = refl; text = said.0; are = (said.1, said.2) })
+of_table ByNumber OfBars line {bytes} x says =
+    let lists = ThenNext-Ok says in
+    let said = lists_said (codes "BARS") (codes "ROWS") 27 line lists.found lists.says in
+    rw (Yields-Ok lists.next) (record { version = refl; text = said.0; are = (said.1, said.2) })
 of_table ByKind OfCables line {bytes} x says =
     let groups = ThenNext-Ok says in
     let said = groups_said cable_format pair_format 13 line groups.found groups.says in
@@ -132,8 +147,7 @@ price_line_says : {word : List ℕ} {number line : ℕ} {bytes : List ℕ} (pric
     → HasLineWords bytes (price_words word prices) rest → IsPriceList number prices
     → IsPriceLineAnswer word number line bytes (Ok (prices, rest))
 price_line_says prices has list =
-    GoesOn _ (first_says has)
-    (GoesOn tt refl (GoesOn prices (GoesOn prices (refl, list.reach) (GoesOn tt list.count refl)) refl))
+    line_read has (GoesOn prices (refl, list.reach) (GoesOn tt list.count refl))
 
 -- ---- groups of kinds
 
@@ -209,7 +223,8 @@ groups_say {rows} {columns} row column differ number line xs ys rest some a b en
 
 only_of_table : (version : Version) (table : CostTable) (line : ℕ) (bytes : List ℕ)
     → HasOneAnswer (IsTablePricesAnswer version table line bytes)
-only_of_table ByNumber table line bytes = search (rules, one_answer, only_price_line)
+only_of_table ByNumber OfCables line bytes = search (rules, one_answer, only_price_line)
+only_of_table ByNumber OfBars line bytes = search (rules, one_answer, only_price_line)
 only_of_table ByKind OfCables line bytes = search (rules, one_answer, only_groups cables_are pairs_are)
 only_of_table ByKind OfBars line bytes = search (rules, one_answer, only_groups bars_are rows_are)
 
@@ -220,23 +235,29 @@ one_table word version table other e d = grind arith
 only_all_prices : (version : Version) (line : ℕ) (bytes : List ℕ) → HasOneAnswer (IsAllPricesAnswer version line bytes)
 only_all_prices version line bytes = search (rules, one_answer, only_line, only_of_table, HasOneAnswer-Finds, one_table)
 
-by_number_says : (table : CostTable) (line : ℕ) {bytes : List ℕ} (rows columns : List ℤ) (rest : List ℕ)
-    → IsPriceList (price_count table) rows → IsPriceList (price_count table) columns
-    → bytes ≡ lines_text (price_words (first_text ByNumber table) rows ∷ price_words (column_word table) columns ∷ [])
-    ++ rest
-    → IsAllPricesAnswer ByNumber line bytes (Ok (parts_by_number table rows columns, rest))
-by_number_says table line rows columns rest a b e =
-    let first = line_of_prices (first_text ByNumber table) rows _ (first_is_word table).0 a.reach
-    (e ∙ two_lines (price_words (first_text ByNumber table) rows) (price_words (column_word table) columns) rest) in
-    let second = line_of_prices (column_word table) columns rest (first_is_word table).1 b.reach refl in
-    GoesOn table (GoesOn _ (first_says first) refl)
-    (GoesOn (rows, _) (price_line_says rows first a) (GoesOn (columns, rest) (price_line_says columns second b) refl))
+lists_say : {row_word column_word : List ℕ} {number : ℕ} (line : ℕ) {bytes : List ℕ} (rows columns : List ℤ)
+    (rest : List ℕ) → IsWord row_word → IsWord column_word → IsPriceList number rows → IsPriceList number columns
+    → bytes ≡ lines_text (price_words row_word rows ∷ price_words column_word columns ∷ []) ++ rest
+    → BeginsWithWord row_word bytes × IsListsAnswer row_word column_word number line bytes (Ok (rows, columns, rest))
+lists_say {row_word} {column_word} line rows columns rest row column a b e =
+    let first = line_of_prices row_word rows _ row a.reach
+    (e ∙ two_lines (price_words row_word rows) (price_words column_word columns) rest) in
+    let second = line_of_prices column_word columns rest column b.reach refl in (
+      record { behind = _; rest = _; has = first },
+      GoesOn (rows, _) (price_line_says rows first a) (GoesOn (columns, rest) (price_line_says columns second b) refl),
+    )
 
 all_say : (prices : PriceParts) (line : ℕ) {bytes : List ℕ} (rest : List ℕ) → ArePrices prices
     → ((word : List ℕ) → word ≢ codes "SUM" → EndsGroup word rest) → bytes ≡ lines_text (price_lines prices) ++ rest
     → IsAllPricesAnswer (version_of prices) line bytes (Ok (prices, rest))
-all_say (Cables row col) line rest are ends e = by_number_says OfCables line row col rest are.0 are.1 e
-all_say (Bars row col) line rest are ends e = by_number_says OfBars line row col rest are.0 are.1 e
+all_say (Cables row col) line rest are ends e =
+    let say = lists_say {row_word = codes "CABLES"} {column_word = codes "PAIRS"} line row col rest (word_by_test _ _ refl)
+    (word_by_test _ _ refl) are.0 are.1 e in
+    GoesOn OfCables (GoesOn _ (first_says say.0.has) refl) (GoesOn (row, col, rest) say.1 refl)
+all_say (Bars row col) line rest are ends e =
+    let say = lists_say {row_word = codes "BARS"} {column_word = codes "ROWS"} line row col rest (word_by_test _ _ refl)
+    (word_by_test _ _ refl) are.0 are.1 e in
+    GoesOn OfBars (GoesOn _ (first_says say.0.has) refl) (GoesOn (row, col, rest) say.1 refl)
 all_say (CableKinds row col) line rest are ends e =
     let say = groups_say cables_are pairs_are (grind arith) 13 line row.items col.items rest (omega arith) are.0 are.1
     (ends pair_format.word (grind arith)) e in

@@ -4,7 +4,7 @@ use Rattle.kd_card.specs.Kinds.{counted, IsKind, AreKinds, ComesAfter}
 use Rattle.kd_card.specs.declared.fault.CardFault.TheVariants.{BadHead, BadLine, TooMany, PriceMissing, CountWrong}
 use Rattle.kd_card.specs.declared.fault.CardFault.TheVariants.{Trailing}
 use Rattle.kd_card.specs.declared.prices.PriceParts.TheVariants.{Cables, Bars, CableKinds, BarKinds}
-use Rattle.kd_card.specs.{CardText.{column_word, price_count, head_words, price_lines}, declared.prices.Version.Version}
+use Rattle.kd_card.specs.{CardText.{head_words, price_lines}, declared.prices.Version.Version}
 use Rattle.kd_card.specs.declared.cost_table.CostTable.TheVariants.{OfCables, OfBars}
 use Rattle.kd_card.specs.{declared.prices.Version.TheVariants.{ByNumber, ByKind}, declared.prices.PriceParts.PriceParts}
 use Rattle.kd_card.specs.{declared.cost_table.CostTable.CostTable, Prices.{price_sum, ArePricesInRange}}
@@ -110,9 +110,13 @@ IsPriceLineAnswer word number line bytes = do
   prices ← IsPricesAnswer number line found.1
   Yields (prices, found.2)
 
-abbrev pub parts_by_number : CostTable → List ℤ → List ℤ → PriceParts
-parts_by_number OfCables rows columns = Cables rows columns
-parts_by_number OfBars rows columns = Bars rows columns
+-- The result of reading two price lines, each with a first word and then `number` prices: the prices for the rows of the
+-- table of costs, the prices for its columns and the bytes after both lines, or a fault.
+abbrev pub IsListsAnswer : List ℕ → List ℕ → ℕ → ℕ → List ℕ → AnswerRule CardFault (List ℤ × List ℤ × List ℕ)
+IsListsAnswer row_word column_word number line bytes = do
+  rows ← IsPriceLineAnswer row_word number line bytes
+  columns ← IsPriceLineAnswer column_word number (line + 1) rows.1
+  Yields (rows.0, columns.0, columns.1)
 
 -- ---- prices by kind: two groups of lines
 
@@ -177,10 +181,12 @@ IsGroupsAnswer row_format column_format number line bytes = do
 
 -- The result of reading the prices for one table of costs. The first price line is line `line` of the card.
 abbrev pub IsTablePricesAnswer : Version → CostTable → ℕ → List ℕ → AnswerRule CardFault (PriceParts × List ℕ)
-IsTablePricesAnswer ByNumber table line bytes = do
-  rows ← IsPriceLineAnswer (first_text ByNumber table) (price_count table) line bytes
-  columns ← IsPriceLineAnswer (column_word table) (price_count table) (line + 1) rows.1
-  Yields (parts_by_number table rows.0 columns.0, columns.1)
+IsTablePricesAnswer ByNumber OfCables line bytes = do
+  lists ← IsListsAnswer (codes "CABLES") (codes "PAIRS") 13 line bytes
+  Yields (Cables lists.0 lists.1, lists.2)
+IsTablePricesAnswer ByNumber OfBars line bytes = do
+  lists ← IsListsAnswer (codes "BARS") (codes "ROWS") 27 line bytes
+  Yields (Bars lists.0 lists.1, lists.2)
 IsTablePricesAnswer ByKind OfCables line bytes = do
   groups ← IsGroupsAnswer cable_format pair_format 13 line bytes
   Yields (CableKinds (record { items = groups.0 }) (record { items = groups.1 }), groups.2)

@@ -1,5 +1,5 @@
 //! What a card's prices are for: cables and pairs, or bars and rows of the sheet.
-ghost use Rattle.kd_card.specs.{CardText.{column_word, price_count}, CardFault.first_text};
+ghost use Rattle.kd_card.specs.CardFault.{first_text};
 ghost use Rattle.std.specs.Prelude.{◌≡◌};
 
 use super::prices::Version;
@@ -23,26 +23,6 @@ impl CostTable {
             (Version::ByNumber, CostTable::OfBars) => "BARS",
             (Version::ByKind, CostTable::OfCables) => "CABLE",
             (Version::ByKind, CostTable::OfBars) => "BAR",
-        }
-    }
-
-    /// The first word of the second price line, `PAIRS` or `ROWS`, on a card where each pair or row has its own price.
-    pub(crate) fn column_text(self) -> &'static str
-        ensures { result.now ≡ column_word self }
-    {
-        match self {
-            CostTable::OfCables => "PAIRS",
-            CostTable::OfBars => "ROWS",
-        }
-    }
-
-    /// The number of rows of the table of costs, which is also its number of columns.
-    pub(crate) fn number(self) -> usize
-        ensures { result ≡ price_count self }
-    {
-        match self {
-            CostTable::OfCables => 13,
-            CostTable::OfBars => 27,
         }
     }
 }

@@ -123,7 +123,7 @@ impl Kind for CableKind {
         ensures { cable_format.kind result ≡ kind }
     {
         CableKind {
-            ends: kind.key.letters(),
+            ends: kind.key.letters,
             count: kind.count,
             price: kind.price,
         }
@@ -185,7 +185,7 @@ impl Kind for PairKind {
         ensures { pair_format.kind result ≡ kind }
     {
         PairKind {
-            pair: kind.key.pair(),
+            pair: kind.key.pair,
             count: kind.count,
             price: kind.price,
         }

@@ -10,7 +10,9 @@ use super::cost_table::CostTable;
 use super::fault::CardFault;
 use super::prices::Version;
 use arrayvec::ArrayVec;
-use kd_state::{is_word, split_once, split_words, wide_number_of_text};
+use itoa::Buffer;
+use kd_state::{is_word, split_once, split_words};
+use std::str;
 
 /// Whether `text` is an unsigned number: decimal digits without leading zeros.
 fn is_number_text(text: &[u8]) -> bool
@@ -40,36 +42,10 @@ pub(crate) fn price_of_text(text: &[u8]) -> Option<i16>
         ((price : ℤ) → unsigned_abs price ≤ 9999 → signed_decimal price ≢ text.now)
         (λ price. (signed_decimal price ≡ text.now) × (unsigned_abs price ≤ 9999)) }
 {
-    match text {
-        [b'-', digits @ ..] => negative_price(digits),
-        _ => amount_of_text(text),
-    }
-}
-
-/// Parses the digits of a negative price, which follow its `-`.
-#[tactic(auto, using(crate::proofs::OneCard::no_negative, crate::proofs::OneCard::not_minus_zero))]
-fn negative_price(digits: &[u8]) -> Option<i16>
-    ensures { MatchOption result
-        ((price : ℤ) → unsigned_abs price ≤ 9999 → signed_decimal price ≢ 45 ∷ digits.now)
-        (λ price. (signed_decimal price ≡ 45 ∷ digits.now) × (unsigned_abs price ≤ 9999)) }
-{
-    let amount = amount_of_text(digits)?;
-    if amount > 0 { Some(-amount) } else { None }
-}
-
-/// Parses a price from 0 to 9999, without leading zeros and without a sign.
-#[tactic(auto, using(std::proofs::lemmas::Fmt::decimal_injective))]
-fn amount_of_text(text: &[u8]) -> Option<i16>
-    ensures { MatchOption result
-        ((amount : ℕ) → amount ≤ 9999 → decimal amount ≢ text.now)
-        (λ price. (amount : ℕ) × (amount ≤ 9999) × (decimal amount ≡ text.now) × (price ≡ pos amount)) }
-{
-    let number = wide_number_of_text(text)?;
-    if number <= 9999 {
-        Some(number as i16)
-    } else {
-        None
-    }
+    let price: i16 = str::from_utf8(text).ok()?.parse().ok()?;
+    let mut buffer = Buffer::new();
+    let is_written_so = is_word(text, buffer.format(price));
+    (price.unsigned_abs() <= 9999 && is_written_so).then_some(price)
 }
 
 /// Splits `text` into the first word, the text after it on the first line (`None` without a space), and the next lines.
@@ -115,30 +91,23 @@ pub(crate) fn table_of_line(
     }
 }
 
-/// Parses `text` as `number` prices, with a space between two prices. The text is from line `line` of the card.
-pub(crate) fn prices_of_text(
+/// Parses `text` as `N` prices, with a space between two prices. The text is from line `line` of the card.
+pub(crate) fn prices_of_text<const N: usize>(
     text: &[u8],
-    number: usize,
     line: usize,
-) -> Result<ArrayVec<i16, 27>, CardFault>
-    requires { number ≤ 27 }
+) -> Result<[i16; N], CardFault>
+    requires { N ≤ 27 }
     ensures { MatchResult result
-        (λ prices. IsPricesAnswer number line (words_of text.now) (Ok prices.items))
-        (λ fault. IsPricesAnswer number line (words_of text.now) (Err fault)) }
+        (λ prices. IsPricesAnswer N line (words_of text.now) (Ok prices))
+        (λ fault. IsPricesAnswer N line (words_of text.now) (Err fault)) }
 {
-    let Some(words) = split_words::<27>(text) else {
-        if are_prices(text) {
-            return Err(CardFault::PriceMissing);
-        }
-        return Err(CardFault::BadLine(line));
-    };
-    let Some(prices) = prices_of_words(words.as_slice()) else {
-        return Err(CardFault::BadLine(line));
-    };
-    if prices.len() == number {
-        Ok(prices)
-    } else {
-        Err(CardFault::PriceMissing)
+    match split_words::<N>(text) {
+        Some(words) => match prices_of_words::<N>(words.as_slice()) {
+            Some(prices) => prices.into_inner().ok().ok_or(CardFault::PriceMissing),
+            None => Err(CardFault::BadLine(line)),
+        },
+        None if are_prices(text) => Err(CardFault::PriceMissing),
+        None => Err(CardFault::BadLine(line)),
     }
 }
 
@@ -151,8 +120,8 @@ fn are_prices(text: &[u8]) -> bool
 }
 
 /// Parses each of `words` as a price. `None` if one of them isn't a price.
-fn prices_of_words(words: &[&[u8]]) -> Option<ArrayVec<i16, 27>>
-    requires { length words.now ≤ 27 }
+fn prices_of_words<const N: usize>(words: &[&[u8]]) -> Option<ArrayVec<i16, N>>
+    requires { length words.now ≤ N }
     ensures { let texts = map (λ word. word.now) words.now in
         MatchOption result
         (¬ (All IsPriceText texts))

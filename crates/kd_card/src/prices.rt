@@ -1,10 +1,9 @@
 //! The prices of a card: one for each cable, pair, bar or row (by number), or one for each kind of them (by kind).
-ghost use Rattle.kd_card.specs.{Prices.{price_sum, version_of, ArePricesInRange, ArePrices}, CardFault.parts_by_number};
-ghost use Rattle.kd_card.specs.{CardText.{price_count, price_lines}, Kinds.IsGroup, Reading.head_prefix};
+ghost use Rattle.kd_card.specs.Prices.{price_sum, version_of, ArePricesInRange, ArePrices};
+ghost use Rattle.kd_card.specs.{CardText.price_lines, Kinds.IsGroup, Reading.head_prefix};
 ghost use Rattle.std.specs.Prelude.{◌≡◌, ◌↔◌, ◌+◌, ◌*◌, ◌≤◌, ◌++◌, length, fold, pos, unsigned_abs, ◌+ℤ◌, IsTrue};
 ghost use Rattle.std.specs.Prelude.{MatchOption};
 
-use super::cost_table::CostTable;
 use super::kinds::{BarKind, CableKind, Kind, PairKind, RowKind, are_kinds, prices_of_kinds};
 use arrayvec::ArrayVec;
 use std::marker::Model;
@@ -122,28 +121,6 @@ impl Prices {
         Some(Prices::of_parts(parts))
     }
 
-    /// Makes prices by number from the prices of rows and columns.
-    ///
-    /// `table` says whether the rows are cables or bars.
-    pub(crate) fn numbered(table: CostTable, rows: &[i16], columns: &[i16]) -> Self
-        requires rows { length rows.now ≡ price_count table }
-        requires columns { length columns.now ≡ price_count table }
-        requires row_reach { ArePricesInRange rows.now }
-        requires column_reach { ArePricesInRange columns.now }
-        ensures value { result ≡ parts_by_number table rows.now columns.now }
-        ensures are_prices { ArePrices result }
-    {
-        match table {
-            CostTable::OfCables => {
-                Prices::of_parts(PriceParts::Cables(array_of(rows), array_of(columns)))
-            }
-            CostTable::OfBars => Prices::of_parts(PriceParts::Bars(
-                array_of(rows),
-                array_of(columns),
-            )),
-        }
-    }
-
     /// Whether each cable, pair, bar or row has its own price (by number), or each kind has one price (by kind).
     pub fn version(&self) -> Version
         ensures value { result ≡ version_of self.now }
@@ -242,14 +219,6 @@ fn sum_onto(sum: i32, prices: &[i16]) -> i32
         total += i32::from(*price);
     }
     total
-}
-
-/// Copies `N` prices to an array.
-fn array_of<const N: usize>(prices: &[i16]) -> [i16; N]
-    requires { length prices.now ≡ N }
-    ensures { result ≡ prices.now }
-{
-    <[i16; N]>::try_from(prices).unwrap()
 }
 
 /// Copies `kinds`. `None` if they aren't valid and strictly ascending, or their counts don't add up to `N`.

@@ -1,8 +1,8 @@
 //! Reads the text of a card.
-ghost use Rattle.kd_card.specs.CardFault.{BeginsWithHead, IsValueAnswer, IsPriceLineAnswer, IsGroupsAnswer};
-ghost use Rattle.kd_card.specs.CardFault.{IsTablePricesAnswer, IsAllPricesAnswer, IsCardFault};
-ghost use Rattle.kd_card.specs.{declared.prices.Version.TheVariants.ByNumber, CardText.IsCard};
-ghost use Rattle.kd_state.specs.Words.{IsWithout};
+ghost use Rattle.kd_card.specs.CardFault.{BeginsWithHead, HasLineWords, IsValueAnswer, IsGroupsAnswer};
+ghost use Rattle.kd_card.specs.CardFault.{IsListsAnswer, IsAllPricesAnswer, IsCardFault};
+ghost use Rattle.kd_card.specs.{CardText.IsCard, Reading.IsNoPriceLine};
+ghost use Rattle.kd_state.specs.Words.{words_of, IsWithout};
 ghost use Rattle.std.specs.Prelude.{◌≡◌, ◌≢◌, ℕ, ◌<◌, ◌≤◌, ◌∷◌, ◌++◌, List, MatchOption, MatchResult, Ok, Err};
 
 use super::card::Card;
@@ -109,13 +109,21 @@ fn read_prices(text: &[u8], version: Version, line: usize) -> Result<(Prices, &[
         (λ found. IsAllPricesAnswer version line text.now (Ok (found.0, found.1.now)))
         (λ fault. IsAllPricesAnswer version line text.now (Err fault)) }
 {
-    let table = table_of_line(text, version, line)?;
-    match (version, table) {
-        (Version::ByNumber, table) => read_numbered(text, table, line),
+    match (version, table_of_line(text, version, line)?) {
+        (Version::ByNumber, CostTable::OfCables) => {
+            let (cables, pairs, rest) = read_lists(text, "CABLES", "PAIRS", line)?;
+            Ok((Prices::of_parts(PriceParts::Cables(cables, pairs)), rest))
+        }
+        (Version::ByNumber, CostTable::OfBars) => {
+            let (bars, rows, rest) = read_lists(text, "BARS", "ROWS", line)?;
+            Ok((Prices::of_parts(PriceParts::Bars(bars, rows)), rest))
+        }
         (Version::ByKind, CostTable::OfCables) => {
             let (cables, pairs, rest) = read_groups(text, line)?;
-            let parts = PriceParts::CableKinds(cables, pairs);
-            Ok((Prices::of_parts(parts), rest))
+            Ok((
+                Prices::of_parts(PriceParts::CableKinds(cables, pairs)),
+                rest,
+            ))
         }
         (Version::ByKind, CostTable::OfBars) => {
             let (bars, rows, rest) = read_groups(text, line)?;
@@ -124,20 +132,28 @@ fn read_prices(text: &[u8], version: Version, line: usize) -> Result<(Prices, &[
     }
 }
 
-/// Reads the two price lines of a card that has a price for each cable and each column, or each bar and each row.
+/// Reads two price lines: `N` prices after `row_word`, and then `N` prices after `column_word`.
 ///
-/// The first price line is line `line` of the card. Returns the prices, and the text after the lines.
-fn read_numbered(text: &[u8], table: CostTable, line: usize) -> Result<(Prices, &[u8]), CardFault>
-    requires { line < 200 }
-    ensures { let says = IsTablePricesAnswer ByNumber table line text.now in
-        MatchResult result (λ found. says (Ok (found.0, found.1.now))) (λ fault. says (Err fault)) }
+/// The first price line is line `line` of the card. Returns both lists, and the text after the lines.
+fn read_lists<'a, const N: usize>(
+    text: &'a [u8],
+    row_word: &str,
+    column_word: &str,
+    line: usize,
+) -> Result<([i16; N], [i16; N], &'a [u8]), CardFault>
+    requires some { 0 < N }
+    requires few { N ≤ 27 }
+    requires near { line < 200 }
+    ensures { let says = IsListsAnswer row_word.now column_word.now N line text.now in
+        MatchResult result
+        (λ found. says (Ok (found.0, found.1, found.2.now)))
+        (λ fault. says (Err fault)) }
 {
-    let number = table.number();
-    let word = table.first_text(Version::ByNumber);
-    let (rows, rest) = read_price_line(text, word, number, line)?;
-    let (columns, rest) = read_price_line(rest, table.column_text(), number, line + 1)?;
-    let prices = Prices::numbered(table, rows.as_slice(), columns.as_slice());
-    Ok((prices, rest))
+    let (prices, rest) = split_price_line(text, row_word, line)?;
+    let rows = prices_of_text(prices, line)?;
+    let (prices, rest) = split_price_line(rest, column_word, line + 1)?;
+    let columns = prices_of_text(prices, line + 1)?;
+    Ok((rows, columns, rest))
 }
 
 /// Reads two groups of kinds: for the `N` rows of a table of costs, and then for its `N` columns.
@@ -159,24 +175,19 @@ fn read_groups<'a, R: Kind, C: Kind, const N: usize>(
     Ok((rows, columns, rest))
 }
 
-/// Reads line `line`: `word`, and then `number` prices. Returns the prices, and the text after the line.
-fn read_price_line<'a>(
+/// Splits off line `line`, which has `word` and then prices. Returns the prices as text, and the text after the line.
+fn split_price_line<'a>(
     text: &'a [u8],
     word: &str,
-    number: usize,
     line: usize,
-) -> Result<(ArrayVec<i16, 27>, &'a [u8]), CardFault>
-    requires some { 0 < number }
-    requires few { number ≤ 27 }
-    ensures { let says = IsPriceLineAnswer word.now number line text.now in
-        MatchResult result (λ found. says (Ok (found.0.items, found.1.now))) (λ fault. says (Err fault)) }
+) -> Result<(&'a [u8], &'a [u8]), CardFault>
+    ensures { MatchResult result
+        (λ found. HasLineWords text.now (word.now ∷ words_of found.0.now) found.1.now)
+        (IsNoPriceLine word.now line text.now) }
 {
     let (first, behind, rest) = split_first(text, line)?;
-    if !is_word(first, word) {
-        return Err(CardFault::PriceMissing);
-    }
     match behind {
-        Some(behind) => Ok((prices_of_text(behind, number, line)?, rest)),
-        None => Err(CardFault::PriceMissing),
+        Some(prices) if is_word(first, word) => Ok((prices, rest)),
+        _ => Err(CardFault::PriceMissing),
     }
 }

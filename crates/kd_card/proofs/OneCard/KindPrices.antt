@@ -60,9 +60,6 @@ price_sum_is_small prices p =
     let both = both_lists prices p in
     grind (arith, common_steps, All-append, sum_bound, recursion_from_All, length-append, few_prices)
 
-pub some_and_few : (table : CostTable) → (0 < price_count table) × (price_count table ≤ 27)
-some_and_few table = grind arith
-
 pub text_of_two : {R X C Y : Type 0} (rows : KindFormat R X) (columns : KindFormat C Y) (xs : List R) (ys : List C)
     → lines_text (map (kind_words rows) xs ++ map (kind_words columns) ys) ≡ kinds_text rows xs ++ kinds_text columns ys
 text_of_two rows columns xs ys = grind (arith, flat_map-append, flat_map-map)

@@ -15,6 +15,9 @@ pub use Rattle.std.proofs.lemmas.List.{get_or-map, get_or_at, length-replicate, 
 pub use Rattle.std.proofs.lemmas.{Bool.{ltb-true, Decides.Decides-eqb}, List.{length-map, Concat.flat_map-append}}
 pub use Rattle.std.proofs.lemmas.{Bool.{false≢true, ne_eqb}, Fmt.{decimal_digit, signed_decimal_injective}}
 pub use Rattle.std.proofs.lemmas.Fmt.{decimal_injective, decimal_nonempty, digits_decimal, first_decimal}
+pub use Rattle.std.proofs.{Common.bytes_eq, lemmas.Slice.Eq.bytes_eq-Decides}
+pub use Rattle.std.specs.{Bool.then_some, Result.result_ok, Str.{IsUtf8, Parse.ParsesSigned}}
+pub use Rattle.std.proofs.lemmas.{Fmt.{IsAscii-signed, parse-signed_decimal}, Str.IsUtf8-from_ascii}
 pub use Rattle.kd_card.specs.Kinds.{AreEnds, bar_format, cable_format, ComesAfter, HasText, IsOnlyKey, letters_text}
 pub use Rattle.kd_card.specs.Kinds.{counted, IsGroup, IsKind, KeyComesBefore, KindFormat, pair_format, prices_of_kinds}
 pub use Rattle.kd_card.specs.{CardFault.first_text, Kinds.{AreKinds, HasKindWords, kind_words, kinds_text, row_format}}
@@ -22,8 +25,8 @@ pub use Rattle.kd_card.specs.CardFault.{AtNothing, BeginsWithWord, IsAllPricesAn
 pub use Rattle.kd_card.specs.CardFault.{BeginsWithKinds, IsDigit, IsGroupsAnswer, IsPriceLineAnswer, IsRestAnswer}
 pub use Rattle.kd_card.specs.CardFault.{EndsGroup, HasLineWords, IsLineAnswer, IsNextKind, IsNumberText, IsValueAnswer}
 pub use Rattle.kd_card.specs.CardFault.{BeginsWithHead, IsCardAnswer, IsSettingsAnswer, IsTablePricesAnswer}
-pub use Rattle.kd_card.specs.CardFault.{AtOther, HasNoNext, IsGroupAnswer, IsNumeral, line_then, parts_by_number}
-pub use Rattle.kd_card.specs.CardText.{card_text, column_word, head_words, IsCard, lines_text, price_count, price_lines}
+pub use Rattle.kd_card.specs.CardFault.{AtOther, HasNoNext, IsGroupAnswer, IsListsAnswer, IsNumeral, line_then}
+pub use Rattle.kd_card.specs.CardText.{card_text, head_words, IsCard, lines_text, price_lines}
 pub use Rattle.kd_card.specs.declared.cost_table.CostTable.{CostTable, TheVariants.{OfBars, OfCables}}
 pub use Rattle.kd_card.specs.declared.prices.PriceParts.{PriceParts, TheVariants.{BarKinds, Bars, CableKinds, Cables}}
 pub use Rattle.kd_card.specs.declared.{kinds.KindOf.KindOf, prices.Version.{Version, TheVariants.{ByKind, ByNumber}}}
@@ -39,7 +42,7 @@ pub use Rattle.kd_state.specs.{declared.setting.Setting.Setting, Words.{IsWithou
 pub use Rattle.kd_state.specs.{Line.{BeginsWithAllSettings, BeginsWithSettingLines, setting_line}, Words.IsFirstPart}
 pub use Rattle.kd_state.specs.{Line.{BeginsWithNoSetting, list_text, setting_words}, Machine.cable_letters}
 pub use Rattle.kd_state.proofs.Lines.{lines_split_into_words, not_longer, same_end, word_by_test, words_make_one_line}
-pub use Rattle.kd_state.proofs.Lines.{IsNumeralModel-digits, numbers_are_words, texts_tell_first_parts, word_by_bytes}
+pub use Rattle.kd_state.proofs.Lines.{ok_part, IsNumeralModel-digits, numbers_are_words, texts_tell_first_parts, word_by_bytes}
 
 abbrev pub settings_words : ℕ → List (List ℕ)
 settings_words number = codes "SETTINGS" ∷ decimal number ∷ []
@@ -181,21 +184,6 @@ written_price text p e within = e ∙ ap signed_decimal (to_z-of_z w16 p (FitsSi
 pub mag-small : (p : ℤ) → unsigned_abs p ≤ 9999 → mag p < 2 ^ 63
 mag-small p e = grind arith
 
-no_minus : (amount : ℕ) (digits : List ℕ) → amount ≤ 9999 → decimal amount ≢ 45 ∷ digits
-no_minus zero digits small e = omega (arith, ap (λ t. get_or t 0 0) (sym (decimal_digit 0 (omega arith)) ∙ e))
-no_minus (suc n) digits small e =
-    omega (arith, first_decimal (suc n) (omega arith) (omega arith), ap (λ t. get_or t 0 0) e)
-
--- If no positive amount is written as `digits`, no price is written as `-` and `digits`.
-pub no_negative : (digits : List ℕ) → ((n : ℕ) → suc n ≤ 9999 → decimal (suc n) ≢ digits) → (price : ℤ)
-    → unsigned_abs price ≤ 9999 → signed_decimal price ≢ 45 ∷ digits
-no_negative digits none (pos n) near e = no_minus n digits near e
-no_negative digits none (negsuc n) near e = none n near (cc)
-
-pub not_minus_zero : (digits : List ℕ) → decimal 0 ≡ digits → (price : ℤ) → unsigned_abs price ≤ 9999
-    → signed_decimal price ≢ 45 ∷ digits
-not_minus_zero digits is = no_negative digits (λ n small e. grind (arith, decimal_injective))
-
 -- ---- words that are prices
 
 -- what `price_of_text` finds in a word
@@ -203,6 +191,29 @@ abbrev pub IsPriceOf : List ℕ → Option ℤ → Type 0
 IsPriceOf word r =
     MatchOption r ((price : ℤ) → unsigned_abs price ≤ 9999 → signed_decimal price ≢ word)
     (λ price. (signed_decimal price ≡ word) × (unsigned_abs price ≤ 9999))
+
+pub not_utf8 : {S E : Type 0} (bs : List ℕ) (r : Result S E) (P : S → Type 0) (Q : E → Type 0)
+    → MatchResult r P (λ e. ¬ (IsUtf8 bs) × Q e) → result_ok r ≡ None → IsPriceOf bs None
+not_utf8 bs r P Q e none price near is = grind (arith, IsUtf8-from_ascii, IsAscii-signed, mag-small)
+
+pub not_parsed : {E : Type 0} (bs : List ℕ) (r : Result ℤ E) → ParsesSigned w16 10 bs r → result_ok r ≡ None
+    → IsPriceOf bs None
+not_parsed bs r h none price near is =
+    grind (arith, parse-signed_decimal w16 price bs r (FitsSigned-price price near) (mag-small price near) (sym is) h)
+
+pub price_parsed : {E : Type 0} (bs : List ℕ) (r : Result ℤ E) (parsed : ℤ) (test : Bool) → ParsesSigned w16 10 bs r
+    → result_ok r ≡ Some parsed → unsigned_abs parsed ≤ 9999 → Decides test (bs ≡ signed_decimal parsed)
+    → IsPriceOf bs (then_some test parsed)
+price_parsed bs r parsed true h some small d = (sym (d.0 refl), small)
+price_parsed bs r parsed false h some small d = λ price near is.
+    let same = parse-signed_decimal w16 price bs r (FitsSigned-price price near) (mag-small price near) (sym is) h in
+    grind (arith, same, d)
+
+pub far_price : {E : Type 0} (bs : List ℕ) (r : Result ℤ E) (parsed : ℤ) → ParsesSigned w16 10 bs r
+    → result_ok r ≡ Some parsed → 9999 < unsigned_abs parsed → IsPriceOf bs None
+far_price bs r parsed h some far price near is =
+    let same = parse-signed_decimal w16 price bs r (FitsSigned-price price near) (mag-small price near) (sym is) h in
+    grind (arith, same)
 
 pub tells_price : (word : List ℕ) (r : Option ℤ) → IsPriceOf word r → IsTrue (is_some r) ↔ IsPriceText word
 tells_price word r e = grind arith
@@ -229,6 +240,16 @@ module _ (number line : ℕ) {words : List (List ℕ)} where
       → length prices ≢ number → IsPricesAnswer number line words (Err PriceMissing)
   other_count prices are reach differs =
       GoesOn prices (are, reach) (HasFault PriceMissing ((λ same count. differs count), refl) refl)
+
+  -- Prices whose number is tested are the result if the number is right.
+  pub count_settled : (prices : List ℤ) → words ≡ map signed_decimal prices → ArePricesInRange prices
+      → (answer : Result (List ℤ) CardFault)
+      → MatchResult answer (λ made. (made ≡ prices) × (length prices ≡ number))
+      (λ fault. (fault ≡ PriceMissing) × (length prices ≢ number))
+      → MatchResult answer (λ made. IsPricesAnswer number line words (Ok made))
+      (λ fault. IsPricesAnswer number line words (Err fault))
+  count_settled prices are reach (Ok made) is = rw is.0 (GoesOn prices (are, reach) (GoesOn tt is.1 refl))
+  count_settled prices are reach (Err fault) is = rw is.0 (other_count prices are reach is.1)
 
   pub too_many : All IsPriceText words → number < length words → IsPricesAnswer number line words (Err PriceMissing)
   too_many all many =
@@ -289,9 +310,6 @@ signed_word z small = grind (arith, numbers_are_words, below_zero)
 
 pub day_unbroken : (day : ℕ) → IsDayNumber day → IsWithout 10 (decimal day)
 day_unbroken day month = let last = month.last in (numbers_are_words day (omega arith)).unbroken
-
-pub first_is_word : (kind : CostTable) → IsWord (first_text ByNumber kind) × IsWord (column_word kind)
-first_is_word kind = grind (arith, word_by_test)
 
 pub prices_are_words : (word : List ℕ) (prices : List ℤ) → IsWord word → ArePricesInRange prices
     → All IsWord (price_words word prices)
@@ -355,6 +373,30 @@ same_values front {value} {other} {rest} {more} free clear e d =
 pub first_says : {line : ℕ} {bytes word : List ℕ} {words : List (List ℕ)} {rest : List ℕ}
     → HasLineWords bytes (word ∷ words) rest → IsLineAnswer line bytes (Ok (word, words, rest))
 first_says has = GoesOn tt (some_bytes has) has
+
+-- The result of reading a line's prices is the result of reading the line.
+module _ {number line : ℕ} {bytes word : List ℕ} {words : List (List ℕ)} {rest : List ℕ}
+    (has : HasLineWords bytes (word ∷ words) rest) where
+  pub line_read : {prices : List ℤ} → IsPricesAnswer number line words (Ok prices)
+      → IsPriceLineAnswer word number line bytes (Ok (prices, rest))
+  line_read is = GoesOn _ (first_says has) (GoesOn tt refl (GoesOn _ is refl))
+
+  pub line_failed : {fault : CardFault} → IsPricesAnswer number line words (Err fault)
+      → IsPriceLineAnswer word number line bytes (Err fault)
+  line_failed is = GoesOn _ (first_says has) (GoesOn tt refl (HasFault _ is refl))
+
+-- If a line has only one word, it lacks prices, whichever word it is.
+pub missing_prices : {number line : ℕ} {bytes first : List ℕ} (word : List ℕ) {rest : List ℕ}
+    → IsLineAnswer line bytes (Ok (first, [], rest)) → 0 < number
+    → IsPriceLineAnswer word number line bytes (Err PriceMissing)
+missing_prices {number} {line} {bytes} {first} word is some = by_test (bytes_eq first word) (bytes_eq-Decides first word) where
+  none : length {A = ℤ} [] ≢ number
+  none e = omega arith
+
+  by_test : (test : Bool) → Decides test (first ≡ word) → IsPriceLineAnswer word number line bytes (Err PriceMissing)
+  by_test true same =
+      GoesOn _ is (GoesOn tt (same.0 refl) (HasFault _ (other_count number line [] refl (All-nil _) none) refl))
+  by_test false other = GoesOn _ is (HasFault _ ((λ unit. not_from_false other refl), refl) refl)
 
 -- A line has a first word and `number` prices after it.
 pub record HasPrices (bytes word : List ℕ) (number : ℕ) (prices : List ℤ) (rest : List ℕ) : Type 0 where
