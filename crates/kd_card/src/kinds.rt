@@ -207,10 +207,8 @@ impl Kind for PairKind {
     }
 
     fn text(&self) -> ArrayString<8> {
-        match self.pair {
-            None => text_of_letters(None, None),
-            Some((one, other)) => text_of_letters(Some(one), Some(other)),
-        }
+        let (one, other) = self.pair.unzip();
+        text_of_letters(one, other)
     }
 
     #[tactic(auto, using(crate::proofs::OneCard::one_pair))]
@@ -332,8 +330,7 @@ fn text_of_letters(one: Option<Letter>, other: Option<Letter>) -> ArrayString<8>
     let mut text = ArrayString::new();
     match (one, other) {
         (None, None) => text.push_str("-"),
-        (Some(letter), None) => push_letter(&mut text, letter),
-        (None, Some(letter)) => push_letter(&mut text, letter),
+        (Some(letter), None) | (None, Some(letter)) => push_letter(&mut text, letter),
         (Some(one), Some(other)) => {
             push_letter(&mut text, one);
             push_letter(&mut text, other);

@@ -1,14 +1,14 @@
 //! Counts a machine's loose things: all things that differ from the day, except cables and bars.
 ghost use Rattle.kd_pins.specs.PinWheels.{pins_of};
-ghost use Rattle.kd_state.specs.{Machine.{machine_ring, machine_letter}, SameParts.{same_wheel, same_reflector}};
-ghost use Rattle.kd_state.specs.Costs.{exactly_one, one_unless};
+ghost use Rattle.kd_state.specs.{Machine.{machine_ring, machine_letter}, SameParts.same_wheel};
+ghost use Rattle.kd_state.specs.Costs.{exactly_one};
 ghost use Rattle.std.specs.Prelude.{◌≡◌, ◌≤◌, false, not, nat_eq, length, map, sum, count_by, zip};
 ghost use Rattle.std.specs.Option.{option_map_or};
 ghost use Rattle.kd_state.specs.Costs as costs;
 
 use kd_pins::PinSet;
 use kd_state::{Entry, Machine, Parts, SheetDay, SheetWheel};
-use kd_tables::{Letter, Reflector, Wheel};
+use kd_tables::{Letter, Wheel};
 
 /// Counts the loose things of `machine`: all things that aren't as `day` says, except cables and bars.
 ///
@@ -21,7 +21,7 @@ pub fn loose_count(machine: &Machine, day: &SheetDay) -> usize
         (Parts::Rotor(parts), Entry::Rotor(entry)) => {
             let wheels = entry.wheels.as_slice();
             let slots = loose_slots(parts.slots.as_slice(), wheels);
-            let reflector = loose_reflector(parts.reflector, entry.reflector);
+            let reflector = usize::from(parts.reflector != entry.reflector);
             slots + reflector + loose_rings(machine, wheels) + loose_letters(machine, wheels)
         }
         (Parts::Pin(parts), Entry::Pin(entry)) => {
@@ -43,14 +43,6 @@ fn loose_slots(slots: &[Option<Wheel>], wheels: &[SheetWheel]) -> usize
         .zip(wheels)
         .filter(|(seated, wanted)| **seated != Some(wanted.wheel))
         .count()
-}
-
-/// 1 if the machine's reflector `present` isn't the day's reflector `wanted`, otherwise 0.
-fn loose_reflector(present: Reflector, wanted: Reflector) -> usize
-    ensures value { result ≡ one_unless (same_reflector present wanted) }
-    ensures few { result ≤ 1 }
-{
-    usize::from(present != wanted)
 }
 
 /// Counts the day's wheels whose rings aren't set to the day's letters.

@@ -12,4 +12,4 @@ returns-in-Rotor-Rotor-clause-value c =
     let slots = rw (c.as_slice.ensures.value, wheels) at c.loose_slots-slots.ensures.value in
     let rings = rw (machine, wheels) at c.loose_rings.ensures.value in
     let letters = rw (machine, wheels) at c.loose_letters.ensures.value in
-    rw (machine, day) (omega (arith, slots, c.loose_reflector-reflector.ensures.value, rings, letters))
+    rw (machine, day) (grind (arith, slots, c.from-reflector.ensures, c.ne.ensures, rings, letters))

@@ -1,4 +1,4 @@
-use Rattle.kd_card.proofs.OneCard.{arith, far_price, not_parsed, not_utf8, ok_part, price_parsed, written_price, sym, ◌∙◌}
+use Rattle.kd_card.proofs.OneCard.{arith, not_utf8, ok_part, parse-price, written_price, sym, ◌∙◌}
 use Rattle.kd_card.proofs.price_text.price_of_text.Goals as goal
 use Rattle.kd_card.proofs.price_text.price_of_text.Goals.{then-unsigned_abs-le9999, else-unsigned_abs-le9999}
 
@@ -10,17 +10,12 @@ returns-in_err-ok c =
 pub returns-in_err-price : goal.returns-in_err-price
 returns-in_err-price c =
     let text = ok_part c.from_utf8.result c.in_ok-ok.field-0 _ _ c.from_utf8.ensures.cases c.in_ok-ok.ensures.value in
-    rw c.from_residual-in_err-price.ensures
-    (not_parsed c.args.text.now c.parse.result (rw text.0 at c.parse.ensures.value.0)
-    (sym c.ok-2.ensures.value ∙ c.in_err-price.was))
+    let none = sym c.ok-2.ensures.value ∙ c.in_err-price.was in
+    grind (arith, none, parse-price c.args.text.now c.parse.result (rw text.0 at c.parse.ensures.value.0))
 
 pub returns : goal.returns
 returns c =
     let text = ok_part c.from_utf8.result c.in_ok-ok.field-0 _ _ c.from_utf8.ensures.cases c.in_ok-ok.ensures.value in
-    let parses = rw text.0 at c.parse.ensures.value.0 in
-    let price = c.in_ok-price.price in
     let parsed = sym c.ok-2.ensures.value ∙ c.in_ok-price.was in
-    elim c.if-unsigned_abs-le9999.branch [
-      | then-unsigned_abs-le9999 w ↦ grind (arith, price_parsed c.args.text.now c.parse.result price c.is_word-is_written_so.result parses parsed, written_price c.format.result.now price)
-      | else-unsigned_abs-le9999 w ↦ grind (arith, far_price c.args.text.now c.parse.result price parses parsed)
-    ]
+    let only = parse-price c.args.text.now c.parse.result (rw text.0 at c.parse.ensures.value.0) in
+    grind (arith, parsed, only, written_price c.format.result.now c.in_ok-price.price)

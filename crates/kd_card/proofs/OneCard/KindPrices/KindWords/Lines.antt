@@ -66,8 +66,6 @@ pub all_prices : (front word : List ℕ) (prices : List ℤ)
     → (front ++ (word ++ behind_spaces prices)) ++ 10 ∷ [] ≡ front ++ line_then (price_words word prices) []
 all_prices front word prices = simp (append_assoc, line_of-prices word prices)
 
-pub ruleset prices_written = (all_prices, take_all)
-
 -- ---- a card's text, line by line
 
 pub line_and_more : (line text rest : List ℕ) → ((line ++ 10 ∷ []) ++ text) ++ rest ≡ line ++ 10 ∷ (text ++ rest)
@@ -196,24 +194,10 @@ pub not_utf8 : {S E : Type 0} (bs : List ℕ) (r : Result S E) (P : S → Type 0
     → MatchResult r P (λ e. ¬ (IsUtf8 bs) × Q e) → result_ok r ≡ None → IsPriceOf bs None
 not_utf8 bs r P Q e none price near is = grind (arith, IsUtf8-from_ascii, IsAscii-signed, mag-small)
 
-pub not_parsed : {E : Type 0} (bs : List ℕ) (r : Result ℤ E) → ParsesSigned w16 10 bs r → result_ok r ≡ None
-    → IsPriceOf bs None
-not_parsed bs r h none price near is =
-    grind (arith, parse-signed_decimal w16 price bs r (FitsSigned-price price near) (mag-small price near) (sym is) h)
-
-pub price_parsed : {E : Type 0} (bs : List ℕ) (r : Result ℤ E) (parsed : ℤ) (test : Bool) → ParsesSigned w16 10 bs r
-    → result_ok r ≡ Some parsed → unsigned_abs parsed ≤ 9999 → Decides test (bs ≡ signed_decimal parsed)
-    → IsPriceOf bs (then_some test parsed)
-price_parsed bs r parsed true h some small d = (sym (d.0 refl), small)
-price_parsed bs r parsed false h some small d = λ price near is.
-    let same = parse-signed_decimal w16 price bs r (FitsSigned-price price near) (mag-small price near) (sym is) h in
-    grind (arith, same, d)
-
-pub far_price : {E : Type 0} (bs : List ℕ) (r : Result ℤ E) (parsed : ℤ) → ParsesSigned w16 10 bs r
-    → result_ok r ≡ Some parsed → 9999 < unsigned_abs parsed → IsPriceOf bs None
-far_price bs r parsed h some far price near is =
-    let same = parse-signed_decimal w16 price bs r (FitsSigned-price price near) (mag-small price near) (sym is) h in
-    grind (arith, same)
+pub parse-price : {E : Type 0} (bs : List ℕ) (r : Result ℤ E) → ParsesSigned w16 10 bs r → (price : ℤ)
+    → unsigned_abs price ≤ 9999 → signed_decimal price ≡ bs → r ≡ Ok price
+parse-price bs r h price near is =
+    parse-signed_decimal w16 price bs r (FitsSigned-price price near) (mag-small price near) (sym is) h
 
 pub tells_price : (word : List ℕ) (r : Option ℤ) → IsPriceOf word r → IsTrue (is_some r) ↔ IsPriceText word
 tells_price word r e = grind arith
@@ -268,13 +252,6 @@ module _ (number line : ℕ) {words : List (List ℕ)} where
 pub MatchResult-err : {F Y : Type 0} (answer : Result Y F) (fault : F) (Good : Y → Type 0) (Bad : F → Type 0)
     → IsErrAnd answer (λ made. made ≡ fault) → Bad fault → MatchResult answer Good Bad
 MatchResult-err answer fault Good Bad made bad = let is = err_from_is_err_and answer made in rw (is.1, is.2) bad
-
--- If the first step finds `x`, and the result is right by the rule of the next step, it is right by the rule of both.
-pub goes_on : {F X Y Z : Type 0} (First : Result X F → Type 0) (Next : X → Result Z F → Type 0) (x : X) → First (Ok x)
-    → (answer : Result Y F) (f : Y → Z) → MatchResult answer (λ y. Next x (Ok (f y))) (λ fault. Next x (Err fault))
-    → MatchResult answer (λ y. ThenNext First Next (Ok (f y))) (λ fault. ThenNext First Next (Err fault))
-goes_on First Next x is (Ok y) f next = GoesOn x is next
-goes_on First Next x is (Err fault) f next = GoesOn x is next
 
 -- A test that is false refutes what it decides.
 pub not_from_false : {P : Type 0} {test : Bool} → Decides test P → test ≡ false → ¬ P
