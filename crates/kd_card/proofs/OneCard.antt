@@ -98,9 +98,9 @@ card_said {bytes} x says =
     let prices = all.found.0 in
     let last = value_said true (codes "SUM ") _ _ sum.says ∙ ap (line_then (sum_words (price_sum prices))) end.says in
     let behind = are.text ∙ ap (λ t. lines_text (price_lines prices) ++ t) last in
-    let counted =
+    let total_count =
     value_said false (codes "SETTINGS ") _ _ number.says ∙ ap (line_then (settings_words (length xs))) behind in
-    let body = list.says.lines.lines ∙ ap (λ t. list_text xs ++ t) counted in
+    let body = list.says.lines.lines ∙ ap (λ t. list_text xs ++ t) total_count in
     rw (Yields-Ok end.next) (record {
       text =
           head.says.text ∙ ap (λ v. line_then (head_words v head.found.1) head.found.2) (sym are.version)
@@ -140,14 +140,14 @@ only_price_line word number line bytes =
 line_of_prices : (word : List ℕ) (prices : List ℤ) (rest : List ℕ) {bytes : List ℕ} → IsWord word
     → ArePricesInRange prices → bytes ≡ line_then (price_words word prices) rest
     → HasLineWords bytes (price_words word prices) rest
-line_of_prices word prices rest is_word reach e =
-    line_has_words (price_words word prices) rest (λ none. cc) (prices_are_words word prices is_word reach) e
+line_of_prices word prices rest is_word in_range e =
+    line_has_words (price_words word prices) rest (λ none. cc) (prices_are_words word prices is_word in_range) e
 
 price_line_says : {word : List ℕ} {number line : ℕ} {bytes : List ℕ} (prices : List ℤ) {rest : List ℕ}
     → HasLineWords bytes (price_words word prices) rest → IsPriceList number prices
     → IsPriceLineAnswer word number line bytes (Ok (prices, rest))
 price_line_says prices has list =
-    line_read has (GoesOn prices (refl, list.reach) (GoesOn tt list.count refl))
+    line_read has (GoesOn prices (refl, list.in_range) (GoesOn tt list.count refl))
 
 -- ---- groups of kinds
 
@@ -240,9 +240,9 @@ lists_say : {row_word column_word : List ℕ} {number : ℕ} (line : ℕ) {bytes
     → bytes ≡ lines_text (price_words row_word rows ∷ price_words column_word columns ∷ []) ++ rest
     → BeginsWithWord row_word bytes × IsListsAnswer row_word column_word number line bytes (Ok (rows, columns, rest))
 lists_say {row_word} {column_word} line rows columns rest row column a b e =
-    let first = line_of_prices row_word rows _ row a.reach
+    let first = line_of_prices row_word rows _ row a.in_range
     (e ∙ two_lines (price_words row_word rows) (price_words column_word columns) rest) in
-    let second = line_of_prices column_word columns rest column b.reach refl in (
+    let second = line_of_prices column_word columns rest column b.in_range refl in (
       record { behind = _; rest = _; has = first },
       GoesOn (rows, _) (price_line_says rows first a) (GoesOn (columns, rest) (price_line_says columns second b) refl),
     )
@@ -282,13 +282,13 @@ one_head bytes (ByNumber, day, rest) (ByNumber, other, more) a b = cc ((same_day
 one_head bytes (ByKind, day, rest) (ByKind, other, more) a b = cc ((same_day a b).0, (same_day a b).1)
 one_head bytes (_, _, _) (_, _, _) a b = absurd (omega (arith, ap (λ text. get_or text 5 0) (sym a.text ∙ b.text)))
 
-only_value : (signed : Bool) (front due : List ℕ) (line : ℕ) (bytes : List ℕ)
-    → HasOneAnswer (IsValueAnswer signed front due line bytes)
-only_value signed front due line bytes =
+only_value : (signed : Bool) (prefix due : List ℕ) (line : ℕ) (bytes : List ℕ)
+    → HasOneAnswer (IsValueAnswer signed prefix due line bytes)
+only_value signed prefix due line bytes =
     HasOneAnswer-ThenNext
     (HasOneAnswer-Finds _ (λ x y a b.
     let same =
-    same_values front (numeral_word signed x.0 a.0).unbroken (numeral_word signed y.0 b.0).unbroken a.1 b.1 in
+    same_values prefix (numeral_word signed x.0 a.0).unbroken (numeral_word signed y.0 b.0).unbroken a.1 b.1 in
     same_pair x y same.0 same.1))
     (λ found says. HasOneAnswer-ThenNext (HasOneAnswer-Demands _ _) (λ due is. HasOneAnswer-Yields _))
 
@@ -361,8 +361,8 @@ texts_tell_cards bytes day other xs ys prices others a b =
     let same = Yields-Ok (only_card bytes _ _ (says_itself a) (says_itself b)) in
     (ap (λ x. x.0) same, ap (λ x. x.1) same, ap (λ x. x.2) same)
 
-pub cards_are_said : CardsAreSaid
-cards_are_said bytes day xs prices = (card_said (day, xs, prices), says_itself)
+pub reading_gives_cards : ReadingGivesCards
+reading_gives_cards bytes day xs prices = (card_said (day, xs, prices), says_itself)
 
 pub cards_have_no_fault : CardsHaveNoFault
 cards_have_no_fault bytes day xs prices fault a b = let same = only_card bytes _ _ (says_itself a) b in cc

@@ -1,6 +1,6 @@
 -- The result of reading bytes as a card: the card, or the first fault. Lines are counted from 1.
 use Rattle.kd_card.specs.Kinds.{KindFormat, cable_format, pair_format, bar_format, row_format, kind_words, kinds_text}
-use Rattle.kd_card.specs.Kinds.{counted, IsKind, AreKinds, ComesAfter}
+use Rattle.kd_card.specs.Kinds.{total_count, IsKind, AreKinds, ComesAfter}
 use Rattle.kd_card.specs.declared.fault.CardFault.TheVariants.{BadHead, BadLine, TooMany, PriceMissing, CountWrong}
 use Rattle.kd_card.specs.declared.fault.CardFault.TheVariants.{Trailing}
 use Rattle.kd_card.specs.declared.prices.PriceParts.TheVariants.{Cables, Bars, CableKinds, BarKinds}
@@ -44,13 +44,13 @@ pub record HasLineWords (bytes : List ℕ) (words : List (List ℕ)) (rest : Lis
   pub first : IsFirstPart 10 bytes line rest
   pub parts : words_of line ≡ words
 
--- Reading a line such as `SUM 12`, which has `front` and then a number. The result is the bytes after the line, or a
+-- Reading a line such as `SUM 12`, which has `prefix` and then a number. The result is the bytes after the line, or a
 -- fault. If the line has another form or no LF, the fault is `BadLine`. If its number isn't `due`, the fault is
 -- `CountWrong`.
 abbrev pub IsValueAnswer : Bool → List ℕ → List ℕ → ℕ → List ℕ → AnswerRule CardFault (List ℕ)
-IsValueAnswer signed front due line bytes = do
+IsValueAnswer signed prefix due line bytes = do
   found ← Finds
-      (λ (found : List ℕ × List ℕ). IsNumeral signed found.0 × (bytes ≡ front ++ found.0 ++ 10 ∷ found.1))
+      (λ (found : List ℕ × List ℕ). IsNumeral signed found.0 × (bytes ≡ prefix ++ found.0 ++ 10 ∷ found.1))
       (BadLine line)
   _ ← Demands (found.0 ≡ due) CountWrong
   Yields found.1
@@ -165,7 +165,7 @@ abbrev pub IsGroupAnswer : {K X : Type 0} → KindFormat K X → ℕ → ℕ →
 IsGroupAnswer {K} format number line bytes = do
   group ← FindsAlways (λ (group : List K × List ℕ). BeginsWithKinds format None bytes group.0 group.1)
   _ ← Demands (EndsGroup format.word group.1) (BadLine (line + length group.0))
-  _ ← Demands (counted format group.0 ≡ number) PriceMissing
+  _ ← Demands (total_count format group.0 ≡ number) PriceMissing
   Yields group
 
 -- The result of reading two groups of kinds: both groups and the bytes after them, or a fault. The first group is for

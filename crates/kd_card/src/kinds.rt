@@ -4,7 +4,7 @@ ghost use Rattle.std.specs.Prelude.{IsTrue, MatchOption};
 ghost use Rattle.arrayvec.specs.ArrayVec.{array_vec_len};
 ghost use Rattle.kd_state.specs.Machine.{cable_letters};
 ghost use Rattle.kd_card.specs.Kinds.{cable_format, pair_format, bar_format, row_format, letters_text};
-ghost use Rattle.kd_card.specs.{Kinds.{ComesAfter, IsKind, AreKinds, counted, prices_of_kinds}, Prices.IsPriceList};
+ghost use Rattle.kd_card.specs.{Kinds.{ComesAfter, IsKind, AreKinds, total_count, prices_of_kinds}, Prices.IsPriceList};
 
 use super::kind_key::{Column, Ends, KindKey};
 use arrayvec::{ArrayString, ArrayVec};
@@ -377,7 +377,7 @@ fn is_kind<K: Kind>(kind: &K) -> bool
 /// Whether `kinds` are valid and strictly ascending (after `last`, if any), and their counts add up to `number`.
 pub(crate) fn are_kinds<K: Kind>(kinds: &[K], last: Option<K>, number: usize) -> bool
     ensures value { IsTrue result
-        ↔ (AreKinds K.format last kinds.now × (counted K.format kinds.now ≡ number)) }
+        ↔ (AreKinds K.format last kinds.now × (total_count K.format kinds.now ≡ number)) }
     ensures few { IsTrue result → length kinds.now ≤ number }
 {
     match kinds {
@@ -395,9 +395,9 @@ pub(crate) fn are_kinds<K: Kind>(kinds: &[K], last: Option<K>, number: usize) ->
 /// Lists the price of each kind as many times as the kind's count says, kind after kind.
 pub(crate) fn prices_of_kinds<K: Kind>(kinds: &[K]) -> ArrayVec<i16, 27>
     requires kinds { AreKinds K.format None kinds.now }
-    requires few { counted K.format kinds.now ≤ 27 }
+    requires few { total_count K.format kinds.now ≤ 27 }
     ensures items { result.items ≡ prices_of_kinds K.format kinds.now }
-    ensures list { IsPriceList (counted K.format kinds.now) (prices_of_kinds K.format kinds.now) }
+    ensures list { IsPriceList (total_count K.format kinds.now) (prices_of_kinds K.format kinds.now) }
 {
     let mut prices = ArrayVec::new();
     for kind in kinds {

@@ -52,7 +52,7 @@ pub(crate) fn price_of_text(text: &[u8]) -> Option<i16>
 ///
 /// If `text` is empty, the fault is `PriceMissing`. If the first line, which is line `line` of the card, has no LF, the
 /// fault is `BadLine`.
-pub(crate) fn split_first(
+pub(crate) fn split_first_word(
     text: &[u8],
     line: usize,
 ) -> Result<(&[u8], Option<&[u8]>, &[u8]), CardFault>
@@ -81,7 +81,7 @@ pub(crate) fn table_of_line(
 ) -> Result<CostTable, CardFault>
     ensures { IsTableAnswer version line text.now result }
 {
-    let (first, _, _) = split_first(text, line)?;
+    let (first, _, _) = split_first_word(text, line)?;
     if is_word(first, CostTable::OfCables.first_text(version)) {
         Ok(CostTable::OfCables)
     } else if is_word(first, CostTable::OfBars.first_text(version)) {

@@ -19,7 +19,7 @@ pub enum Version {
 
 impl Version {
     /// The text before the day's number in a card's first line, such as `CARD 1 DAY `.
-    pub(crate) fn front(self) -> &'static str
+    pub(crate) fn head_prefix(self) -> &'static str
         ensures value { result.now ≡ head_prefix self }
         ensures few { length result.now ≡ 11 }
     {
@@ -72,7 +72,7 @@ impl Prices {
             (¬ (ArePrices (PriceParts.Cables cables pairs)))
             (λ prices. prices ≡ PriceParts.Cables cables pairs) }
     {
-        if are_within_reach(&cables) && are_within_reach(&pairs) {
+        if are_in_range(&cables) && are_in_range(&pairs) {
             Some(Prices::of_parts(PriceParts::Cables(cables, pairs)))
         } else {
             None
@@ -87,7 +87,7 @@ impl Prices {
             (¬ (ArePrices (PriceParts.Bars bars rows)))
             (λ prices. prices ≡ PriceParts.Bars bars rows) }
     {
-        if are_within_reach(&bars) && are_within_reach(&rows) {
+        if are_in_range(&bars) && are_in_range(&rows) {
             Some(Prices::of_parts(PriceParts::Bars(bars, rows)))
         } else {
             None
@@ -104,7 +104,7 @@ impl Prices {
             PriceParts.CableKinds (record { items = cables.now }) (record { items = pairs.now }) in
             MatchOption result (¬ (ArePrices parts)) (λ prices. prices ≡ parts) }
     {
-        let parts = PriceParts::CableKinds(in_order(cables)?, in_order(pairs)?);
+        let parts = PriceParts::CableKinds(copy_if_group(cables)?, copy_if_group(pairs)?);
         Some(Prices::of_parts(parts))
     }
 
@@ -117,7 +117,7 @@ impl Prices {
             PriceParts.BarKinds (record { items = bars.now }) (record { items = rows.now }) in
             MatchOption result (¬ (ArePrices parts)) (λ prices. prices ≡ parts) }
     {
-        let parts = PriceParts::BarKinds(in_order(bars)?, in_order(rows)?);
+        let parts = PriceParts::BarKinds(copy_if_group(bars)?, copy_if_group(rows)?);
         Some(Prices::of_parts(parts))
     }
 
@@ -200,7 +200,7 @@ pub fn sum_of_prices(rows: &[i16], columns: &[i16]) -> i32
 }
 
 /// Whether all of `prices` are from -9999 to 9999.
-fn are_within_reach(prices: &[i16]) -> bool
+fn are_in_range(prices: &[i16]) -> bool
     ensures { IsTrue result ↔ ArePricesInRange prices.now }
 {
     prices.iter().all(|price| price.unsigned_abs() <= 9999)
@@ -208,7 +208,7 @@ fn are_within_reach(prices: &[i16]) -> bool
 
 /// The sum of `sum` and all of `prices`.
 fn sum_onto(sum: i32, prices: &[i16]) -> i32
-    requires reach { ArePricesInRange prices.now }
+    requires in_range { ArePricesInRange prices.now }
     requires few { length prices.now ≤ 27 }
     requires small { unsigned_abs sum ≤ 27 * 9999 }
     ensures value { result ≡ fold (λ sum price. sum +ℤ price) sum prices.now }
@@ -222,7 +222,7 @@ fn sum_onto(sum: i32, prices: &[i16]) -> i32
 }
 
 /// Copies `kinds`. `None` if they aren't valid and strictly ascending, or their counts don't add up to `N`.
-fn in_order<K: Kind, const N: usize>(kinds: &[K]) -> Option<ArrayVec<K, N>>
+fn copy_if_group<K: Kind, const N: usize>(kinds: &[K]) -> Option<ArrayVec<K, N>>
     ensures { MatchOption result
         (¬ (IsGroup K.format N kinds.now))
         (λ copied. (copied.items ≡ kinds.now) × IsGroup K.format N kinds.now) }

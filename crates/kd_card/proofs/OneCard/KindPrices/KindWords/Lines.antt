@@ -19,7 +19,7 @@ pub use Rattle.std.proofs.{Common.bytes_eq, lemmas.Slice.Eq.bytes_eq-Decides}
 pub use Rattle.std.specs.{Bool.then_some, Result.result_ok, Str.{IsUtf8, Parse.ParsesSigned}}
 pub use Rattle.std.proofs.lemmas.{Fmt.{IsAscii-signed, parse-signed_decimal}, Str.IsUtf8-from_ascii}
 pub use Rattle.kd_card.specs.Kinds.{AreEnds, bar_format, cable_format, ComesAfter, HasText, IsOnlyKey, letters_text}
-pub use Rattle.kd_card.specs.Kinds.{counted, IsGroup, IsKind, KeyComesBefore, KindFormat, pair_format, prices_of_kinds}
+pub use Rattle.kd_card.specs.Kinds.{total_count, IsGroup, IsKind, KeyComesBefore, KindFormat, pair_format, prices_of_kinds}
 pub use Rattle.kd_card.specs.{CardFault.first_text, Kinds.{AreKinds, HasKindWords, kind_words, kinds_text, row_format}}
 pub use Rattle.kd_card.specs.CardFault.{AtNothing, BeginsWithWord, IsAllPricesAnswer, IsPricesAnswer, last_of}
 pub use Rattle.kd_card.specs.CardFault.{BeginsWithKinds, IsDigit, IsGroupsAnswer, IsPriceLineAnswer, IsRestAnswer}
@@ -31,9 +31,9 @@ pub use Rattle.kd_card.specs.declared.cost_table.CostTable.{CostTable, TheVarian
 pub use Rattle.kd_card.specs.declared.prices.PriceParts.{PriceParts, TheVariants.{BarKinds, Bars, CableKinds, Cables}}
 pub use Rattle.kd_card.specs.declared.{kinds.KindOf.KindOf, prices.Version.{Version, TheVariants.{ByKind, ByNumber}}}
 pub use Rattle.kd_card.specs.declared.fault.CardFault.{CardFault, TheVariants.{BadLine, PriceMissing, Trailing}}
-pub use Rattle.kd_card.specs.Laws.{CardsAreSaid, CardsHaveNoFault, NoCardBeginsAnother, OneCardFault, TextsTellCards}
+pub use Rattle.kd_card.specs.Laws.{ReadingGivesCards, CardsHaveNoFault, NoCardBeginsAnother, OneCardFault, TextsTellCards}
 pub use Rattle.kd_card.specs.Reading.{AreFewKinds, EndsKindsAt, head_prefix, IsBadKindAt, IsKindOfWords, IsPriceText}
-pub use Rattle.kd_card.specs.Prices.{ArePrices, column_prices, IsPriceList, price_sum, table_rows, version_of}
+pub use Rattle.kd_card.specs.Prices.{ArePrices, column_prices, IsPriceList, price_sum, table_size, version_of}
 pub use Rattle.{kd_card.specs.Prices.{ArePricesInRange, row_prices}, kd_state.specs.SheetDay.IsDayNumber}
 pub use Rattle.kd_state.specs.FirstFaults.{HasOneAnswer, HasOneAnswer-Demands, ThenNext, ThenNext-Ok, Yields, Yields-Ok}
 pub use Rattle.kd_state.specs.FirstFaults.{Demands, HasOneAnswer-Finds, HasOneAnswer-FindsAlways, HasOneAnswer-ThenNext}
@@ -62,9 +62,9 @@ line_of-prices : (word : List ℕ) (prices : List ℤ) → line_of (price_words 
 line_of-prices word [] = sym (append-nil word)
 line_of-prices word (price ∷ prices) = ap (λ text. word ++ 32 ∷ text) (line_of-prices (signed_decimal price) prices)
 
-pub all_prices : (front word : List ℕ) (prices : List ℤ)
-    → (front ++ (word ++ behind_spaces prices)) ++ 10 ∷ [] ≡ front ++ line_then (price_words word prices) []
-all_prices front word prices = simp (append_assoc, line_of-prices word prices)
+pub all_prices : (prefix word : List ℕ) (prices : List ℤ)
+    → (prefix ++ (word ++ behind_spaces prices)) ++ 10 ∷ [] ≡ prefix ++ line_then (price_words word prices) []
+all_prices prefix word prices = simp (append_assoc, line_of-prices word prices)
 
 -- ---- a card's text, line by line
 
@@ -83,8 +83,8 @@ pub card_and_more : (day : ℕ) (xs : List Setting) (prices : PriceParts) (rest 
 card_and_more day xs prices rest = grind (arith, common_steps, all_lines, flat_map-map)
 
 -- A card's head is the text before the day, the day, and an LF.
-pub head_text : {front : List ℕ} (version : Version) (day : ℕ) (rest : List ℕ) → front ≡ head_prefix version
-    → front ++ decimal day ++ 10 ∷ rest ≡ line_then (head_words version day) rest
+pub head_text : {prefix : List ℕ} (version : Version) (day : ℕ) (rest : List ℕ) → prefix ≡ head_prefix version
+    → prefix ++ decimal day ++ 10 ∷ rest ≡ line_then (head_words version day) rest
 head_text version day rest e = rw e (grind arith)
 
 lines_text-card : (head count sum : List (List ℕ)) (settings lines : List (List (List ℕ)))
@@ -93,12 +93,12 @@ lines_text-card : (head count sum : List (List ℕ)) (settings lines : List (Lis
 lines_text-card head count sum settings lines = simp (flat_map-append, append_assoc)
 
 pub card_text-joined : (version : Version) (day count : ℕ)
-    (xs ys : List Setting) (prices : PriceParts) (sum : ℤ) (empty top head list below counted lines end whole : List ℕ)
+    (xs ys : List Setting) (prices : PriceParts) (sum : ℤ) (empty top head list below total_count lines end whole : List ℕ)
     → empty ≡ [] → top ≡ line_then (head_words version day) [] → below ≡ line_then (settings_words count) []
-    → end ≡ line_then (sum_words sum) [] → head ≡ empty ++ top → list ≡ head ++ list_text ys → counted ≡ list ++ below
-    → lines ≡ counted ++ lines_text (price_lines prices) → whole ≡ lines ++ end → version ≡ version_of prices
+    → end ≡ line_then (sum_words sum) [] → head ≡ empty ++ top → list ≡ head ++ list_text ys → total_count ≡ list ++ below
+    → lines ≡ total_count ++ lines_text (price_lines prices) → whole ≡ lines ++ end → version ≡ version_of prices
     → ys ≡ xs → count ≡ length xs → sum ≡ price_sum prices → whole ≡ card_text day xs prices
-card_text-joined version day count xs ys prices sum empty top head list below counted lines end whole
+card_text-joined version day count xs ys prices sum empty top head list below total_count lines end whole
     a t n s h l c p w by same many summed =
     let lines_of = map setting_words xs in
     let card = lines_text-card (head_words version day) (settings_words count) (sum_words sum) lines_of
@@ -116,15 +116,15 @@ pub no_first_part : {byte : ℕ} {text part rest : List ℕ} → IsFirstPart byt
 no_first_part {byte} {text} {part} {rest} first without =
     grind (arith, without, length-append part (byte ∷ rest), get_or_at part byte rest 0 (length part) refl)
 
--- The bytes after `front`, split at the first LF: the value before it, and the bytes after it; or there is no LF.
-pub value_split : (text front behind : List ℕ) (r : Option (Bor (List ℕ) × Bor (List ℕ))) → text ≡ front ++ behind
+-- The bytes after `prefix`, split at the first LF: the value before it, and the bytes after it; or there is no LF.
+pub value_split : (text prefix behind : List ℕ) (r : Option (Bor (List ℕ) × Bor (List ℕ))) → text ≡ prefix ++ behind
     → MatchOption r (IsWithout 10 behind) (λ parts. IsFirstPart 10 behind parts.0.now parts.1.now)
-    → MatchOption r ((value rest : List ℕ) → IsWithout 10 value → text ≢ front ++ value ++ 10 ∷ rest)
-    (λ found. (text ≡ front ++ found.0.now ++ 10 ∷ found.1.now) × IsWithout 10 found.0.now)
-value_split text front behind None e none = λ value rest free d.
-    let same : front ++ behind ≡ front ++ (value ++ 10 ∷ rest) = sym e ∙ d ∙ append_assoc front value (10 ∷ rest) in
-    no_first_part (record { joined = append_cancel_left front behind (value ++ 10 ∷ rest) same; without = free }) none
-value_split text front behind (Some found) e first = grind (arith, common_steps, append_assoc)
+    → MatchOption r ((value rest : List ℕ) → IsWithout 10 value → text ≢ prefix ++ value ++ 10 ∷ rest)
+    (λ found. (text ≡ prefix ++ found.0.now ++ 10 ∷ found.1.now) × IsWithout 10 found.0.now)
+value_split text prefix behind None e none = λ value rest free d.
+    let same : prefix ++ behind ≡ prefix ++ (value ++ 10 ∷ rest) = sym e ∙ d ∙ append_assoc prefix value (10 ∷ rest) in
+    no_first_part (record { joined = append_cancel_left prefix behind (value ++ 10 ∷ rest) same; without = free }) none
+value_split text prefix behind (Some found) e first = grind (arith, common_steps, append_assoc)
 
 -- ---- texts without LF
 
@@ -209,7 +209,7 @@ not_at words i d inside none all =
     (all i d.now (omega (arith, inside, length-map words (λ (word : Bor (List ℕ)). word.now)))))
 
 pub all_price_texts : (prices : List ℤ) → ArePricesInRange prices → All IsPriceText (map signed_decimal prices)
-all_price_texts prices reach = search (rules, All-map, All-weaker)
+all_price_texts prices in_range = search (rules, All-map, All-weaker)
 
 AllByRecursion-prices : (words : List (List ℕ)) → AllByRecursion IsPriceText words → (prices : List ℤ)
     × (words ≡ map signed_decimal prices) × AllByRecursion (λ price. unsigned_abs price ≤ 9999) prices
@@ -222,8 +222,8 @@ AllByRecursion-prices (word ∷ words) (is, all) =
 module _ (number line : ℕ) {words : List (List ℕ)} where
   pub other_count : (prices : List ℤ) → words ≡ map signed_decimal prices → ArePricesInRange prices
       → length prices ≢ number → IsPricesAnswer number line words (Err PriceMissing)
-  other_count prices are reach differs =
-      GoesOn prices (are, reach) (HasFault PriceMissing ((λ same count. differs count), refl) refl)
+  other_count prices are in_range differs =
+      GoesOn prices (are, in_range) (HasFault PriceMissing ((λ same count. differs count), refl) refl)
 
   -- Prices whose number is tested are the result if the number is right.
   pub count_settled : (prices : List ℤ) → words ≡ map signed_decimal prices → ArePricesInRange prices
@@ -232,8 +232,8 @@ module _ (number line : ℕ) {words : List (List ℕ)} where
       (λ fault. (fault ≡ PriceMissing) × (length prices ≢ number))
       → MatchResult answer (λ made. IsPricesAnswer number line words (Ok made))
       (λ fault. IsPricesAnswer number line words (Err fault))
-  count_settled prices are reach (Ok made) is = rw is.0 (GoesOn prices (are, reach) (GoesOn tt is.1 refl))
-  count_settled prices are reach (Err fault) is = rw is.0 (other_count prices are reach is.1)
+  count_settled prices are in_range (Ok made) is = rw is.0 (GoesOn prices (are, in_range) (GoesOn tt is.1 refl))
+  count_settled prices are in_range (Err fault) is = rw is.0 (other_count prices are in_range is.1)
 
   pub too_many : All IsPriceText words → number < length words → IsPricesAnswer number line words (Err PriceMissing)
   too_many all many =
@@ -290,10 +290,10 @@ day_unbroken day month = let last = month.last in (numbers_are_words day (omega 
 
 pub prices_are_words : (word : List ℕ) (prices : List ℤ) → IsWord word → ArePricesInRange prices
     → All IsWord (price_words word prices)
-prices_are_words word prices w reach =
+prices_are_words word prices w in_range =
     All-cons IsWord word (map signed_decimal prices) w (All-map IsWord signed_decimal prices
     (All-weaker (λ price. unsigned_abs price ≤ 9999) (λ price. IsWord (signed_decimal price))
-    (λ price within. signed_word price (omega (arith, within))) prices reach))
+    (λ price within. signed_word price (omega (arith, within))) prices in_range))
 
 -- ---- the keywords of numbers
 
@@ -321,28 +321,28 @@ signed_text z small = grind (arith, number_text, not_zero)
 
 pub sum_bound : (a : ℤ) (prices : List ℤ) → AllByRecursion (λ price. unsigned_abs price ≤ 9999) prices
     → unsigned_abs (fold (λ sum price. sum +ℤ price) a prices) ≤ unsigned_abs a + 9999 * length prices
-sum_bound a [] reach = omega arith
-sum_bound a (price ∷ prices) reach = grind (arith, sum_bound (a +ℤ price) prices reach.1)
+sum_bound a [] in_range = omega arith
+sum_bound a (price ∷ prices) in_range = grind (arith, sum_bound (a +ℤ price) prices in_range.1)
 
-pub few_prices : (prices : PriceParts) → table_rows prices ≤ 27
+pub few_prices : (prices : PriceParts) → table_size prices ≤ 27
 few_prices prices = grind arith
 
 -- ---- a name and a value
 
-module _ (signed : Bool) (front due : List ℕ) (line : ℕ) where
-  pub value_says : {bytes rest : List ℕ} → IsNumeral signed due → bytes ≡ front ++ due ++ 10 ∷ rest
-      → IsValueAnswer signed front due line bytes (Ok rest)
+module _ (signed : Bool) (prefix due : List ℕ) (line : ℕ) where
+  pub value_says : {bytes rest : List ℕ} → IsNumeral signed due → bytes ≡ prefix ++ due ++ 10 ∷ rest
+      → IsValueAnswer signed prefix due line bytes (Ok rest)
   value_says {rest} form e = GoesOn (due, rest) (form, e) (GoesOn tt refl refl)
 
-  pub value_said : {bytes rest : List ℕ} → IsValueAnswer signed front due line bytes (Ok rest)
-      → bytes ≡ front ++ due ++ 10 ∷ rest
+  pub value_said : {bytes rest : List ℕ} → IsValueAnswer signed prefix due line bytes (Ok rest)
+      → bytes ≡ prefix ++ due ++ 10 ∷ rest
   value_said says = grind (arith, ThenNext-Ok)
 
--- The value after `front` and the bytes after its line are determined by the text.
-pub same_values : {bytes : List ℕ} (front : List ℕ) {value other rest more : List ℕ} → IsWithout 10 value
+-- The value after `prefix` and the bytes after its line are determined by the text.
+pub same_values : {bytes : List ℕ} (prefix : List ℕ) {value other rest more : List ℕ} → IsWithout 10 value
     → IsWithout 10 other
-    → bytes ≡ front ++ value ++ 10 ∷ rest → bytes ≡ front ++ other ++ 10 ∷ more → (value ≡ other) × (rest ≡ more)
-same_values front {value} {other} {rest} {more} free clear e d =
+    → bytes ≡ prefix ++ value ++ 10 ∷ rest → bytes ≡ prefix ++ other ++ 10 ∷ more → (value ≡ other) × (rest ≡ more)
+same_values prefix {value} {other} {rest} {more} free clear e d =
     grind (arith, common_steps, texts_tell_first_parts, append_cancel_left, append_assoc)
 
 -- ---- a first word, and prices
