@@ -5,9 +5,8 @@ use Rattle.kd_card.specs.declared.fault.CardFault.TheVariants.{BadHead, BadLine,
 use Rattle.kd_card.specs.declared.fault.CardFault.TheVariants.{Trailing}
 use Rattle.kd_card.specs.declared.prices.PriceParts.TheVariants.{Cables, Bars, CableKinds, BarKinds}
 use Rattle.kd_card.specs.{CardText.{head_words, price_lines}, declared.prices.Version.Version}
-use Rattle.kd_card.specs.declared.cost_table.CostTable.TheVariants.{OfCables, OfBars}
 use Rattle.kd_card.specs.{declared.prices.Version.TheVariants.{ByNumber, ByKind}, declared.prices.PriceParts.PriceParts}
-use Rattle.kd_card.specs.{declared.cost_table.CostTable.CostTable, Prices.{price_sum, ArePricesInRange}}
+use Rattle.kd_card.specs.Prices.{price_sum, ArePricesInRange}
 use Rattle.kd_card.specs.declared.fault.CardFault.{CardFault}
 use Rattle.kd_state.specs.{FirstFaults.{AnswerRule, ◌>>=◌, Yields, Finds, Demands, FindsAlways}, SheetDay.IsDayNumber}
 use Rattle.kd_state.specs.{Line.{BeginsWithSettingLines, BeginsWithAllSettings}, Words.{words_of, line_of, IsFirstPart}}
@@ -80,6 +79,11 @@ IsSettingsAnswer bytes (Err fault) =
     × (fault ≡ TooMany)
 
 -- ---- prices by number: two lines
+
+-- what a card's prices are for: the rows and columns of a table of costs of cables, or of bars
+pub data CostTable : Type 0 where
+  OfCables : CostTable
+  OfBars : CostTable
 
 -- the first word of a card's first price line: `CABLES` or `BARS` in version 1, `CABLE` or `BAR` in version 2
 abbrev pub first_text : Version → CostTable → List ℕ

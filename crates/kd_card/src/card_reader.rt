@@ -6,11 +6,10 @@ ghost use Rattle.kd_state.specs.Words.{words_of, IsWithout};
 ghost use Rattle.std.specs.Prelude.{◌≡◌, ◌≢◌, ℕ, ◌<◌, ◌≤◌, ◌∷◌, ◌++◌, List, MatchOption, MatchResult, Ok, Err};
 
 use super::card::Card;
-use super::cost_table::CostTable;
 use super::fault::CardFault;
 use super::kind_text::read_kinds;
 use super::kinds::Kind;
-use super::price_text::{is_numeral, prices_of_text, split_first_word, table_of_line};
+use super::price_text::{is_numeral, prices_of_text, split_first_word};
 use super::prices::{PriceParts, Prices, Version};
 use arrayvec::ArrayVec;
 use itoa::Buffer;
@@ -103,32 +102,34 @@ fn read_value<'a>(
 }
 
 /// Reads the prices of a card, from its line `line` on. Returns the prices, and the text after their lines.
+///
+/// The first word of line `line` shows whether the card has prices of cables or of bars.
 fn read_prices(text: &[u8], version: Version, line: usize) -> Result<(Prices, &[u8]), CardFault>
     requires { line < 200 }
     ensures { MatchResult result
         (λ found. IsAllPricesAnswer version line text.now (Ok (found.0, found.1.now)))
         (λ fault. IsAllPricesAnswer version line text.now (Err fault)) }
 {
-    match (version, table_of_line(text, version, line)?) {
-        (Version::ByNumber, CostTable::OfCables) => {
+    let (first, _, _) = split_first_word(text, line)?;
+    match version {
+        Version::ByNumber if is_word(first, "CABLES") => {
             let (cables, pairs, rest) = read_lists(text, "CABLES", "PAIRS", line)?;
             Ok((Prices::of_parts(PriceParts::Cables(cables, pairs)), rest))
         }
-        (Version::ByNumber, CostTable::OfBars) => {
+        Version::ByNumber if is_word(first, "BARS") => {
             let (bars, rows, rest) = read_lists(text, "BARS", "ROWS", line)?;
             Ok((Prices::of_parts(PriceParts::Bars(bars, rows)), rest))
         }
-        (Version::ByKind, CostTable::OfCables) => {
+        Version::ByKind if is_word(first, "CABLE") => {
             let (cables, pairs, rest) = read_groups(text, line)?;
-            Ok((
-                Prices::of_parts(PriceParts::CableKinds(cables, pairs)),
-                rest,
-            ))
+            let parts = PriceParts::CableKinds(cables, pairs);
+            Ok((Prices::of_parts(parts), rest))
         }
-        (Version::ByKind, CostTable::OfBars) => {
+        Version::ByKind if is_word(first, "BAR") => {
             let (bars, rows, rest) = read_groups(text, line)?;
             Ok((Prices::of_parts(PriceParts::BarKinds(bars, rows)), rest))
         }
+        _ => Err(CardFault::PriceMissing),
     }
 }
 

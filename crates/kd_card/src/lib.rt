@@ -5,7 +5,6 @@
 mod card;
 mod card_reader;
 mod card_writer;
-mod cost_table;
 mod fault;
 mod kind_key;
 mod kind_text;

@@ -1,14 +1,12 @@
 //! Reads prices and numbers, and the first words of price lines.
-ghost use Rattle.kd_card.specs.CardFault.{IsNumberText, IsNumeral, IsPricesAnswer, IsLineAnswer, IsTableAnswer};
+ghost use Rattle.kd_card.specs.CardFault.{IsNumberText, IsNumeral, IsPricesAnswer, IsLineAnswer};
 ghost use Rattle.kd_card.specs.{Reading.{IsPriceText, words_after_first}, Prices.ArePricesInRange};
 ghost use Rattle.kd_state.specs.Words.{words_of};
 ghost use Rattle.std.specs.Prelude.{◌≡◌, ◌≢◌, ◌↔◌, ◌<◌, ◌≤◌, [], ◌∷◌, ℕ, List, ℤ, pos, map, length, All, unsigned_abs};
 ghost use Rattle.std.specs.Prelude.{decimal, IsTrue, MatchOption, MatchResult, Ok, Err};
 ghost use Rattle.std.specs.{Option.option_copied, Fmt.signed_decimal};
 
-use super::cost_table::CostTable;
 use super::fault::CardFault;
-use super::prices::Version;
 use arrayvec::ArrayVec;
 use itoa::Buffer;
 use kd_state::{is_word, split_once, split_words};
@@ -70,24 +68,6 @@ pub(crate) fn split_first_word(
     match split_once(words, b' ') {
         Some((first, behind)) => Ok((first, Some(behind), rest)),
         None => Ok((words, None, rest)),
-    }
-}
-
-/// Reads the first word of the first price line. It shows whether the card has prices of cables or of bars.
-pub(crate) fn table_of_line(
-    text: &[u8],
-    version: Version,
-    line: usize,
-) -> Result<CostTable, CardFault>
-    ensures { IsTableAnswer version line text.now result }
-{
-    let (first, _, _) = split_first_word(text, line)?;
-    if is_word(first, CostTable::OfCables.first_text(version)) {
-        Ok(CostTable::OfCables)
-    } else if is_word(first, CostTable::OfBars.first_text(version)) {
-        Ok(CostTable::OfBars)
-    } else {
-        Err(CardFault::PriceMissing)
     }
 }
 

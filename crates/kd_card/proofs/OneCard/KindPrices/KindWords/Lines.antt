@@ -20,14 +20,13 @@ pub use Rattle.std.specs.{Bool.then_some, Result.result_ok, Str.{IsUtf8, Parse.P
 pub use Rattle.std.proofs.lemmas.{Fmt.{IsAscii-signed, parse-signed_decimal}, Str.IsUtf8-from_ascii}
 pub use Rattle.kd_card.specs.Kinds.{AreEnds, bar_format, cable_format, ComesAfter, HasText, IsOnlyKey, letters_text}
 pub use Rattle.kd_card.specs.Kinds.{total_count, IsGroup, IsKind, KeyComesBefore, KindFormat, pair_format, prices_of_kinds}
-pub use Rattle.kd_card.specs.{CardFault.first_text, Kinds.{AreKinds, HasKindWords, kind_words, kinds_text, row_format}}
+pub use Rattle.kd_card.specs.{CardFault.{first_text, CostTable, OfBars, OfCables}, Kinds.{AreKinds, HasKindWords, kind_words, kinds_text, row_format}}
 pub use Rattle.kd_card.specs.CardFault.{AtNothing, BeginsWithWord, IsAllPricesAnswer, IsPricesAnswer, last_of}
 pub use Rattle.kd_card.specs.CardFault.{BeginsWithKinds, IsDigit, IsGroupsAnswer, IsPriceLineAnswer, IsRestAnswer}
 pub use Rattle.kd_card.specs.CardFault.{EndsGroup, HasLineWords, IsLineAnswer, IsNextKind, IsNumberText, IsValueAnswer}
 pub use Rattle.kd_card.specs.CardFault.{BeginsWithHead, IsCardAnswer, IsSettingsAnswer, IsTablePricesAnswer}
 pub use Rattle.kd_card.specs.CardFault.{AtOther, HasNoNext, IsGroupAnswer, IsListsAnswer, IsNumeral, line_then}
 pub use Rattle.kd_card.specs.CardText.{card_text, head_words, IsCard, lines_text, price_lines}
-pub use Rattle.kd_card.specs.declared.cost_table.CostTable.{CostTable, TheVariants.{OfBars, OfCables}}
 pub use Rattle.kd_card.specs.declared.prices.PriceParts.{PriceParts, TheVariants.{BarKinds, Bars, CableKinds, Cables}}
 pub use Rattle.kd_card.specs.declared.{kinds.KindOf.KindOf, prices.Version.{Version, TheVariants.{ByKind, ByNumber}}}
 pub use Rattle.kd_card.specs.declared.fault.CardFault.{CardFault, TheVariants.{BadLine, PriceMissing, Trailing}}
