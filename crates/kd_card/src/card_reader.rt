@@ -89,16 +89,12 @@ fn read_value<'a>(
     ensures { let says = IsValueAnswer signed prefix.now due.now line text.now in
         MatchResult result (λ rest. says (Ok rest.now)) (λ fault. says (Err fault)) }
 {
-    let Some((number, rest)) = split_value(text, prefix) else {
-        return Err(CardFault::BadLine(line));
-    };
-    if !is_numeral(number, signed) {
-        return Err(CardFault::BadLine(line));
+    match split_value(text, prefix) {
+        None => Err(CardFault::BadLine(line)),
+        Some((number, _)) if !is_numeral(number, signed) => Err(CardFault::BadLine(line)),
+        Some((number, rest)) if is_word(number, due) => Ok(rest),
+        Some(_) => Err(CardFault::CountWrong),
     }
-    if !is_word(number, due) {
-        return Err(CardFault::CountWrong);
-    }
-    Ok(rest)
 }
 
 /// Reads the prices of a card, from its line `line` on. Returns the prices, and the text after their lines.

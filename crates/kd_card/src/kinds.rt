@@ -401,17 +401,10 @@ pub(crate) fn prices_of_kinds<K: Kind>(kinds: &[K]) -> ArrayVec<i16, 27>
 {
     let mut prices = ArrayVec::new();
     for kind in kinds {
-        push_prices(&mut prices, &kind.parts());
+        let KindOf { count, price, .. } = kind.parts();
+        for _ in 0..count {
+            prices.push(price);
+        }
     }
     prices
-}
-
-/// Appends the price of `kind` as many times as the kind's count says.
-fn push_prices<T: KindKey>(prices: &mut ArrayVec<i16, 27>, kind: &KindOf<T>)
-    requires { array_vec_len prices.old + kind.now.count ≤ 27 }
-    ensures { prices.new.items ≡ prices.old.items ++ replicate kind.now.count kind.now.price }
-{
-    for _ in 0..kind.count {
-        prices.push(kind.price);
-    }
 }
