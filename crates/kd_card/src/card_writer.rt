@@ -1,7 +1,7 @@
 //! Writes the text of a card to a sink.
 ghost use Rattle.arrayvec.specs.ArrayString.{array_string_len};
 ghost use Rattle.kd_card.specs.{CardText.{card_text, lines_text, price_lines, IsCard}, CardFault.line_then};
-ghost use Rattle.kd_card.specs.{Prices.{ArePricesInRange, ArePrices}, Reading.AreFewKinds, Kinds.kind_words};
+ghost use Rattle.kd_card.specs.{Prices.{ArePricesInRange, ArePrices}};
 ghost use Rattle.kd_state.specs.{Line.{list_text, IsSettingInRange}, SheetDay.IsDayNumber};
 ghost use Rattle.kd_tables.specs.Writing.{Writes};
 ghost use Rattle.std.specs.Prelude.{◌≡◌, ◌+◌, ◌*◌, ◌≤◌, ◌||◌, [], ◌∷◌, ◌++◌, length, map, is_err, All};
@@ -9,7 +9,6 @@ ghost use Rattle.std.specs.Fmt.{signed_decimal};
 
 use super::card::Card;
 use super::kind_text::push_kinds;
-use super::kinds::Kind;
 use super::prices::{PriceParts, Prices};
 use arrayvec::ArrayString;
 use itoa::Buffer;
@@ -72,23 +71,14 @@ fn push_settings<const N: usize>(text: &mut ArrayString<N>, settings: &[Setting]
     ensures in_range { All IsSettingInRange settings.now }
 {
     if let [first, rest @ ..] = settings {
-        push_setting(text, first);
+        text.push_str(first.line().as_str());
+        text.push_str("\n");
         push_settings(text, rest);
     }
 }
 
-/// Appends the line of `setting`.
-fn push_setting<const N: usize>(text: &mut ArrayString<N>, setting: &Setting)
-    requires { array_string_len text.old + 24 ≤ N }
-    ensures bytes { text.new.bytes ≡ text.old.bytes ++ list_text (setting.now ∷ []) }
-    ensures len { array_string_len text.new ≤ array_string_len text.old + 24 }
-    ensures in_range { IsSettingInRange setting.now }
-{
-    text.push_str(setting.line().as_str());
-    text.push_str("\n");
-}
-
 /// Appends the price lines of a card.
+#[tactic(auto, using(crate::proofs::OneCard::groups_joined))]
 fn push_prices<const N: usize>(text: &mut ArrayString<N>, prices: &Prices)
     requires { array_string_len text.old + 1404 ≤ N }
     ensures bytes { text.new.bytes ≡ text.old.bytes ++ lines_text (price_lines prices.now) }
@@ -104,28 +94,14 @@ fn push_prices<const N: usize>(text: &mut ArrayString<N>, prices: &Prices)
             push_price_line(text, "ROWS", &rows);
         }
         PriceParts::CableKinds(cables, pairs) => {
-            push_groups(text, cables.as_slice(), pairs.as_slice());
+            push_kinds(text, cables.as_slice());
+            push_kinds(text, pairs.as_slice());
         }
-        PriceParts::BarKinds(bars, rows) => push_groups(text, bars.as_slice(), rows.as_slice()),
+        PriceParts::BarKinds(bars, rows) => {
+            push_kinds(text, bars.as_slice());
+            push_kinds(text, rows.as_slice());
+        }
     }
-}
-
-/// Appends a line for each of the kinds `rows`, and then for each of the kinds `columns`.
-#[tactic(auto, using(crate::proofs::OneCard::groups_joined))]
-fn push_groups<R: Kind, C: Kind, const N: usize>(
-    text: &mut ArrayString<N>,
-    rows: &[R],
-    columns: &[C],
-)
-    requires room { array_string_len text.old + 1404 ≤ N }
-    requires rows { AreFewKinds R.format rows.now }
-    requires columns { AreFewKinds C.format columns.now }
-    ensures bytes { let lines = map (kind_words R.format) rows.now ++ map (kind_words C.format) columns.now in
-        text.new.bytes ≡ text.old.bytes ++ lines_text lines }
-    ensures len { array_string_len text.new ≤ array_string_len text.old + 1404 }
-{
-    push_kinds(text, rows);
-    push_kinds(text, columns);
 }
 
 /// Appends a line: `word`, and then `prices`, each after a space.

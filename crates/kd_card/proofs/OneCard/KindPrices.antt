@@ -37,9 +37,10 @@ module _ {K X : Type 0} (format : KindFormat K X) where
   total_count_within (first ∷ kinds) zero inside is = let same = ap (λ (k : K). (format.kind k).count) is in omega arith
   total_count_within (first ∷ kinds) (suc i) inside is = omega (arith, total_count_within kinds i (omega arith) is)
 
-pub few_of_group : {K X : Type 0} (format : KindFormat K X) (number : ℕ) (kinds : List K) → number ≤ 27
-    → IsGroup format number kinds → AreFewKinds format kinds
-few_of_group format number kinds few group = search (rules, few_kinds, all_kinds)
+pub few_of_group : {K X : Type 0} (format : KindFormat K X) (number : ℕ) (kinds : List K)
+    → IsGroup format number kinds → (length kinds ≤ number) × All (IsKind format) kinds
+few_of_group format number kinds group =
+    (omega (arith, few_kinds format None kinds group.in_order, group.count), all_kinds format None kinds group.in_order)
 
 -- ---- valid prices by kind
 

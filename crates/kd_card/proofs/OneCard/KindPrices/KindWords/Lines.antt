@@ -31,7 +31,7 @@ pub use Rattle.kd_card.specs.declared.prices.PriceParts.{PriceParts, TheVariants
 pub use Rattle.kd_card.specs.declared.{kinds.KindOf.KindOf, prices.Version.{Version, TheVariants.{ByKind, ByNumber}}}
 pub use Rattle.kd_card.specs.declared.fault.CardFault.{CardFault, TheVariants.{BadLine, PriceMissing, Trailing}}
 pub use Rattle.kd_card.specs.Laws.{ReadingGivesCards, CardsHaveNoFault, NoCardBeginsAnother, OneCardFault, TextsTellCards}
-pub use Rattle.kd_card.specs.Reading.{AreFewKinds, EndsKindsAt, head_prefix, IsBadKindAt, IsKindOfWords, IsPriceText}
+pub use Rattle.kd_card.specs.Reading.{EndsKindsAt, head_prefix, IsBadKindAt, IsKindOfWords, IsPriceText}
 pub use Rattle.kd_card.specs.Prices.{ArePrices, column_prices, IsPriceList, price_sum, table_size, version_of}
 pub use Rattle.{kd_card.specs.Prices.{ArePricesInRange, row_prices}, kd_state.specs.SheetDay.IsDayNumber}
 pub use Rattle.kd_state.specs.FirstFaults.{HasOneAnswer, HasOneAnswer-Demands, ThenNext, ThenNext-Ok, Yields, Yields-Ok}
