@@ -77,7 +77,7 @@ fn read_day(text: &[u8], version: Version) -> Option<(u8, &[u8])>
 
 /// Checks the first line of `text`, which is line `line` of the card.
 ///
-/// The line has to be `prefix` and then the number `due`, which may be negative if `signed`. Returns the text after this
+/// The line has to be `prefix` and then the number `due`, which may be negative if `signed`. Returns the text after the
 /// line.
 fn read_value<'a>(
     text: &'a [u8],
