@@ -29,11 +29,23 @@ record AreAllPriceLines (by : Version) (bytes : List ℕ) (prices : PriceParts) 
   text : bytes ≡ lines_text (price_lines prices) ++ rest
   are : ArePrices prices
 
-by_number : (table : CostTable) (rows columns : List ℤ) {bytes middle rest : List ℕ}
-    → HasPrices bytes (first_text ByNumber table) (price_count table) rows middle
-    → HasPrices middle (column_word table) (price_count table) columns rest
-    → AreAllPriceLines ByNumber bytes (parts_by_number table rows columns) rest
-by_number table rows columns a b = grind (arith, common_steps, two_lines)
+-- If two lists of prices are read from `bytes`, these are the lines of the prices, and then the rest; and both lists
+-- are valid.
+pub lists_said : (row_word column_word : List ℕ) (number line : ℕ) {bytes : List ℕ} (x : List ℤ × List ℤ × List ℕ)
+    → IsListsAnswer row_word column_word number line bytes (Ok x)
+    → (bytes ≡ lines_text (price_words row_word x.0 ∷ price_words column_word x.1 ∷ []) ++ x.2)
+    × IsPriceList number x.0 × IsPriceList number x.1
+lists_said row_word column_word number line {bytes} x says =
+    let rows = ThenNext-Ok says in
+    let columns = ThenNext-Ok rows.next in
+    let row = line_said rows.found rows.says in
+    let column = line_said columns.found columns.says in
+    rw (Yields-Ok columns.next) (
+      row.text ∙ ap (line_then (price_words row_word rows.found.0)) column.text
+          ∙ sym (two_lines (price_words row_word rows.found.0) (price_words column_word columns.found.0) columns.found.1),
+      row.list,
+      column.list,
+    )
 
 -- If two groups of kinds are read from `bytes`, these are the lines of the kinds, and then the rest; and both
 -- groups are valid.
@@ -46,11 +58,14 @@ groups_said {R} {C} rows columns number line {bytes} x says =
 
 of_table : (version : Version) (table : CostTable) (line : ℕ) {bytes : List ℕ} (x : PriceParts × List ℕ)
     → IsTablePricesAnswer version table line bytes (Ok x) → AreAllPriceLines version bytes x.0 x.1
-of_table ByNumber table line {bytes} x says =
-    let rows = ThenNext-Ok says in
-    let columns = ThenNext-Ok rows.next in
-    rw (Yields-Ok columns.next) (by_number table rows.found.0 columns.found.0 (line_said rows.found rows.says)
-    (line_said columns.found columns.says))
+of_table ByNumber OfCables line {bytes} x says =
+    let lists = ThenNext-Ok says in
+    let said = lists_said (codes "CABLES") (codes "PAIRS") 13 line lists.found lists.says in
+    rw (Yields-Ok lists.next) (record { version = refl; text = said.0; are = (said.1, said.2) })
+of_table ByNumber OfBars line {bytes} x says =
+    let lists = ThenNext-Ok says in
+    let said = lists_said (codes "BARS") (codes "ROWS") 27 line lists.found lists.says in
+    rw (Yields-Ok lists.next) (record { version = refl; text = said.0; are = (said.1, said.2) })
 of_table ByKind OfCables line {bytes} x says =
     let groups = ThenNext-Ok says in
     let said = groups_said cable_format pair_format 13 line groups.found groups.says in
@@ -59,6 +74,17 @@ of_table ByKind OfBars line {bytes} x says =
     let groups = ThenNext-Ok says in
     let said = groups_said bar_format row_format 27 line groups.found groups.says in
     rw (Yields-Ok groups.next) (record { version = refl; text = said.0; are = (said.1, said.2) })
+
+module _ (version : Version) {line : ℕ} {bytes first : List ℕ} {words : List (List ℕ)} {rest : List ℕ}
+    (has : IsLineAnswer line bytes (Ok (first, words, rest))) where
+  pub table_is : (table : CostTable) → first ≡ first_text version table
+      → {answer : Result (PriceParts × List ℕ) CardFault} → IsTablePricesAnswer version table line bytes answer
+      → IsAllPricesAnswer version line bytes answer
+  table_is table is says = GoesOn table (GoesOn _ has is) says
+
+  pub no_table : ((table : CostTable) → first ≢ first_text version table)
+      → IsAllPricesAnswer version line bytes (Err PriceMissing)
+  no_table none = HasFault PriceMissing (GoesOn _ has (none, refl)) refl
 
 pub up_to_settings : {bytes : List ℕ} {version : Version} {day : ℕ} {body : List ℕ} {xs : List Setting} {rest : List ℕ}
     {number : ℕ}
@@ -83,9 +109,9 @@ card_said {bytes} x says =
     let prices = all.found.0 in
     let last = value_said true (codes "SUM ") _ _ sum.says ∙ ap (line_then (sum_words (price_sum prices))) end.says in
     let behind = are.text ∙ ap (λ t. lines_text (price_lines prices) ++ t) last in
-    let counted =
+    let total_count =
     value_said false (codes "SETTINGS ") _ _ number.says ∙ ap (line_then (settings_words (length xs))) behind in
-    let body = list.says.lines.lines ∙ ap (λ t. list_text xs ++ t) counted in
+    let body = list.says.lines.lines ∙ ap (λ t. list_text xs ++ t) total_count in
     rw (Yields-Ok end.next) (record {
       text =
           head.says.text ∙ ap (λ v. line_then (head_words v head.found.1) head.found.2) (sym are.version)
@@ -125,15 +151,14 @@ only_price_line word number line bytes =
 line_of_prices : (word : List ℕ) (prices : List ℤ) (rest : List ℕ) {bytes : List ℕ} → IsWord word
     → ArePricesInRange prices → bytes ≡ line_then (price_words word prices) rest
     → HasLineWords bytes (price_words word prices) rest
-line_of_prices word prices rest is_word reach e =
-    line_has_words (price_words word prices) rest (λ none. cc) (prices_are_words word prices is_word reach) e
+line_of_prices word prices rest is_word in_range e =
+    line_has_words (price_words word prices) rest (λ none. cc) (prices_are_words word prices is_word in_range) e
 
 price_line_says : {word : List ℕ} {number line : ℕ} {bytes : List ℕ} (prices : List ℤ) {rest : List ℕ}
     → HasLineWords bytes (price_words word prices) rest → IsPriceList number prices
     → IsPriceLineAnswer word number line bytes (Ok (prices, rest))
 price_line_says prices has list =
-    GoesOn _ (first_says has)
-    (GoesOn tt refl (GoesOn prices (GoesOn prices (refl, list.reach) (GoesOn tt list.count refl)) refl))
+    line_read has (GoesOn prices (refl, list.in_range) (GoesOn tt list.count refl))
 
 -- ---- groups of kinds
 
@@ -209,7 +234,8 @@ groups_say {rows} {columns} row column differ number line xs ys rest some a b en
 
 only_of_table : (version : Version) (table : CostTable) (line : ℕ) (bytes : List ℕ)
     → HasOneAnswer (IsTablePricesAnswer version table line bytes)
-only_of_table ByNumber table line bytes = search (rules, one_answer, only_price_line)
+only_of_table ByNumber OfCables line bytes = search (rules, one_answer, only_price_line)
+only_of_table ByNumber OfBars line bytes = search (rules, one_answer, only_price_line)
 only_of_table ByKind OfCables line bytes = search (rules, one_answer, only_groups cables_are pairs_are)
 only_of_table ByKind OfBars line bytes = search (rules, one_answer, only_groups bars_are rows_are)
 
@@ -220,23 +246,29 @@ one_table word version table other e d = grind arith
 only_all_prices : (version : Version) (line : ℕ) (bytes : List ℕ) → HasOneAnswer (IsAllPricesAnswer version line bytes)
 only_all_prices version line bytes = search (rules, one_answer, only_line, only_of_table, HasOneAnswer-Finds, one_table)
 
-by_number_says : (table : CostTable) (line : ℕ) {bytes : List ℕ} (rows columns : List ℤ) (rest : List ℕ)
-    → IsPriceList (price_count table) rows → IsPriceList (price_count table) columns
-    → bytes ≡ lines_text (price_words (first_text ByNumber table) rows ∷ price_words (column_word table) columns ∷ [])
-    ++ rest
-    → IsAllPricesAnswer ByNumber line bytes (Ok (parts_by_number table rows columns, rest))
-by_number_says table line rows columns rest a b e =
-    let first = line_of_prices (first_text ByNumber table) rows _ (first_is_word table).0 a.reach
-    (e ∙ two_lines (price_words (first_text ByNumber table) rows) (price_words (column_word table) columns) rest) in
-    let second = line_of_prices (column_word table) columns rest (first_is_word table).1 b.reach refl in
-    GoesOn table (GoesOn _ (first_says first) refl)
-    (GoesOn (rows, _) (price_line_says rows first a) (GoesOn (columns, rest) (price_line_says columns second b) refl))
+lists_say : {row_word column_word : List ℕ} {number : ℕ} (line : ℕ) {bytes : List ℕ} (rows columns : List ℤ)
+    (rest : List ℕ) → IsWord row_word → IsWord column_word → IsPriceList number rows → IsPriceList number columns
+    → bytes ≡ lines_text (price_words row_word rows ∷ price_words column_word columns ∷ []) ++ rest
+    → BeginsWithWord row_word bytes × IsListsAnswer row_word column_word number line bytes (Ok (rows, columns, rest))
+lists_say {row_word} {column_word} line rows columns rest row column a b e =
+    let first = line_of_prices row_word rows _ row a.in_range
+    (e ∙ two_lines (price_words row_word rows) (price_words column_word columns) rest) in
+    let second = line_of_prices column_word columns rest column b.in_range refl in (
+      record { behind = _; rest = _; has = first },
+      GoesOn (rows, _) (price_line_says rows first a) (GoesOn (columns, rest) (price_line_says columns second b) refl),
+    )
 
 all_say : (prices : PriceParts) (line : ℕ) {bytes : List ℕ} (rest : List ℕ) → ArePrices prices
     → ((word : List ℕ) → word ≢ codes "SUM" → EndsGroup word rest) → bytes ≡ lines_text (price_lines prices) ++ rest
     → IsAllPricesAnswer (version_of prices) line bytes (Ok (prices, rest))
-all_say (Cables row col) line rest are ends e = by_number_says OfCables line row col rest are.0 are.1 e
-all_say (Bars row col) line rest are ends e = by_number_says OfBars line row col rest are.0 are.1 e
+all_say (Cables row col) line rest are ends e =
+    let say = lists_say {row_word = codes "CABLES"} {column_word = codes "PAIRS"} line row col rest (word_by_test _ _ refl)
+    (word_by_test _ _ refl) are.0 are.1 e in
+    GoesOn OfCables (GoesOn _ (first_says say.0.has) refl) (GoesOn (row, col, rest) say.1 refl)
+all_say (Bars row col) line rest are ends e =
+    let say = lists_say {row_word = codes "BARS"} {column_word = codes "ROWS"} line row col rest (word_by_test _ _ refl)
+    (word_by_test _ _ refl) are.0 are.1 e in
+    GoesOn OfBars (GoesOn _ (first_says say.0.has) refl) (GoesOn (row, col, rest) say.1 refl)
 all_say (CableKinds row col) line rest are ends e =
     let say = groups_say cables_are pairs_are (grind arith) 13 line row.items col.items rest (omega arith) are.0 are.1
     (ends pair_format.word (grind arith)) e in
@@ -261,13 +293,13 @@ one_head bytes (ByNumber, day, rest) (ByNumber, other, more) a b = cc ((same_day
 one_head bytes (ByKind, day, rest) (ByKind, other, more) a b = cc ((same_day a b).0, (same_day a b).1)
 one_head bytes (_, _, _) (_, _, _) a b = absurd (omega (arith, ap (λ text. get_or text 5 0) (sym a.text ∙ b.text)))
 
-only_value : (signed : Bool) (front due : List ℕ) (line : ℕ) (bytes : List ℕ)
-    → HasOneAnswer (IsValueAnswer signed front due line bytes)
-only_value signed front due line bytes =
+only_value : (signed : Bool) (prefix due : List ℕ) (line : ℕ) (bytes : List ℕ)
+    → HasOneAnswer (IsValueAnswer signed prefix due line bytes)
+only_value signed prefix due line bytes =
     HasOneAnswer-ThenNext
     (HasOneAnswer-Finds _ (λ x y a b.
     let same =
-    same_values front (numeral_word signed x.0 a.0).unbroken (numeral_word signed y.0 b.0).unbroken a.1 b.1 in
+    same_values prefix (numeral_word signed x.0 a.0).unbroken (numeral_word signed y.0 b.0).unbroken a.1 b.1 in
     same_pair x y same.0 same.1))
     (λ found says. HasOneAnswer-ThenNext (HasOneAnswer-Demands _ _) (λ due is. HasOneAnswer-Yields _))
 
@@ -340,8 +372,8 @@ texts_tell_cards bytes day other xs ys prices others a b =
     let same = Yields-Ok (only_card bytes _ _ (says_itself a) (says_itself b)) in
     (ap (λ x. x.0) same, ap (λ x. x.1) same, ap (λ x. x.2) same)
 
-pub cards_are_said : CardsAreSaid
-cards_are_said bytes day xs prices = (card_said (day, xs, prices), says_itself)
+pub reading_gives_cards : ReadingGivesCards
+reading_gives_cards bytes day xs prices = (card_said (day, xs, prices), says_itself)
 
 pub cards_have_no_fault : CardsHaveNoFault
 cards_have_no_fault bytes day xs prices fault a b = let same = only_card bytes _ _ (says_itself a) b in cc

@@ -1,13 +1,12 @@
 -- The result of reading bytes as a card: the card, or the first fault. Lines are counted from 1.
 use Rattle.kd_card.specs.Kinds.{KindFormat, cable_format, pair_format, bar_format, row_format, kind_words, kinds_text}
-use Rattle.kd_card.specs.Kinds.{counted, IsKind, AreKinds, ComesAfter}
+use Rattle.kd_card.specs.Kinds.{total_count, IsKind, AreKinds, ComesAfter}
 use Rattle.kd_card.specs.declared.fault.CardFault.TheVariants.{BadHead, BadLine, TooMany, PriceMissing, CountWrong}
 use Rattle.kd_card.specs.declared.fault.CardFault.TheVariants.{Trailing}
 use Rattle.kd_card.specs.declared.prices.PriceParts.TheVariants.{Cables, Bars, CableKinds, BarKinds}
-use Rattle.kd_card.specs.{CardText.{column_word, price_count, head_words, price_lines}, declared.prices.Version.Version}
-use Rattle.kd_card.specs.declared.cost_table.CostTable.TheVariants.{OfCables, OfBars}
+use Rattle.kd_card.specs.{CardText.{head_words, price_lines}, declared.prices.Version.Version}
 use Rattle.kd_card.specs.{declared.prices.Version.TheVariants.{ByNumber, ByKind}, declared.prices.PriceParts.PriceParts}
-use Rattle.kd_card.specs.{declared.cost_table.CostTable.CostTable, Prices.{price_sum, ArePricesInRange}}
+use Rattle.kd_card.specs.Prices.{price_sum, ArePricesInRange}
 use Rattle.kd_card.specs.declared.fault.CardFault.{CardFault}
 use Rattle.kd_state.specs.{FirstFaults.{AnswerRule, ◌>>=◌, Yields, Finds, Demands, FindsAlways}, SheetDay.IsDayNumber}
 use Rattle.kd_state.specs.{Line.{BeginsWithSettingLines, BeginsWithAllSettings}, Words.{words_of, line_of, IsFirstPart}}
@@ -44,13 +43,13 @@ pub record HasLineWords (bytes : List ℕ) (words : List (List ℕ)) (rest : Lis
   pub first : IsFirstPart 10 bytes line rest
   pub parts : words_of line ≡ words
 
--- Reading a line such as `SUM 12`, which has `front` and then a number. The result is the bytes after the line, or a
+-- Reading a line such as `SUM 12`, which has `prefix` and then a number. The result is the bytes after the line, or a
 -- fault. If the line has another form or no LF, the fault is `BadLine`. If its number isn't `due`, the fault is
 -- `CountWrong`.
 abbrev pub IsValueAnswer : Bool → List ℕ → List ℕ → ℕ → List ℕ → AnswerRule CardFault (List ℕ)
-IsValueAnswer signed front due line bytes = do
+IsValueAnswer signed prefix due line bytes = do
   found ← Finds
-      (λ (found : List ℕ × List ℕ). IsNumeral signed found.0 × (bytes ≡ front ++ found.0 ++ 10 ∷ found.1))
+      (λ (found : List ℕ × List ℕ). IsNumeral signed found.0 × (bytes ≡ prefix ++ found.0 ++ 10 ∷ found.1))
       (BadLine line)
   _ ← Demands (found.0 ≡ due) CountWrong
   Yields found.1
@@ -81,6 +80,11 @@ IsSettingsAnswer bytes (Err fault) =
 
 -- ---- prices by number: two lines
 
+-- what a card's prices are for: the rows and columns of a table of costs of cables, or of bars
+pub data CostTable : Type 0 where
+  OfCables : CostTable
+  OfBars : CostTable
+
 -- the first word of a card's first price line: `CABLES` or `BARS` in version 1, `CABLE` or `BAR` in version 2
 abbrev pub first_text : Version → CostTable → List ℕ
 first_text ByNumber OfCables = codes "CABLES"
@@ -110,9 +114,13 @@ IsPriceLineAnswer word number line bytes = do
   prices ← IsPricesAnswer number line found.1
   Yields (prices, found.2)
 
-abbrev pub parts_by_number : CostTable → List ℤ → List ℤ → PriceParts
-parts_by_number OfCables rows columns = Cables rows columns
-parts_by_number OfBars rows columns = Bars rows columns
+-- The result of reading two price lines, each with a first word and then `number` prices: the prices for the rows of the
+-- table of costs, the prices for its columns and the bytes after both lines, or a fault.
+abbrev pub IsListsAnswer : List ℕ → List ℕ → ℕ → ℕ → List ℕ → AnswerRule CardFault (List ℤ × List ℤ × List ℕ)
+IsListsAnswer row_word column_word number line bytes = do
+  rows ← IsPriceLineAnswer row_word number line bytes
+  columns ← IsPriceLineAnswer column_word number (line + 1) rows.1
+  Yields (rows.0, columns.0, columns.1)
 
 -- ---- prices by kind: two groups of lines
 
@@ -161,7 +169,7 @@ abbrev pub IsGroupAnswer : {K X : Type 0} → KindFormat K X → ℕ → ℕ →
 IsGroupAnswer {K} format number line bytes = do
   group ← FindsAlways (λ (group : List K × List ℕ). BeginsWithKinds format None bytes group.0 group.1)
   _ ← Demands (EndsGroup format.word group.1) (BadLine (line + length group.0))
-  _ ← Demands (counted format group.0 ≡ number) PriceMissing
+  _ ← Demands (total_count format group.0 ≡ number) PriceMissing
   Yields group
 
 -- The result of reading two groups of kinds: both groups and the bytes after them, or a fault. The first group is for
@@ -177,10 +185,12 @@ IsGroupsAnswer row_format column_format number line bytes = do
 
 -- The result of reading the prices for one table of costs. The first price line is line `line` of the card.
 abbrev pub IsTablePricesAnswer : Version → CostTable → ℕ → List ℕ → AnswerRule CardFault (PriceParts × List ℕ)
-IsTablePricesAnswer ByNumber table line bytes = do
-  rows ← IsPriceLineAnswer (first_text ByNumber table) (price_count table) line bytes
-  columns ← IsPriceLineAnswer (column_word table) (price_count table) (line + 1) rows.1
-  Yields (parts_by_number table rows.0 columns.0, columns.1)
+IsTablePricesAnswer ByNumber OfCables line bytes = do
+  lists ← IsListsAnswer (codes "CABLES") (codes "PAIRS") 13 line bytes
+  Yields (Cables lists.0 lists.1, lists.2)
+IsTablePricesAnswer ByNumber OfBars line bytes = do
+  lists ← IsListsAnswer (codes "BARS") (codes "ROWS") 27 line bytes
+  Yields (Bars lists.0 lists.1, lists.2)
 IsTablePricesAnswer ByKind OfCables line bytes = do
   groups ← IsGroupsAnswer cable_format pair_format 13 line bytes
   Yields (CableKinds (record { items = groups.0 }) (record { items = groups.1 }), groups.2)

@@ -1,23 +1,13 @@
 -- The text of a card: lines that end with LF. In each line, one space stands between two words.
 use Rattle.kd_card.specs.Kinds.{kind_words, cable_format, pair_format, bar_format, row_format}
 use Rattle.kd_card.specs.declared.prices.PriceParts.TheVariants.{Cables, Bars, CableKinds, BarKinds}
-use Rattle.kd_card.specs.{declared.cost_table.CostTable.TheVariants.{OfCables, OfBars}, declared.prices.Version.Version}
+use Rattle.kd_card.specs.{declared.prices.Version.Version}
 use Rattle.kd_card.specs.{declared.prices.Version.TheVariants.{ByNumber, ByKind}, declared.prices.PriceParts.PriceParts}
-use Rattle.kd_card.specs.{Prices.{version_of, price_sum, ArePrices}, declared.cost_table.CostTable.CostTable}
+use Rattle.kd_card.specs.{Prices.{version_of, price_sum, ArePrices}}
 use Rattle.kd_state.specs.{Line.{setting_words, IsSettingInRange}, declared.setting.Setting.Setting, Words.line_of}
 use Rattle.kd_state.specs.SheetDay.{IsDayNumber}
 use Rattle.std.specs.Prelude.{codes, decimal, ◌≡◌, ℕ, ◌≤◌, List, [], ◌∷◌, ◌++◌, length, map, All}
 use Rattle.std.specs.{Fmt.signed_decimal, List.flat_map}
-
--- on a card with prices by number, the first word of the second price line, which has the prices of the columns
-abbrev pub column_word : CostTable → List ℕ
-column_word OfCables = codes "PAIRS"
-column_word OfBars = codes "ROWS"
-
--- the number of rows of the table of costs, which is also its number of columns
-abbrev pub price_count : CostTable → ℕ
-price_count OfCables = 13
-price_count OfBars = 27
 
 -- the words of a card's first line, such as `CARD 2 DAY 31`: version 2 if each kind has one price, otherwise version 1
 abbrev pub head_words : Version → ℕ → List (List ℕ)

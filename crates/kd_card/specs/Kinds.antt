@@ -105,7 +105,7 @@ pub record IsKind {K X : Type 0} (format : KindFormat K X) (kind : K) : Type 0 w
   pub form : format.InForm (format.kind kind).key
   pub some : 1 ≤ (format.kind kind).count
   pub most : (format.kind kind).count ≤ 255
-  pub reach : unsigned_abs (format.kind kind).price ≤ 9999
+  pub in_range : unsigned_abs (format.kind kind).price ≤ 9999
 
 -- The kinds are valid and strictly ascending. If there is a kind `last`, they come after it.
 abbrev pub AreKinds : {K X : Type 0} → KindFormat K X → Option K → List K → Type 0
@@ -113,14 +113,14 @@ AreKinds format last [] = Unit {0}
 AreKinds format last (kind ∷ kinds) =
     IsKind format kind × ComesAfter format last kind × AreKinds format (Some kind) kinds
 
-abbrev pub counted : {K X : Type 0} → KindFormat K X → List K → ℕ
-counted format [] = 0
-counted format (kind ∷ kinds) = (format.kind kind).count + counted format kinds
+abbrev pub total_count : {K X : Type 0} → KindFormat K X → List K → ℕ
+total_count format [] = 0
+total_count format (kind ∷ kinds) = (format.kind kind).count + total_count format kinds
 
 -- The kinds are valid and strictly ascending, and their counts add up to `number`.
 pub record IsGroup {K X : Type 0} (format : KindFormat K X) (number : ℕ) (kinds : List K) : Type 0 where
   pub in_order : AreKinds format None kinds
-  pub count : counted format kinds ≡ number
+  pub count : total_count format kinds ≡ number
 
 -- each kind's price, repeated as often as the kind's count says
 abbrev pub prices_of_kinds : {K X : Type 0} → KindFormat K X → List K → List ℤ

@@ -68,8 +68,8 @@ NoCardBeginsAnother =
     → IsCard (text ++ rest) other ys others → rest ≡ []
 
 -- Reading bytes gives a card exactly if the bytes are the text of this card.
-abbrev pub CardsAreSaid : Type 0
-CardsAreSaid =
+abbrev pub ReadingGivesCards : Type 0
+ReadingGivesCards =
     (bytes : List ℕ) (day : ℕ) (xs : List Setting) (prices : PriceParts)
     → IsCardAnswer bytes (Ok (day, xs, prices)) ↔ IsCard bytes day xs prices
 

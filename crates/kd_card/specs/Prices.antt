@@ -30,10 +30,10 @@ column_prices (CableKinds row col) = prices_of_kinds pair_format col.items
 column_prices (BarKinds row col) = prices_of_kinds row_format col.items
 
 -- the number of rows of the table of costs, which is also its number of columns
-abbrev pub table_rows : PriceParts → ℕ
-table_rows (Cables row col) = 13
-table_rows (CableKinds row col) = 13
-table_rows _ = 27
+abbrev pub table_size : PriceParts → ℕ
+table_size (Cables row col) = 13
+table_size (CableKinds row col) = 13
+table_size _ = 27
 
 abbrev pub ArePricesInRange : List ℤ → Type 0
 ArePricesInRange prices = All (λ price. unsigned_abs price ≤ 9999) prices
@@ -41,7 +41,7 @@ ArePricesInRange prices = All (λ price. unsigned_abs price ≤ 9999) prices
 -- There are `number` prices, each from -9999 to 9999.
 pub record IsPriceList (number : ℕ) (prices : List ℤ) : Type 0 where
   pub count : length prices ≡ number
-  pub reach : ArePricesInRange prices
+  pub in_range : ArePricesInRange prices
 
 -- There is a price from -9999 to 9999 for each row and each column of the table of costs. Kinds are valid and strictly
 -- ascending.
@@ -64,7 +64,7 @@ PricesFitAt costs prices i j =
     (price_at (row_prices prices) i +ℤ price_at (column_prices prices) j) ≤ℤ pos (cost_at costs i j)
 
 abbrev pub PricesFit : List (List ℕ) → PriceParts → Type 0
-PricesFit costs prices = (i j : ℕ) → i < table_rows prices → j < table_rows prices → PricesFitAt costs prices i j
+PricesFit costs prices = (i j : ℕ) → i < table_size prices → j < table_size prices → PricesFitAt costs prices i j
 
 abbrev pub price_sum : PriceParts → ℤ
 price_sum prices = fold (λ sum price. sum +ℤ price) (pos 0) (row_prices prices ++ column_prices prices)
@@ -76,5 +76,5 @@ IsPriceTightAt costs prices i j =
 
 -- Each row and each column of the table of costs has a cell where the prices of row and column add up to the cost.
 pub record ArePricesTight (costs : List (List ℕ)) (prices : PriceParts) : Type 0 where
-  pub column_of : (i : ℕ) → i < table_rows prices → (j : ℕ) × (j < table_rows prices) × IsPriceTightAt costs prices i j
-  pub row_of : (j : ℕ) → j < table_rows prices → (i : ℕ) × (i < table_rows prices) × IsPriceTightAt costs prices i j
+  pub column_of : (i : ℕ) → i < table_size prices → (j : ℕ) × (j < table_size prices) × IsPriceTightAt costs prices i j
+  pub row_of : (j : ℕ) → j < table_size prices → (i : ℕ) × (i < table_size prices) × IsPriceTightAt costs prices i j

@@ -1,9 +1,10 @@
 -- What the steps of reading a card find. Also, the text with which a card begins, up to the day's number. No contract
 -- of a public function cites these definitions.
-use Rattle.kd_card.specs.{declared.prices.Version.TheVariants.{ByNumber, ByKind}, CardFault.{EndsGroup, HasNoNext}}
-use Rattle.kd_card.specs.{Kinds.{KindFormat, IsKind, HasKindWords}, declared.prices.Version.Version}
+use Rattle.kd_card.specs.{declared.prices.Version.TheVariants.{ByNumber, ByKind}, CardFault.{EndsGroup, HasNoNext, IsPriceLineAnswer}}
+use Rattle.kd_card.specs.{Kinds.{KindFormat, HasKindWords}, declared.prices.Version.Version}
+use Rattle.kd_card.specs.declared.fault.CardFault.{CardFault}
 use Rattle.kd_state.specs.Words.{words_of}
-use Rattle.std.specs.Prelude.{codes, ◌≡◌, ◌≤◌, ℕ, ℤ, unsigned_abs, All, List, [], length, Option, Some, None}
+use Rattle.std.specs.Prelude.{codes, ◌≡◌, ◌<◌, ◌≤◌, ℕ, ℤ, unsigned_abs, List, [], Option, Some, None, Err}
 use Rattle.std.specs.Fmt.{signed_decimal}
 
 -- the words of a line after its first word; the argument is the line's text after its first space, if any
@@ -20,6 +21,12 @@ abbrev pub head_prefix : Version → List ℕ
 head_prefix ByNumber = codes "CARD 1 DAY "
 head_prefix ByKind = codes "CARD 2 DAY "
 
+-- The first line of `bytes`, which is line `line` of the card, doesn't have `word` and then words. For any number of
+-- prices that are due there, the fault is `fault`.
+abbrev pub IsNoPriceLine : List ℕ → ℕ → List ℕ → CardFault → Type 0
+IsNoPriceLine word line bytes fault =
+    (number : ℕ) → 0 < number → IsPriceLineAnswer word number line bytes (Err fault)
+
 -- the group of kinds ends before `bytes`
 pub record EndsKindsAt {K X : Type 0} (format : KindFormat K X) (last : Option K) (bytes : List ℕ) : Type 0 where
   pub ends : EndsGroup format.word bytes
@@ -35,8 +42,3 @@ pub record IsBadKindAt {K X : Type 0} (format : KindFormat K X) (last : Option K
 pub record IsKindOfWords {K X : Type 0} (format : KindFormat K X) (words : List (List ℕ)) (kind : K) : Type 0 where
   pub has : HasKindWords format words kind
   pub only : (other : K) → HasKindWords format words other → (format.kind other).key ≡ (format.kind kind).key
-
--- At most 27 kinds, each of them valid.
-pub record AreFewKinds {K X : Type 0} (format : KindFormat K X) (kinds : List K) : Type 0 where
-  pub valid : All (IsKind format) kinds
-  pub few : length kinds ≤ 27

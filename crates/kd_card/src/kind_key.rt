@@ -20,7 +20,7 @@ pub trait KindKey: Copy + Default + Ord {
 #[derive(Clone, Copy, PartialEq, Eq, PartialOrd, Ord)]
 pub struct Ends {
     is_last: bool,
-    letters: (Option<Letter>, Option<Letter>),
+    pub(crate) letters: (Option<Letter>, Option<Letter>),
 }
 
 impl Model for Ends {
@@ -56,13 +56,6 @@ impl Ends {
             letters,
         }
     }
-
-    /// The letters of the cable.
-    pub fn letters(self) -> (Option<Letter>, Option<Letter>)
-        ensures { result ≡ self }
-    {
-        self.letters
-    }
 }
 
 /// A column of the table of costs: a pair, or an empty column, which has no pair.
@@ -71,7 +64,7 @@ impl Ends {
 #[derive(Clone, Copy, PartialEq, Eq, PartialOrd, Ord)]
 pub struct Column {
     is_last: bool,
-    pair: Option<(Letter, Letter)>,
+    pub(crate) pair: Option<(Letter, Letter)>,
 }
 
 impl Model for Column {
@@ -106,13 +99,6 @@ impl Column {
             is_last: pair.is_none(),
             pair,
         }
-    }
-
-    /// The column's pair, or `None` if the column has no pair.
-    pub fn pair(self) -> Option<(Letter, Letter)>
-        ensures { result ≡ self }
-    {
-        self.pair
     }
 }
 

@@ -8,7 +8,7 @@ ghost use Rattle.std.specs.Option.{option_copied};
 
 use super::fault::CardFault;
 use super::kinds::{Kind, KindOf, comes_after};
-use super::price_text::{price_of_text, split_first};
+use super::price_text::{price_of_text, split_first_word};
 use arrayvec::{ArrayString, ArrayVec};
 use itoa::Buffer;
 use kd_state::{is_word, number_of_text, push_number, split_words};
@@ -18,7 +18,7 @@ use kd_state::{is_word, number_of_text, push_number, split_words};
 /// For the line `CABLE AB 1 0`, `behind` is `AB 1 0`; if a line has only one word, `behind` is `None`. The result is
 /// `None` if the words don't make a valid kind.
 #[tactic(auto, using(crate::proofs::OneCard::words_in_place, crate::proofs::OneCard::no_count))]
-fn kind_behind<K: Kind>(behind: Option<&[u8]>) -> Option<K>
+fn kind_of_words<K: Kind>(behind: Option<&[u8]>) -> Option<K>
     ensures { let words = K.format.word ∷ words_after_first (option_copied behind.entry) in
         MatchOption result
         ((kind : K) → ¬ (HasKindWords K.format words kind))
@@ -53,11 +53,11 @@ fn next_kind<K: Kind>(
     if text.is_empty() {
         return Ok(None);
     }
-    let (first, behind, rest) = split_first(text, line)?;
+    let (first, behind, rest) = split_first_word(text, line)?;
     if !is_word(first, K::word()) {
         return Ok(None);
     }
-    match kind_behind::<K>(behind) {
+    match kind_of_words::<K>(behind) {
         Some(kind) if comes_after(last, &kind) => Ok(Some((kind, rest))),
         _ => Err(CardFault::BadLine(line)),
     }

@@ -4,7 +4,7 @@ ghost use Rattle.std.specs.Prelude.{IsTrue, MatchOption};
 ghost use Rattle.arrayvec.specs.ArrayVec.{array_vec_len};
 ghost use Rattle.kd_state.specs.Machine.{cable_letters};
 ghost use Rattle.kd_card.specs.Kinds.{cable_format, pair_format, bar_format, row_format, letters_text};
-ghost use Rattle.kd_card.specs.{Kinds.{ComesAfter, IsKind, AreKinds, counted, prices_of_kinds}, Prices.IsPriceList};
+ghost use Rattle.kd_card.specs.{Kinds.{ComesAfter, IsKind, AreKinds, total_count, prices_of_kinds}, Prices.IsPriceList};
 
 use super::kind_key::{Column, Ends, KindKey};
 use arrayvec::{ArrayString, ArrayVec};
@@ -123,7 +123,7 @@ impl Kind for CableKind {
         ensures { cable_format.kind result ≡ kind }
     {
         CableKind {
-            ends: kind.key.letters(),
+            ends: kind.key.letters,
             count: kind.count,
             price: kind.price,
         }
@@ -185,7 +185,7 @@ impl Kind for PairKind {
         ensures { pair_format.kind result ≡ kind }
     {
         PairKind {
-            pair: kind.key.pair(),
+            pair: kind.key.pair,
             count: kind.count,
             price: kind.price,
         }
@@ -207,10 +207,8 @@ impl Kind for PairKind {
     }
 
     fn text(&self) -> ArrayString<8> {
-        match self.pair {
-            None => text_of_letters(None, None),
-            Some((one, other)) => text_of_letters(Some(one), Some(other)),
-        }
+        let (one, other) = self.pair.unzip();
+        text_of_letters(one, other)
     }
 
     #[tactic(auto, using(crate::proofs::OneCard::one_pair))]
@@ -332,8 +330,7 @@ fn text_of_letters(one: Option<Letter>, other: Option<Letter>) -> ArrayString<8>
     let mut text = ArrayString::new();
     match (one, other) {
         (None, None) => text.push_str("-"),
-        (Some(letter), None) => push_letter(&mut text, letter),
-        (None, Some(letter)) => push_letter(&mut text, letter),
+        (Some(letter), None) | (None, Some(letter)) => push_letter(&mut text, letter),
         (Some(one), Some(other)) => {
             push_letter(&mut text, one);
             push_letter(&mut text, other);
@@ -380,7 +377,7 @@ fn is_kind<K: Kind>(kind: &K) -> bool
 /// Whether `kinds` are valid and strictly ascending (after `last`, if any), and their counts add up to `number`.
 pub(crate) fn are_kinds<K: Kind>(kinds: &[K], last: Option<K>, number: usize) -> bool
     ensures value { IsTrue result
-        ↔ (AreKinds K.format last kinds.now × (counted K.format kinds.now ≡ number)) }
+        ↔ (AreKinds K.format last kinds.now × (total_count K.format kinds.now ≡ number)) }
     ensures few { IsTrue result → length kinds.now ≤ number }
 {
     match kinds {
@@ -398,23 +395,16 @@ pub(crate) fn are_kinds<K: Kind>(kinds: &[K], last: Option<K>, number: usize) ->
 /// Lists the price of each kind as many times as the kind's count says, kind after kind.
 pub(crate) fn prices_of_kinds<K: Kind>(kinds: &[K]) -> ArrayVec<i16, 27>
     requires kinds { AreKinds K.format None kinds.now }
-    requires few { counted K.format kinds.now ≤ 27 }
+    requires few { total_count K.format kinds.now ≤ 27 }
     ensures items { result.items ≡ prices_of_kinds K.format kinds.now }
-    ensures list { IsPriceList (counted K.format kinds.now) (prices_of_kinds K.format kinds.now) }
+    ensures list { IsPriceList (total_count K.format kinds.now) (prices_of_kinds K.format kinds.now) }
 {
     let mut prices = ArrayVec::new();
     for kind in kinds {
-        push_prices(&mut prices, &kind.parts());
+        let KindOf { count, price, .. } = kind.parts();
+        for _ in 0..count {
+            prices.push(price);
+        }
     }
     prices
-}
-
-/// Appends the price of `kind` as many times as the kind's count says.
-fn push_prices<T: KindKey>(prices: &mut ArrayVec<i16, 27>, kind: &KindOf<T>)
-    requires { array_vec_len prices.old + kind.now.count ≤ 27 }
-    ensures { prices.new.items ≡ prices.old.items ++ replicate kind.now.count kind.now.price }
-{
-    for _ in 0..kind.count {
-        prices.push(kind.price);
-    }
 }

@@ -1,5 +1,5 @@
 //! Laws on cards: on their texts, on how short a list can be, and on cards that prove themselves.
-ghost use Rattle.kd_card.specs.Laws.{TextsTellCards, NoCardBeginsAnother, CardsAreSaid, CardsHaveNoFault, OneCardFault};
+ghost use Rattle.kd_card.specs.Laws.{TextsTellCards, NoCardBeginsAnother, ReadingGivesCards, CardsHaveNoFault, OneCardFault};
 ghost use Rattle.kd_card.specs.Laws.{LooseThingsAreCounted, AsFewAreNeeded, FittingPricesBoundLists};
 ghost use Rattle.kd_card.specs.Laws.{ProvingCardsAreAsLong, ProvingCardsAreShortest, ProvingPricesAreTight};
 ghost use Rattle.kd_card.specs.Months.{CardsAreFewestInAll};
@@ -10,8 +10,8 @@ ghost use Rattle.kd_card.specs.Months.{CardsAreFewestInAll};
 /// returns.
 pub fn no_two_cards_have_one_text()
     ensures card { TextsTellCards }
-    ensures front { NoCardBeginsAnother }
-    ensures said { CardsAreSaid }
+    ensures prefix { NoCardBeginsAnother }
+    ensures reading { ReadingGivesCards }
     ensures no_fault { CardsHaveNoFault }
     ensures one_fault { OneCardFault }
 {}

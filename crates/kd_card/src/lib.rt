@@ -3,29 +3,25 @@
 #![tactic(auto)]
 
 mod card;
-mod cost_table;
+mod card_reader;
+mod card_writer;
 mod fault;
 mod kind_key;
 mod kind_text;
 mod kinds;
 pub mod laws;
-mod line;
 mod loose;
-mod pin_lines;
 mod price_text;
 mod prices;
-mod read;
-mod rotor_lines;
-mod write;
 
 pub use card::Card;
+pub use card_reader::read_card;
+pub use card_writer::write_card;
 pub use fault::CardFault;
 pub use kind_key::{Column, Ends, KindKey};
 pub use kinds::{BarKind, CableKind, Kind, KindOf, PairKind, RowKind};
-pub use line::push_unless;
-pub use loose::loose_count;
-pub use pin_lines::pin_settings;
+pub use loose::count::loose_count;
+pub use loose::pin::pin_settings;
+pub use loose::push_unless;
+pub use loose::rotor::rotor_settings;
 pub use prices::{PriceParts, Prices, Version, sum_of_prices};
-pub use read::read_card;
-pub use rotor_lines::rotor_settings;
-pub use write::write_card;

@@ -1,16 +1,16 @@
 //! Reads prices and numbers, and the first words of price lines.
-ghost use Rattle.kd_card.specs.CardFault.{IsNumberText, IsNumeral, IsPricesAnswer, IsLineAnswer, IsTableAnswer};
+ghost use Rattle.kd_card.specs.CardFault.{IsNumberText, IsNumeral, IsPricesAnswer, IsLineAnswer};
 ghost use Rattle.kd_card.specs.{Reading.{IsPriceText, words_after_first}, Prices.ArePricesInRange};
 ghost use Rattle.kd_state.specs.Words.{words_of};
 ghost use Rattle.std.specs.Prelude.{◌≡◌, ◌≢◌, ◌↔◌, ◌<◌, ◌≤◌, [], ◌∷◌, ℕ, List, ℤ, pos, map, length, All, unsigned_abs};
 ghost use Rattle.std.specs.Prelude.{decimal, IsTrue, MatchOption, MatchResult, Ok, Err};
 ghost use Rattle.std.specs.{Option.option_copied, Fmt.signed_decimal};
 
-use super::cost_table::CostTable;
 use super::fault::CardFault;
-use super::prices::Version;
 use arrayvec::ArrayVec;
-use kd_state::{is_word, split_once, split_words, wide_number_of_text};
+use itoa::Buffer;
+use kd_state::{is_word, split_once, split_words};
+use std::str;
 
 /// Whether `text` is an unsigned number: decimal digits without leading zeros.
 fn is_number_text(text: &[u8]) -> bool
@@ -40,43 +40,18 @@ pub(crate) fn price_of_text(text: &[u8]) -> Option<i16>
         ((price : ℤ) → unsigned_abs price ≤ 9999 → signed_decimal price ≢ text.now)
         (λ price. (signed_decimal price ≡ text.now) × (unsigned_abs price ≤ 9999)) }
 {
-    match text {
-        [b'-', digits @ ..] => negative_price(digits),
-        _ => amount_of_text(text),
-    }
-}
-
-/// Parses the digits of a negative price, which follow its `-`.
-#[tactic(auto, using(crate::proofs::OneCard::no_negative, crate::proofs::OneCard::not_minus_zero))]
-fn negative_price(digits: &[u8]) -> Option<i16>
-    ensures { MatchOption result
-        ((price : ℤ) → unsigned_abs price ≤ 9999 → signed_decimal price ≢ 45 ∷ digits.now)
-        (λ price. (signed_decimal price ≡ 45 ∷ digits.now) × (unsigned_abs price ≤ 9999)) }
-{
-    let amount = amount_of_text(digits)?;
-    if amount > 0 { Some(-amount) } else { None }
-}
-
-/// Parses a price from 0 to 9999, without leading zeros and without a sign.
-#[tactic(auto, using(std::proofs::lemmas::Fmt::decimal_injective))]
-fn amount_of_text(text: &[u8]) -> Option<i16>
-    ensures { MatchOption result
-        ((amount : ℕ) → amount ≤ 9999 → decimal amount ≢ text.now)
-        (λ price. (amount : ℕ) × (amount ≤ 9999) × (decimal amount ≡ text.now) × (price ≡ pos amount)) }
-{
-    let number = wide_number_of_text(text)?;
-    if number <= 9999 {
-        Some(number as i16)
-    } else {
-        None
-    }
+    let price: i16 = str::from_utf8(text).ok()?.parse().ok()?;
+    let mut buffer = Buffer::new();
+    // `parse` also accepts leading zeros and a plus sign, which `format` never writes.
+    let is_written_so = is_word(text, buffer.format(price));
+    (price.unsigned_abs() <= 9999 && is_written_so).then_some(price)
 }
 
 /// Splits `text` into the first word, the text after it on the first line (`None` without a space), and the next lines.
 ///
 /// If `text` is empty, the fault is `PriceMissing`. If the first line, which is line `line` of the card, has no LF, the
 /// fault is `BadLine`.
-pub(crate) fn split_first(
+pub(crate) fn split_first_word(
     text: &[u8],
     line: usize,
 ) -> Result<(&[u8], Option<&[u8]>, &[u8]), CardFault>
@@ -97,48 +72,23 @@ pub(crate) fn split_first(
     }
 }
 
-/// Reads the first word of the first price line. It shows whether the card has prices of cables or of bars.
-pub(crate) fn table_of_line(
+/// Parses `text` as `N` prices, with a space between two prices. The text is from line `line` of the card.
+pub(crate) fn prices_of_text<const N: usize>(
     text: &[u8],
-    version: Version,
     line: usize,
-) -> Result<CostTable, CardFault>
-    ensures { IsTableAnswer version line text.now result }
-{
-    let (first, _, _) = split_first(text, line)?;
-    if is_word(first, CostTable::OfCables.first_text(version)) {
-        Ok(CostTable::OfCables)
-    } else if is_word(first, CostTable::OfBars.first_text(version)) {
-        Ok(CostTable::OfBars)
-    } else {
-        Err(CardFault::PriceMissing)
-    }
-}
-
-/// Parses `text` as `number` prices, with a space between two prices. The text is from line `line` of the card.
-pub(crate) fn prices_of_text(
-    text: &[u8],
-    number: usize,
-    line: usize,
-) -> Result<ArrayVec<i16, 27>, CardFault>
-    requires { number ≤ 27 }
+) -> Result<[i16; N], CardFault>
+    requires { N ≤ 27 }
     ensures { MatchResult result
-        (λ prices. IsPricesAnswer number line (words_of text.now) (Ok prices.items))
-        (λ fault. IsPricesAnswer number line (words_of text.now) (Err fault)) }
+        (λ prices. IsPricesAnswer N line (words_of text.now) (Ok prices))
+        (λ fault. IsPricesAnswer N line (words_of text.now) (Err fault)) }
 {
-    let Some(words) = split_words::<27>(text) else {
-        if are_prices(text) {
-            return Err(CardFault::PriceMissing);
-        }
-        return Err(CardFault::BadLine(line));
-    };
-    let Some(prices) = prices_of_words(words.as_slice()) else {
-        return Err(CardFault::BadLine(line));
-    };
-    if prices.len() == number {
-        Ok(prices)
-    } else {
-        Err(CardFault::PriceMissing)
+    match split_words::<N>(text) {
+        Some(words) => match prices_of_words::<N>(words.as_slice()) {
+            Some(prices) => prices.into_inner().ok().ok_or(CardFault::PriceMissing),
+            None => Err(CardFault::BadLine(line)),
+        },
+        None if are_prices(text) => Err(CardFault::PriceMissing),
+        None => Err(CardFault::BadLine(line)),
     }
 }
 
@@ -151,8 +101,8 @@ fn are_prices(text: &[u8]) -> bool
 }
 
 /// Parses each of `words` as a price. `None` if one of them isn't a price.
-fn prices_of_words(words: &[&[u8]]) -> Option<ArrayVec<i16, 27>>
-    requires { length words.now ≤ 27 }
+fn prices_of_words<const N: usize>(words: &[&[u8]]) -> Option<ArrayVec<i16, N>>
+    requires { length words.now ≤ N }
     ensures { let texts = map (λ word. word.now) words.now in
         MatchOption result
         (¬ (All IsPriceText texts))

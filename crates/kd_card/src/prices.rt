@@ -1,10 +1,9 @@
 //! The prices of a card: one for each cable, pair, bar or row (by number), or one for each kind of them (by kind).
-ghost use Rattle.kd_card.specs.{Prices.{price_sum, version_of, ArePricesInRange, ArePrices}, CardFault.parts_by_number};
-ghost use Rattle.kd_card.specs.{CardText.{price_count, price_lines}, Kinds.IsGroup, Reading.head_prefix};
+ghost use Rattle.kd_card.specs.Prices.{price_sum, version_of, ArePricesInRange, ArePrices};
+ghost use Rattle.kd_card.specs.{CardText.price_lines, Kinds.IsGroup, Reading.head_prefix};
 ghost use Rattle.std.specs.Prelude.{◌≡◌, ◌↔◌, ◌+◌, ◌*◌, ◌≤◌, ◌++◌, length, fold, pos, unsigned_abs, ◌+ℤ◌, IsTrue};
 ghost use Rattle.std.specs.Prelude.{MatchOption};
 
-use super::cost_table::CostTable;
 use super::kinds::{BarKind, CableKind, Kind, PairKind, RowKind, are_kinds, prices_of_kinds};
 use arrayvec::ArrayVec;
 use std::marker::Model;
@@ -20,7 +19,7 @@ pub enum Version {
 
 impl Version {
     /// The text before the day's number in a card's first line, such as `CARD 1 DAY `.
-    pub(crate) fn front(self) -> &'static str
+    pub(crate) fn head_prefix(self) -> &'static str
         ensures value { result.now ≡ head_prefix self }
         ensures few { length result.now ≡ 11 }
     {
@@ -73,7 +72,7 @@ impl Prices {
             (¬ (ArePrices (PriceParts.Cables cables pairs)))
             (λ prices. prices ≡ PriceParts.Cables cables pairs) }
     {
-        if are_within_reach(&cables) && are_within_reach(&pairs) {
+        if are_in_range(&cables) && are_in_range(&pairs) {
             Some(Prices::of_parts(PriceParts::Cables(cables, pairs)))
         } else {
             None
@@ -88,7 +87,7 @@ impl Prices {
             (¬ (ArePrices (PriceParts.Bars bars rows)))
             (λ prices. prices ≡ PriceParts.Bars bars rows) }
     {
-        if are_within_reach(&bars) && are_within_reach(&rows) {
+        if are_in_range(&bars) && are_in_range(&rows) {
             Some(Prices::of_parts(PriceParts::Bars(bars, rows)))
         } else {
             None
@@ -105,7 +104,7 @@ impl Prices {
             PriceParts.CableKinds (record { items = cables.now }) (record { items = pairs.now }) in
             MatchOption result (¬ (ArePrices parts)) (λ prices. prices ≡ parts) }
     {
-        let parts = PriceParts::CableKinds(in_order(cables)?, in_order(pairs)?);
+        let parts = PriceParts::CableKinds(copy_if_group(cables)?, copy_if_group(pairs)?);
         Some(Prices::of_parts(parts))
     }
 
@@ -118,30 +117,8 @@ impl Prices {
             PriceParts.BarKinds (record { items = bars.now }) (record { items = rows.now }) in
             MatchOption result (¬ (ArePrices parts)) (λ prices. prices ≡ parts) }
     {
-        let parts = PriceParts::BarKinds(in_order(bars)?, in_order(rows)?);
+        let parts = PriceParts::BarKinds(copy_if_group(bars)?, copy_if_group(rows)?);
         Some(Prices::of_parts(parts))
-    }
-
-    /// Makes prices by number from the prices of rows and columns.
-    ///
-    /// `table` says whether the rows are cables or bars.
-    pub(crate) fn numbered(table: CostTable, rows: &[i16], columns: &[i16]) -> Self
-        requires rows { length rows.now ≡ price_count table }
-        requires columns { length columns.now ≡ price_count table }
-        requires row_reach { ArePricesInRange rows.now }
-        requires column_reach { ArePricesInRange columns.now }
-        ensures value { result ≡ parts_by_number table rows.now columns.now }
-        ensures are_prices { ArePrices result }
-    {
-        match table {
-            CostTable::OfCables => {
-                Prices::of_parts(PriceParts::Cables(array_of(rows), array_of(columns)))
-            }
-            CostTable::OfBars => Prices::of_parts(PriceParts::Bars(
-                array_of(rows),
-                array_of(columns),
-            )),
-        }
     }
 
     /// Whether each cable, pair, bar or row has its own price (by number), or each kind has one price (by kind).
@@ -223,7 +200,7 @@ pub fn sum_of_prices(rows: &[i16], columns: &[i16]) -> i32
 }
 
 /// Whether all of `prices` are from -9999 to 9999.
-fn are_within_reach(prices: &[i16]) -> bool
+fn are_in_range(prices: &[i16]) -> bool
     ensures { IsTrue result ↔ ArePricesInRange prices.now }
 {
     prices.iter().all(|price| price.unsigned_abs() <= 9999)
@@ -231,7 +208,7 @@ fn are_within_reach(prices: &[i16]) -> bool
 
 /// The sum of `sum` and all of `prices`.
 fn sum_onto(sum: i32, prices: &[i16]) -> i32
-    requires reach { ArePricesInRange prices.now }
+    requires in_range { ArePricesInRange prices.now }
     requires few { length prices.now ≤ 27 }
     requires small { unsigned_abs sum ≤ 27 * 9999 }
     ensures value { result ≡ fold (λ sum price. sum +ℤ price) sum prices.now }
@@ -244,16 +221,8 @@ fn sum_onto(sum: i32, prices: &[i16]) -> i32
     total
 }
 
-/// Copies `N` prices to an array.
-fn array_of<const N: usize>(prices: &[i16]) -> [i16; N]
-    requires { length prices.now ≡ N }
-    ensures { result ≡ prices.now }
-{
-    <[i16; N]>::try_from(prices).unwrap()
-}
-
 /// Copies `kinds`. `None` if they aren't valid and strictly ascending, or their counts don't add up to `N`.
-fn in_order<K: Kind, const N: usize>(kinds: &[K]) -> Option<ArrayVec<K, N>>
+fn copy_if_group<K: Kind, const N: usize>(kinds: &[K]) -> Option<ArrayVec<K, N>>
     ensures { MatchOption result
         (¬ (IsGroup K.format N kinds.now))
         (λ copied. (copied.items ≡ kinds.now) × IsGroup K.format N kinds.now) }

@@ -5,16 +5,16 @@ use Rattle.kd_prices.proofs.Prelude.{AreEqualWhereAlike, Day, tests_tell_letters
 use Rattle.kd_prices.proofs.Prelude.{ArePricesTight, StandAlike, cable_cost, cable_letters, columns_of, slice_get_past}
 use Rattle.kd_prices.proofs.Prelude.{Bars, List, None, Pin, ap, ints, map, sym, ℕ, ◌<◌, ◌∙◌, ◌≡◌, ◌≤◌}
 use Rattle.kd_prices.proofs.Prelude.{Cables, OfPins, OfRotors, Parts, Rotor, arith, bar_cost, cost_at, get_or, length}
-use Rattle.kd_prices.proofs.Prelude.{One, PricesFit, ReadAlike, get_or-map, no_rotors, slice_get, table_rows, unwrap_or}
+use Rattle.kd_prices.proofs.Prelude.{One, PricesFit, ReadAlike, get_or-map, no_rotors, slice_get, table_size, unwrap_or}
 
 -- Prices that fit a table of costs. Each row has a column, and each column has a row, where the two prices add up
 -- to the cost.
 module _ {A B : Type 0} (cost : A → B → ℕ) (rows : List A) (columns : List B) (a : A) (b : B) (m : Parts) (s : Day)
     (prices : PriceParts)
-    (many_rows : length rows ≡ table_rows prices) (many_columns : length columns ≡ table_rows prices)
+    (many_rows : length rows ≡ table_size prices) (many_columns : length columns ≡ table_size prices)
     (fits : PricesFit (map (λ row. map (cost row) columns) rows) prices)
     (tight : ArePricesTight (map (λ row. map (cost row) columns) rows) prices) where
-  at : (i j : ℕ) → i < table_rows prices → j < table_rows prices
+  at : (i j : ℕ) → i < table_size prices → j < table_size prices
       → cost_at (map (λ row. map (cost row) columns) rows) i j ≡ cost (get_or rows i a) (get_or columns j b)
   at i j lt lt' = grind (arith, get_or-map)
 
@@ -23,13 +23,13 @@ module _ {A B : Type 0} (cost : A → B → ℕ) (rows : List A) (columns : List
       → ((j k : ℕ) → ReadAlike s j k → get_or columns j b ≡ get_or columns k b) → AreEqualWhereAlike m s prices
   equal_where_alike stand read = record {
     rows = λ i k lt lt' alike.
-        let same = λ (j : ℕ) (within : j < table_rows prices). at i j lt within ∙ stand i k alike (get_or columns j b)
+        let same = λ (j : ℕ) (within : j < table_size prices). at i j lt within ∙ stand i k alike (get_or columns j b)
         ∙ sym (at k j lt' within) in
         let one = tight.column_of i lt in
         let two = tight.column_of k lt' in
         omega (arith, ints, fits k one.0 lt' one.1, fits i two.0 lt two.1, same one.0 one.1, same two.0 two.1);
     columns = λ j k lt lt' alike.
-        let same = λ (i : ℕ) (within : i < table_rows prices). at i j within lt
+        let same = λ (i : ℕ) (within : i < table_size prices). at i j within lt
         ∙ ap (cost (get_or rows i a)) (read j k alike) ∙ sym (at i k within lt') in
         let one = tight.row_of j lt in
         let two = tight.row_of k lt' in

@@ -10,7 +10,7 @@ use Rattle.kd_prices.proofs.Prelude.{ArePricesInRange, Bars, Contains-permutatio
 use Rattle.kd_prices.proofs.Prelude.{BarKind, ByKind, Cables, Expands, IfSome, IsGroup, None, RowKind, price_at}
 use Rattle.kd_prices.proofs.Prelude.{CableKinds, IsLegalDay, KindFormat, PriceParts, RotorParts, StandAlike, bar_format}
 use Rattle.kd_prices.proofs.Prelude.{IsSome, IsValidKeyAndPrice, OfPins, Option, Parts, PinDay, Rotor, Some, arith, length, refl, subst}
-use Rattle.kd_prices.proofs.Prelude.{columns_of, get_or-zip, length-map, length-zip, row_format, row_prices, table_rows}
+use Rattle.kd_prices.proofs.Prelude.{columns_of, get_or-zip, length-map, length-zip, row_format, row_prices, table_size}
 
 -- what `kinds_of` ensures of the kinds of `keys` with `prices`
 abbrev pub AreGrouped : {K X : Type 0} → KindFormat K X → List X → List ℤ → List K → Type 0
@@ -62,9 +62,9 @@ ArePricesByKind m s prices result = record {
 module _ {R X C Y : Type 0} (rows : KindFormat R X) (columns : KindFormat C Y) (m : Parts) (s : Day)
     (prices made : PriceParts) (xs : List X) (ys : List Y) (row : List R) (col : List C) where
   made_by_kind : model_of m ≡ day_model s → AreModelPrices m prices → version_of made ≡ ByKind
-      → AreKindsFor rows xs (table_rows prices) (StandAlike m) (row_prices prices) row
-      → AreKindsFor columns ys (table_rows prices) (ReadAlike s) (column_prices prices) col
-      → ArePrices made ↔ (IsGroup rows (table_rows prices) row × IsGroup columns (table_rows prices) col)
+      → AreKindsFor rows xs (table_size prices) (StandAlike m) (row_prices prices) row
+      → AreKindsFor columns ys (table_size prices) (ReadAlike s) (column_prices prices) col
+      → ArePrices made ↔ (IsGroup rows (table_size prices) row × IsGroup columns (table_size prices) col)
       → (ArePrices made → AreKindsOf rows xs (row_prices prices) row
       → AreKindsOf columns ys (column_prices prices) col → Expands m s made prices) → (result : Option PriceParts)
       → MatchOption result (¬ (ArePrices made)) (λ prices. prices ≡ made) → IfSome result ArePrices
@@ -104,9 +104,9 @@ cables_by_kind m s rows columns row col machine legal are same first second =
     (CableKinds (record { items = row }) (record { items = col })) m.cables (columns_in_order s.pairs) row col
     same tt refl
     (are_kinds_for cable_format m.cables (None, None) (StandAlike (Rotor m)) (cables_told m machine)
-    (cables_are_in_form m machine) 13 machine.legal.cables.count rows are.0.count are.0.reach row first)
+    (cables_are_in_form m machine) 13 machine.legal.cables.count rows are.0.count are.0.in_range row first)
     (are_kinds_for pair_format (columns_in_order s.pairs) None (ReadAlike (OfRotors s)) (columns_told s legal)
-    (columns_are_in_form s legal) 13 thirteen columns are.1.count are.1.reach col second)
+    (columns_are_in_form s legal) 13 thirteen columns are.1.count are.1.in_range col second)
     (λ good. good, λ good. good) (λ good of also. Expanded good are (of, also))
 
 pub bars_by_kind : (m : PinParts) (s : PinDay) (rows columns : List ℤ) (row : List BarKind) (col : List RowKind)
@@ -120,7 +120,7 @@ bars_by_kind m s rows columns row col machine legal are same first second =
     made_by_kind bar_format row_format (Pin m) (OfPins s) (Bars rows columns)
     (BarKinds (record { items = row }) (record { items = col })) m.bars s.rows row col same tt refl
     (are_kinds_for bar_format m.bars (One, One) (StandAlike (Pin m)) (each_told m.bars (One, One)) machine.legal.apart
-    27 machine.legal.bars rows are.0.count are.0.reach row first)
+    27 machine.legal.bars rows are.0.count are.0.in_range row first)
     (are_kinds_for row_format s.rows (0, 0) (ReadAlike (OfPins s)) (each_told s.rows (0, 0)) legal.rows 27 legal.count
-    columns are.1.count are.1.reach col second)
+    columns are.1.count are.1.in_range col second)
     (λ good. good, λ good. good) (λ good of also. Expanded good are (of, also))

@@ -54,7 +54,7 @@ module _ {K X : Type 0} (format : KindFormat K X) (cmp : X → X → Ordering) w
         → CanBeKinds format cmp ((kind.key, kind.price) ∷ pairs) → IsKind format made
     valid made pairs is can =
         let fine = All-head (IsValidKeyAndPrice format) (kind.key, kind.price) pairs can.fine in
-        record { form = rw is fine.0; some = rw is some; most = rw is few; reach = rw is fine.1 }
+        record { form = rw is fine.0; some = rw is some; most = rw is few; in_range = rw is fine.1 }
 
     pub appends_one : (made : K) → format.kind made ≡ kind → new ≡ old ++ made ∷ []
         → AppendsKinds format cmp kind [] old new

@@ -1,5 +1,5 @@
 -- Keys are taken out of kinds, one by one. If all can be taken, the kinds' prices are the prices of the keys.
-use Rattle.{kd_card.specs.Kinds.counted, kd_prices.specs.Grouping.{HasNoneLeft, TakesOne}}
+use Rattle.{kd_card.specs.Kinds.total_count, kd_prices.specs.Grouping.{HasNoneLeft, TakesOne}}
 use Rattle.kd_prices.proofs.Prelude.{All, [], ap, map, set, suc, sym, zip, ℕ, ℤ, ◌-◌, ◌<◌, ◌↔◌, ◌∙◌, ◌∷◌, ◌≡◌, ◌≤◌}
 use Rattle.kd_prices.proofs.Prelude.{All-append, AreKindsOf, Bool, MatchOption, common_steps, tied_itself, unsigned_abs}
 use Rattle.kd_prices.proofs.Prelude.{All-nil, ArePricesInRange, IsPermutation-sym, length-replicate, length_permutation}
@@ -114,7 +114,7 @@ abbrev IsNear : {X : Type 0} → X × ℤ → Type 0
 IsNear z = unsigned_abs z.1 ≤ 9999
 
 module _ {K X : Type 0} (format : KindFormat K X) where
-  pub size : (kinds : List K) → length (expansion (map format.kind kinds)) ≡ counted format kinds
+  pub size : (kinds : List K) → length (expansion (map format.kind kinds)) ≡ total_count format kinds
   size [] = refl
   size (kind ∷ kinds) = grind (arith, common_steps, length-append, length-replicate, size kinds)
 
@@ -122,7 +122,7 @@ module _ {K X : Type 0} (format : KindFormat K X) where
       → All (λ (z : X × ℤ). IsNear z) (expansion (map format.kind kinds))
   all_near last [] are = All-nil (λ (z : X × ℤ). IsNear z)
   all_near last (kind ∷ kinds) are =
-      grind (arith, common_steps, All-append, All-replicate, are.0.reach, all_near (Some kind) kinds are.2)
+      grind (arith, common_steps, All-append, All-replicate, are.0.in_range, all_near (Some kind) kinds are.2)
 
   pub all_taken : (kinds : List K) (keys : List X) (prices : List ℤ) (place : ℕ) (left : List (KindOf X))
       → IsGroup format (length keys) kinds → length prices ≡ length keys → length keys ≤ place

@@ -4,7 +4,7 @@ use Rattle.std.specs.Prelude.{◌≡◌, ◌⊎◌, ℕ, ◌+◌, ◌<◌, List,
 use Rattle.kd_state.specs.{FirstFaults.{AnswerRule, Demands, Finds, ◌>>=◌}, Setting.{IsFirstIllegal, Leads}}
 use Rattle.kd_state.specs.declared.{machine.parts.Parts.{Parts, TheVariants.{Pin, Rotor}}, setting.Setting.Setting}
 use Rattle.kd_state.specs.{Costs.cost_table, Machine.model_of, OnKey.ReadsAs, SheetDay.{Day, day_model}}
-use Rattle.kd_card.specs.Prices.{PricesFit, PricesFitAt, column_prices, price_sum, row_prices, table_rows}
+use Rattle.kd_card.specs.Prices.{PricesFit, PricesFitAt, column_prices, price_sum, row_prices, table_size}
 use Rattle.kd_card.specs.declared.prices.PriceParts.{PriceParts, TheVariants.{BarKinds, Bars, CableKinds, Cables}}
 use Rattle.kd_card.specs.Proving.{AreSettingsNeeded, Expands, IsSettingNeeded, priced_count}
 use Rattle.kd_prices.specs.declared.doubt.Doubt.TheVariants.{NeedlessLine, NotTheSheet, PriceMissing, PriceTooHigh}
@@ -54,7 +54,7 @@ abbrev pub IsFitsAnswer : List (List ℕ) → PriceParts → AnswerRule Doubt (U
 IsFitsAnswer costs prices (Ok fits) = PricesFit costs prices
 IsFitsAnswer costs prices (Err (PriceTooHigh i j)) =
     (row : ℕ) × (column : ℕ) × (i ≡ row + 1) × (j ≡ column + 1)
-    × IsFirstWithout (PricesFitAt costs prices) (table_rows prices) row column
+    × IsFirstWithout (PricesFitAt costs prices) (table_size prices) row column
 IsFitsAnswer costs prices (Err doubt) = ⊥
 
 -- The result of testing whether all settings are needed: success, or the first setting that isn't.
@@ -93,7 +93,7 @@ IsDoubt m s settings prices doubt = IsCheckedAnswer m s settings prices (Err dou
 -- first doubt.
 abbrev pub IsByPricesAnswer : Parts → Day → List Setting → ℕ → List ℤ → List ℤ → AnswerRule Doubt (Unit {0})
 IsByPricesAnswer m s settings number rows columns answer =
-    (prices : PriceParts) → row_prices prices ≡ rows → column_prices prices ≡ columns → table_rows prices ≡ number
+    (prices : PriceParts) → row_prices prices ≡ rows → column_prices prices ≡ columns → table_size prices ≡ number
     → IsByNumberAnswer m s settings prices answer
 
 -- The result of finding a price for each row and each column of the table of costs: both lists of prices, or the first

@@ -3,7 +3,7 @@ use Rattle.std.specs.Prelude.{◌≡◌, ℕ, ◌-◌, ◌<◌, ◌≤◌, List,
 use Rattle.kd_state.specs.{SheetDay.{Day, IsLegalDay}, declared.{machine.parts.Parts.Parts, setting.Setting.Setting}}
 use Rattle.kd_state.specs.{Machine.IsMachine, Setting.Leads}
 use Rattle.kd_card.specs.declared.prices.PriceParts.{PriceParts}
-use Rattle.kd_card.specs.Prices.{row_prices, column_prices, table_rows, price_at, ArePrices}
+use Rattle.kd_card.specs.Prices.{row_prices, column_prices, table_size, price_at, ArePrices}
 use Rattle.kd_card.specs.Proving.{LeadsToTheDay, ProvesByNumber, Proves, IsShortest}
 use Rattle.kd_prices.specs.Alike.{ReadAlike, StandAlike}
 use Rattle.kd_prices.specs.Doubt.{IsDoubt}
@@ -39,10 +39,10 @@ RestIsShortest =
 -- On a Converter, bars with the same standing have equal prices, and rows with the same reading have equal prices.
 pub record AreEqualWhereAlike (m : Parts) (s : Day) (prices : PriceParts) : Type 0 where
   pub rows :
-      (place other : ℕ) → place < table_rows prices → other < table_rows prices → StandAlike m place other
+      (place other : ℕ) → place < table_size prices → other < table_size prices → StandAlike m place other
       → price_at (row_prices prices) place ≡ price_at (row_prices prices) other
   pub columns :
-      (place other : ℕ) → place < table_rows prices → other < table_rows prices → ReadAlike s place other
+      (place other : ℕ) → place < table_size prices → other < table_size prices → ReadAlike s place other
       → price_at (column_prices prices) place ≡ price_at (column_prices prices) other
 
 -- If a card with prices by number proves itself, equal cables, columns, bars or rows have equal prices. By number

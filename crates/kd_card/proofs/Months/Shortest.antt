@@ -233,9 +233,9 @@ pub record AreBounds (costs : List (List ℕ)) (prices : PriceParts) (loose line
   pub tight : pos lines ≡ (pos loose +ℤ price_sum prices) → ArePricesTight costs prices
 
 module _ {A B : Type 0} (a : A) (b : B) (cost : A → B → ℕ) (rows : List A) (columns : List B) (prices : PriceParts)
-    (loose lines : ℕ) (rows_count : length rows ≡ table_rows prices)
-    (columns_count : length columns ≡ table_rows prices) (row_count : length (row_prices prices) ≡ table_rows prices)
-    (column_count : length (column_prices prices) ≡ table_rows prices)
+    (loose lines : ℕ) (rows_count : length rows ≡ table_size prices)
+    (columns_count : length columns ≡ table_size prices) (row_count : length (row_prices prices) ≡ table_size prices)
+    (column_count : length (column_prices prices) ≡ table_size prices)
     (fits : PricesFit (map (λ row. map (cost row) columns) rows) prices) (beside : List (B × ℤ))
     (order : IsPermutation (zip columns (column_prices prices)) beside)
     (enough : loose + pairing_cost cost rows beside ≤ lines) where
@@ -245,26 +245,26 @@ module _ {A B : Type 0} (a : A) (b : B) (cost : A → B → ℕ) (rows : List A)
   abbrev priced : List (B × ℤ)
   priced = zip columns (column_prices prices)
 
-  zipped : length priced ≡ table_rows prices
+  zipped : length priced ≡ table_size prices
   zipped = grind (arith, length-zip)
 
-  size : length beside ≡ table_rows prices
+  size : length beside ≡ table_size prices
   size = length_permutation priced beside order ∙ zipped
 
-  column : (j : ℕ) → j < table_rows prices
+  column : (j : ℕ) → j < table_size prices
       → get_or priced j (b, pos 0) ≡ (get_or columns j b, price_at (column_prices prices) j)
   column j lt = get_or-zip columns (column_prices prices) j (b, pos 0) (omega arith) (omega arith)
 
-  at : (i j : ℕ) → i < table_rows prices → j < table_rows prices
+  at : (i j : ℕ) → i < table_size prices → j < table_size prices
       → cost_at costs i j ≡ cost (get_or rows i a) (get_or columns j b)
   at i j lt lt' = grind (arith, get_or-map)
 
   fit : FitAll cost a rows (row_prices prices) beside
   fit i lt =
       let fits_here = FitTogether cost (get_or rows i a) (get_or (row_prices prices) i (pos 0)) in
-      let inside : i < table_rows prices = omega arith in
+      let inside : i < table_size prices = omega arith in
       All-permutation fits_here priced beside order (All-from_get_or fits_here priced (b, pos 0) (λ j lt'.
-      let within : j < table_rows prices = omega (arith, zipped) in
+      let within : j < table_size prices = omega (arith, zipped) in
       rw (column j within, ← at i j inside within) (fits i j inside within)))
 
   sums : price_sum prices ≡ (sum_of (row_prices prices) +ℤ prices_with beside)
@@ -278,7 +278,7 @@ module _ {A B : Type 0} (a : A) (b : B) (cost : A → B → ℕ) (rows : List A)
 
   module _ (exact : pos lines ≡ (pos loose +ℤ price_sum prices)) where
     -- If column `j` is beside row `i`, the prices of the two add up to the cost where they meet.
-    tight_where : (i j : ℕ) → i < table_rows prices → j < table_rows prices
+    tight_where : (i j : ℕ) → i < table_size prices → j < table_size prices
         → get_or beside i (b, pos 0) ≡ get_or priced j (b, pos 0) → IsPriceTightAt costs prices i j
     tight_where i j lt lt' e =
         let all = sum_of (row_prices prices) +ℤ prices_with beside in
@@ -288,17 +288,17 @@ module _ {A B : Type 0} (a : A) (b : B) (cost : A → B → ℕ) (rows : List A)
         (rows_count ∙ sym row_count) fit due (omega arith) in
         rw (at i j lt lt') (rw (e ∙ column j lt') at tight)
 
-    column_for : (i : ℕ) → i < table_rows prices → (j : ℕ) × (j < table_rows prices) × IsPriceTightAt costs prices i j
+    column_for : (i : ℕ) → i < table_size prices → (j : ℕ) × (j < table_size prices) × IsPriceTightAt costs prices i j
     column_for i lt =
         let there = IsPermutation-place priced beside i (b, pos 0) order (omega (arith, size)) in
-        let inside : there.0 < table_rows prices = omega (arith, there.1, zipped) in
+        let inside : there.0 < table_size prices = omega (arith, there.1, zipped) in
         (there.0, inside, tight_where i there.0 lt inside there.2)
 
-    row_for : (j : ℕ) → j < table_rows prices → (i : ℕ) × (i < table_rows prices) × IsPriceTightAt costs prices i j
+    row_for : (j : ℕ) → j < table_size prices → (i : ℕ) × (i < table_size prices) × IsPriceTightAt costs prices i j
     row_for j lt =
         let there = IsPermutation-place beside priced j (b, pos 0) (IsPermutation-sym priced beside order)
         (omega (arith, zipped)) in
-        let inside : there.0 < table_rows prices = omega (arith, there.1, size) in
+        let inside : there.0 < table_size prices = omega (arith, there.1, size) in
         (there.0, inside, tight_where there.0 j inside lt (sym there.2))
 
   pub bounded : AreBounds costs prices loose lines

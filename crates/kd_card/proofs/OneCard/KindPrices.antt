@@ -3,18 +3,18 @@ pub mod KindWords
 unfoldable pub use KindWords.*
 
 module _ {K X : Type 0} (format : KindFormat K X) where
-  pub length_of_kinds : (kinds : List K) → length (prices_of_kinds format kinds) ≡ counted format kinds
+  pub length_of_kinds : (kinds : List K) → length (prices_of_kinds format kinds) ≡ total_count format kinds
   length_of_kinds [] = refl
   length_of_kinds (kind ∷ kinds) = grind (arith, common_steps, length-replicate, length-append, length_of_kinds kinds)
 
-  pub reach_of_kinds : (last : Option K) (kinds : List K) → AreKinds format last kinds
+  pub kinds_in_range : (last : Option K) (kinds : List K) → AreKinds format last kinds
       → ArePricesInRange (prices_of_kinds format kinds)
-  reach_of_kinds last [] are = All-nil (λ price. unsigned_abs price ≤ 9999)
-  reach_of_kinds last (kind ∷ kinds) are =
-      grind (arith, common_steps, All-append, All-replicate, reach_of_kinds (Some kind) kinds are.2)
+  kinds_in_range last [] are = All-nil (λ price. unsigned_abs price ≤ 9999)
+  kinds_in_range last (kind ∷ kinds) are =
+      grind (arith, common_steps, All-append, All-replicate, kinds_in_range (Some kind) kinds are.2)
 
   -- There are at most as many kinds as keys, because each kind counts at least one.
-  pub few_kinds : (last : Option K) (kinds : List K) → AreKinds format last kinds → length kinds ≤ counted format kinds
+  pub few_kinds : (last : Option K) (kinds : List K) → AreKinds format last kinds → length kinds ≤ total_count format kinds
   few_kinds last [] are = omega arith
   few_kinds last (kind ∷ kinds) are = let some = are.0.some in omega (arith, few_kinds (Some kind) kinds are.2)
 
@@ -26,29 +26,30 @@ module _ {K X : Type 0} (format : KindFormat K X) where
       → kinds_text format (kind ∷ kinds) ++ rest ≡ line_then (kind_words format kind) (kinds_text format kinds ++ rest)
   text_of_more_kinds kind kinds rest = line_and_more (line_of (kind_words format kind)) (kinds_text format kinds) rest
 
-  pub counted-append : (kinds more : List K)
-      → counted format (kinds ++ more) ≡ counted format kinds + counted format more
-  counted-append [] more = omega arith
-  counted-append (first ∷ kinds) more = omega (arith, counted-append kinds more)
+  pub total_count-append : (kinds more : List K)
+      → total_count format (kinds ++ more) ≡ total_count format kinds + total_count format more
+  total_count-append [] more = omega arith
+  total_count-append (first ∷ kinds) more = omega (arith, total_count-append kinds more)
 
-  pub counted_within : (kinds : List K) (i : ℕ) {kind : K} → i < length kinds → kind ≡ get_or kinds i kind
-      → counted format (take i kinds) + (format.kind kind).count ≤ counted format kinds
-  counted_within [] i inside is = absurd (omega arith)
-  counted_within (first ∷ kinds) zero inside is = let same = ap (λ (k : K). (format.kind k).count) is in omega arith
-  counted_within (first ∷ kinds) (suc i) inside is = omega (arith, counted_within kinds i (omega arith) is)
+  pub total_count_within : (kinds : List K) (i : ℕ) {kind : K} → i < length kinds → kind ≡ get_or kinds i kind
+      → total_count format (take i kinds) + (format.kind kind).count ≤ total_count format kinds
+  total_count_within [] i inside is = absurd (omega arith)
+  total_count_within (first ∷ kinds) zero inside is = let same = ap (λ (k : K). (format.kind k).count) is in omega arith
+  total_count_within (first ∷ kinds) (suc i) inside is = omega (arith, total_count_within kinds i (omega arith) is)
 
-pub few_of_group : {K X : Type 0} (format : KindFormat K X) (number : ℕ) (kinds : List K) → number ≤ 27
-    → IsGroup format number kinds → AreFewKinds format kinds
-few_of_group format number kinds few group = search (rules, few_kinds, all_kinds)
+pub few_of_group : {K X : Type 0} (format : KindFormat K X) (number : ℕ) (kinds : List K)
+    → IsGroup format number kinds → (length kinds ≤ number) × All (IsKind format) kinds
+few_of_group format number kinds group =
+    (omega (arith, few_kinds format None kinds group.in_order, group.count), all_kinds format None kinds group.in_order)
 
 -- ---- valid prices by kind
 
 pub kind_price_list : {K X : Type 0} (format : KindFormat K X) (number : ℕ) (kinds : List K)
     → IsGroup format number kinds → IsPriceList number (prices_of_kinds format kinds)
-kind_price_list format number kinds group = grind (arith, length_of_kinds, reach_of_kinds)
+kind_price_list format number kinds group = grind (arith, length_of_kinds, kinds_in_range)
 
 both_lists : (prices : PriceParts) → ArePrices prices
-    → IsPriceList (table_rows prices) (row_prices prices) × IsPriceList (table_rows prices) (column_prices prices)
+    → IsPriceList (table_size prices) (row_prices prices) × IsPriceList (table_size prices) (column_prices prices)
 both_lists (CableKinds rows columns) are =
     (kind_price_list cable_format 13 rows.items are.0, kind_price_list pair_format 13 columns.items are.1)
 both_lists (BarKinds rows columns) are =
@@ -60,17 +61,14 @@ price_sum_is_small prices p =
     let both = both_lists prices p in
     grind (arith, common_steps, All-append, sum_bound, recursion_from_All, length-append, few_prices)
 
-pub some_and_few : (table : CostTable) → (0 < price_count table) × (price_count table ≤ 27)
-some_and_few table = grind arith
-
 pub text_of_two : {R X C Y : Type 0} (rows : KindFormat R X) (columns : KindFormat C Y) (xs : List R) (ys : List C)
     → lines_text (map (kind_words rows) xs ++ map (kind_words columns) ys) ≡ kinds_text rows xs ++ kinds_text columns ys
 text_of_two rows columns xs ys = grind (arith, flat_map-append, flat_map-map)
 
-pub groups_joined : {R X C Y : Type 0} (rows : KindFormat R X) (columns : KindFormat C Y) (front : List ℕ) (xs : List R)
-    (ys : List C) → (front ++ kinds_text rows xs) ++ kinds_text columns ys
-    ≡ front ++ lines_text (map (kind_words rows) xs ++ map (kind_words columns) ys)
-groups_joined rows columns front xs ys = rw text_of_two (append_assoc front (kinds_text rows xs) _)
+pub groups_joined : {R X C Y : Type 0} (rows : KindFormat R X) (columns : KindFormat C Y) (prefix : List ℕ) (xs : List R)
+    (ys : List C) → (prefix ++ kinds_text rows xs) ++ kinds_text columns ys
+    ≡ prefix ++ lines_text (map (kind_words rows) xs ++ map (kind_words columns) ys)
+groups_joined rows columns prefix xs ys = rw text_of_two (append_assoc prefix (kinds_text rows xs) _)
 
 -- ---- kinds that are read
 
@@ -93,8 +91,8 @@ pub record HasRead {K X : Type 0} (format : KindFormat K X) (room line : ℕ) (t
   pub read : List K
   pub goes_on : (more : List K) (end : List ℕ) → BeginsWithKinds format last rest more end
       → BeginsWithKinds format None text (read ++ more) end
-  pub some : length read ≤ counted format read
-  pub number_is : number ≡ min (counted format read) (room + 1)
+  pub some : length read ≤ total_count format read
+  pub number_is : number ≡ min (total_count format read) (room + 1)
   pub at_is : at ≡ line + length read
   pub shorter : length read + length rest ≤ length text
   pub keeps : length read ≤ room → kept ≡ read
@@ -112,7 +110,7 @@ reads_on {format} {text} {rest} {after} {kind} so_far next new keeps =
     let read = so_far.read in
     let longer = length-append read (kind ∷ []) in
     let some = next.good.some in
-    let all = counted-append format read (kind ∷ []) in
+    let all = total_count-append format read (kind ∷ []) in
     let line = ap length (is_line next.line) in
     let size = length-append (line_of (kind_words format kind)) (10 ∷ after) in
     record {

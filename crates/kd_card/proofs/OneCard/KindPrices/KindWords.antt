@@ -76,8 +76,8 @@ module _ {K X : Type 0} {format : KindFormat K X} (is : IsFormat format) where
       let counts : a_kind.count ≡ b_kind.count =
       decimal_injective a_kind.count b_kind.count (omega arith) (omega arith) (ap (λ w. get_or w 2 []) e) in
       let prices : a_kind.price ≡ b_kind.price =
-      signed_decimal_injective a_kind.price b_kind.price (mag-small a_kind.price a.reach)
-      (mag-small b_kind.price b.reach) (ap (λ w. get_or w 3 []) e) in
+      signed_decimal_injective a_kind.price b_kind.price (mag-small a_kind.price a.in_range)
+      (mag-small b_kind.price b.in_range) (ap (λ w. get_or w 3 []) e) in
       let make : X → ℕ → ℤ → KindOf X = λ key count price. record { key = key; count = count; price = price } in
       is.same kind other (ap (λ key. make key a_kind.count a_kind.price) keys
       ∙ ap (λ count. make b_kind.key count a_kind.price) counts ∙ ap (make b_kind.key b_kind.count) prices)
@@ -146,8 +146,8 @@ no_count format key count price is kind has = grind (arith, common_steps, decima
 
 -- ---- writing a line
 
-pub line_in_pieces : {K X : Type 0} (format : KindFormat K X) (front : List ℕ) (kind : K)
-    → (((((((front ++ format.word) ++ 32 ∷ []) ++ format.text (format.kind kind).key) ++ 32 ∷ [])
+pub line_in_pieces : {K X : Type 0} (format : KindFormat K X) (prefix : List ℕ) (kind : K)
+    → (((((((prefix ++ format.word) ++ 32 ∷ []) ++ format.text (format.kind kind).key) ++ 32 ∷ [])
     ++ decimal (format.kind kind).count) ++ 32 ∷ []) ++ signed_decimal (format.kind kind).price) ++ 10 ∷ []
-    ≡ front ++ kinds_text format (kind ∷ [])
-line_in_pieces format front kind = simp (append_assoc, append-nil)
+    ≡ prefix ++ kinds_text format (kind ∷ [])
+line_in_pieces format prefix kind = simp (append_assoc, append-nil)

@@ -1,4 +1,4 @@
-use Rattle.kd_card.proofs.OneCard.{KindOf, arith, ◌∙◌, refl, ap, BadLine, PriceMissing, HasFault, GoesOn, Ok, counted}
+use Rattle.kd_card.proofs.OneCard.{KindOf, arith, ◌∙◌, refl, ap, BadLine, PriceMissing, HasFault, GoesOn, Ok, total_count}
 use Rattle.kd_card.proofs.OneCard.{◌≡◌, all_read, reads_on}
 use Rattle.kd_card.proofs.kind_text.read_kinds.Goals as goal
 
@@ -21,7 +21,7 @@ returns-then-number g c =
     let read = c.kind.invariant in
     let end = rw c.in-Ok-None.field-0-is at c.in-Ok-None.ensures in
     let all = c.if-number.true in
-    let counts : counted g.K.Kind.format read.read ≡ g.row.N = omega (arith, read.number_is) in
+    let counts : total_count g.K.Kind.format read.read ≡ g.row.N = omega (arith, read.number_is) in
     GoesOn (read.read, c.kind.rest.now) (all_read read end.none_more) (GoesOn tt end.ends (GoesOn tt counts
     (ap (λ kinds. Ok (kinds, c.kind.rest.now)) (read.keeps (omega (arith, read.some))))))
 

@@ -2,6 +2,6 @@ use Rattle.kd_card.proofs.OneCard.{arith, not_at}
 use Rattle.kd_card.proofs.price_text.prices_of_words.Goals as goal
 
 pub returns-in_err-price_of_text : goal.returns-in_err-price_of_text
-returns-in_err-price_of_text c =
+returns-in_err-price_of_text g c =
     rw c.from_residual.ensures (not_at c.args.words.now c.loop-word.word-index _ (omega arith)
     (λ price. c.in_err-price_of_text.ensures price.0 price.1 price.2))

@@ -1,4 +1,4 @@
-use Rattle.kd_prices.proofs.Prelude.{GoesOn, List, SFits, arith, price_sum, row_prices, table_rows, to_z-of_z, to_z_pos}
+use Rattle.kd_prices.proofs.Prelude.{GoesOn, List, SFits, arith, price_sum, row_prices, table_size, to_z-of_z, to_z_pos}
 use Rattle.kd_prices.proofs.Prelude.{HasFault, ListsFitAt, NotTheSheet, PriceParts, PricesFitAt, SumDiffers, false≢true}
 use Rattle.kd_prices.proofs.Prelude.{IsFirstWithout, PriceTooHigh, ap, column_prices, err_from_is_err_and, priced_count}
 use Rattle.kd_prices.proofs.Prelude.{of_z, pos, refl, rules, sym, to_z, w32, ℕ, ℤ, ◌+◌, ◌<◌, ◌^◌, ◌∙◌, ◌≡◌, ◌≢◌}
@@ -15,9 +15,9 @@ returns-then-not-reads_as g c = λ prices row column many.
     (HasFault NotTheSheet ((λ same reads. false≢true (sym c.if-not-reads_as.true ∙ c.reads_as.ensures.1 reads)), refl)
     refl)
 
-too_high : (prices : PriceParts) (costs : List (List ℕ)) (rows columns : List ℤ) (n i j : ℕ) → table_rows prices ≡ n
+too_high : (prices : PriceParts) (costs : List (List ℕ)) (rows columns : List ℤ) (n i j : ℕ) → table_size prices ≡ n
     → row_prices prices ≡ rows → column_prices prices ≡ columns → IsFirstWithout (ListsFitAt costs rows columns) n i j
-    → IsFirstWithout (PricesFitAt costs prices) (table_rows prices) i j
+    → IsFirstWithout (PricesFitAt costs prices) (table_size prices) i j
 too_high prices costs rows columns n i j many row column first = grind (arith, first.here, first.before)
 
 pub returns-in-Some : goal.returns-in-Some

@@ -15,22 +15,24 @@ pub use Rattle.std.proofs.lemmas.List.{get_or-map, get_or_at, length-replicate, 
 pub use Rattle.std.proofs.lemmas.{Bool.{ltb-true, Decides.Decides-eqb}, List.{length-map, Concat.flat_map-append}}
 pub use Rattle.std.proofs.lemmas.{Bool.{false≢true, ne_eqb}, Fmt.{decimal_digit, signed_decimal_injective}}
 pub use Rattle.std.proofs.lemmas.Fmt.{decimal_injective, decimal_nonempty, digits_decimal, first_decimal}
+pub use Rattle.std.proofs.{Common.bytes_eq, lemmas.Slice.Eq.bytes_eq-Decides}
+pub use Rattle.std.specs.{Bool.then_some, Result.result_ok, Str.{IsUtf8, Parse.ParsesSigned}}
+pub use Rattle.std.proofs.lemmas.{Fmt.{IsAscii-signed, parse-signed_decimal}, Str.IsUtf8-from_ascii}
 pub use Rattle.kd_card.specs.Kinds.{AreEnds, bar_format, cable_format, ComesAfter, HasText, IsOnlyKey, letters_text}
-pub use Rattle.kd_card.specs.Kinds.{counted, IsGroup, IsKind, KeyComesBefore, KindFormat, pair_format, prices_of_kinds}
-pub use Rattle.kd_card.specs.{CardFault.first_text, Kinds.{AreKinds, HasKindWords, kind_words, kinds_text, row_format}}
+pub use Rattle.kd_card.specs.Kinds.{total_count, IsGroup, IsKind, KeyComesBefore, KindFormat, pair_format, prices_of_kinds}
+pub use Rattle.kd_card.specs.{CardFault.{first_text, CostTable, OfBars, OfCables}, Kinds.{AreKinds, HasKindWords, kind_words, kinds_text, row_format}}
 pub use Rattle.kd_card.specs.CardFault.{AtNothing, BeginsWithWord, IsAllPricesAnswer, IsPricesAnswer, last_of}
 pub use Rattle.kd_card.specs.CardFault.{BeginsWithKinds, IsDigit, IsGroupsAnswer, IsPriceLineAnswer, IsRestAnswer}
 pub use Rattle.kd_card.specs.CardFault.{EndsGroup, HasLineWords, IsLineAnswer, IsNextKind, IsNumberText, IsValueAnswer}
 pub use Rattle.kd_card.specs.CardFault.{BeginsWithHead, IsCardAnswer, IsSettingsAnswer, IsTablePricesAnswer}
-pub use Rattle.kd_card.specs.CardFault.{AtOther, HasNoNext, IsGroupAnswer, IsNumeral, line_then, parts_by_number}
-pub use Rattle.kd_card.specs.CardText.{card_text, column_word, head_words, IsCard, lines_text, price_count, price_lines}
-pub use Rattle.kd_card.specs.declared.cost_table.CostTable.{CostTable, TheVariants.{OfBars, OfCables}}
+pub use Rattle.kd_card.specs.CardFault.{AtOther, HasNoNext, IsGroupAnswer, IsListsAnswer, IsNumeral, line_then}
+pub use Rattle.kd_card.specs.CardText.{card_text, head_words, IsCard, lines_text, price_lines}
 pub use Rattle.kd_card.specs.declared.prices.PriceParts.{PriceParts, TheVariants.{BarKinds, Bars, CableKinds, Cables}}
 pub use Rattle.kd_card.specs.declared.{kinds.KindOf.KindOf, prices.Version.{Version, TheVariants.{ByKind, ByNumber}}}
 pub use Rattle.kd_card.specs.declared.fault.CardFault.{CardFault, TheVariants.{BadLine, PriceMissing, Trailing}}
-pub use Rattle.kd_card.specs.Laws.{CardsAreSaid, CardsHaveNoFault, NoCardBeginsAnother, OneCardFault, TextsTellCards}
-pub use Rattle.kd_card.specs.Reading.{AreFewKinds, EndsKindsAt, head_prefix, IsBadKindAt, IsKindOfWords, IsPriceText}
-pub use Rattle.kd_card.specs.Prices.{ArePrices, column_prices, IsPriceList, price_sum, table_rows, version_of}
+pub use Rattle.kd_card.specs.Laws.{ReadingGivesCards, CardsHaveNoFault, NoCardBeginsAnother, OneCardFault, TextsTellCards}
+pub use Rattle.kd_card.specs.Reading.{EndsKindsAt, head_prefix, IsBadKindAt, IsKindOfWords, IsPriceText}
+pub use Rattle.kd_card.specs.Prices.{ArePrices, column_prices, IsPriceList, price_sum, table_size, version_of}
 pub use Rattle.{kd_card.specs.Prices.{ArePricesInRange, row_prices}, kd_state.specs.SheetDay.IsDayNumber}
 pub use Rattle.kd_state.specs.FirstFaults.{HasOneAnswer, HasOneAnswer-Demands, ThenNext, ThenNext-Ok, Yields, Yields-Ok}
 pub use Rattle.kd_state.specs.FirstFaults.{Demands, HasOneAnswer-Finds, HasOneAnswer-FindsAlways, HasOneAnswer-ThenNext}
@@ -39,7 +41,7 @@ pub use Rattle.kd_state.specs.{declared.setting.Setting.Setting, Words.{IsWithou
 pub use Rattle.kd_state.specs.{Line.{BeginsWithAllSettings, BeginsWithSettingLines, setting_line}, Words.IsFirstPart}
 pub use Rattle.kd_state.specs.{Line.{BeginsWithNoSetting, list_text, setting_words}, Machine.cable_letters}
 pub use Rattle.kd_state.proofs.Lines.{lines_split_into_words, not_longer, same_end, word_by_test, words_make_one_line}
-pub use Rattle.kd_state.proofs.Lines.{IsNumeralModel-digits, numbers_are_words, texts_tell_first_parts, word_by_bytes}
+pub use Rattle.kd_state.proofs.Lines.{ok_part, IsNumeralModel-digits, numbers_are_words, texts_tell_first_parts, word_by_bytes}
 
 abbrev pub settings_words : ℕ → List (List ℕ)
 settings_words number = codes "SETTINGS" ∷ decimal number ∷ []
@@ -59,11 +61,9 @@ line_of-prices : (word : List ℕ) (prices : List ℤ) → line_of (price_words 
 line_of-prices word [] = sym (append-nil word)
 line_of-prices word (price ∷ prices) = ap (λ text. word ++ 32 ∷ text) (line_of-prices (signed_decimal price) prices)
 
-pub all_prices : (front word : List ℕ) (prices : List ℤ)
-    → (front ++ (word ++ behind_spaces prices)) ++ 10 ∷ [] ≡ front ++ line_then (price_words word prices) []
-all_prices front word prices = simp (append_assoc, line_of-prices word prices)
-
-pub ruleset prices_written = (all_prices, take_all)
+pub all_prices : (prefix word : List ℕ) (prices : List ℤ)
+    → (prefix ++ (word ++ behind_spaces prices)) ++ 10 ∷ [] ≡ prefix ++ line_then (price_words word prices) []
+all_prices prefix word prices = simp (append_assoc, line_of-prices word prices)
 
 -- ---- a card's text, line by line
 
@@ -82,8 +82,8 @@ pub card_and_more : (day : ℕ) (xs : List Setting) (prices : PriceParts) (rest 
 card_and_more day xs prices rest = grind (arith, common_steps, all_lines, flat_map-map)
 
 -- A card's head is the text before the day, the day, and an LF.
-pub head_text : {front : List ℕ} (version : Version) (day : ℕ) (rest : List ℕ) → front ≡ head_prefix version
-    → front ++ decimal day ++ 10 ∷ rest ≡ line_then (head_words version day) rest
+pub head_text : {prefix : List ℕ} (version : Version) (day : ℕ) (rest : List ℕ) → prefix ≡ head_prefix version
+    → prefix ++ decimal day ++ 10 ∷ rest ≡ line_then (head_words version day) rest
 head_text version day rest e = rw e (grind arith)
 
 lines_text-card : (head count sum : List (List ℕ)) (settings lines : List (List (List ℕ)))
@@ -92,12 +92,12 @@ lines_text-card : (head count sum : List (List ℕ)) (settings lines : List (Lis
 lines_text-card head count sum settings lines = simp (flat_map-append, append_assoc)
 
 pub card_text-joined : (version : Version) (day count : ℕ)
-    (xs ys : List Setting) (prices : PriceParts) (sum : ℤ) (empty top head list below counted lines end whole : List ℕ)
+    (xs ys : List Setting) (prices : PriceParts) (sum : ℤ) (empty top head list below total_count lines end whole : List ℕ)
     → empty ≡ [] → top ≡ line_then (head_words version day) [] → below ≡ line_then (settings_words count) []
-    → end ≡ line_then (sum_words sum) [] → head ≡ empty ++ top → list ≡ head ++ list_text ys → counted ≡ list ++ below
-    → lines ≡ counted ++ lines_text (price_lines prices) → whole ≡ lines ++ end → version ≡ version_of prices
+    → end ≡ line_then (sum_words sum) [] → head ≡ empty ++ top → list ≡ head ++ list_text ys → total_count ≡ list ++ below
+    → lines ≡ total_count ++ lines_text (price_lines prices) → whole ≡ lines ++ end → version ≡ version_of prices
     → ys ≡ xs → count ≡ length xs → sum ≡ price_sum prices → whole ≡ card_text day xs prices
-card_text-joined version day count xs ys prices sum empty top head list below counted lines end whole
+card_text-joined version day count xs ys prices sum empty top head list below total_count lines end whole
     a t n s h l c p w by same many summed =
     let lines_of = map setting_words xs in
     let card = lines_text-card (head_words version day) (settings_words count) (sum_words sum) lines_of
@@ -115,15 +115,15 @@ pub no_first_part : {byte : ℕ} {text part rest : List ℕ} → IsFirstPart byt
 no_first_part {byte} {text} {part} {rest} first without =
     grind (arith, without, length-append part (byte ∷ rest), get_or_at part byte rest 0 (length part) refl)
 
--- The bytes after `front`, split at the first LF: the value before it, and the bytes after it; or there is no LF.
-pub value_split : (text front behind : List ℕ) (r : Option (Bor (List ℕ) × Bor (List ℕ))) → text ≡ front ++ behind
+-- The bytes after `prefix`, split at the first LF: the value before it, and the bytes after it; or there is no LF.
+pub value_split : (text prefix behind : List ℕ) (r : Option (Bor (List ℕ) × Bor (List ℕ))) → text ≡ prefix ++ behind
     → MatchOption r (IsWithout 10 behind) (λ parts. IsFirstPart 10 behind parts.0.now parts.1.now)
-    → MatchOption r ((value rest : List ℕ) → IsWithout 10 value → text ≢ front ++ value ++ 10 ∷ rest)
-    (λ found. (text ≡ front ++ found.0.now ++ 10 ∷ found.1.now) × IsWithout 10 found.0.now)
-value_split text front behind None e none = λ value rest free d.
-    let same : front ++ behind ≡ front ++ (value ++ 10 ∷ rest) = sym e ∙ d ∙ append_assoc front value (10 ∷ rest) in
-    no_first_part (record { joined = append_cancel_left front behind (value ++ 10 ∷ rest) same; without = free }) none
-value_split text front behind (Some found) e first = grind (arith, common_steps, append_assoc)
+    → MatchOption r ((value rest : List ℕ) → IsWithout 10 value → text ≢ prefix ++ value ++ 10 ∷ rest)
+    (λ found. (text ≡ prefix ++ found.0.now ++ 10 ∷ found.1.now) × IsWithout 10 found.0.now)
+value_split text prefix behind None e none = λ value rest free d.
+    let same : prefix ++ behind ≡ prefix ++ (value ++ 10 ∷ rest) = sym e ∙ d ∙ append_assoc prefix value (10 ∷ rest) in
+    no_first_part (record { joined = append_cancel_left prefix behind (value ++ 10 ∷ rest) same; without = free }) none
+value_split text prefix behind (Some found) e first = grind (arith, common_steps, append_assoc)
 
 -- ---- texts without LF
 
@@ -181,21 +181,6 @@ written_price text p e within = e ∙ ap signed_decimal (to_z-of_z w16 p (FitsSi
 pub mag-small : (p : ℤ) → unsigned_abs p ≤ 9999 → mag p < 2 ^ 63
 mag-small p e = grind arith
 
-no_minus : (amount : ℕ) (digits : List ℕ) → amount ≤ 9999 → decimal amount ≢ 45 ∷ digits
-no_minus zero digits small e = omega (arith, ap (λ t. get_or t 0 0) (sym (decimal_digit 0 (omega arith)) ∙ e))
-no_minus (suc n) digits small e =
-    omega (arith, first_decimal (suc n) (omega arith) (omega arith), ap (λ t. get_or t 0 0) e)
-
--- If no positive amount is written as `digits`, no price is written as `-` and `digits`.
-pub no_negative : (digits : List ℕ) → ((n : ℕ) → suc n ≤ 9999 → decimal (suc n) ≢ digits) → (price : ℤ)
-    → unsigned_abs price ≤ 9999 → signed_decimal price ≢ 45 ∷ digits
-no_negative digits none (pos n) near e = no_minus n digits near e
-no_negative digits none (negsuc n) near e = none n near (cc)
-
-pub not_minus_zero : (digits : List ℕ) → decimal 0 ≡ digits → (price : ℤ) → unsigned_abs price ≤ 9999
-    → signed_decimal price ≢ 45 ∷ digits
-not_minus_zero digits is = no_negative digits (λ n small e. grind (arith, decimal_injective))
-
 -- ---- words that are prices
 
 -- what `price_of_text` finds in a word
@@ -203,6 +188,15 @@ abbrev pub IsPriceOf : List ℕ → Option ℤ → Type 0
 IsPriceOf word r =
     MatchOption r ((price : ℤ) → unsigned_abs price ≤ 9999 → signed_decimal price ≢ word)
     (λ price. (signed_decimal price ≡ word) × (unsigned_abs price ≤ 9999))
+
+pub not_utf8 : {S E : Type 0} (bs : List ℕ) (r : Result S E) (P : S → Type 0) (Q : E → Type 0)
+    → MatchResult r P (λ e. ¬ (IsUtf8 bs) × Q e) → result_ok r ≡ None → IsPriceOf bs None
+not_utf8 bs r P Q e none price near is = grind (arith, IsUtf8-from_ascii, IsAscii-signed, mag-small)
+
+pub parse-price : {E : Type 0} (bs : List ℕ) (r : Result ℤ E) → ParsesSigned w16 10 bs r → (price : ℤ)
+    → unsigned_abs price ≤ 9999 → signed_decimal price ≡ bs → r ≡ Ok price
+parse-price bs r h price near is =
+    parse-signed_decimal w16 price bs r (FitsSigned-price price near) (mag-small price near) (sym is) h
 
 pub tells_price : (word : List ℕ) (r : Option ℤ) → IsPriceOf word r → IsTrue (is_some r) ↔ IsPriceText word
 tells_price word r e = grind arith
@@ -214,7 +208,7 @@ not_at words i d inside none all =
     (all i d.now (omega (arith, inside, length-map words (λ (word : Bor (List ℕ)). word.now)))))
 
 pub all_price_texts : (prices : List ℤ) → ArePricesInRange prices → All IsPriceText (map signed_decimal prices)
-all_price_texts prices reach = search (rules, All-map, All-weaker)
+all_price_texts prices in_range = search (rules, All-map, All-weaker)
 
 AllByRecursion-prices : (words : List (List ℕ)) → AllByRecursion IsPriceText words → (prices : List ℤ)
     × (words ≡ map signed_decimal prices) × AllByRecursion (λ price. unsigned_abs price ≤ 9999) prices
@@ -227,8 +221,18 @@ AllByRecursion-prices (word ∷ words) (is, all) =
 module _ (number line : ℕ) {words : List (List ℕ)} where
   pub other_count : (prices : List ℤ) → words ≡ map signed_decimal prices → ArePricesInRange prices
       → length prices ≢ number → IsPricesAnswer number line words (Err PriceMissing)
-  other_count prices are reach differs =
-      GoesOn prices (are, reach) (HasFault PriceMissing ((λ same count. differs count), refl) refl)
+  other_count prices are in_range differs =
+      GoesOn prices (are, in_range) (HasFault PriceMissing ((λ same count. differs count), refl) refl)
+
+  -- Prices whose number is tested are the result if the number is right.
+  pub count_settled : (prices : List ℤ) → words ≡ map signed_decimal prices → ArePricesInRange prices
+      → (answer : Result (List ℤ) CardFault)
+      → MatchResult answer (λ made. (made ≡ prices) × (length prices ≡ number))
+      (λ fault. (fault ≡ PriceMissing) × (length prices ≢ number))
+      → MatchResult answer (λ made. IsPricesAnswer number line words (Ok made))
+      (λ fault. IsPricesAnswer number line words (Err fault))
+  count_settled prices are in_range (Ok made) is = rw is.0 (GoesOn prices (are, in_range) (GoesOn tt is.1 refl))
+  count_settled prices are in_range (Err fault) is = rw is.0 (other_count prices are in_range is.1)
 
   pub too_many : All IsPriceText words → number < length words → IsPricesAnswer number line words (Err PriceMissing)
   too_many all many =
@@ -247,13 +251,6 @@ module _ (number line : ℕ) {words : List (List ℕ)} where
 pub MatchResult-err : {F Y : Type 0} (answer : Result Y F) (fault : F) (Good : Y → Type 0) (Bad : F → Type 0)
     → IsErrAnd answer (λ made. made ≡ fault) → Bad fault → MatchResult answer Good Bad
 MatchResult-err answer fault Good Bad made bad = let is = err_from_is_err_and answer made in rw (is.1, is.2) bad
-
--- If the first step finds `x`, and the result is right by the rule of the next step, it is right by the rule of both.
-pub goes_on : {F X Y Z : Type 0} (First : Result X F → Type 0) (Next : X → Result Z F → Type 0) (x : X) → First (Ok x)
-    → (answer : Result Y F) (f : Y → Z) → MatchResult answer (λ y. Next x (Ok (f y))) (λ fault. Next x (Err fault))
-    → MatchResult answer (λ y. ThenNext First Next (Ok (f y))) (λ fault. ThenNext First Next (Err fault))
-goes_on First Next x is (Ok y) f next = GoesOn x is next
-goes_on First Next x is (Err fault) f next = GoesOn x is next
 
 -- A test that is false refutes what it decides.
 pub not_from_false : {P : Type 0} {test : Bool} → Decides test P → test ≡ false → ¬ P
@@ -290,15 +287,12 @@ signed_word z small = grind (arith, numbers_are_words, below_zero)
 pub day_unbroken : (day : ℕ) → IsDayNumber day → IsWithout 10 (decimal day)
 day_unbroken day month = let last = month.last in (numbers_are_words day (omega arith)).unbroken
 
-pub first_is_word : (kind : CostTable) → IsWord (first_text ByNumber kind) × IsWord (column_word kind)
-first_is_word kind = grind (arith, word_by_test)
-
 pub prices_are_words : (word : List ℕ) (prices : List ℤ) → IsWord word → ArePricesInRange prices
     → All IsWord (price_words word prices)
-prices_are_words word prices w reach =
+prices_are_words word prices w in_range =
     All-cons IsWord word (map signed_decimal prices) w (All-map IsWord signed_decimal prices
     (All-weaker (λ price. unsigned_abs price ≤ 9999) (λ price. IsWord (signed_decimal price))
-    (λ price within. signed_word price (omega (arith, within))) prices reach))
+    (λ price within. signed_word price (omega (arith, within))) prices in_range))
 
 -- ---- the keywords of numbers
 
@@ -326,28 +320,28 @@ signed_text z small = grind (arith, number_text, not_zero)
 
 pub sum_bound : (a : ℤ) (prices : List ℤ) → AllByRecursion (λ price. unsigned_abs price ≤ 9999) prices
     → unsigned_abs (fold (λ sum price. sum +ℤ price) a prices) ≤ unsigned_abs a + 9999 * length prices
-sum_bound a [] reach = omega arith
-sum_bound a (price ∷ prices) reach = grind (arith, sum_bound (a +ℤ price) prices reach.1)
+sum_bound a [] in_range = omega arith
+sum_bound a (price ∷ prices) in_range = grind (arith, sum_bound (a +ℤ price) prices in_range.1)
 
-pub few_prices : (prices : PriceParts) → table_rows prices ≤ 27
+pub few_prices : (prices : PriceParts) → table_size prices ≤ 27
 few_prices prices = grind arith
 
 -- ---- a name and a value
 
-module _ (signed : Bool) (front due : List ℕ) (line : ℕ) where
-  pub value_says : {bytes rest : List ℕ} → IsNumeral signed due → bytes ≡ front ++ due ++ 10 ∷ rest
-      → IsValueAnswer signed front due line bytes (Ok rest)
+module _ (signed : Bool) (prefix due : List ℕ) (line : ℕ) where
+  pub value_says : {bytes rest : List ℕ} → IsNumeral signed due → bytes ≡ prefix ++ due ++ 10 ∷ rest
+      → IsValueAnswer signed prefix due line bytes (Ok rest)
   value_says {rest} form e = GoesOn (due, rest) (form, e) (GoesOn tt refl refl)
 
-  pub value_said : {bytes rest : List ℕ} → IsValueAnswer signed front due line bytes (Ok rest)
-      → bytes ≡ front ++ due ++ 10 ∷ rest
+  pub value_said : {bytes rest : List ℕ} → IsValueAnswer signed prefix due line bytes (Ok rest)
+      → bytes ≡ prefix ++ due ++ 10 ∷ rest
   value_said says = grind (arith, ThenNext-Ok)
 
--- The value after `front` and the bytes after its line are determined by the text.
-pub same_values : {bytes : List ℕ} (front : List ℕ) {value other rest more : List ℕ} → IsWithout 10 value
+-- The value after `prefix` and the bytes after its line are determined by the text.
+pub same_values : {bytes : List ℕ} (prefix : List ℕ) {value other rest more : List ℕ} → IsWithout 10 value
     → IsWithout 10 other
-    → bytes ≡ front ++ value ++ 10 ∷ rest → bytes ≡ front ++ other ++ 10 ∷ more → (value ≡ other) × (rest ≡ more)
-same_values front {value} {other} {rest} {more} free clear e d =
+    → bytes ≡ prefix ++ value ++ 10 ∷ rest → bytes ≡ prefix ++ other ++ 10 ∷ more → (value ≡ other) × (rest ≡ more)
+same_values prefix {value} {other} {rest} {more} free clear e d =
     grind (arith, common_steps, texts_tell_first_parts, append_cancel_left, append_assoc)
 
 -- ---- a first word, and prices
@@ -355,6 +349,30 @@ same_values front {value} {other} {rest} {more} free clear e d =
 pub first_says : {line : ℕ} {bytes word : List ℕ} {words : List (List ℕ)} {rest : List ℕ}
     → HasLineWords bytes (word ∷ words) rest → IsLineAnswer line bytes (Ok (word, words, rest))
 first_says has = GoesOn tt (some_bytes has) has
+
+-- The result of reading a line's prices is the result of reading the line.
+module _ {number line : ℕ} {bytes word : List ℕ} {words : List (List ℕ)} {rest : List ℕ}
+    (has : HasLineWords bytes (word ∷ words) rest) where
+  pub line_read : {prices : List ℤ} → IsPricesAnswer number line words (Ok prices)
+      → IsPriceLineAnswer word number line bytes (Ok (prices, rest))
+  line_read is = GoesOn _ (first_says has) (GoesOn tt refl (GoesOn _ is refl))
+
+  pub line_failed : {fault : CardFault} → IsPricesAnswer number line words (Err fault)
+      → IsPriceLineAnswer word number line bytes (Err fault)
+  line_failed is = GoesOn _ (first_says has) (GoesOn tt refl (HasFault _ is refl))
+
+-- If a line has only one word, it lacks prices, whichever word it is.
+pub missing_prices : {number line : ℕ} {bytes first : List ℕ} (word : List ℕ) {rest : List ℕ}
+    → IsLineAnswer line bytes (Ok (first, [], rest)) → 0 < number
+    → IsPriceLineAnswer word number line bytes (Err PriceMissing)
+missing_prices {number} {line} {bytes} {first} word is some = by_test (bytes_eq first word) (bytes_eq-Decides first word) where
+  none : length {A = ℤ} [] ≢ number
+  none e = omega arith
+
+  by_test : (test : Bool) → Decides test (first ≡ word) → IsPriceLineAnswer word number line bytes (Err PriceMissing)
+  by_test true same =
+      GoesOn _ is (GoesOn tt (same.0 refl) (HasFault _ (other_count number line [] refl (All-nil _) none) refl))
+  by_test false other = GoesOn _ is (HasFault _ ((λ unit. not_from_false other refl), refl) refl)
 
 -- A line has a first word and `number` prices after it.
 pub record HasPrices (bytes word : List ℕ) (number : ℕ) (prices : List ℤ) (rest : List ℕ) : Type 0 where

@@ -1,0 +1,5 @@
+use Rattle.kd_card.proofs.OneCard.{all_prices, arith, take_all}
+use Rattle.kd_card.proofs.card_writer.push_price_line.Goals as goal
+
+pub returns-clause-bytes : goal.returns-clause-bytes
+returns-clause-bytes g c = grind (arith, all_prices, take_all)

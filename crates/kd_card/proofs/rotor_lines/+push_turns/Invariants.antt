@@ -1,5 +1,0 @@
-use Rattle.std.proofs.Common.{length}
-use Rattle.kd_card.proofs.rotor_lines.+push_turns.Given as goal
-
-abbrev pub decreases-push_turns : goal.decreases-push_turns
-decreases-push_turns l = length l.wheels.now

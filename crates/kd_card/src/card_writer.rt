@@ -1,0 +1,123 @@
+//! Writes the text of a card to a sink.
+ghost use Rattle.arrayvec.specs.ArrayString.{array_string_len};
+ghost use Rattle.kd_card.specs.{CardText.{card_text, lines_text, price_lines, IsCard}, CardFault.line_then};
+ghost use Rattle.kd_card.specs.{Prices.{ArePricesInRange, ArePrices}};
+ghost use Rattle.kd_state.specs.{Line.{list_text, IsSettingInRange}, SheetDay.IsDayNumber};
+ghost use Rattle.kd_tables.specs.Writing.{Writes};
+ghost use Rattle.std.specs.Prelude.{◌≡◌, ◌+◌, ◌*◌, ◌≤◌, ◌||◌, [], ◌∷◌, ◌++◌, length, map, is_err, All};
+ghost use Rattle.std.specs.Fmt.{signed_decimal};
+
+use super::card::Card;
+use super::kind_text::push_kinds;
+use super::prices::{PriceParts, Prices};
+use arrayvec::ArrayString;
+use itoa::Buffer;
+use kd_state::Setting;
+use kd_tables::{Device, Sink, put_all};
+
+/// A buffer size, in bytes, that is enough for any card: at most 192 settings, and 54 prices or kinds.
+const LONGEST: usize = 6144;
+
+/// Writes the text of `card` for day `day` of the month. If the sink fails, it has taken a prefix of the text.
+pub fn write_card<W: Sink>(sink: &mut W, day: u8, card: &Card) -> Result<(), Device>
+    requires { IsDayNumber day }
+    ensures text { let text = card_text day card.now.settings.items card.now.prices in
+        Writes (W.taken sink.old) (W.taken sink.new) text result }
+    ensures card { let text = card_text day card.now.settings.items card.now.prices in
+        IsCard text day card.now.settings.items card.now.prices }
+    ensures failed { W.has_failed sink.new ≡ (W.has_failed sink.old || is_err result) }
+{
+    put_all(sink, card_text(day, card).as_str().as_bytes())
+}
+
+/// The text of `card` for day `day` of the month.
+fn card_text(day: u8, card: &Card) -> ArrayString<LONGEST>
+    ensures bytes { result.bytes ≡ card_text day card.now.settings.items card.now.prices }
+    ensures in_range { All IsSettingInRange card.now.settings.items }
+    ensures few { length card.now.settings.items ≤ 192 }
+    ensures are_prices { ArePrices card.now.prices }
+{
+    let mut text = ArrayString::new();
+    let mut buffer = Buffer::new();
+    push_value(
+        &mut text,
+        card.prices.version().head_prefix(),
+        buffer.format(day),
+    );
+    push_settings(&mut text, card.settings.as_slice());
+    push_value(&mut text, "SETTINGS ", buffer.format(card.settings.len()));
+    push_prices(&mut text, &card.prices);
+    push_value(&mut text, "SUM ", buffer.format(card.prices.sum()));
+    text
+}
+
+/// Appends a line: `prefix`, and then `value`.
+fn push_value<const N: usize>(text: &mut ArrayString<N>, prefix: &str, value: &str)
+    requires { array_string_len text.old + length prefix.now + length value.now + 1 ≤ N }
+    ensures bytes { text.new.bytes ≡ text.old.bytes ++ (prefix.now ++ value.now ++ 10 ∷ []) }
+    ensures len { array_string_len text.new
+        ≡ array_string_len text.old + length prefix.now + length value.now + 1 }
+{
+    text.push_str(prefix);
+    text.push_str(value);
+    text.push_str("\n");
+}
+
+/// Appends a line for each of `settings`.
+fn push_settings<const N: usize>(text: &mut ArrayString<N>, settings: &[Setting])
+    requires { array_string_len text.old + 24 * length settings.now ≤ N }
+    ensures bytes { text.new.bytes ≡ text.old.bytes ++ list_text settings.now }
+    ensures len { array_string_len text.new ≤ array_string_len text.old + 24 * length settings.now }
+    ensures in_range { All IsSettingInRange settings.now }
+{
+    if let [first, rest @ ..] = settings {
+        text.push_str(first.line().as_str());
+        text.push_str("\n");
+        push_settings(text, rest);
+    }
+}
+
+/// Appends the price lines of a card.
+#[tactic(auto, using(crate::proofs::OneCard::groups_joined))]
+fn push_prices<const N: usize>(text: &mut ArrayString<N>, prices: &Prices)
+    requires { array_string_len text.old + 1404 ≤ N }
+    ensures bytes { text.new.bytes ≡ text.old.bytes ++ lines_text (price_lines prices.now) }
+    ensures len { array_string_len text.new ≤ array_string_len text.old + 1404 }
+{
+    match prices.parts() {
+        PriceParts::Cables(cables, pairs) => {
+            push_price_line(text, "CABLES", &cables);
+            push_price_line(text, "PAIRS", &pairs);
+        }
+        PriceParts::Bars(bars, rows) => {
+            push_price_line(text, "BARS", &bars);
+            push_price_line(text, "ROWS", &rows);
+        }
+        PriceParts::CableKinds(cables, pairs) => {
+            push_kinds(text, cables.as_slice());
+            push_kinds(text, pairs.as_slice());
+        }
+        PriceParts::BarKinds(bars, rows) => {
+            push_kinds(text, bars.as_slice());
+            push_kinds(text, rows.as_slice());
+        }
+    }
+}
+
+/// Appends a line: `word`, and then `prices`, each after a space.
+fn push_price_line<const N: usize>(text: &mut ArrayString<N>, word: &str, prices: &[i16])
+    requires room { array_string_len text.old + length word.now + 7 * length prices.now + 1 ≤ N }
+    requires in_range { ArePricesInRange prices.now }
+    ensures bytes { text.new.bytes
+        ≡ text.old.bytes ++ line_then (word.now ∷ map signed_decimal prices.now) [] }
+    ensures len { array_string_len text.new
+        ≤ array_string_len text.old + length word.now + 7 * length prices.now + 1 }
+{
+    let mut buffer = Buffer::new();
+    text.push_str(word);
+    for price in prices {
+        text.push_str(" ");
+        text.push_str(buffer.format(*price));
+    }
+    text.push_str("\n");
+}

@@ -1,0 +1,88 @@
+//! The settings that a Converter M-209 needs for pins and for the letters that its wheels show.
+ghost use Rattle.arrayvec.specs.ArrayVec.{array_vec_len};
+ghost use Rattle.kd_card.specs.Loose.{lines_from, pin_line, wheel_pin_lines, pin_wheel_turn_line, loose_lines};
+ghost use Rattle.kd_pins.specs.PinWheels.{pins_of};
+ghost use Rattle.kd_state.specs.{declared.machine.parts.Parts.TheVariants.Pin, Entry.pin_values, SheetDay.OfPins};
+ghost use Rattle.std.specs.Prelude.{◌≡◌, ◌+◌, ◌<◌, ◌≤◌, ◌++◌, flat_map, length, zip};
+
+use super::push_unless;
+use arrayvec::ArrayVec;
+use kd_pins::PinSet;
+use kd_state::{PinEntry, PinParts, Setting, Settings};
+use kd_tables::{Letter, ring1, ring2, ring3, ring4, ring5, ring6};
+
+/// Lists the settings for the pins and wheel letters of a Converter M-209 that aren't as the day says.
+///
+/// Pins come first, then letters. No setting changes a bar.
+pub fn pin_settings(parts: &PinParts, entry: &PinEntry) -> Settings
+    ensures lines { result.items ≡ loose_lines (Pin parts.now) (OfPins (pin_values entry.now)) }
+    ensures few { length result.items ≤ 137 }
+{
+    let mut settings = ArrayVec::new();
+    push_pins(&mut settings, &parts.pins, &entry.pins);
+    push_pin_turns(&mut settings, 1, &parts.letters, &entry.window);
+    settings
+}
+
+/// Appends the setting PIN for each pin that differs in `present` and `wanted`, wheel by wheel.
+fn push_pins(settings: &mut Settings, present: &PinSet, wanted: &PinSet)
+    requires { array_vec_len settings.old + 131 ≤ 192 }
+    ensures items { settings.new.items ≡ settings.old.items
+        ++ lines_from wheel_pin_lines 1 (zip (pins_of present.now) (pins_of wanted.now)) }
+    ensures few { array_vec_len settings.new ≤ array_vec_len settings.old + 131 }
+{
+    push_wheel_pins(settings, 1, &ring1().letters(), &present.w1, &wanted.w1);
+    push_wheel_pins(settings, 2, &ring2().letters(), &present.w2, &wanted.w2);
+    push_wheel_pins(settings, 3, &ring3().letters(), &present.w3, &wanted.w3);
+    push_wheel_pins(settings, 4, &ring4().letters(), &present.w4, &wanted.w4);
+    push_wheel_pins(settings, 5, &ring5().letters(), &present.w5, &wanted.w5);
+    push_wheel_pins(settings, 6, &ring6().letters(), &present.w6, &wanted.w6);
+}
+
+/// Appends the setting TURN for each pin wheel that shows another letter than the day's.
+///
+/// `letters` are the letters that the wheels show, and `window` are the day's letters. Both begin with the letter of
+/// wheel `number`, counted from 1.
+fn push_pin_turns(settings: &mut Settings, number: u8, letters: &[Letter], window: &[Letter])
+    requires few { number + length letters.now < 256 }
+    requires room { array_vec_len settings.old + length letters.now ≤ 192 }
+    ensures items { settings.new.items ≡ settings.old.items
+        ++ lines_from pin_wheel_turn_line number (zip letters.now window.now) }
+    ensures few { array_vec_len settings.new ≤ array_vec_len settings.old + length letters.now }
+{
+    if let [present, letters @ ..] = letters
+        && let [wanted, window @ ..] = window
+    {
+        let (slot, letter) = (number, *wanted);
+        push_unless(settings, *present == letter, Setting::Turn { slot, letter });
+        push_pin_turns(settings, number + 1, letters, window);
+    }
+}
+
+/// Appends the setting PIN for each pin on one wheel that differs from the day's, in the order of the wheel's letters.
+fn push_wheel_pins(
+    settings: &mut Settings,
+    wheel: u8,
+    ring: &[Letter],
+    present: &[bool],
+    wanted: &[bool],
+)
+    requires { array_vec_len settings.old + length ring.now ≤ 192 }
+    ensures items { settings.new.items ≡ settings.old.items
+        ++ flat_map (pin_line wheel) (zip ring.now (zip present.now wanted.now)) }
+    ensures few { array_vec_len settings.new ≤ array_vec_len settings.old + length ring.now }
+{
+    if let [letter, ring @ ..] = ring
+        && let [now, present @ ..] = present
+        && let [due, wanted @ ..] = wanted
+    {
+        let (letter, effective) = (*letter, *due);
+        let setting = Setting::PinTo {
+            wheel,
+            letter,
+            effective,
+        };
+        push_unless(settings, *now == effective, setting);
+        push_wheel_pins(settings, wheel, ring, present, wanted);
+    }
+}
