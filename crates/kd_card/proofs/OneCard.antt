@@ -42,7 +42,8 @@ lists_said row_word column_word number line {bytes} x says =
     let column = line_said columns.found columns.says in
     rw (Yields-Ok columns.next) (
       row.text ∙ ap (line_then (price_words row_word rows.found.0)) column.text
-          ∙ sym (two_lines (price_words row_word rows.found.0) (price_words column_word columns.found.0) columns.found.1),
+          ∙ sym (two_lines (price_words row_word rows.found.0) (price_words column_word columns.found.0)
+          columns.found.1),
       row.list,
       column.list,
     )
@@ -109,9 +110,9 @@ card_said {bytes} x says =
     let prices = all.found.0 in
     let last = value_said true (codes "SUM ") _ _ sum.says ∙ ap (line_then (sum_words (price_sum prices))) end.says in
     let behind = are.text ∙ ap (λ t. lines_text (price_lines prices) ++ t) last in
-    let total_count =
+    let counted =
     value_said false (codes "SETTINGS ") _ _ number.says ∙ ap (line_then (settings_words (length xs))) behind in
-    let body = list.says.lines.lines ∙ ap (λ t. list_text xs ++ t) total_count in
+    let body = list.says.lines.lines ∙ ap (λ t. list_text xs ++ t) counted in
     rw (Yields-Ok end.next) (record {
       text =
           head.says.text ∙ ap (λ v. line_then (head_words v head.found.1) head.found.2) (sym are.version)
@@ -262,8 +263,8 @@ all_say : (prices : PriceParts) (line : ℕ) {bytes : List ℕ} (rest : List ℕ
     → ((word : List ℕ) → word ≢ codes "SUM" → EndsGroup word rest) → bytes ≡ lines_text (price_lines prices) ++ rest
     → IsAllPricesAnswer (version_of prices) line bytes (Ok (prices, rest))
 all_say (Cables row col) line rest are ends e =
-    let say = lists_say {row_word = codes "CABLES"} {column_word = codes "PAIRS"} line row col rest (word_by_test _ _ refl)
-    (word_by_test _ _ refl) are.0 are.1 e in
+    let say = lists_say {row_word = codes "CABLES"} {column_word = codes "PAIRS"} line row col rest
+    (word_by_test _ _ refl) (word_by_test _ _ refl) are.0 are.1 e in
     GoesOn OfCables (GoesOn _ (first_says say.0.has) refl) (GoesOn (row, col, rest) say.1 refl)
 all_say (Bars row col) line rest are ends e =
     let say = lists_say {row_word = codes "BARS"} {column_word = codes "ROWS"} line row col rest (word_by_test _ _ refl)

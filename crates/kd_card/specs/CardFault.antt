@@ -114,8 +114,8 @@ IsPriceLineAnswer word number line bytes = do
   prices ← IsPricesAnswer number line found.1
   Yields (prices, found.2)
 
--- The result of reading two price lines, each with a first word and then `number` prices: the prices for the rows of the
--- table of costs, the prices for its columns and the bytes after both lines, or a fault.
+-- The result of reading two price lines, each with a first word and then `number` prices. The result is the prices for
+-- the rows of the table of costs, the prices for its columns and the bytes after both lines, or a fault.
 abbrev pub IsListsAnswer : List ℕ → List ℕ → ℕ → ℕ → List ℕ → AnswerRule CardFault (List ℤ × List ℤ × List ℕ)
 IsListsAnswer row_word column_word number line bytes = do
   rows ← IsPriceLineAnswer row_word number line bytes

@@ -1,6 +1,7 @@
 -- What the steps of reading a card find. Also, the text with which a card begins, up to the day's number. No contract
 -- of a public function cites these definitions.
-use Rattle.kd_card.specs.{declared.prices.Version.TheVariants.{ByNumber, ByKind}, CardFault.{EndsGroup, HasNoNext, IsPriceLineAnswer}}
+use Rattle.kd_card.specs.{declared.prices.Version.TheVariants.{ByNumber, ByKind}, CardFault.IsPriceLineAnswer}
+use Rattle.kd_card.specs.CardFault.{EndsGroup, HasNoNext}
 use Rattle.kd_card.specs.{Kinds.{KindFormat, HasKindWords}, declared.prices.Version.Version}
 use Rattle.kd_card.specs.declared.fault.CardFault.{CardFault}
 use Rattle.kd_state.specs.Words.{words_of}

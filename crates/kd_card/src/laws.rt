@@ -1,6 +1,6 @@
 //! Laws on cards: on their texts, on how short a list can be, and on cards that prove themselves.
-ghost use Rattle.kd_card.specs.Laws.{TextsTellCards, NoCardBeginsAnother, ReadingGivesCards, CardsHaveNoFault, OneCardFault};
-ghost use Rattle.kd_card.specs.Laws.{LooseThingsAreCounted, AsFewAreNeeded, FittingPricesBoundLists};
+ghost use Rattle.kd_card.specs.Laws.{TextsTellCards, NoCardBeginsAnother, ReadingGivesCards, CardsHaveNoFault};
+ghost use Rattle.kd_card.specs.Laws.{OneCardFault, LooseThingsAreCounted, AsFewAreNeeded, FittingPricesBoundLists};
 ghost use Rattle.kd_card.specs.Laws.{ProvingCardsAreAsLong, ProvingCardsAreShortest, ProvingPricesAreTight};
 ghost use Rattle.kd_card.specs.Months.{CardsAreFewestInAll};
 

@@ -14,7 +14,8 @@ module _ {K X : Type 0} (format : KindFormat K X) where
       grind (arith, common_steps, All-append, All-replicate, kinds_in_range (Some kind) kinds are.2)
 
   -- There are at most as many kinds as keys, because each kind counts at least one.
-  pub few_kinds : (last : Option K) (kinds : List K) → AreKinds format last kinds → length kinds ≤ total_count format kinds
+  pub few_kinds : (last : Option K) (kinds : List K) → AreKinds format last kinds
+      → length kinds ≤ total_count format kinds
   few_kinds last [] are = omega arith
   few_kinds last (kind ∷ kinds) are = let some = are.0.some in omega (arith, few_kinds (Some kind) kinds are.2)
 
@@ -65,8 +66,8 @@ pub text_of_two : {R X C Y : Type 0} (rows : KindFormat R X) (columns : KindForm
     → lines_text (map (kind_words rows) xs ++ map (kind_words columns) ys) ≡ kinds_text rows xs ++ kinds_text columns ys
 text_of_two rows columns xs ys = grind (arith, flat_map-append, flat_map-map)
 
-pub groups_joined : {R X C Y : Type 0} (rows : KindFormat R X) (columns : KindFormat C Y) (prefix : List ℕ) (xs : List R)
-    (ys : List C) → (prefix ++ kinds_text rows xs) ++ kinds_text columns ys
+pub groups_joined : {R X C Y : Type 0} (rows : KindFormat R X) (columns : KindFormat C Y) (prefix : List ℕ)
+    (xs : List R) (ys : List C) → (prefix ++ kinds_text rows xs) ++ kinds_text columns ys
     ≡ prefix ++ lines_text (map (kind_words rows) xs ++ map (kind_words columns) ys)
 groups_joined rows columns prefix xs ys = rw text_of_two (append_assoc prefix (kinds_text rows xs) _)
 

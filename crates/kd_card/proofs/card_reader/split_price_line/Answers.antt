@@ -1,6 +1,8 @@
-use Rattle.kd_card.proofs.OneCard.{refl, PriceMissing, HasFault, GoesOn, MatchResult-err, not_from_false, missing_prices}
+use Rattle.kd_card.proofs.OneCard.{GoesOn, HasFault, MatchResult-err, missing_prices, not_from_false, PriceMissing}
+use Rattle.kd_card.proofs.OneCard.{refl}
 use Rattle.kd_card.proofs.card_reader.split_price_line.Goals as goal
-use Rattle.kd_card.proofs.card_reader.split_price_line.Goals.{in_default-via-in-Some+else-is_word, in_default-via-in_default}
+use Rattle.kd_card.proofs.card_reader.split_price_line.Goals.{in_default-via-in-Some+else-is_word}
+use Rattle.kd_card.proofs.card_reader.split_price_line.Goals.{in_default-via-in_default}
 
 pub returns-in_err-first : goal.returns-in_err-first
 returns-in_err-first c =

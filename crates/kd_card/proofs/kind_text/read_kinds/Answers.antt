@@ -1,5 +1,5 @@
-use Rattle.kd_card.proofs.OneCard.{KindOf, arith, ◌∙◌, refl, ap, BadLine, PriceMissing, HasFault, GoesOn, Ok, total_count}
-use Rattle.kd_card.proofs.OneCard.{◌≡◌, all_read, reads_on}
+use Rattle.kd_card.proofs.OneCard.{KindOf, arith, ◌∙◌, refl, ap, BadLine, PriceMissing, HasFault, GoesOn, Ok}
+use Rattle.kd_card.proofs.OneCard.{◌≡◌, all_read, reads_on, total_count}
 use Rattle.kd_card.proofs.kind_text.read_kinds.Goals as goal
 
 pub returns-in-Err : goal.returns-in-Err

@@ -5,7 +5,8 @@ use Rattle.kd_card.proofs.price_text.price_of_text.Goals.{then-unsigned_abs-le99
 pub returns-in_err-ok : goal.returns-in_err-ok
 returns-in_err-ok c =
     rw c.from_residual.ensures
-    (not_utf8 c.args.text.now c.from_utf8.result _ _ c.from_utf8.ensures.cases (sym c.ok.ensures.value ∙ c.in_err-ok.was))
+    (not_utf8 c.args.text.now c.from_utf8.result _ _ c.from_utf8.ensures.cases
+    (sym c.ok.ensures.value ∙ c.in_err-ok.was))
 
 pub returns-in_err-price : goal.returns-in_err-price
 returns-in_err-price c =

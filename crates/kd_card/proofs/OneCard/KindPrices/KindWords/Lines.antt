@@ -19,8 +19,9 @@ pub use Rattle.std.proofs.{Common.bytes_eq, lemmas.Slice.Eq.bytes_eq-Decides}
 pub use Rattle.std.specs.{Bool.then_some, Result.result_ok, Str.{IsUtf8, Parse.ParsesSigned}}
 pub use Rattle.std.proofs.lemmas.{Fmt.{IsAscii-signed, parse-signed_decimal}, Str.IsUtf8-from_ascii}
 pub use Rattle.kd_card.specs.Kinds.{AreEnds, bar_format, cable_format, ComesAfter, HasText, IsOnlyKey, letters_text}
-pub use Rattle.kd_card.specs.Kinds.{total_count, IsGroup, IsKind, KeyComesBefore, KindFormat, pair_format, prices_of_kinds}
-pub use Rattle.kd_card.specs.{CardFault.{first_text, CostTable, OfBars, OfCables}, Kinds.{AreKinds, HasKindWords, kind_words, kinds_text, row_format}}
+pub use Rattle.kd_card.specs.Kinds.{IsGroup, IsKind, KeyComesBefore, KindFormat, pair_format, prices_of_kinds}
+pub use Rattle.kd_card.specs.Kinds.{AreKinds, HasKindWords, kind_words, kinds_text, row_format, total_count}
+pub use Rattle.kd_card.specs.CardFault.{first_text, CostTable, OfBars, OfCables}
 pub use Rattle.kd_card.specs.CardFault.{AtNothing, BeginsWithWord, IsAllPricesAnswer, IsPricesAnswer, last_of}
 pub use Rattle.kd_card.specs.CardFault.{BeginsWithKinds, IsDigit, IsGroupsAnswer, IsPriceLineAnswer, IsRestAnswer}
 pub use Rattle.kd_card.specs.CardFault.{EndsGroup, HasLineWords, IsLineAnswer, IsNextKind, IsNumberText, IsValueAnswer}
@@ -30,8 +31,9 @@ pub use Rattle.kd_card.specs.CardText.{card_text, head_words, IsCard, lines_text
 pub use Rattle.kd_card.specs.declared.prices.PriceParts.{PriceParts, TheVariants.{BarKinds, Bars, CableKinds, Cables}}
 pub use Rattle.kd_card.specs.declared.{kinds.KindOf.KindOf, prices.Version.{Version, TheVariants.{ByKind, ByNumber}}}
 pub use Rattle.kd_card.specs.declared.fault.CardFault.{CardFault, TheVariants.{BadLine, PriceMissing, Trailing}}
-pub use Rattle.kd_card.specs.Laws.{ReadingGivesCards, CardsHaveNoFault, NoCardBeginsAnother, OneCardFault, TextsTellCards}
-pub use Rattle.kd_card.specs.Reading.{EndsKindsAt, head_prefix, IsBadKindAt, IsKindOfWords, IsPriceText}
+pub use Rattle.kd_card.specs.Laws.{CardsHaveNoFault, NoCardBeginsAnother, OneCardFault, ReadingGivesCards}
+pub use Rattle.kd_card.specs.{Laws.TextsTellCards, Reading.{EndsKindsAt, head_prefix, IsBadKindAt}}
+pub use Rattle.kd_card.specs.Reading.{IsKindOfWords, IsPriceText}
 pub use Rattle.kd_card.specs.Prices.{ArePrices, column_prices, IsPriceList, price_sum, table_size, version_of}
 pub use Rattle.{kd_card.specs.Prices.{ArePricesInRange, row_prices}, kd_state.specs.SheetDay.IsDayNumber}
 pub use Rattle.kd_state.specs.FirstFaults.{HasOneAnswer, HasOneAnswer-Demands, ThenNext, ThenNext-Ok, Yields, Yields-Ok}
@@ -41,7 +43,8 @@ pub use Rattle.kd_state.specs.{declared.setting.Setting.Setting, Words.{IsWithou
 pub use Rattle.kd_state.specs.{Line.{BeginsWithAllSettings, BeginsWithSettingLines, setting_line}, Words.IsFirstPart}
 pub use Rattle.kd_state.specs.{Line.{BeginsWithNoSetting, list_text, setting_words}, Machine.cable_letters}
 pub use Rattle.kd_state.proofs.Lines.{lines_split_into_words, not_longer, same_end, word_by_test, words_make_one_line}
-pub use Rattle.kd_state.proofs.Lines.{ok_part, IsNumeralModel-digits, numbers_are_words, texts_tell_first_parts, word_by_bytes}
+pub use Rattle.kd_state.proofs.Lines.{IsNumeralModel-digits, numbers_are_words, ok_part, texts_tell_first_parts}
+pub use Rattle.kd_state.proofs.Lines.{word_by_bytes}
 
 abbrev pub settings_words : ℕ → List (List ℕ)
 settings_words number = codes "SETTINGS" ∷ decimal number ∷ []
@@ -92,12 +95,12 @@ lines_text-card : (head count sum : List (List ℕ)) (settings lines : List (Lis
 lines_text-card head count sum settings lines = simp (flat_map-append, append_assoc)
 
 pub card_text-joined : (version : Version) (day count : ℕ)
-    (xs ys : List Setting) (prices : PriceParts) (sum : ℤ) (empty top head list below total_count lines end whole : List ℕ)
+    (xs ys : List Setting) (prices : PriceParts) (sum : ℤ) (empty top head list below counted lines end whole : List ℕ)
     → empty ≡ [] → top ≡ line_then (head_words version day) [] → below ≡ line_then (settings_words count) []
-    → end ≡ line_then (sum_words sum) [] → head ≡ empty ++ top → list ≡ head ++ list_text ys → total_count ≡ list ++ below
-    → lines ≡ total_count ++ lines_text (price_lines prices) → whole ≡ lines ++ end → version ≡ version_of prices
+    → end ≡ line_then (sum_words sum) [] → head ≡ empty ++ top → list ≡ head ++ list_text ys → counted ≡ list ++ below
+    → lines ≡ counted ++ lines_text (price_lines prices) → whole ≡ lines ++ end → version ≡ version_of prices
     → ys ≡ xs → count ≡ length xs → sum ≡ price_sum prices → whole ≡ card_text day xs prices
-card_text-joined version day count xs ys prices sum empty top head list below total_count lines end whole
+card_text-joined version day count xs ys prices sum empty top head list below counted lines end whole
     a t n s h l c p w by same many summed =
     let lines_of = map setting_words xs in
     let card = lines_text-card (head_words version day) (settings_words count) (sum_words sum) lines_of
@@ -365,14 +368,16 @@ module _ {number line : ℕ} {bytes word : List ℕ} {words : List (List ℕ)} {
 pub missing_prices : {number line : ℕ} {bytes first : List ℕ} (word : List ℕ) {rest : List ℕ}
     → IsLineAnswer line bytes (Ok (first, [], rest)) → 0 < number
     → IsPriceLineAnswer word number line bytes (Err PriceMissing)
-missing_prices {number} {line} {bytes} {first} word is some = by_test (bytes_eq first word) (bytes_eq-Decides first word) where
-  none : length {A = ℤ} [] ≢ number
-  none e = omega arith
+missing_prices {number} {line} {bytes} {first} word is some =
+    by_test (bytes_eq first word) (bytes_eq-Decides first word) where
+      none : length {A = ℤ} [] ≢ number
+      none e = omega arith
 
-  by_test : (test : Bool) → Decides test (first ≡ word) → IsPriceLineAnswer word number line bytes (Err PriceMissing)
-  by_test true same =
-      GoesOn _ is (GoesOn tt (same.0 refl) (HasFault _ (other_count number line [] refl (All-nil _) none) refl))
-  by_test false other = GoesOn _ is (HasFault _ ((λ unit. not_from_false other refl), refl) refl)
+      by_test : (test : Bool) → Decides test (first ≡ word)
+          → IsPriceLineAnswer word number line bytes (Err PriceMissing)
+      by_test true same =
+          GoesOn _ is (GoesOn tt (same.0 refl) (HasFault _ (other_count number line [] refl (All-nil _) none) refl))
+      by_test false other = GoesOn _ is (HasFault _ ((λ unit. not_from_false other refl), refl) refl)
 
 -- A line has a first word and `number` prices after it.
 pub record HasPrices (bytes word : List ℕ) (number : ℕ) (prices : List ℤ) (rest : List ℕ) : Type 0 where
