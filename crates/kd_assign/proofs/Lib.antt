@@ -1,6 +1,6 @@
 pub mod Prelude
-pub mod Counting
-pub mod Growing
+pub mod ScanCounts
+pub mod TreeGrowth
 pub mod Places
 pub mod Sums
-pub mod Whole
+pub mod AllRows

@@ -1,6 +1,6 @@
 pub mod Prices
 pub mod Assignment
 pub mod Cheapest
-pub mod Solved
+pub mod PartialAssignment
 pub mod Tree
 pub mod Scans

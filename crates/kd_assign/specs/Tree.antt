@@ -4,7 +4,7 @@
 use Rattle.std.specs.Prelude.{◌≡◌, ◌≢◌, ℕ, ◌<◌, ◌≤◌, Bool, false, true, List, [], length, slice_index, Option, None}
 use Rattle.std.specs.Prelude.{is_some, slice_index_or, ◌⊎◌, ℤ, pos, neg_ℤ, ◌+ℤ◌, ◌-ℤ◌, ◌≤ℤ◌}
 use Rattle.kd_assign.specs.Prices.{cost_at, price_at}
-use Rattle.kd_assign.specs.Solved.{IsColumnTakenBy, IsCheapestColumn, IsRowAssigned}
+use Rattle.kd_assign.specs.PartialAssignment.{IsColumnTakenBy, IsCheapestColumn, IsRowAssigned}
 
 -- whether the tree has column `j`
 abbrev pub has_column : List Bool → ℕ → Bool
@@ -15,7 +15,7 @@ abbrev pub room_at : List ℤ → List ℤ → ℕ → ℤ
 room_at ceilings prices j = price_at ceilings j -ℤ price_at prices j
 
 -- No column's price is above the column's ceiling, and all prices and ceilings are from -128 to 4.
-pub record AreClose (n : ℕ) (prices ceilings : List ℤ) : Type 0 where
+pub record AreWithinCeilings (n : ℕ) (prices ceilings : List ℤ) : Type 0 where
   pub low : (j : ℕ) → j < n → neg_ℤ (pos 128) ≤ℤ price_at prices j
   pub between : (j : ℕ) → j < n → price_at prices j ≤ℤ price_at ceilings j
   pub high : (j : ℕ) → j < n → price_at ceilings j ≤ℤ pos 4
@@ -65,7 +65,7 @@ module _ (n : ℕ) (cost : List (List ℕ)) (prices : List ℤ) (holders : List 
   pub record IsGrownTree (near : List ℕ) (plans : List (List (Option ℕ))) : Type 0 where
     pub places : length reached ≡ n
     pub plan_places : length plans ≡ n
-    pub close : AreClose n prices ceilings
+    pub close : AreWithinCeilings n prices ceilings
     pub taken : (j : ℕ) → has_column reached j ≡ true → is_some (slice_index_or holders j None) ≡ true
     pub ordered : (j k : ℕ) → j < n → k < n → has_column reached j ≡ true → has_column reached k ≡ false
         → room_at ceilings prices j ≤ℤ room_at ceilings prices k

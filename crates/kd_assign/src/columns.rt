@@ -2,7 +2,7 @@
 ghost use Rattle.std.specs.Prelude.{◌≡◌, ℕ, ◌<◌, ◌≤◌, length, slice_index, pos, neg_ℤ, ◌-ℤ◌, ◌≤ℤ◌};
 ghost use Rattle.kd_assign.specs.Assignment.{IsOneToOne, assignment_cost};
 ghost use Rattle.kd_assign.specs.Prices.{AreCostsAtMost, cost_at, price_at};
-ghost use Rattle.kd_assign.specs.Solved.{IsColumnTakenBy, IsRowAssigned};
+ghost use Rattle.kd_assign.specs.PartialAssignment.{IsColumnTakenBy, IsRowAssigned};
 
 /// Turns `holders`, the row of each column, into the column of each row.
 pub fn columns_of_rows<const N: usize>(holders: &[Option<usize>; N]) -> [u8; N]

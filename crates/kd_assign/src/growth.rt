@@ -3,7 +3,7 @@ ghost use Rattle.std.specs.Prelude.{◌≡◌, ℕ, ◌+◌, ◌^◌, ◌<◌, �
 ghost use Rattle.std.specs.Int.{int_min};
 ghost use Rattle.kd_assign.specs.Prices.{AreCostsAtMost, price_at};
 ghost use Rattle.kd_assign.specs.Scans.{scans_of_tree};
-ghost use Rattle.kd_assign.specs.Solved.{IsSolvedTo};
+ghost use Rattle.kd_assign.specs.PartialAssignment.{IsSolvedUpTo};
 
 use crate::nearest::Nearest;
 use crate::scans::Scans;
@@ -24,11 +24,11 @@ pub fn assign_row<const N: usize>(
     requires row { root < N }
     requires few { N ≤ 32 }
     requires costs { AreCostsAtMost 4 cost.now }
-    requires solved { IsSolvedTo N cost.now prices.old holders.old root }
+    requires solved { IsSolvedUpTo N cost.now prices.old holders.old root }
     requires room { scans.old ≤ 2 ^ 16 }
     ensures len { length prices.new ≡ N }
     ensures plans { length plans.new ≡ N }
-    ensures solved { IsSolvedTo N cost.now prices.new holders.new (root + 1) }
+    ensures solved { IsSolvedUpTo N cost.now prices.new holders.new (root + 1) }
     ensures least_scans { scans.old + N ≤ scans.new }
     ensures most_scans { scans.new ≤ scans.old + scans_of_tree N (root + 1) }
 {

@@ -3,7 +3,7 @@ ghost use Rattle.std.specs.Prelude.{◌≡◌, ℕ, ◌+◌, ◌^◌, ◌<◌, �
 ghost use Rattle.std.specs.Prelude.{All};
 ghost use Rattle.std.specs.Prelude.{length, count_by, slice_index, ℤ, pos, neg_ℤ, ◌+ℤ◌, ◌-ℤ◌, ◌≤ℤ◌};
 ghost use Rattle.kd_assign.specs.Prices.{AreCostsAtMost, cost_at, price_at};
-ghost use Rattle.kd_assign.specs.Tree.{AreClose, AreCompared, IsCompared, IsNearest, has_column, room_at};
+ghost use Rattle.kd_assign.specs.Tree.{AreWithinCeilings, AreCompared, IsCompared, IsNearest, has_column, room_at};
 
 use crate::scans::Scans;
 
@@ -80,7 +80,7 @@ impl<const N: usize> Nearest<N> {
     /// The room of `column`: the column's ceiling minus its price.
     pub fn room(&self, prices: &[i16; N], column: usize) -> i16
         requires column { column < N }
-        requires close { AreClose N prices.now self.now.ceiling }
+        requires close { AreWithinCeilings N prices.now self.now.ceiling }
         ensures { result ≡ room_at self.now.ceiling prices.now column }
     {
         self.ceiling[column] - prices[column]
@@ -109,7 +109,7 @@ impl<const N: usize> Nearest<N> {
         prices: &[i16; N],
         holders: &[Option<usize>; N],
     ) -> usize
-        requires close { AreClose N prices.now self.now.ceiling }
+        requires close { AreWithinCeilings N prices.now self.now.ceiling }
         requires some { (j : ℕ) × (j < N) × (has_column reached.now j ≡ false) }
         ensures { IsNearest N prices.now reached.now self.now.ceiling result }
     {
@@ -132,7 +132,7 @@ impl<const N: usize> Nearest<N> {
         first: Option<usize>,
         second: usize,
     ) -> Option<usize>
-        requires close { AreClose N prices.now self.now.ceiling }
+        requires close { AreWithinCeilings N prices.now self.now.ceiling }
         requires first { IfSome first (λ j. j < N) }
         requires second { second < N }
         ensures one { (first ≡ result) ⊎ ((has_column reached.now second ≡ false) × (result ≡ Some second)) }

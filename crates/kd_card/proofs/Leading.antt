@@ -63,9 +63,9 @@ module _ {Z : Type 0} (state : List Z → List Z → Parts) (lines : ℕ → Z �
       (λ fs bs v d. each fs bs v (sym (append_assoc front (z ∷ []) zs) ∙ d)) in
       grind (arith, append_assoc, led_append)
 
-  pub things_led : (zs : List Z) → ((front back : List Z) (z : Z) → zs ≡ front ++ z ∷ back → LeadsOn front z back)
+  pub led_in_any_order : (zs : List Z) → ((front back : List Z) (z : Z) → zs ≡ front ++ z ∷ back → LeadsOn front z back)
       → Led (state [] zs) (lines_from lines 1 zs) (state zs [])
-  things_led zs each = led_from [] zs 1 refl each
+  led_in_any_order zs each = led_from [] zs 1 refl each
 
 -- Things side by side. The settings of a thing change this thing alone, from `before` to `after`; `put` gives the
 -- machine that has these things.
@@ -74,11 +74,11 @@ module _ {Z A : Type 0} (put : List A → Parts) (before after : Z → A) (lines
   LeadsAt front z back =
       Led (put (front ++ before z ∷ back)) (lines (suc (length front)) z) (put (front ++ after z ∷ back))
 
-  pub cells_led : (zs : List Z) {first last : List A} → map before zs ≡ first → map after zs ≡ last
+  pub led_in_order : (zs : List Z) {first last : List A} → map before zs ≡ first → map after zs ≡ last
       → ((front back : List Z) (z : Z) → zs ≡ front ++ z ∷ back → LeadsAt (map after front) z (map before back))
       → Led (put first) (lines_from lines 1 zs) (put last)
-  cells_led zs begins ends each =
-      rw (← begins, ← ends) (simp append-nil at (things_led
+  led_in_order zs begins ends each =
+      rw (← begins, ← ends) (simp append-nil at (led_in_any_order
       (λ front back. put (map after front ++ map before back)) lines zs
       (λ front back z e. simp (map-append, append_assoc) (rw length-map at (each front back z e)))))
 
@@ -231,7 +231,7 @@ module _ (m : RotorParts) (s : RotorDay) (machine : IsMachine (Rotor m)) (legal 
       (with_rings (map ring_then (box_of m.model)))
   rings_lead =
       rw (lines_of_each (wheel_ring_line (Rotor m) s.wheels) (box_of m.model) 1)
-      (cells_led with_rings ring_now ring_then (λ n wheel. wheel_ring_line (Rotor m) s.wheels wheel)
+      (led_in_order with_rings ring_now ring_then (λ n wheel. wheel_ring_line (Rotor m) s.wheels wheel)
       (box_of m.model) rings_now refl
       (λ fs bs wheel e. ring_led _ _ wheel (the_one wheel) refl (rw (length-map, e) (seam_get fs wheel bs))))
 
@@ -264,7 +264,7 @@ module _ (m : RotorParts) (s : RotorDay) (machine : IsMachine (Rotor m)) (legal 
 
   turns_lead : Led (Rotor (turned m.letters)) (lines_from (slot_turn_line (Rotor m)) 1 s.wheels) (Rotor turned_all)
   turns_lead =
-      things_led (λ front back. Rotor (turned (fold turn m.letters front))) (slot_turn_line (Rotor m)) s.wheels
+      led_in_any_order (λ front back. Rotor (turned (fold turn m.letters front))) (slot_turn_line (Rotor m)) s.wheels
       (λ front back w e.
       let here = seam_map (λ (v : SheetWheel). Some v.wheel) s.wheels front back w e in
       let apart = subst (AllPairs (λ w v. place w ≢ place v)) e places_differ in
@@ -347,7 +347,7 @@ module _ (m : PinParts) where
         let before = second_map (λ (p : Bool × Bool). p.0) ring (zip now day) size ∙ firsts-zip now day (d ∙ sym e) in
         let after = second_map (λ (p : Bool × Bool). p.1) ring (zip now day) size ∙ seconds-zip now day (d ∙ sym e) in
         rw (lines_of_each (pin_line number) cells 1)
-        (cells_led with_wheel (λ (w : Cell). w.1.0) (λ w. w.1.1) (λ n w. pin_line number w) cells before after
+        (led_in_order with_wheel (λ (w : Cell). w.1.0) (λ w. w.1.1) (λ n w. pin_line number w) cells before after
         (λ fs bs w is.
         let at = rw (firsts-zip ring (zip now day) size) at (seam_map (λ (w : Cell). w.0) cells fs bs w is) in
         one_pin _ _ w (rw length-map (has_place number (length fs) w.0 at))))
@@ -356,7 +356,7 @@ module _ (m : PinParts) where
       → Led (Pin m) (lines_from wheel_pin_lines 1 (zip (pins_of m.pins) (pins_of day))) (Pin (record m { pins = day }))
   pins_lead day has due =
       let wheels = zip (pins_of m.pins) (pins_of day) in
-      cells_led with_pins (λ (z : TwoPins). z.0) (λ z. z.1)
+      led_in_order with_pins (λ (z : TwoPins). z.0) (λ z. z.1)
       wheel_pin_lines wheels refl refl (λ fs bs z e.
       let now = ap (λ found. unwrap_or found []) (seam_map (λ (z : TwoPins). z.0) wheels fs bs z e) in
       let wanted = ap (λ found. unwrap_or found []) (seam_map (λ (z : TwoPins). z.1) wheels fs bs z e) in
@@ -379,7 +379,7 @@ module _ (m : PinParts) where
       let zs = zip m.letters window in
       let due = seconds-zip m.letters window (on.count ∙ sym size) in
       let now = firsts-zip m.letters window (on.count ∙ sym size) in
-      cells_led with_shown (λ (z : ℕ × ℕ). z.0) (λ z. z.1) pin_wheel_turn_line zs now due (λ fs bs z e.
+      led_in_order with_shown (λ (z : ℕ × ℕ). z.0) (λ z. z.1) pin_wheel_turn_line zs now due (λ fs bs z e.
       let at = rw due at (seam_map (λ (z : ℕ × ℕ). z.1) zs fs bs z e) in
       turn_led _ _ z (rw length-map (on.each (suc (length fs)) z.1 at)))
 

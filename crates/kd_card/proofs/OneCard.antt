@@ -368,8 +368,8 @@ says_itself {bytes} card = rw (← append-nil bytes) (card_says [] card (GoesOn 
 
 -- ---- laws
 
-pub texts_tell_cards : TextsTellCards
-texts_tell_cards bytes day other xs ys prices others a b =
+pub texts_determine_cards : TextsDetermineCards
+texts_determine_cards bytes day other xs ys prices others a b =
     let same = Yields-Ok (only_card bytes _ _ (says_itself a) (says_itself b)) in
     (ap (λ x. x.0) same, ap (λ x. x.1) same, ap (λ x. x.2) same)
 

@@ -8,8 +8,9 @@ use Rattle.kd_card.specs.{CardText.{head_words, price_lines}, declared.prices.Ve
 use Rattle.kd_card.specs.{declared.prices.Version.TheVariants.{ByNumber, ByKind}, declared.prices.PriceParts.PriceParts}
 use Rattle.kd_card.specs.Prices.{price_sum, ArePricesInRange}
 use Rattle.kd_card.specs.declared.fault.CardFault.{CardFault}
-use Rattle.kd_state.specs.{FirstFaults.{AnswerRule, ◌>>=◌, Yields, Finds, Demands, FindsAlways}, SheetDay.IsDayNumber}
-use Rattle.kd_state.specs.{Line.{BeginsWithSettingLines, BeginsWithAllSettings}, Words.{words_of, line_of, IsFirstPart}}
+use Rattle.kd_state.specs.{AnswerRules.{AnswerRule, ◌>>=◌, Yields, Finds, Demands, FindsAlways}, SheetDay.IsDayNumber}
+use Rattle.kd_state.specs.{Line.{BeginsWithSettingLines, BeginsWithAllSettings}}
+use Rattle.kd_state.specs.{LineWords.{words_of, line_of, IsFirstPart}}
 use Rattle.kd_state.specs.declared.setting.Setting.{Setting}
 use Rattle.std.specs.Prelude.{codes, decimal, ◌≡◌, ◌≢◌, ℕ, ◌+◌, ◌≤◌, ◌⊎◌, List, [], ◌∷◌, ◌++◌, length, map, All, ℤ}
 use Rattle.std.specs.Prelude.{Bool, true, false, Ok, Err, Option, Some, None}

@@ -1,7 +1,7 @@
 -- Kinds: a kind is one entry for equal cables, columns, bars or rows, with their count and the price of each.
 use Rattle.kd_card.specs.{declared.kinds.CableKind.CableKind, declared.kinds.PairKind.PairKind}
 use Rattle.kd_card.specs.{declared.kinds.BarKind.BarKind, declared.kinds.RowKind.RowKind, declared.kinds.KindOf.KindOf}
-use Rattle.kd_state.specs.{Costs.{column_letters, one_unless}, Words.line_of, Machine.cable_letters}
+use Rattle.kd_state.specs.{Costs.{column_letters, one_unless}, LineWords.line_of, Machine.cable_letters}
 use Rattle.kd_tables.specs.Text as tables
 use Rattle.kd_tables.specs.Places.{standing_text, reading_text, place_rank, IsBefore, IsReading}
 use Rattle.kd_tables.specs.declared.place.Place.{Place}

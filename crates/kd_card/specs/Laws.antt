@@ -56,8 +56,8 @@ ProvingPricesAreTight =
     → ArePricesTight (cost_table m s) prices
 
 -- Different cards have different texts, and no card's text is a proper prefix of another's.
-abbrev pub TextsTellCards : Type 0
-TextsTellCards =
+abbrev pub TextsDetermineCards : Type 0
+TextsDetermineCards =
     (bytes : List ℕ) (day other : ℕ) (xs ys : List Setting) (prices others : PriceParts) → IsCard bytes day xs prices
     → IsCard bytes other ys others
     → (day ≡ other) × (xs ≡ ys) × (prices ≡ others)

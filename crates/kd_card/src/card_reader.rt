@@ -2,7 +2,7 @@
 ghost use Rattle.kd_card.specs.CardFault.{BeginsWithHead, HasLineWords, IsValueAnswer, IsGroupsAnswer};
 ghost use Rattle.kd_card.specs.CardFault.{IsListsAnswer, IsAllPricesAnswer, IsCardFault};
 ghost use Rattle.kd_card.specs.{CardText.IsCard, Reading.IsNoPriceLine};
-ghost use Rattle.kd_state.specs.Words.{words_of, IsWithout};
+ghost use Rattle.kd_state.specs.LineWords.{words_of, IsWithout};
 ghost use Rattle.std.specs.Prelude.{◌≡◌, ◌≢◌, ℕ, ◌<◌, ◌≤◌, ◌∷◌, ◌++◌, List, MatchOption, MatchResult, Ok, Err};
 
 use super::card::Card;

@@ -1,5 +1,5 @@
 //! Laws on cards: on their texts, on how short a list can be, and on cards that prove themselves.
-ghost use Rattle.kd_card.specs.Laws.{TextsTellCards, NoCardBeginsAnother, ReadingGivesCards, CardsHaveNoFault};
+ghost use Rattle.kd_card.specs.Laws.{TextsDetermineCards, NoCardBeginsAnother, ReadingGivesCards, CardsHaveNoFault};
 ghost use Rattle.kd_card.specs.Laws.{OneCardFault, LooseThingsAreCounted, AsFewAreNeeded, FittingPricesBoundLists};
 ghost use Rattle.kd_card.specs.Laws.{ProvingCardsAreAsLong, ProvingCardsAreShortest, ProvingPricesAreTight};
 ghost use Rattle.kd_card.specs.Months.{CardsAreFewestInAll};
@@ -9,7 +9,7 @@ ghost use Rattle.kd_card.specs.Months.{CardsAreFewestInAll};
 /// The text of a card has no fault. Bytes that aren't a card have at most one first fault, the one that `read_card`
 /// returns.
 pub fn no_two_cards_have_one_text()
-    ensures card { TextsTellCards }
+    ensures card { TextsDetermineCards }
     ensures prefix { NoCardBeginsAnother }
     ensures reading { ReadingGivesCards }
     ensures no_fault { CardsHaveNoFault }

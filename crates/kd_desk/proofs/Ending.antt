@@ -3,7 +3,7 @@ use Rattle.kd_desk.proofs.Prelude.{◌≡◌, ℕ, Bool, true, false, ◌||◌, 
 use Rattle.kd_desk.proofs.Prelude.{refl, sym, subst, Port, port, Stop}
 use Rattle.std.proofs.Common.{append-nil, is_err}
 use Rattle.std.specs.Io.KnownBytes.{Appends}
-use Rattle.kd_tables.specs.declared.writing.Device.{Device}
+use Rattle.kd_tables.specs.declared.ports.writing.Device.{Device}
 use Rattle.kd_tables.specs.Writing.{Writes}
 use Rattle.kd_desk.specs.Ending.{EndsAs, stop_line, status_of}
 

@@ -2,21 +2,21 @@
 use Rattle.kd_desk.proofs.Prelude.{arith, ◌≡◌, Bool, List, [], ◌∷◌, ◌++◌, Some, sym, subst, Parts, Setting, why_refused}
 use Rattle.kd_desk.proofs.Prelude.{Leads, IsTrue, IsFalse, ap, ◌∙◌, OfCard, OfList, InCard, InList}
 use Rattle.kd_state.specs.declared.setting.why.Why.{Why}
-use Rattle.kd_state.proofs.Lines.{lists_have_no_fault, one_list_fault, texts_tell_lists}
-use Rattle.kd_state.proofs.Telling.Refusing.{carries_to_one}
-use Rattle.kd_card.proofs.OneCard.{cards_have_no_fault, one_card_fault, texts_tell_cards}
+use Rattle.kd_state.proofs.Lines.{lists_have_no_fault, one_list_fault, texts_determine_lists}
+use Rattle.kd_state.proofs.SettingEffects.Refusals.{carries_unique}
+use Rattle.kd_card.proofs.OneCard.{cards_have_no_fault, one_card_fault, texts_determine_cards}
 use Rattle.kd_desk.specs.declared.fault.DeskFault.TheVariants as faults
-use Rattle.kd_desk.specs.Laws.{TextsTellSettings, SettingsHaveNoFault, SettingsHaveOneFault, LeadsOrRefuses}
+use Rattle.kd_desk.specs.Laws.{BytesGiveOneList, SettingsHaveNoFault, SettingsHaveOneFault, LeadsOrRefuses}
 
 true_and_false : (b : Bool) → IsTrue b → IsFalse b → ⊥
 true_and_false b holds fails = cc
 
-pub one_list : TextsTellSettings
+pub one_list : BytesGiveOneList
 one_list bytes xs ys (OfCard begun day prices card) (OfCard also other others same) =
-    (texts_tell_cards bytes day other xs ys prices others card same).1
+    (texts_determine_cards bytes day other xs ys prices others card same).1
 one_list bytes xs ys (OfCard begun day prices card) (OfList unbegun list) = absurd (true_and_false _ begun unbegun)
 one_list bytes xs ys (OfList unbegun list) (OfCard begun day prices card) = absurd (true_and_false _ begun unbegun)
-one_list bytes xs ys (OfList unbegun list) (OfList also same) = texts_tell_lists bytes xs ys list same
+one_list bytes xs ys (OfList unbegun list) (OfList also same) = texts_determine_lists bytes xs ys list same
 
 pub no_fault : SettingsHaveNoFault
 no_fault bytes xs fault (OfCard begun day prices card) (InCard also of_card is told) =
@@ -40,7 +40,7 @@ refused_behind : (front rest : List Setting) (x : Setting) (m between n : Parts)
     → Leads m (front ++ x ∷ rest) n → Leads m front between → why_refused between x ≡ Some why → ⊥
 refused_behind [] rest x m between n why leads at refused = cc (at, leads.1.allowed, refused)
 refused_behind (y ∷ front) rest x m between n why leads at refused =
-    let same = carries_to_one m leads.0 at.0 y leads.1 at.1 in
+    let same = carries_unique m leads.0 at.0 y leads.1 at.1 in
     refused_behind front rest x at.0 between n why
     (subst (λ k. Leads k (front ++ x ∷ rest) n) same leads.2) at.2 refused
 

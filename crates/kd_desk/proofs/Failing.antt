@@ -1,6 +1,6 @@
 -- How a call leaves its ports when it fails.
 use Rattle.kd_desk.proofs.Prelude.{arith, ◌≡◌, ℕ, Bool, true, false, ◌||◌, List, Option, Result, Ok, Err, IsErrAnd}
-use Rattle.kd_desk.proofs.Prelude.{IsTrue, inr, sym, subst, Port, HasNotFailed, FailureAgrees, Appends, TakesPrefix}
+use Rattle.kd_desk.proofs.Prelude.{IsTrue, inr, sym, subst, Port, KeepsFailureFlag, FailureAgrees, Appends, TakesPrefix}
 use Rattle.kd_desk.proofs.Prelude.{DeskFault}
 use Rattle.kd_desk.specs.{Ports.WritesText, declared.fault.DeskFault.TheVariants.Device}
 
@@ -13,7 +13,7 @@ pub has_failed-same : (before after : Bool) → after ≡ (before || false) → 
 has_failed-same before after e = grind (arith, e)
 
 -- if the source doesn't fail in a call, a port fails exactly if the sink does
-pub FailureAgrees-sink : (source sink : Port) (failed : Bool) → HasNotFailed source
+pub FailureAgrees-sink : (source sink : Port) (failed : Bool) → KeepsFailureFlag source
     → sink.has_failed ≡ (sink.had_failed || failed) → FailureAgrees source sink failed
 FailureAgrees-sink source sink false well is = (well, has_failed-same sink.had_failed sink.has_failed is)
 FailureAgrees-sink source sink true well is = inr (record { failed = grind arith; well = well })

@@ -1,8 +1,8 @@
 -- A month on a machine that uses only its first cables needs no other cable.
 use Rattle.kd_desk.proofs.{Days.in_files, Exclusions.one_list}
 use Rattle.kd_desk.proofs.Prelude.{List, Ok, Parts, [], machine_of, subst, ℕ, ◌∷◌, ◌≡◌}
-use Rattle.kd_desk.specs.FewCables.{DayHasPairsUpTo, FewCablesServeAMonth, FileUsesNoneAbove, KeepsToFirst}
-use Rattle.kd_desk.specs.Month.{Papers, SetTheMachineInTurn}
+use Rattle.kd_desk.specs.FewCables.{DayHasPairsUpTo, FewCablesServeAMonth, FileUsesNoneAbove, UsesFirstCablesOnly}
+use Rattle.kd_desk.specs.Month.{CardAndFile, SetTheMachineInTurn}
 use Rattle.kd_desk.proofs.Months.{months_set_the_machine}
 use Rattle.kd_plan.proofs.Planning.FewCables.{few_cables_serve}
 use Rattle.kd_plan.specs.FewCables.{NamesNoneAbove, UsesNoneAbove}
@@ -13,11 +13,11 @@ UsesNoneAbove-same_file : (number : ℕ) (file : List ℕ) (n m : Parts) → mac
     → UsesNoneAbove number n → UsesNoneAbove number m
 UsesNoneAbove-same_file number file n m one other uses = let same : n ≡ m = cc in subst (UsesNoneAbove number) same uses
 
-keep_to_first : (number : ℕ) (file sheet days : List ℕ) (papers : List Papers)
+use_first_cables_only : (number : ℕ) (file sheet days : List ℕ) (papers : List CardAndFile)
     → SetTheMachineInTurn file sheet days papers → FileUsesNoneAbove number file
-    → All (DayHasPairsUpTo number sheet) days → All (KeepsToFirst number) papers
-keep_to_first number file sheet [] [] sets uses few = All-nil (KeepsToFirst number)
-keep_to_first number file sheet (day ∷ days) (paper ∷ papers) sets uses few =
+    → All (DayHasPairsUpTo number sheet) days → All (UsesFirstCablesOnly number) papers
+use_first_cables_only number file sheet [] [] sets uses few = All-nil (UsesFirstCablesOnly number)
+use_first_cables_only number file sheet (day ∷ days) (paper ∷ papers) sets uses few =
     let on = sets.0 in
     let found = in_files file sheet day on.m on.s on.found in
     let pairs = All-head (DayHasPairsUpTo number sheet) day days few found.1.0 on.s found.1.1 found.1.2 in
@@ -25,17 +25,17 @@ keep_to_first number file sheet (day ∷ days) (paper ∷ papers) sets uses few 
     let serve = few_cables_serve number on.m on.n on.s on.settings (uses on.m found.0) pairs on.spares leads in
     let next : FileUsesNoneAbove number paper.file = λ n of_file.
     UsesNoneAbove-same_file number paper.file on.n n on.of_next of_file serve.1 in
-    let here : KeepsToFirst number paper = record {
+    let here : UsesFirstCablesOnly number paper = record {
       card = λ settings says.
           subst (All (NamesNoneAbove number)) (one_list paper.card on.settings settings on.of_card says) serve.0;
       file = next;
     }
     in
-    let rest = keep_to_first number paper.file sheet days papers sets.1 next
+    let rest = use_first_cables_only number paper.file sheet days papers sets.1 next
     (All-tail (DayHasPairsUpTo number sheet) day days few) in
-    All-cons (KeepsToFirst number) paper papers here rest
-keep_to_first number file sheet days papers sets uses few = absurd sets
+    All-cons (UsesFirstCablesOnly number) paper papers here rest
+use_first_cables_only number file sheet days papers sets uses few = absurd sets
 
 pub few_cables_serve_a_month : FewCablesServeAMonth
 few_cables_serve_a_month number file sheet days papers written =
-    keep_to_first number file sheet days papers (months_set_the_machine file sheet days papers written)
+    use_first_cables_only number file sheet days papers (months_set_the_machine file sheet days papers written)

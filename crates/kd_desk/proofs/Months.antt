@@ -8,12 +8,13 @@ use Rattle.kd_desk.proofs.{Exclusions.one_list, Failing.in_whole, Printing.print
 use Rattle.{kd_desk.proofs.Prelude.◌⊎◌, kd_plan.specs.Planned.IsProvedPlannedCard}
 use Rattle.{kd_tables.specs.declared.model.Model.Model}
 use Rattle.kd_desk.specs.{Laws.{MonthsAreFewest, MonthsSetTheMachine}, Ports.WritesText, RunCard.{Prints, WritesCard}}
-use Rattle.kd_desk.specs.Month.{AreWritten, HasDayOf, HasPapers, HasPapersInTurn, Papers, SetTheMachine, sink_with}
+use Rattle.kd_desk.specs.Month.{AreWritten, HasDayOf, CanWriteDay, CanWriteDays, CardAndFile, SetTheMachine, sink_with}
 use Rattle.kd_desk.specs.Month.{success, AreCardsOf, AreDaysOf, SetTheMachineInTurn}
 use Rattle.kd_card.{proofs.Months.cards_are_fewest_in_all, specs.Months.{DayAfterDay, IsProvedCard}}
 use Rattle.kd_card.specs.declared.prices.PriceParts.TheVariants.{Cables}
 use Rattle.kd_sheet.proofs.ReadBack.Described.{machine_of-IsMachine, sheet_of-legal}
-use Rattle.{kd_prices.specs.KindCards.IsByKind, kd_state.proofs.Telling.Refusing.{leads_to_one, lists_keep_machines}}
+use Rattle.{kd_prices.specs.KindCards.IsByKind}
+use Rattle.{kd_state.proofs.SettingEffects.Refusals.{leads_unique, lists_keep_machines}}
 use Rattle.kd_sheet.specs.{Laws.WrittenFilesAreReadBack, MachineText.machine_text, declared.fault.SheetFault.SheetFault}
 use Rattle.{kd_sheet.specs.{Sheet.day_of, SheetFile.sheet_of}, std.proofs.Common.All}
 use Rattle.std.proofs.lemmas.List.Elements.{All-cons, All-nil, All-tail}
@@ -52,7 +53,7 @@ Applies-no_memory : (m : Parts) (bytes : List ℕ) (sink : Port) → Applies m b
 Applies-no_memory m bytes sink (inl applies) = applies
 Applies-no_memory m bytes sink (inr lacks) = absurd (cc)
 
-SetTheMachine-written : (file sheet : List ℕ) (number : ℕ) (papers : Papers)
+SetTheMachine-written : (file sheet : List ℕ) (number : ℕ) (papers : CardAndFile)
     → AreWritten file sheet number papers → SetTheMachine file sheet number papers
 SetTheMachine-written file sheet number papers are =
     let on = found_on file sheet number _ are.printed in
@@ -68,7 +69,7 @@ SetTheMachine-written file sheet number papers are =
     let says = subst (λ bytes. AreSettings bytes card.settings) (sym text)
     (settings_of card.text number card.settings card.prices card.card) in
     let one = one_list papers.card next.settings card.settings next.of_card says in
-    let same = leads_to_one m next.n card.leaves.0 card.settings (subst (λ xs. Leads m xs next.n) one next.leads)
+    let same = leads_unique m next.n card.leaves.0 card.settings (subst (λ xs. Leads m xs next.n) one next.leads)
     card.leaves.1 in
     let written : papers.file ≡ machine_text next.n = next.written.written.whole in
     record {
@@ -96,7 +97,7 @@ months_set_the_machine file sheet (number ∷ numbers) (papers ∷ more) are =
     grind (arith, SetTheMachine-written, months_set_the_machine papers.file sheet numbers more are.1)
 months_set_the_machine file sheet numbers papers are = absurd are
 
-DayAfterDay-months : (file sheet numbers : List ℕ) (papers : List Papers) (m : Parts) (month : List (Option Day))
+DayAfterDay-months : (file sheet numbers : List ℕ) (papers : List CardAndFile) (m : Parts) (month : List (Option Day))
     (days : List Day) (cards : List (List Setting)) → machine_of file ≡ Ok m → sheet_of sheet ≡ Ok month
     → AreDaysOf month numbers days → SetTheMachineInTurn file sheet numbers papers → AreCardsOf papers cards
     → All IsLegalDay days × DayAfterDay IsProvedCard m days cards
@@ -126,7 +127,7 @@ pub papers_for : WrittenFilesAreReadBack → (m n : Parts) (s : Day) → IsMachi
     → (planned card : declared.Card) → IsProvedPlannedCard m s planned.settings.items planned.prices
     → IsByKind m s planned card
     → (text : List ℕ) (day : ℕ) → day ≡ day_number s → IsCard text day card.settings.items card.prices
-    → Leads m card.settings.items n → HasPapers m s n
+    → Leads m card.settings.items n → CanWriteDay m s n
 papers_for read_back m n s machine legal planned card plans kinds text day number is_card leads
     file sheet found =
     let back = read_back n (lists_keep_machines m n card.settings.items machine is_card.in_range leads) in
@@ -145,8 +146,8 @@ papers_for read_back m n s machine legal planned card plans kinds text day numbe
     )
 
 pub papers_on : (m n : Parts) (s : Day) (month : List (Option Day)) (number : ℕ) (numbers : List ℕ)
-    → day_number s ≡ number → day_of month number ≡ Some s → HasPapers m s n → HasPapersInTurn n month numbers
-    → HasPapersInTurn m month (number ∷ numbers)
+    → day_number s ≡ number → day_of month number ≡ Some s → CanWriteDay m s n → CanWriteDays n month numbers
+    → CanWriteDays m month (number ∷ numbers)
 papers_on m n s month number numbers same of_month first rest file sheet of_file of_sheet =
     let found = found_in_files file sheet (day_number s) m month s of_file of_sheet (rw same of_month) in
     let papers = first file sheet found in

@@ -15,17 +15,17 @@ pub use Rattle.kd_desk.specs.CommandLine.{IsActionOf, IsCommandOf, NamedCommand,
 pub use Rattle.kd_desk.specs.CommandLine.{unborrowed_command}
 pub use Rattle.kd_desk.specs.Files.{AreAskedFor, AskedName, MissesOne, AgreesOrNoMemory, IsReadWhole, KnownFile}
 pub use Rattle.kd_desk.specs.Files.{asked_and_had, asked_and_missed, known_file}
-pub use Rattle.kd_desk.specs.Messages.{TellOfOrders, TypesText, answer_to_message}
+pub use Rattle.kd_desk.specs.Messages.{FormsAgreeWithOrders, TypesText, answer_to_message}
 pub use Rattle.kd_desk.specs.OnDay.{IsAnswerOnDay}
 unfoldable pub use Rattle.kd_desk.specs.OnDay.{machine_and_day}
 pub use Rattle.kd_desk.specs.Program.{AsksFor, CarriesOut, IsCommandDone, KnownCommand, known_command}
 pub use Rattle.kd_desk.specs.RunApply.{Applies, Carried, NoSettings, RefusedLine}
 pub use Rattle.kd_desk.specs.RunCheck.{Checks, Doubtful, NoCard, ForOtherDay, Shortest, verdict_text}
-pub use Rattle.kd_desk.specs.RunSteps.{LacksMemory, is_device, is_refused_before}
+pub use Rattle.kd_desk.specs.CallAnswers.{LacksMemory, is_device, is_refused_before_message}
 pub use Rattle.kd_desk.specs.Settings.{AreSettings, InCard, InList, IsSettingsFault, OfCard, OfList, begins_as_card}
 pub use Rattle.kd_desk.specs.declared.{fault.DeskFault.DeskFault, stop.Stop.Stop, stop.Stop.TheVariants.{Unread, Usage}}
 pub use Rattle.{kd_form.specs.declared.fault.FormFault.FormFault, kd_sheet.specs.MachineFile.machine_of}
 pub use Rattle.kd_state.specs.{Machine.IsMachine, Setting.{Leads, why_refused}}
 pub use Rattle.kd_state.specs.{SheetDay.{Day, IsDayNumber, IsLegalDay, day_number}, declared.machine.parts.Parts.Parts}
 pub use Rattle.kd_state.specs.declared.setting.Setting.{Setting}
-pub use Rattle.kd_tables.specs.{Ports.{FailureAgrees, HasNotFailed, Port, port, read_limit}, Writing.TakesPrefix}
+pub use Rattle.kd_tables.specs.{Ports.{FailureAgrees, KeepsFailureFlag, Port, port, read_limit}, Writing.TakesPrefix}

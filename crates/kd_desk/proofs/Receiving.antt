@@ -1,11 +1,11 @@
 -- A received form gives back its order's text; a refused form is the form of no order.
-use Rattle.kd_desk.proofs.Prelude.{List, ℕ, ◌++◌, inl, Day, IsLegalDay, FormFault, TellOfOrders}
+use Rattle.kd_desk.proofs.Prelude.{List, ℕ, ◌++◌, inl, Day, IsLegalDay, FormFault, FormsAgreeWithOrders}
 use Rattle.kd_form.specs.{FormText.IsReceiveFault, Sending.IsFormOf}
 use Rattle.kd_form.proofs.OneText.{forms_become_one_text, received_forms_have_no_fault, stays_refused}
 use Rattle.kd_form.proofs.GivenBack.{forms_give_their_orders, orders_give_letters}
 
-pub tell_of_orders : (s : Day) → IsLegalDay s → TellOfOrders s
-tell_of_orders s legal =
+pub forms_agree_with_orders : (s : Day) → IsLegalDay s → FormsAgreeWithOrders s
+forms_agree_with_orders s legal =
     let unsent : (form order : List ℕ) (fault : FormFault) → IsReceiveFault s form fault → ¬ (IsFormOf s order form) =
     λ form order fault is sent.
     let gives = orders_give_letters s order form sent in

@@ -1,5 +1,5 @@
 -- Files that are read one after another, and the program's answer to a command.
-use Rattle.kd_desk.specs.{Program.is_stopped_before, RunSteps.is_refused_before, Stops.stop_after}
+use Rattle.kd_desk.specs.{Program.is_stopped_before_message, CallAnswers.is_refused_before_message, Stops.stop_after}
 use Rattle.kd_desk.specs.declared.{fault.DeskFault.DeskFault, fault.DeskFault.TheVariants.{Device, File}}
 use Rattle.kd_desk.specs.declared.stop.Stop.TheVariants.{ReadFailed, Refused}
 use Rattle.kd_sheet.specs.declared.fault.SheetFault.TheVariants.{NoMemory}
@@ -142,14 +142,15 @@ module _ (source sink : Port) (answer : Result (Unit {0}) Stop) where
 
 -- what holds after each error but `Device` holds if the command was refused before anything was written
 pub early : {X : Type 0} (told : Result (Unit {0}) DeskFault) → (IsErr told → told ≢ Err Device → X)
-    → IsTrue (is_refused_before told) → X
+    → IsTrue (is_refused_before_message told) → X
 early (Ok _) holds refused = absurd (cc)
 early (Err Device) holds refused = absurd (cc)
 early (Err fault) holds refused = holds refl (λ e. cc)
 
 -- If the program stopped before anything was written, the command was refused before that.
 pub refused_before : (file_failed : Bool) (told : Result (Unit {0}) DeskFault) (answer : Result (Unit {0}) Stop)
-    → answer ≡ stop_after file_failed told → IsTrue (is_stopped_before answer) → IsTrue (is_refused_before told)
-refused_before file_failed (Ok done) answer e early = subst (λ a. IsTrue (is_stopped_before a)) e early
-refused_before true (Err Device) answer e early = subst (λ a. IsTrue (is_stopped_before a)) e early
-refused_before file_failed (Err fault) answer e early = subst (λ a. IsTrue (is_stopped_before a)) e early
+    → answer ≡ stop_after file_failed told → IsTrue (is_stopped_before_message answer)
+    → IsTrue (is_refused_before_message told)
+refused_before file_failed (Ok done) answer e early = subst (λ a. IsTrue (is_stopped_before_message a)) e early
+refused_before true (Err Device) answer e early = subst (λ a. IsTrue (is_stopped_before_message a)) e early
+refused_before file_failed (Err fault) answer e early = subst (λ a. IsTrue (is_stopped_before_message a)) e early

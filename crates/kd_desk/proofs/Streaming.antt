@@ -1,13 +1,13 @@
 -- The desk's answer for a message, made from the answer of typing, sending or receiving it.
 use Rattle.kd_desk.proofs.Prelude.{arith, ◌≡◌, Result, Ok, Err, IsErrAnd, MatchResult, IsTrue, FormFault, Port}
-use Rattle.kd_desk.proofs.Prelude.{FailureAgrees, DeskFault, answer_to_message, is_refused_before, is_device}
+use Rattle.kd_desk.proofs.Prelude.{FailureAgrees, DeskFault, answer_to_message, is_refused_before_message, is_device}
 use Rattle.kd_desk.{proofs.Failing.err_is, specs.Messages.fault_of_message}
 use Rattle.kd_form.specs.Streams as streams
 use Rattle.kd_form.specs.Streams.{is_off_key}
 
 pub off_key : (told : Result (Unit {0}) FormFault) (answer : Result (Unit {0}) DeskFault)
     → answer ≡ answer_to_message told
-    → IsTrue (is_refused_before answer) → IsTrue (is_off_key told)
+    → IsTrue (is_refused_before_message answer) → IsTrue (is_off_key told)
 off_key told answer is before = grind arith
 
 pub FailureAgrees-passed_on : (source sink : Port) (told : Result (Unit {0}) FormFault)

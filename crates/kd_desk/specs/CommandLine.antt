@@ -115,28 +115,28 @@ abbrev pub unborrowed_command : Command (Bor (List ℕ)) (Bor (List ℕ)) → Co
 unborrowed_command command = with_files (λ name. name.now) (λ name. name.now) command
 
 -- the task, with `g` applied to the file that is streamed
-abbrev pub with_task_opened : {F O P : Type 0} → (O → P) → Task F O → Task F P
-with_task_opened g task = with_task_files (λ file. file) g task
+abbrev pub with_task_stream : {F O P : Type 0} → (O → P) → Task F O → Task F P
+with_task_stream g task = with_task_files (λ file. file) g task
 
-abbrev pub with_action_opened : {F O P : Type 0} → (O → P) → Action F O → Action F P
-with_action_opened g action = with_action_files (λ file. file) g action
+abbrev pub with_action_stream : {F O P : Type 0} → (O → P) → Action F O → Action F P
+with_action_stream g action = with_action_files (λ file. file) g action
 
-abbrev pub with_command_opened : {F O P : Type 0} → (O → P) → Command F O → Command F P
-with_command_opened g command = with_files (λ file. file) g command
+abbrev pub with_command_stream : {F O P : Type 0} → (O → P) → Command F O → Command F P
+with_command_stream g command = with_files (λ file. file) g command
 
 -- the file that is streamed, if the task has one
-abbrev pub task_opened : {F O : Type 0} → Task F O → Option O
-task_opened tasks.Card = None
-task_opened (tasks.Check card) = None
-task_opened (tasks.Message direction file) = Some file
+abbrev pub task_stream : {F O : Type 0} → Task F O → Option O
+task_stream tasks.Card = None
+task_stream (tasks.Check card) = None
+task_stream (tasks.Message direction file) = Some file
 
-abbrev pub action_opened : {F O : Type 0} → Action F O → Option O
-action_opened actions.Type = None
-action_opened (actions.Apply list) = None
-action_opened (actions.OnDay sheet day task) = task_opened task
+abbrev pub action_stream : {F O : Type 0} → Action F O → Option O
+action_stream actions.Type = None
+action_stream (actions.Apply list) = None
+action_stream (actions.OnDay sheet day task) = task_stream task
 
-abbrev pub command_opened : {F O : Type 0} → Command F O → Option O
-command_opened command = action_opened command.action
+abbrev pub command_stream : {F O : Type 0} → Command F O → Option O
+command_stream command = action_stream command.action
 
 -- ---- Which command a command line means, and the names of its files.
 -- Code: `clap` parses the command line; `command_of` makes the command from the arguments that `clap` found.

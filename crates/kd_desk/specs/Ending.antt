@@ -2,7 +2,7 @@
 -- Source: the table of the command line in docs/FORMATS.md.
 -- Test: ends_with_a_status_and_a_line
 use Rattle.std.specs.Prelude.{codes, ◌≡◌, ℕ, ◌||◌, List, [], ◌∷◌, ◌++◌, Result, Ok, Err, is_err}
-use Rattle.kd_tables.specs.declared.writing.Device.{Device}
+use Rattle.kd_tables.specs.declared.ports.writing.Device.{Device}
 use Rattle.kd_tables.specs.Ports.{Port}
 use Rattle.kd_tables.specs.Writing.{Writes}
 use Rattle.kd_desk.specs.declared.fault.DeskFault.{DeskFault}

@@ -8,7 +8,7 @@ use Rattle.kd_plan.specs.FewCables.{UsesNoneAbove, HasPairsUpTo, NamesNoneAbove}
 use Rattle.kd_sheet.specs.MachineFile.{machine_of}
 use Rattle.kd_sheet.specs.Sheet.{day_of}
 use Rattle.kd_sheet.specs.SheetFile.{sheet_of}
-use Rattle.kd_desk.specs.Month.{Papers, AreWrittenInTurn}
+use Rattle.kd_desk.specs.Month.{CardAndFile, AreWrittenInTurn}
 use Rattle.kd_desk.specs.Settings.{AreSettings}
 
 -- The machine that `file` describes uses no cable above `number`.
@@ -27,7 +27,7 @@ DayHasPairsUpTo number sheet day =
     → HasPairsUpTo number s
 
 -- The card of a day, and the machine file after the card, use only the first `number` cables.
-pub record KeepsToFirst (number : ℕ) (papers : Papers) : Type 0 where
+pub record UsesFirstCablesOnly (number : ℕ) (papers : CardAndFile) : Type 0 where
   pub card : CardNamesNoneAbove number papers.card
   pub file : FileUsesNoneAbove number papers.file
 
@@ -35,5 +35,5 @@ pub record KeepsToFirst (number : ℕ) (papers : Papers) : Type 0 where
 -- uses only these cables. So a machine that uses only cables 1 to 10 needs no other cable for at most ten pairs a day.
 abbrev pub FewCablesServeAMonth : Type 0
 FewCablesServeAMonth =
-    (number : ℕ) (file sheet days : List ℕ) (papers : List Papers) → AreWrittenInTurn file sheet days papers
-    → FileUsesNoneAbove number file → All (DayHasPairsUpTo number sheet) days → All (KeepsToFirst number) papers
+    (number : ℕ) (file sheet days : List ℕ) (papers : List CardAndFile) → AreWrittenInTurn file sheet days papers
+    → FileUsesNoneAbove number file → All (DayHasPairsUpTo number sheet) days → All (UsesFirstCablesOnly number) papers

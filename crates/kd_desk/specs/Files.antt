@@ -6,7 +6,7 @@ use Rattle.std.specs.Prelude.{length, Option, Some, None, Result, Ok, Err, find,
 use Rattle.std.specs.Result.{result_map_both}
 use Rattle.std.specs.Borrow.{Bor}
 use Rattle.std.specs.Io.KnownBytes.{Consumes, IsAtEnd}
-use Rattle.kd_tables.specs.Ports.{read_limit, Port, HasNotFailed}
+use Rattle.kd_tables.specs.Ports.{read_limit, Port, KeepsFailureFlag}
 use Rattle.kd_desk.specs.declared.files.fault.FileFault.{FileFault}
 use Rattle.kd_desk.specs.declared.files.fault.FileFault.TheVariants.{NoMemory, Device, ReadTooLong}
 
@@ -48,10 +48,10 @@ IsReadAnswer meant known answer = AgreesOrNoMemory meant (result_map_both known 
 -- `Device`, `NoMemory`: all bytes that came before the failed read, or before memory ran out.
 abbrev pub IsReadWholeAs : Port → List ℕ → Result (List ℕ) FileFault → Type 0
 IsReadWholeAs source read (Ok bytes) = (bytes ≡ read) × (length read ≤ read_limit) × IsAtEnd source.has
-    × HasNotFailed source
-IsReadWholeAs source read (Err ReadTooLong) = (length read ≡ read_limit + 1) × HasNotFailed source
+    × KeepsFailureFlag source
+IsReadWholeAs source read (Err ReadTooLong) = (length read ≡ read_limit + 1) × KeepsFailureFlag source
 IsReadWholeAs source read (Err Device) = IsTrue source.has_failed
-IsReadWholeAs source read (Err NoMemory) = HasNotFailed source
+IsReadWholeAs source read (Err NoMemory) = KeepsFailureFlag source
 
 pub record IsReadWhole (source : Port) (answer : Result (List ℕ) FileFault) : Type 0 where
   pub read : List ℕ
@@ -59,7 +59,7 @@ pub record IsReadWhole (source : Port) (answer : Result (List ℕ) FileFault) : 
   pub is : IsReadWholeAs source read answer
 
 -- ---- Which names of files were asked for.
--- Code: `HostFiles` keeps the names in a record, `Asked`.
+-- Code: `HostFiles` keeps the names in a record, `AskedNames`.
 -- Test: stops_before_it_writes
 
 -- A file name that was asked for, and whether the file could be read or opened.

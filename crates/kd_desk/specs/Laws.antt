@@ -10,12 +10,12 @@ use Rattle.kd_state.specs.SheetDay.{Day}
 use Rattle.kd_card.specs.Months.{DayAfterDay, ReachesDay, total_length}
 use Rattle.kd_sheet.specs.{MachineFile.machine_of, SheetFile.sheet_of}
 use Rattle.kd_desk.specs.declared.fault.DeskFault.{DeskFault}
-use Rattle.kd_desk.specs.Month.{Papers, AreWrittenInTurn, SetTheMachineInTurn, AreDaysOf, AreCardsOf}
+use Rattle.kd_desk.specs.Month.{CardAndFile, AreWrittenInTurn, SetTheMachineInTurn, AreDaysOf, AreCardsOf}
 use Rattle.kd_desk.specs.Settings.{AreSettings, IsSettingsFault}
 
 -- Bytes give at most one list of settings.
-abbrev pub TextsTellSettings : Type 0
-TextsTellSettings = (bytes : List ℕ) (xs ys : List Setting) → AreSettings bytes xs → AreSettings bytes ys → xs ≡ ys
+abbrev pub BytesGiveOneList : Type 0
+BytesGiveOneList = (bytes : List ℕ) (xs ys : List Setting) → AreSettings bytes xs → AreSettings bytes ys → xs ≡ ys
 
 -- Bytes that give a list of settings have no fault.
 abbrev pub SettingsHaveNoFault : Type 0
@@ -38,14 +38,14 @@ LeadsOrRefuses =
 -- If cards and machine files are written for one day after another, they set the machine to these days in turn.
 abbrev pub MonthsSetTheMachine : Type 0
 MonthsSetTheMachine =
-    (file sheet numbers : List ℕ) (papers : List Papers) → AreWrittenInTurn file sheet numbers papers
+    (file sheet numbers : List ℕ) (papers : List CardAndFile) → AreWrittenInTurn file sheet numbers papers
     → SetTheMachineInTurn file sheet numbers papers
 
 -- On a rotor machine, the cards written for days of a sheet, one after another, have the fewest settings in all. Other
 -- lists that start from the same machine, and reach the same days in the same order, have no fewer settings.
 abbrev pub MonthsAreFewest : Type 0
 MonthsAreFewest =
-    (file sheet numbers : List ℕ) (papers : List Papers) (m : Parts) (month : List (Option Day)) (days : List Day)
+    (file sheet numbers : List ℕ) (papers : List CardAndFile) (m : Parts) (month : List (Option Day)) (days : List Day)
     (cards lists : List (List Setting)) → machine_of file ≡ Ok m → sheet_of sheet ≡ Ok month → model_of m ≢ M209
     → AreDaysOf month numbers days → AreWrittenInTurn file sheet numbers papers → AreCardsOf papers cards
     → DayAfterDay ReachesDay m days lists → total_length cards ≤ total_length lists

@@ -5,7 +5,7 @@ pub mod Laws
 pub mod Messages
 pub mod Ports
 pub mod RunApply
-pub mod RunSteps
+pub mod CallAnswers
 pub mod Settings
 pub mod Stops
 pub mod FaultText

@@ -48,14 +48,15 @@ Sends m s order sink answer = IsStreamedOn m s (order_message s) order sink answ
 -- How the forms and the orders of day `s` agree. If a form is made from an order, the form's text is the text that the
 -- receiver must get. A form with a fault isn't made from any order. If no further bytes can change the fault, no order
 -- makes a form that begins with the bytes of the faulty form.
-pub record TellOfOrders (s : Day) : Type 0 where
+pub record FormsAgreeWithOrders (s : Day) : Type 0 where
   pub back : (form text order given : List ℕ) → IsTextOf s form text → IsFormOf s order form
       → IsPlaintextOf s order given → text ≡ given
   pub of_no_order : (form order : List ℕ) (fault : FormFault) → IsReceiveFault s form fault → ¬ (IsFormOf s order form)
   pub of_no_front : (form more order : List ℕ) (fault : FormFault) → (form_message s).stands form fault
       → ¬ (IsFormOf s order (form ++ more))
 
--- The text of the form is written, or the form is refused. The day's forms and orders agree, as `TellOfOrders` says.
+-- The text of the form is written, or the form is refused. The day's forms and orders agree, as
+-- `FormsAgreeWithOrders` says.
 pub record Receives (m : Parts) (s : Day) (form sink : Port) (answer : Result (Unit {0}) DeskFault) : Type 0 where
   pub streamed : IsStreamedOn m s (form_message s) form sink answer
-  pub orders : TellOfOrders s
+  pub orders : FormsAgreeWithOrders s

@@ -19,11 +19,11 @@ use Rattle.kd_desk.specs.Headline.{IsSheetsMachine}
 use Rattle.kd_desk.specs.OnDay.{IsAnswerOnDay, machine_and_day}
 use Rattle.kd_desk.specs.RunApply.{Applies}
 use Rattle.kd_desk.specs.RunCard.{Prints}
-use Rattle.kd_desk.specs.RunSteps.{LacksMemory}
+use Rattle.kd_desk.specs.CallAnswers.{LacksMemory}
 use Rattle.kd_desk.specs.Settings.{AreSettings}
 
 -- What is written for a day: a card, and the file of the machine that the card's settings lead to.
-pub record Papers : Type 0 where
+pub record CardAndFile : Type 0 where
   pub card : List ℕ
   pub file : List ℕ
 
@@ -36,13 +36,13 @@ success = Ok tt
 
 -- `run_card` writes the card, from the machine file `file` and for day `number`. `run_apply` writes the next
 -- machine file, from `file` and this card.
-pub record AreWritten (file sheet : List ℕ) (number : ℕ) (papers : Papers) : Type 0 where
+pub record AreWritten (file sheet : List ℕ) (number : ℕ) (papers : CardAndFile) : Type 0 where
   pub printed : IsAnswerOnDay file sheet number (λ m s. Prints m s number (sink_with papers.card) success) success
   pub applied : IfOk (machine_of file)
       (λ m. Applies m papers.card (sink_with papers.file) success ⊎ LacksMemory success)
 
 -- Cards and machine files are written for one day after another. Each card starts from the machine file before it.
-abbrev pub AreWrittenInTurn : List ℕ → List ℕ → List ℕ → List Papers → Type 0
+abbrev pub AreWrittenInTurn : List ℕ → List ℕ → List ℕ → List CardAndFile → Type 0
 AreWrittenInTurn file sheet [] [] = Unit {0}
 AreWrittenInTurn file sheet (number ∷ numbers) (papers ∷ more) =
     AreWritten file sheet number papers × AreWrittenInTurn papers.file sheet numbers more
@@ -51,7 +51,7 @@ AreWrittenInTurn file sheet numbers papers = ⊥
 -- The card's settings lead from the machine of `file` to the machine of the next file. The machine of the next file is
 -- set as day `number` says, shows the day's letters, and enciphers as the day asks. Spare cables stay free, and the
 -- card's prices prove that no fewer settings lead to the day.
-pub record SetTheMachine (file sheet : List ℕ) (number : ℕ) (papers : Papers) : Type 0 where
+pub record SetTheMachine (file sheet : List ℕ) (number : ℕ) (papers : CardAndFile) : Type 0 where
   pub m : Parts
   pub s : Day
   pub found : machine_and_day file sheet number ≡ Ok (m, s)
@@ -65,7 +65,7 @@ pub record SetTheMachine (file sheet : List ℕ) (number : ℕ) (papers : Papers
   pub sheets : IsSheetsMachine n s
 
 -- For each day in turn, the day's card and machine file set the machine to the day, as `SetTheMachine` says.
-abbrev pub SetTheMachineInTurn : List ℕ → List ℕ → List ℕ → List Papers → Type 0
+abbrev pub SetTheMachineInTurn : List ℕ → List ℕ → List ℕ → List CardAndFile → Type 0
 SetTheMachineInTurn file sheet [] [] = Unit {0}
 SetTheMachineInTurn file sheet (number ∷ numbers) (papers ∷ more) =
     SetTheMachine file sheet number papers × SetTheMachineInTurn papers.file sheet numbers more
@@ -76,7 +76,7 @@ abbrev pub AreDaysOf : List (Option Day) → List ℕ → List Day → Type 0
 AreDaysOf month numbers days = AllZip (λ number s. day_of month number ≡ Some s) numbers days
 
 -- `cards` has the settings of each card in `papers`, in the same order.
-abbrev pub AreCardsOf : List Papers → List (List Setting) → Type 0
+abbrev pub AreCardsOf : List CardAndFile → List (List Setting) → Type 0
 AreCardsOf papers cards = AllZip (λ paper settings. AreSettings paper.card settings) papers cards
 
 -- The month has day `number`, and this day is of `model`.
@@ -87,11 +87,11 @@ pub record HasDayOf (model : Model) (month : List (Option Day)) (number : ℕ) :
 
 -- Given a machine file of `m` and a key sheet with the day `s`, the desk can write a card for this day, and then a
 -- machine file of `n`.
-abbrev pub HasPapers : Parts → Day → Parts → Type 0
-HasPapers m s n = (file sheet : List ℕ) → machine_and_day file sheet (day_number s) ≡ Ok (m, s)
-    → (papers : Papers) × AreWritten file sheet (day_number s) papers × (machine_of papers.file ≡ Ok n)
+abbrev pub CanWriteDay : Parts → Day → Parts → Type 0
+CanWriteDay m s n = (file sheet : List ℕ) → machine_and_day file sheet (day_number s) ≡ Ok (m, s)
+    → (papers : CardAndFile) × AreWritten file sheet (day_number s) papers × (machine_of papers.file ≡ Ok n)
 
 -- Cards and machine files for the days `numbers` can be written, one day after another.
-abbrev pub HasPapersInTurn : Parts → List (Option Day) → List ℕ → Type 0
-HasPapersInTurn m month numbers = (file sheet : List ℕ) → machine_of file ≡ Ok m → sheet_of sheet ≡ Ok month
-    → (papers : List Papers) × AreWrittenInTurn file sheet numbers papers
+abbrev pub CanWriteDays : Parts → List (Option Day) → List ℕ → Type 0
+CanWriteDays m month numbers = (file sheet : List ℕ) → machine_of file ≡ Ok m → sheet_of sheet ≡ Ok month
+    → (papers : List CardAndFile) × AreWrittenInTurn file sheet numbers papers

@@ -11,7 +11,7 @@ use Rattle.kd_sheet.specs.Sheet.{day_of}
 use Rattle.kd_sheet.specs.SheetFile.{sheet_of}
 use Rattle.kd_desk.specs.declared.fault.DeskFault.{DeskFault}
 use Rattle.kd_desk.specs.declared.fault.DeskFault.TheVariants.{File, NoSuchDay}
-use Rattle.kd_desk.specs.RunSteps.{LacksMemory}
+use Rattle.kd_desk.specs.CallAnswers.{LacksMemory}
 
 abbrev pub or_file_fault : {A : Type 0} → Result A SheetFault → Result A DeskFault
 or_file_fault read = result_map_both (λ value. value) File read
@@ -24,8 +24,8 @@ machine_and_day machine sheet number = do
   day ← ok_or (day_of month number) NoSuchDay
   Ok (m, day)
 
--- The machine and the day satisfy `does`; or they can't be found, and the answer is the first fault. Or memory ran out.
+-- Machine and day satisfy `Holds`; or they can't be found, and the answer is the first fault. Or memory ran out.
 abbrev pub IsAnswerOnDay : List ℕ → List ℕ → ℕ → (Parts → Day → Type 0) → Result (Unit {0}) DeskFault → Type 0
-IsAnswerOnDay machine sheet number does answer =
-    MatchResult (machine_and_day machine sheet number) (λ found. does found.0 found.1) (λ fault. answer ≡ Err fault)
+IsAnswerOnDay machine sheet number Holds answer =
+    MatchResult (machine_and_day machine sheet number) (λ found. Holds found.0 found.1) (λ fault. answer ≡ Err fault)
     ⊎ LacksMemory answer

@@ -8,7 +8,7 @@ use Rattle.kd_sheet.specs.MachineFile.{machine_of}
 use Rattle.kd_state.specs.declared.machine.parts.Parts.{Parts}
 use Rattle.kd_state.specs.SheetDay.{Day}
 use Rattle.kd_desk.specs.CommandLine.{IsCommandLineOf, IsNoCommandLine, files_of, NamedCommand, NamedAction, NamedTask}
-use Rattle.kd_desk.specs.CommandLine.{with_command_opened, with_task_opened, command_opened, task_opened}
+use Rattle.kd_desk.specs.CommandLine.{with_command_stream, with_task_stream, command_stream, task_stream}
 use Rattle.kd_desk.specs.declared.command.Command.{Command}
 use Rattle.kd_desk.specs.declared.command.Action.{Action}
 use Rattle.kd_desk.specs.declared.command.Action.TheVariants as actions
@@ -31,7 +31,7 @@ use Rattle.kd_desk.specs.OnDay.{IsAnswerOnDay}
 use Rattle.kd_desk.specs.RunApply.{Applies}
 use Rattle.kd_desk.specs.RunCard.{Prints}
 use Rattle.kd_desk.specs.RunCheck.{Checks}
-use Rattle.kd_desk.specs.RunSteps.{LacksMemory, AnswersFault, is_refused_before, is_device}
+use Rattle.kd_desk.specs.CallAnswers.{LacksMemory, AnswersFault, is_refused_before_message, is_device}
 
 -- A task with what is known of its files: the bytes of a file that is read whole, and a `KnownFile` for an opened file.
 abbrev pub KnownTask : Type 0
@@ -109,8 +109,8 @@ has_file_failed None left = false
 has_file_failed (Some file) left = left.failed
 
 -- There is no opened file, or no read of the opened file has failed yet.
-abbrev pub IsUnfailed : {O : Type 0} → (O → Bool) → Option O → Type 0
-IsUnfailed failed file = IfSome file (λ f. failed f ≡ false)
+abbrev pub HasNoFailedRead : {O : Type 0} → (O → Bool) → Option O → Type 0
+HasNoFailedRead failed file = IfSome file (λ f. failed f ≡ false)
 
 -- Memory ran out while the command line or a file was read.
 abbrev pub StopsForMemory : Result (Unit {0}) Stop → Type 0
@@ -121,17 +121,17 @@ StopsForMemory answer = (answer ≡ Err (Refused (File NoMemory))) ⊎ (answer �
 pub record IsCommandDone (command : KnownCommand) (source sink : Port) (answer : Result (Unit {0}) Stop) : Type 0 where
   pub left : KnownFile
   pub told : Result (Unit {0}) DeskFault
-  pub does : DoesCommand (with_command_opened (file_port left) command) source sink told
-  pub answers : answer ≡ stop_after (has_file_failed (command_opened command) left) told
+  pub does : DoesCommand (with_command_stream (file_port left) command) source sink told
+  pub answers : answer ≡ stop_after (has_file_failed (command_stream command) left) told
 
 -- `IsCommandDone` for a task, with the machine of the file `machine` and day `number` of the key sheet `sheet`.
 pub record IsTaskDone (machine sheet : List ℕ) (number : ℕ) (task : KnownTask) (sink : Port)
     (answer : Result (Unit {0}) Stop) : Type 0 where
   pub left : KnownFile
   pub told : Result (Unit {0}) DeskFault
-  pub does : IsAnswerOnDay machine sheet number (DoesTask (with_task_opened (file_port left) task) number sink told)
+  pub does : IsAnswerOnDay machine sheet number (DoesTask (with_task_stream (file_port left) task) number sink told)
       told
-  pub answers : answer ≡ stop_after (has_file_failed (task_opened task) left) told
+  pub answers : answer ≡ stop_after (has_file_failed (task_stream task) left) told
 
 -- A command was carried out; or a file of the command couldn't be read or opened; or memory ran out.
 abbrev pub CarriesOut : Result KnownCommand FileFault → Port → Port → Result (Unit {0}) Stop → Type 0
@@ -141,12 +141,12 @@ CarriesOut (Err fault) source sink answer = (answer ≡ Err (Unread fault)) ⊎ 
 -- ---- What holds of the program's answer: the command's answer, the files asked for, and the ports.
 
 -- whether the program stopped before it read a message or wrote anything; a message is a text, an order or a form
-abbrev pub is_stopped_before : Result (Unit {0}) Stop → Bool
-is_stopped_before (Ok _) = false
-is_stopped_before (Err Usage) = true
-is_stopped_before (Err (Unread _)) = true
-is_stopped_before (Err ReadFailed) = false
-is_stopped_before (Err (Refused fault)) = is_refused_before (Err fault)
+abbrev pub is_stopped_before_message : Result (Unit {0}) Stop → Bool
+is_stopped_before_message (Ok _) = false
+is_stopped_before_message (Err Usage) = true
+is_stopped_before_message (Err (Unread _)) = true
+is_stopped_before_message (Err ReadFailed) = false
+is_stopped_before_message (Err (Refused fault)) = is_refused_before_message (Err fault)
 
 -- whether the program stopped because standard input or output failed
 abbrev pub is_stopped_by_port : Result (Unit {0}) Stop → Bool
@@ -179,7 +179,7 @@ pub record IsRun (words : List (List ℕ)) (known : Option (List ℕ → Option 
   pub usage : answer ≡ Err Usage → IsNoCommandLine words
   pub other_words : IsNoCommandLine words → (answer ≡ Err Usage) ⊎ StopsForMemory answer
   pub none_asked : IsNoCommandLine words → asked ≡ []
-  pub untouched : IsTrue (is_stopped_before answer) → Untouched
+  pub untouched : IsTrue (is_stopped_before_message answer) → Untouched
   pub failed : FailureAgrees source sink (is_stopped_by_port answer)
 
 -- The program's answer satisfies `IsSo`, and the program ended with the line and the exit status for this answer.

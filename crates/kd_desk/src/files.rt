@@ -2,12 +2,12 @@
 ghost use Rattle.std.specs.Prelude.{◌≡◌, ◌<◌, [], ◌∷◌, ◌++◌, ℕ, false, List, Option, None, IfSome, IfOk, is_ok, length};
 ghost use Rattle.kd_desk.specs.Files.{content_of, opening_of, known_file, AskedName, AgreesOrNoMemory, IsOpenAnswer};
 
-mod asked;
+mod asked_names;
 mod content;
 mod fault;
 mod host;
 
-pub use asked::Asked;
+pub use asked_names::AskedNames;
 pub use content::{Content, read_whole};
 pub use fault::FileFault;
 pub use host::{HostFile, HostFiles};

@@ -2,12 +2,12 @@
 ghost use Rattle.std.specs.Prelude.{◌≡◌, All};
 ghost use Rattle.kd_state.specs.Machine.{model_of};
 ghost use Rattle.kd_state.specs.SheetDay.{day_model};
-ghost use Rattle.kd_desk.specs.Laws.{TextsTellSettings, SettingsHaveNoFault, SettingsHaveOneFault, LeadsOrRefuses};
+ghost use Rattle.kd_desk.specs.Laws.{BytesGiveOneList, SettingsHaveNoFault, SettingsHaveOneFault, LeadsOrRefuses};
 ghost use Rattle.kd_desk.specs.Laws.{MonthsSetTheMachine, MonthsAreFewest};
 ghost use Rattle.kd_desk.specs.FewCables.{FewCablesServeAMonth};
-ghost use Rattle.kd_desk.specs.Month.{HasDayOf, HasPapers, HasPapersInTurn};
+ghost use Rattle.kd_desk.specs.Month.{HasDayOf, CanWriteDay, CanWriteDays};
 
-use crate::run_card::in_kinds;
+use crate::run_card::with_prices_by_kind;
 use kd_card::write_card;
 use kd_plan::plan;
 use kd_sheet::Sheet;
@@ -16,8 +16,8 @@ use kd_state::{Entry, Machine, Parts, SheetDay, carry_all};
 use kd_tables::MemorySink;
 
 /// No bytes give two lists of settings, two faults, or a list and a fault.
-pub fn bytes_say_settings_or_have_a_fault()
-    ensures settings { TextsTellSettings }
+pub fn bytes_give_one_list_or_one_fault()
+    ensures settings { BytesGiveOneList }
     ensures no_fault { SettingsHaveNoFault }
     ensures one_fault { SettingsHaveOneFault }
 {}
@@ -54,7 +54,7 @@ pub fn few_cables_serve_a_month()
 /// Cards and machine files can be written for days of the machine's model, one day after another.
 pub fn months_can_be_written(machine: &Machine, sheet: &Sheet, numbers: &[u8])
     requires { All (HasDayOf (model_of machine.now) sheet.now) numbers.now }
-    ensures { HasPapersInTurn machine.now sheet.now numbers.now }
+    ensures { CanWriteDays machine.now sheet.now numbers.now }
 {
     if let Some((number, rest)) = numbers.split_first() {
         let day = sheet.day(*number).unwrap();
@@ -66,14 +66,14 @@ pub fn months_can_be_written(machine: &Machine, sheet: &Sheet, numbers: &[u8])
 fn machine_after_card(machine: &Machine, day: &SheetDay) -> Machine
     requires { day_model day.now ≡ model_of machine.now }
     ensures model { model_of result ≡ model_of machine.now }
-    ensures written { HasPapers machine.now day.now result }
+    ensures written { CanWriteDay machine.now day.now result }
 {
     // The calls of `parts` and `entry` show the prover that the machine and the day are legal.
     prove!(matches!(machine.parts(), Parts::Rotor(_) | Parts::Pin(_)));
     prove!(matches!(day.entry(), Entry::Rotor(_) | Entry::Pin(_)));
     settings_lead_or_are_refused();
     written_files_are_read_back();
-    let card = in_kinds(machine, day, &plan(machine, day).unwrap());
+    let card = with_prices_by_kind(machine, day, &plan(machine, day).unwrap());
     // The contract of `write_card` shows the prover that the card has a text. The sink needn't take any byte of the
     // text.
     let _ = write_card(&mut MemorySink::<0>::new(0), day.day(), &card);

@@ -21,7 +21,7 @@ mod stop;
 
 pub use command::{Action, Command, Direction, NamedAction, NamedCommand, Task, parse_words};
 pub use fault::DeskFault;
-pub use files::{Asked, Content, FileFault, Files, HostFile, HostFiles, read_whole};
+pub use files::{AskedNames, Content, FileFault, Files, HostFile, HostFiles, read_whole};
 pub use ports::{ReaderSource, WriterSink};
 pub use program::run_desk;
 pub use stop::{Stop, end_program};

@@ -2,7 +2,7 @@
 ghost use Rattle.std.specs.Prelude.{◌≡◌, ◌≢◌, ◌⊎◌, IfErr, IfOk};
 ghost use Rattle.kd_state.specs.Machine.{IsMachine};
 ghost use Rattle.kd_state.specs.SheetDay.{IsLegalDay, day_number};
-ghost use Rattle.kd_desk.specs.{OnDay.{machine_and_day}, RunSteps.{LacksMemory}};
+ghost use Rattle.kd_desk.specs.{OnDay.{machine_and_day}, CallAnswers.{LacksMemory}};
 ghost use Rattle.kd_desk.specs.declared.fault.DeskFault.TheVariants.{Device};
 
 use crate::fault::DeskFault;

@@ -1,16 +1,16 @@
 //! The program: reads the command line and the files, and carries the command out.
 ghost use Rattle.std.specs.Prelude.{◌≡◌, ◌≤◌, ◌⊎◌, ◌||◌, [], false, map, length, Err, IfSome, IfOk, IsTrue, is_ok};
 ghost use Rattle.kd_desk.specs.CommandLine.{unborrowed_command, unborrowed_action, unborrowed_task, files_of};
-ghost use Rattle.kd_desk.specs.CommandLine.{action_files, task_files, with_command_opened, with_action_opened};
-ghost use Rattle.kd_desk.specs.CommandLine.{with_task_opened, command_opened, action_opened, task_opened};
+ghost use Rattle.kd_desk.specs.CommandLine.{action_files, task_files, with_command_stream, with_action_stream};
+ghost use Rattle.kd_desk.specs.CommandLine.{with_task_stream, command_stream, action_stream, task_stream};
 ghost use Rattle.kd_desk.specs.CommandLine.{IsCommandLineOf, IsNoCommandLine};
 ghost use Rattle.kd_desk.specs.Program.{known_command, known_action, known_task, AsksFor, CarriesOut, CarriesOutKnown};
 ghost use Rattle.kd_desk.specs.Program.{DoesTask, IsCommandDone, HasEnded, IsRun, IsTaskDone, StopsForMemory};
-ghost use Rattle.kd_desk.specs.Program.{IsUnfailed, is_stopped_before, is_stopped_by_port};
+ghost use Rattle.kd_desk.specs.Program.{HasNoFailedRead, is_stopped_before_message, is_stopped_by_port};
 ghost use Rattle.kd_desk.specs.Files.{AreAskedFor, AgreesOrNoMemory, IsReadAnswer, known_file};
 ghost use Rattle.kd_desk.specs.OnDay.{IsAnswerOnDay};
 ghost use Rattle.kd_tables.specs.Ports.{FailureAgrees, port};
-ghost use Rattle.kd_desk.specs.RunSteps.{is_device, is_refused_before};
+ghost use Rattle.kd_desk.specs.CallAnswers.{is_device, is_refused_before_message};
 
 use crate::command::{Action, Command, Direction, NamedAction, NamedCommand, Task, parse_words};
 use crate::fault::DeskFault;
@@ -70,7 +70,7 @@ fn carry_words<'n, S: AsStr, F: Files<'n>, R: Source, W: Sink>(
     ensures other_words { IsNoCommandLine (map S.text words.entry.now)
         → (result ≡ Err Stop.Usage) ⊎ StopsForMemory result }
     ensures none_asked { IsNoCommandLine (map S.text words.entry.now) → F.asked files.new ≡ [] }
-    ensures untouched { IsTrue (is_stopped_before result)
+    ensures untouched { IsTrue (is_stopped_before_message result)
         → (source.new ≡ source.old) × (sink.new ≡ sink.old) }
     ensures failed { FailureAgrees (port R.remaining R.has_failed source.old source.new)
         (port W.taken W.has_failed sink.old sink.new) (is_stopped_by_port result) }
@@ -91,8 +91,8 @@ fn read_files<'n, F: Files<'n>>(
     requires { F.asked files.old ≡ [] }
     ensures read { IfSome (F.known files.old) (λ held.
         IsReadAnswer (known_command held (unborrowed_command command.entry))
-        (with_command_opened (known_file F.Opened.remaining F.Opened.has_failed)) result) }
-    ensures fresh { IfOk result (λ c. IsUnfailed F.Opened.has_failed (command_opened c)) }
+        (with_command_stream (known_file F.Opened.remaining F.Opened.has_failed)) result) }
+    ensures fresh { IfOk result (λ c. HasNoFailedRead F.Opened.has_failed (command_stream c)) }
     ensures asked { AreAskedFor (files_of (unborrowed_command command.entry)) (F.asked files.old)
         (F.asked files.new) (is_ok result) }
 {
@@ -110,8 +110,8 @@ fn read_action<'n, F: Files<'n>>(
     requires { length (F.asked files.old) ≤ 1 }
     ensures read { IfSome (F.known files.old) (λ held.
         IsReadAnswer (known_action held (unborrowed_action action.entry))
-        (with_action_opened (known_file F.Opened.remaining F.Opened.has_failed)) result) }
-    ensures fresh { IfOk result (λ a. IsUnfailed F.Opened.has_failed (action_opened a)) }
+        (with_action_stream (known_file F.Opened.remaining F.Opened.has_failed)) result) }
+    ensures fresh { IfOk result (λ a. HasNoFailedRead F.Opened.has_failed (action_stream a)) }
     ensures asked { AreAskedFor (action_files (unborrowed_action action.entry)) (F.asked files.old)
         (F.asked files.new) (is_ok result) }
     ensures same { F.known files.new ≡ F.known files.old }
@@ -139,8 +139,8 @@ fn read_task<'n, F: Files<'n>>(
     requires { length (F.asked files.old) ≤ 2 }
     ensures read { IfSome (F.known files.old) (λ held.
         IsReadAnswer (known_task held (unborrowed_task task.entry))
-        (with_task_opened (known_file F.Opened.remaining F.Opened.has_failed)) result) }
-    ensures fresh { IfOk result (λ t. IsUnfailed F.Opened.has_failed (task_opened t)) }
+        (with_task_stream (known_file F.Opened.remaining F.Opened.has_failed)) result) }
+    ensures fresh { IfOk result (λ t. HasNoFailedRead F.Opened.has_failed (task_stream t)) }
     ensures asked { AreAskedFor (task_files (unborrowed_task task.entry)) (F.asked files.old)
         (F.asked files.new) (is_ok result) }
     ensures same { F.known files.new ≡ F.known files.old }
@@ -165,11 +165,11 @@ fn carry_out<O: Source + Drop, R: Source, W: Sink>(
     source: &mut R,
     sink: &mut W,
 ) -> Result<(), Stop>
-    requires { IsUnfailed O.has_failed (command_opened command) }
-    ensures does { IsCommandDone (with_command_opened (known_file O.remaining O.has_failed) command)
+    requires { HasNoFailedRead O.has_failed (command_stream command) }
+    ensures does { IsCommandDone (with_command_stream (known_file O.remaining O.has_failed) command)
         (port R.remaining R.has_failed source.old source.new)
         (port W.taken W.has_failed sink.old sink.new) result }
-    ensures untouched { IsTrue (is_stopped_before result)
+    ensures untouched { IsTrue (is_stopped_before_message result)
         → (source.new ≡ source.old) × (sink.new ≡ sink.old) }
     ensures failed { FailureAgrees (port R.remaining R.has_failed source.old source.new)
         (port W.taken W.has_failed sink.old sink.new) (is_stopped_by_port result) }
@@ -194,11 +194,11 @@ fn carry_task<O: Source + Drop, W: Sink>(
     task: Task<Content, O>,
     sink: &mut W,
 ) -> Result<(), Stop>
-    requires { IsUnfailed O.has_failed (task_opened task) }
+    requires { HasNoFailedRead O.has_failed (task_stream task) }
     ensures does { IsTaskDone machine.now sheet.now number
-        (with_task_opened (known_file O.remaining O.has_failed) task)
+        (with_task_stream (known_file O.remaining O.has_failed) task)
         (port W.taken W.has_failed sink.old sink.new) result }
-    ensures untouched { IsTrue (is_stopped_before result) → sink.new ≡ sink.old }
+    ensures untouched { IsTrue (is_stopped_before_message result) → sink.new ≡ sink.old }
     ensures failed { W.has_failed sink.new ≡ (W.has_failed sink.old || is_stopped_by_port result) }
 {
     match task {
@@ -226,7 +226,7 @@ fn carry_message<O: Source, W: Sink>(
     ensures does { IsAnswerOnDay machine.now sheet.now number
         (DoesTask (Task.Message direction (port O.remaining O.has_failed file.old file.new)) number
         (port W.taken W.has_failed sink.old sink.new) result) result }
-    ensures untouched { IsTrue (is_refused_before result)
+    ensures untouched { IsTrue (is_refused_before_message result)
         → (file.new ≡ file.old) × (sink.new ≡ sink.old) }
     ensures failed { FailureAgrees (port O.remaining O.has_failed file.old file.new)
         (port W.taken W.has_failed sink.old sink.new) (is_device result) }

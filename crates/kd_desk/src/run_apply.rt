@@ -4,7 +4,7 @@ ghost use Rattle.kd_sheet.specs.MachineFile.{machine_of};
 ghost use Rattle.kd_desk.specs.declared.fault.DeskFault.TheVariants.{File, Device};
 ghost use Rattle.kd_tables.specs.Ports.{port};
 ghost use Rattle.kd_desk.specs.RunApply.{Applies};
-ghost use Rattle.kd_desk.specs.RunSteps.{LacksMemory, AnswersFault, is_device};
+ghost use Rattle.kd_desk.specs.CallAnswers.{LacksMemory, AnswersFault, is_device};
 
 use crate::fault::DeskFault;
 use crate::list_or_card::read_settings;

@@ -7,7 +7,7 @@ ghost use Rattle.kd_state.specs.SheetDay.{IsLegalDay, day_number};
 ghost use Rattle.kd_desk.specs.OnDay.{IsAnswerOnDay};
 ghost use Rattle.kd_tables.specs.Ports.{port};
 ghost use Rattle.kd_desk.specs.RunCard.{Prints};
-ghost use Rattle.kd_desk.specs.RunSteps.{is_device};
+ghost use Rattle.kd_desk.specs.CallAnswers.{is_device};
 ghost use Rattle.kd_desk.specs.declared.fault.DeskFault.TheVariants.{Device};
 
 use crate::fault::DeskFault;
@@ -49,13 +49,13 @@ pub fn print_card<W: Sink>(machine: &Machine, day: &SheetDay, sink: &mut W) -> R
     // The calls of `parts` and `entry` show the prover that the machine and the day are legal.
     prove!(matches!(machine.parts(), Parts::Rotor(_) | Parts::Pin(_)));
     prove!(matches!(day.entry(), Entry::Rotor(_) | Entry::Pin(_)));
-    let card = in_kinds(machine, day, &plan(machine, day)?);
+    let card = with_prices_by_kind(machine, day, &plan(machine, day)?);
     write_card(sink, day.day(), &card)?;
     Ok(())
 }
 
 /// Returns `card` with prices by kind: one price for all equal cables, bars, pairs or rows.
-pub(crate) fn in_kinds(machine: &Machine, day: &SheetDay, card: &Card) -> Card
+pub(crate) fn with_prices_by_kind(machine: &Machine, day: &SheetDay, card: &Card) -> Card
     requires machine { IsMachine machine.now }
     requires day { IsLegalDay day.now }
     requires proves { ProvesByNumber machine.now day.now card.now.settings.items card.now.prices }

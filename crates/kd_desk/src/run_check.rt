@@ -4,7 +4,7 @@ ghost use Rattle.kd_tables.specs.Writing.{Writes};
 ghost use Rattle.kd_desk.specs.OnDay.{IsAnswerOnDay};
 ghost use Rattle.kd_tables.specs.Ports.{port};
 ghost use Rattle.kd_desk.specs.RunCheck.{Checks, verdict_text};
-ghost use Rattle.kd_desk.specs.RunSteps.{is_device};
+ghost use Rattle.kd_desk.specs.CallAnswers.{is_device};
 ghost use Rattle.kd_desk.specs.declared.fault.DeskFault.TheVariants as faults;
 
 use crate::fault::DeskFault;

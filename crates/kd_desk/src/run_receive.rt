@@ -3,7 +3,7 @@ ghost use Rattle.std.specs.Prelude.{◌≡◌, IsTrue};
 ghost use Rattle.kd_desk.specs.Messages.{Receives};
 ghost use Rattle.kd_desk.specs.OnDay.{IsAnswerOnDay};
 ghost use Rattle.kd_tables.specs.Ports.{FailureAgrees, port};
-ghost use Rattle.kd_desk.specs.RunSteps.{is_refused_before, is_device};
+ghost use Rattle.kd_desk.specs.CallAnswers.{is_refused_before_message, is_device};
 
 use crate::fault::DeskFault;
 use crate::machine_and_day::find_day;
@@ -32,7 +32,7 @@ pub fn run_receive<R: Source, W: Sink>(
     ensures receives { IsAnswerOnDay machine.now sheet.now number
         (λ m s. Receives m s (port R.remaining R.has_failed form.old form.new)
         (port W.taken W.has_failed sink.old sink.new) result) result }
-    ensures untouched { IsTrue (is_refused_before result)
+    ensures untouched { IsTrue (is_refused_before_message result)
         → (form.new ≡ form.old) × (sink.new ≡ sink.old) }
     ensures failed { FailureAgrees (port R.remaining R.has_failed form.old form.new)
         (port W.taken W.has_failed sink.old sink.new) (is_device result) }

@@ -4,7 +4,7 @@ ghost use Rattle.kd_desk.specs.declared.fault.DeskFault.TheVariants as faults;
 ghost use Rattle.kd_sheet.specs.MachineFile.{machine_of};
 ghost use Rattle.kd_tables.specs.Ports.{FailureAgrees, port};
 ghost use Rattle.kd_desk.specs.Messages.{TypesText};
-ghost use Rattle.kd_desk.specs.RunSteps.{LacksMemory, AnswersFault, is_device, is_refused_before};
+ghost use Rattle.kd_desk.specs.CallAnswers.{LacksMemory, AnswersFault, is_device, is_refused_before_message};
 
 use crate::fault::DeskFault;
 use kd_form::type_stream;
@@ -30,7 +30,7 @@ pub fn run_type<R: Source, W: Sink>(
     ensures typed { IfOk (machine_of machine.now) (λ m. TypesText m
         (port R.remaining R.has_failed source.old source.new)
         (port W.taken W.has_failed sink.old sink.new) result ⊎ LacksMemory result) }
-    ensures untouched { IsTrue (is_refused_before result)
+    ensures untouched { IsTrue (is_refused_before_message result)
         → (source.new ≡ source.old) × (sink.new ≡ sink.old) }
     ensures failed { FailureAgrees (port R.remaining R.has_failed source.old source.new)
         (port W.taken W.has_failed sink.old sink.new) (is_device result) }

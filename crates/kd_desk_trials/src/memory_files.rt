@@ -2,7 +2,7 @@
 ghost use Rattle.std.specs.Prelude.{◌≡◌, [], option_map};
 ghost use Rattle.kd_desk.specs.Files.{content_of, bytes_in_files, AgreesOrNoMemory};
 
-use kd_desk::{Asked, Content, FileFault, Files};
+use kd_desk::{AskedNames, Content, FileFault, Files};
 use kd_tables::MemorySource;
 use std::alloc::Global;
 
@@ -10,7 +10,7 @@ use std::alloc::Global;
 #[derive(Drop)]
 pub struct MemoryFiles<'n> {
     files: &'n [(&'n str, &'n [u8])],
-    asked: Asked<'n>,
+    asked: AskedNames<'n>,
 }
 
 impl<'n> MemoryFiles<'n> {
@@ -21,7 +21,7 @@ impl<'n> MemoryFiles<'n> {
     {
         MemoryFiles {
             files,
-            asked: Asked::new(),
+            asked: AskedNames::new(),
         }
     }
 

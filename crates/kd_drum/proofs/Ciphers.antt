@@ -1,7 +1,8 @@
 -- The Converter's cipher, letter by letter.
 use Rattle.std.proofs.Common.{All, List, [], add-one, add-zero, ap, arith, drop, get_or, length, map, refl, set, suc}
-use Rattle.kd_drum.{proofs.Starts.bars_met_sum, specs.Converter.{PinKey, bars_met, converter_cipher, pin_key_after}}
-use Rattle.{kd_drum.specs.Laws.{ConverterCipherInTurn, ConverterTwiceGivesBack}}
+use Rattle.kd_drum.{proofs.WheelsAfterLetters.bars_met_sum}
+use Rattle.kd_drum.{specs.Converter.{PinKey, bars_met, converter_cipher, pin_key_after}}
+use Rattle.{kd_drum.specs.Laws.{ConverterCipherOfChunks, ConverterTwiceGivesBack}}
 use Rattle.{std.proofs.lemmas.List.Elements.{All-head, All-tail}}
 use Rattle.std.{proofs.Common.{sym, take, zero, ℕ, ◌%◌, ◌++◌, ◌+◌, ◌-◌, ◌<◌, ◌∙◌, ◌∷◌, ◌≡◌}, specs.List.enumerate_from}
 
@@ -43,7 +44,7 @@ append_from : (key : PinKey) (start : ℕ) (first rest : List ℕ)
 append_from key start [] rest = ap (λ n. cipher_from key n rest) (sym (add-zero start))
 append_from key start (letter ∷ first) rest = grind (arith, key, append_from key (start + 1) first rest)
 
-pub cipher_in_turn : ConverterCipherInTurn
+pub cipher_in_turn : ConverterCipherOfChunks
 cipher_in_turn key first rest =
     append_from key 0 first rest
     ∙ ap (λ ls. converter_cipher key first ++ ls)

@@ -1,7 +1,8 @@
 -- Six letters, each tested on its wheel.
 use Rattle.std.proofs.Common.{◌≡◌, ◌↔◌, ◌-◌, ◌||◌, ◌∷◌, [], ℕ, ◌<◌, Bool, false, not, IsTrue, List, Contains, length}
 use Rattle.std.proofs.Common.{get_or, slice_index, refl, arith}
-use Rattle.{kd_drum.{proofs.Starts.each_wheel, specs.Converter.IsEachOnItsWheel}, kd_tables.specs.Rings.ring_of}
+use Rattle.{kd_drum.{proofs.WheelsAfterLetters.each_wheel, specs.Converter.IsEachOnItsWheel}}
+use Rattle.{kd_tables.specs.Rings.ring_of}
 use Rattle.std.proofs.{Math.Bool.beq, lemmas.Bool.Decides.nat_tests, lemmas.List.get_or_default}
 
 -- `has` is true exactly if `letters` has the letter at `place` of `there`, because this holds of `ring`, and the

@@ -1,4 +1,4 @@
-pub mod Starts
+pub mod WheelsAfterLetters
 pub mod Ciphers
 mod Letters
-mod Sets
+mod WheelSets

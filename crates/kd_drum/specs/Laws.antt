@@ -9,11 +9,11 @@ ConverterTwiceGivesBack =
     → converter_cipher key (converter_cipher key text) ≡ text
 
 -- The text `first ++ rest` can be enciphered in two chunks. The key for `rest` is the key after the letters of `first`.
-abbrev pub ConverterCipherInTurn : Type 0
-ConverterCipherInTurn =
+abbrev pub ConverterCipherOfChunks : Type 0
+ConverterCipherOfChunks =
     (key : PinKey) (first rest : List ℕ)
     → converter_cipher key (first ++ rest)
     ≡ converter_cipher key first ++ converter_cipher (pin_key_after key (length first)) rest
 
-abbrev pub ConverterKeyInTurn : Type 0
-ConverterKeyInTurn = (key : PinKey) (m n : ℕ) → pin_key_after (pin_key_after key m) n ≡ pin_key_after key (m + n)
+abbrev pub ConverterKeyAfterChunks : Type 0
+ConverterKeyAfterChunks = (key : PinKey) (m n : ℕ) → pin_key_after (pin_key_after key m) n ≡ pin_key_after key (m + n)

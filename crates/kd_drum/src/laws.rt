@@ -1,5 +1,5 @@
 //! Laws of the Converter's cipher: they follow from its definition, whatever the code does.
-ghost use Rattle.kd_drum.specs.Laws.{ConverterTwiceGivesBack, ConverterCipherInTurn, ConverterKeyInTurn};
+ghost use Rattle.kd_drum.specs.Laws.{ConverterTwiceGivesBack, ConverterCipherOfChunks, ConverterKeyAfterChunks};
 
 /// Enciphering twice with the same key gives the text back.
 #[tactic(auto, using(crate::proofs::Ciphers::twice_gives_back))]
@@ -9,7 +9,7 @@ pub fn enciphering_twice_gives_back()
 
 /// A text can be enciphered in chunks: each chunk starts from the letters that the wheels show after the previous one.
 #[tactic(auto, using(crate::proofs::Ciphers::cipher_in_turn))]
-pub fn pieces_are_enciphered_in_turn()
-    ensures cipher { ConverterCipherInTurn }
-    ensures after { ConverterKeyInTurn }
+pub fn chunks_are_enciphered_in_turn()
+    ensures cipher { ConverterCipherOfChunks }
+    ensures after { ConverterKeyAfterChunks }
 {}

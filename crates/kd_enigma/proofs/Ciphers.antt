@@ -1,7 +1,7 @@
 -- The cipher of a rotor machine, letter by letter.
 use Rattle.std.proofs.Common.{All, List, [], add-one, add-suc, add-zero, ap, arith, drop, get_or, length, map, refl}
 use Rattle.kd_enigma.{proofs.Ways.path_exchanges}
-use Rattle.kd_enigma.{specs.Laws.{EnigmaCipherInTurn, EnigmaKeyInTurn, EnigmaTwiceGivesBack}}
+use Rattle.kd_enigma.{specs.Laws.{EnigmaCipherOfChunks, EnigmaKeyAfterChunks, EnigmaTwiceGivesBack}}
 use Rattle.kd_enigma.specs.Cipher.{IsPlugboard, RotorKey, enigma_cipher, key_after, key_turned, path}
 use Rattle.{kd_step.specs.Stepper.{next_window, window_after}, kd_tables.specs.declared.wheel.Wheel.Wheel}
 use Rattle.std.proofs.Common.{rules, set, slice_index, suc, sym, take, zero, ℕ, ◌++◌, ◌+◌, ◌<◌, ◌∙◌, ◌∷◌, ◌≡◌}
@@ -34,7 +34,7 @@ twice_from key start (letter ∷ text) board h =
 pub twice_gives_back : EnigmaTwiceGivesBack
 twice_gives_back key text = twice_from key 1 text
 
--- ---- a text in two pieces
+-- ---- a text in two chunks
 
 window_after_sum : (wheels : List Wheel) (window : List ℕ) (m n : ℕ)
     → window_after wheels (window_after wheels window m) n ≡ window_after wheels window (m + n)
@@ -42,7 +42,7 @@ window_after_sum wheels window m zero = ap (window_after wheels window) (sym (ad
 window_after_sum wheels window m (suc n) =
     ap (next_window wheels) (window_after_sum wheels window m n) ∙ ap (window_after wheels window) (sym (add-suc m n))
 
-pub key_in_turn : EnigmaKeyInTurn
+pub key_in_turn : EnigmaKeyAfterChunks
 key_in_turn key m n = ap (key_turned key) (window_after_sum key.wheels key.window m n)
 
 -- A text that begins `m` steps later is enciphered with the key after `m` steps.
@@ -57,7 +57,7 @@ append_from : (key : RotorKey) (start : ℕ) (first rest : List ℕ)
 append_from key start [] rest = ap (λ n. cipher_from key n rest) (sym (add-zero start))
 append_from key start (letter ∷ first) rest = grind (arith, key, append_from key (start + 1) first rest)
 
-pub cipher_in_turn : EnigmaCipherInTurn
+pub cipher_in_turn : EnigmaCipherOfChunks
 cipher_in_turn key first rest =
     append_from key 1 first rest
     ∙ ap (λ ls. enigma_cipher key first ++ ls)

@@ -1,5 +1,5 @@
 pub mod Cables
-pub mod Made
+pub mod FilledArrays
 pub mod Maps
 pub mod Ways
 pub mod Seats

@@ -3,9 +3,9 @@ use Rattle.kd_enigma.proofs.Ways.{Exchanges, core_in_wheel, followed_by-assoc, c
 use Rattle.kd_enigma.proofs.Ways.{nothing_before, path_is}
 use Rattle.std.proofs.Common.{List, [], ap, arith, get_or, if◌then◌else◌, length, ltb, refl, rules, suc, take, zero, ℕ}
 use Rattle.kd_enigma.proofs.Ways.{product-size, reflectors_exchange, rotor_permutes, wheel_exchanges}
-use Rattle.kd_enigma.specs.{Around.{SeatedWheel, around_wheels, around_wheel}, Cipher.{IsPlugboard, RotorKey, rotors}}
-use Rattle.kd_enigma.specs.{Rotor.rotor}
-use Rattle.kd_enigma.specs.Wired.{IsWired, wheels_with_boards, slow_slots}
+use Rattle.kd_enigma.specs.{CurrentPath.{SeatedWheel, around_wheels, around_wheel}}
+use Rattle.kd_enigma.specs.{Cipher.{IsPlugboard, RotorKey, rotors}, Rotor.rotor}
+use Rattle.kd_enigma.specs.KeptMaps.{AreMapsOf, wheels_with_boards, slow_slots}
 use Rattle.kd_tables.{proofs.Products.{inverse_permutes, product_permutes, shift_permutes}, specs.Tables.reflector_of}
 use Rattle.kd_tables.specs.{Permutation.{IsPermutation26, alphabet, followed_by, shift}, declared.wheel.Wheel.Wheel}
 use Rattle.std.proofs.{Common.{◌+◌, ◌-◌, ◌<◌, ◌∙◌, ◌∷◌, ◌≡◌}, lemmas.{Bool.Decides.nat_tests, List.take_all}}
@@ -75,7 +75,7 @@ around_seats plugs core (wheel ∷ next ∷ wheels) (ring ∷ rings) (letter ∷
 around_seats plugs core wheels rings window h k some slots shown = absurd (omega arith)
 
 -- So the whole path is the path through plugboard and right wheel, around the path through the slow wheels.
-pub IsWired-path : (key : RotorKey) (seated : List SeatedWheel) (reflecting slow_map path_map : List ℕ)
+pub AreMapsOf-path : (key : RotorKey) (seated : List SeatedWheel) (reflecting slow_map path_map : List ℕ)
     (s : SeatedWheel)
     (shown size d : ℕ) → seated ≡ wheels_with_boards key.plugs key.wheels key.rings → IsPlugboard key.plugs
     → reflecting ≡ reflector_of key.reflector
@@ -83,8 +83,8 @@ pub IsWired-path : (key : RotorKey) (seated : List SeatedWheel) (reflecting slow
     → length seated ≡ size → length key.wheels ≡ size → length key.rings ≡ size
     → length key.window ≡ size → 0 < size → s ≡ get_or seated (size - 1) s → shown ≡ get_or key.window (size - 1) d
     → path_map ≡ around_wheel s.board slow_map (rotor s.wheel s.ring shown)
-    → IsWired key seated reflecting slow_map path_map
-IsWired-path key seated reflecting slow_map path_map s shown size d sit board is_reflecting is_inner long wheels
+    → AreMapsOf key seated reflecting slow_map path_map
+AreMapsOf-path key seated reflecting slow_map path_map s shown size d sit board is_reflecting is_inner long wheels
     rings window some
     is_s is_shown made =
     search (rules, around_wheels, take_all, around_more, board, around_seats, reflectors_exchange, path_is, key)

@@ -1,9 +1,9 @@
 -- Permutations on the way of the current: in through wheels, through a core, and back.
 use Rattle.std.proofs.Common.{◌≡◌, ◌≢◌, ℕ, ◌<◌, List, [], ◌∷◌, ◌++◌, map, reverse, slice_index, All, length, refl, sym}
 use Rattle.std.proofs.Common.{ap, ◌∙◌, subst, arith, rules, append_assoc}
-use Rattle.kd_enigma.specs.{Laws.PathsLeadBack, Laws.PathsMoveEachLetter, Rotor.rotor, Rotor.wiring_turned_by}
-use Rattle.kd_tables.proofs.Products.{inverse_by_letter, inverse_permutes, product_backwards, product_permutes}
-use Rattle.kd_tables.proofs.Products.{shift_backwards, shift_permutes}
+use Rattle.kd_enigma.specs.{Laws.PathsAreOwnInverses, Laws.PathsMoveEachLetter, Rotor.rotor, Rotor.wiring_turned_by}
+use Rattle.kd_tables.proofs.Products.{inverse_by_letter, inverse_permutes, inverse_of_product, product_permutes}
+use Rattle.kd_tables.proofs.Products.{inverse_of_shift, shift_permutes}
 use Rattle.kd_tables.proofs.Wirings.{reflector_moves, reflector_permutes, reflector_returns, wiring_permutes}
 use Rattle.kd_tables.specs.{Tables.reflector_of, declared.reflector.Reflector.Reflector, declared.wheel.Wheel.Wheel}
 use Rattle.std.{proofs.lemmas.List.FromFn.get_or-range_with_len, specs.List.AllByRecursion}
@@ -67,9 +67,9 @@ turned_undone by p lt h =
     search (
       rules,
       followed_by-assoc,
-      product_backwards,
+      inverse_of_product,
       product_permutes,
-      shift_backwards,
+      inverse_of_shift,
       shift_permutes,
       inverse_permutes,
     )
@@ -227,7 +227,7 @@ path_exchanges key window board =
       boards_undo,
     )
 
-pub paths_lead_back : PathsLeadBack
+pub paths_lead_back : PathsAreOwnInverses
 paths_lead_back key window board =
     each_letter (λ x. slice_index (path key window) (slice_index (path key window) x)
     ≡ x) (path_exchanges key window board).back

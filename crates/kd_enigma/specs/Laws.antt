@@ -28,8 +28,8 @@ SamePairsExchangeAlike =
 -- Source: the published accounts of the current's path.
 
 -- The current's path is its own inverse. `PathsMoveEachLetter`, below, says that the path takes no letter to itself.
-abbrev pub PathsLeadBack : Type 0
-PathsLeadBack = (key : RotorKey) (window : List ℕ) → IsPlugboard key.plugs → IsOwnInverse (path key window)
+abbrev pub PathsAreOwnInverses : Type 0
+PathsAreOwnInverses = (key : RotorKey) (window : List ℕ) → IsPlugboard key.plugs → IsOwnInverse (path key window)
 
 abbrev pub PathsMoveEachLetter : Type 0
 PathsMoveEachLetter = (key : RotorKey) (window : List ℕ) → IsPlugboard key.plugs → MovesEachLetter (path key window)
@@ -42,10 +42,10 @@ EnigmaTwiceGivesBack =
 
 -- The text `first ++ rest` can be enciphered in two chunks. The chunk `rest` is enciphered with the key that the
 -- machine has after it enciphered `first`.
-abbrev pub EnigmaCipherInTurn : Type 0
-EnigmaCipherInTurn =
+abbrev pub EnigmaCipherOfChunks : Type 0
+EnigmaCipherOfChunks =
     (key : RotorKey) (first rest : List ℕ)
     → enigma_cipher key (first ++ rest) ≡ enigma_cipher key first ++ enigma_cipher (key_after key (length first)) rest
 
-abbrev pub EnigmaKeyInTurn : Type 0
-EnigmaKeyInTurn = (key : RotorKey) (m n : ℕ) → key_after (key_after key m) n ≡ key_after key (m + n)
+abbrev pub EnigmaKeyAfterChunks : Type 0
+EnigmaKeyAfterChunks = (key : RotorKey) (m n : ℕ) → key_after (key_after key m) n ≡ key_after key (m + n)

@@ -2,6 +2,6 @@ pub mod Plugs
 pub mod Rotor
 pub mod Cipher
 pub mod Map
-pub mod Around
+pub mod CurrentPath
 pub mod Laws
-pub mod Wired
+pub mod KeptMaps

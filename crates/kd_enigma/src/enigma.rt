@@ -1,9 +1,9 @@
 //! The rotor machine: an Enigma of three or four slots that is set to a key.
 ghost use Rattle.std.specs.Prelude.{◌≡◌, ◌<◌, ◌≤◌, ◌+◌, nat_lt, ◌∷◌, [], length, slice_index, slice_index_or};
 ghost use Rattle.std.specs.Prelude.{if◌then◌else◌};
-ghost use Rattle.kd_enigma.specs.Around.{around_wheels};
+ghost use Rattle.kd_enigma.specs.CurrentPath.{around_wheels};
 ghost use Rattle.kd_enigma.specs.Cipher.{enigma_cipher, key_after, key_turned, path};
-ghost use Rattle.kd_enigma.specs.Wired.{slow_slots};
+ghost use Rattle.kd_enigma.specs.KeptMaps.{slow_slots};
 
 use super::key::EnigmaKey;
 use super::map::Map;
@@ -30,14 +30,14 @@ pub struct Enigma<const S: usize> {
 impl<const S: usize> Model for Enigma<S> {
     ghost use Rattle.std.specs.Prelude.{◌≡◌, ◌≤◌};
     ghost use Rattle.kd_enigma.specs.Cipher.{RotorKey};
-    ghost use Rattle.kd_enigma.specs.Wired.{IsWired, key_of_parts};
+    ghost use Rattle.kd_enigma.specs.KeptMaps.{AreMapsOf, key_of_parts};
 
     ghost Value = { RotorKey };
 
     ghost view = { λ e. key_of_parts e.stepper e.rings e.reflector e.plugs };
 
     ghost invariant = { λ e. (e.wheels ≡ e.stepper.wheels)
-        × IsWired (key_of_parts e.stepper e.rings e.reflector e.plugs) e.rotors e.reflecting e.slow_map e.path_map
+        × AreMapsOf (key_of_parts e.stepper e.rings e.reflector e.plugs) e.rotors e.reflecting e.slow_map e.path_map
         × (3 ≤ S) × (S ≤ 4) };
 }
 
@@ -55,15 +55,15 @@ impl<const S: usize> Enigma<S> {
             reflector,
             plugs,
         } = key;
-        let (none, board) = (Map::shift(0), plugs.map());
+        let (identity, board) = (Map::shift(0), plugs.map());
         let rotors = std::array::from_fn(
             |slot: usize|
                 requires { slot < S }
                 ensures wheel { result.wheel ≡ slice_index_or wheels slot result.wheel }
                 ensures ring { result.ring ≡ slice_index_or rings slot result.ring }
-                ensures board { result.board ≡ (if nat_lt (slot + 1) S then none else board) }
+                ensures board { result.board ≡ (if nat_lt (slot + 1) S then identity else board) }
             {
-                let beside = if slot + 1 < S { none } else { board };
+                let beside = if slot + 1 < S { identity } else { board };
                 Rotor::new(wheels[slot], rings[slot], beside)
             },
         );

@@ -2,8 +2,9 @@
 ghost use Rattle.std.specs.Prelude.{[]};
 ghost use Rattle.kd_tables.specs.Permutation.{exchange};
 ghost use Rattle.kd_enigma.specs.Cipher.{IsPlugboard};
-ghost use Rattle.kd_enigma.specs.Laws.{PairsMakeAPlugboard, PairsExchange, SamePairsExchangeAlike, PathsLeadBack};
-ghost use Rattle.kd_enigma.specs.Laws.{PathsMoveEachLetter, EnigmaTwiceGivesBack, EnigmaCipherInTurn, EnigmaKeyInTurn};
+ghost use Rattle.kd_enigma.specs.Laws.{PairsMakeAPlugboard, PairsExchange, SamePairsExchangeAlike, PathsAreOwnInverses};
+ghost use Rattle.kd_enigma.specs.Laws.{PathsMoveEachLetter, EnigmaTwiceGivesBack, EnigmaCipherOfChunks};
+ghost use Rattle.kd_enigma.specs.Laws.{EnigmaKeyAfterChunks};
 
 /// Pairs in which no letter occurs twice make a plugboard, which exchanges the two letters of each pair.
 ///
@@ -24,7 +25,7 @@ pub fn an_empty_board_is_a_plugboard()
 /// The current's path turns each letter `x` into another letter, and that letter back into `x`.
 #[tactic(auto, using(crate::proofs::Ways::paths_lead_back, crate::proofs::Ways::paths_move_each_letter))]
 pub fn path_is_its_own_inverse()
-    ensures own_inverse { PathsLeadBack }
+    ensures own_inverse { PathsAreOwnInverses }
     ensures none_fixed { PathsMoveEachLetter }
 {}
 
@@ -36,7 +37,7 @@ pub fn enciphering_twice_gives_back()
 
 /// A text can be enciphered in chunks: each chunk starts from the letters that the windows show after the previous one.
 #[tactic(auto, using(crate::proofs::Ciphers::cipher_in_turn, crate::proofs::Ciphers::key_in_turn))]
-pub fn pieces_are_enciphered_in_turn()
-    ensures cipher { EnigmaCipherInTurn }
-    ensures after { EnigmaKeyInTurn }
+pub fn chunks_are_enciphered_in_turn()
+    ensures cipher { EnigmaCipherOfChunks }
+    ensures after { EnigmaKeyAfterChunks }
 {}

@@ -1,7 +1,7 @@
 //! A wheel in its slot, with its permutations for all 26 window letters.
 ghost use Rattle.std.specs.Prelude.{◌≡◌, ◌<◌};
 ghost use Rattle.kd_tables.specs.Permutation.{followed_by};
-ghost use Rattle.kd_enigma.specs.Around.{around_wheel};
+ghost use Rattle.kd_enigma.specs.CurrentPath.{around_wheel};
 ghost use Rattle.kd_enigma.specs.Rotor.{offset, rotor, wiring_turned_by};
 
 use super::map::Map;
@@ -21,7 +21,7 @@ pub(crate) struct Rotor {
 
 impl Model for Rotor {
     ghost use Rattle.std.specs.Prelude.{◌≡◌};
-    ghost use Rattle.kd_enigma.specs.Around.{SeatedWheel, ways_by_window};
+    ghost use Rattle.kd_enigma.specs.CurrentPath.{SeatedWheel, ways_by_window};
 
     ghost Value = { SeatedWheel };
 

@@ -10,7 +10,7 @@ pub use Rattle.kd_form.proofs.Prelude.{parts_of, FitsHeadingAt, HasBegunHeading,
 pub use Rattle.kd_form.proofs.Prelude.{is_text_byte, AllPass-from_list_all, All-take, All-same, take-take, take_more}
 pub use Rattle.kd_form.proofs.Prelude.{rules, ◌^◌, ◌+◌, decimal, All, Option, Some, None, MatchOption, All-from_get_or}
 pub use Rattle.kd_form.proofs.Prelude.{All-cons, All-nil, All-append, All-map, All-push, All-weaker, IsFirstPart}
-pub use Rattle.kd_form.proofs.Prelude.{line_of, words_of, texts_tell_first_parts, numbers_are_words}
+pub use Rattle.kd_form.proofs.Prelude.{line_of, words_of, texts_determine_first_parts, numbers_are_words}
 pub use Rattle.kd_form.proofs.Prelude.{lines_split_into_words, parts_make_lines, fraction_text, indicator_words}
 pub use Rattle.kd_form.proofs.Prelude.{heading_words, length-map, append_cancel_right, take_all, get_or-map}
 pub use Rattle.kd_form.proofs.Prelude.{letters_text, AreFewLetters, IsFraction, IsLetterCount, IsHeading}
@@ -289,7 +289,7 @@ one_number number found byte rest more small little low same =
 pub fraction_parts : (word one other : List ℕ) (part parts : ℕ) → IsFraction part parts → IsFirstPart 47 word one other
     → fraction_text part parts ≡ word → (decimal part ≡ one) × (decimal parts ≡ other)
 fraction_parts word one other part parts number first is =
-    search (rules, texts_tell_first_parts, All-weaker, number_from, append_assoc)
+    search (rules, texts_determine_first_parts, All-weaker, number_from, append_assoc)
 
 pub same_fraction : (word one other : List ℕ) (part parts found last : ℕ) → IsFraction part parts → found < 2 ^ 8
     → last < 2 ^ 8
@@ -380,7 +380,7 @@ ended_heading s front body h unbroken is text = grind arith
 -- the bytes before the first LF are the heading line, and the body follows it
 pub heading_there : (s : Day) (front body : List ℕ) (h : Heading) (rest : List ℕ) → IsWithout 10 front
     → HasHeading s (front ++ 10 ∷ body) h rest → IsLineText front (line_of (heading_words h)) × (rest ≡ body)
-heading_there s front body h rest unbroken has = grind (arith, texts_tell_first_parts, has_byte)
+heading_there s front body h rest unbroken has = grind (arith, texts_determine_first_parts, has_byte)
 
 -- two texts that are the line without its CR are equal
 one_line_text : (line text other : List ℕ) → IsLineText line text → IsLineText line other → text ≡ other
@@ -442,7 +442,7 @@ one_end (OfPins s) count found _ _ small little has had same = search
 one_first_line : (text line other rest more : List ℕ) → HasFirstLine text line rest → HasFirstLine text other more
     → (line ≡ other) × (rest ≡ more)
 one_first_line text line other rest more a b =
-    grind (arith, common_steps, texts_tell_first_parts, one_line_text, has_byte)
+    grind (arith, common_steps, texts_determine_first_parts, one_line_text, has_byte)
 
 pub one_heading : (s : Day) (part : List ℕ) (h other : Heading) (body rest : List ℕ) → HasHeading s part h body
     → HasHeading s part other rest → (h ≡ other) × (body ≡ rest)

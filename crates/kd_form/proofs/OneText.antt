@@ -11,7 +11,7 @@ pub use Rattle.kd_form.proofs.Prelude.{PartsProperty, PartStart, first_part_star
 pub use Rattle.kd_form.proofs.Prelude.{AreAllPartsRead, IsPartFaultForGood, IsPartFaultAtEnd, AtPart, cut_at_headings}
 pub use Rattle.kd_form.proofs.Prelude.{parts_of, IsTextOf, NoHeading, IsReceiveFault, false, length-append, Port}
 pub use Rattle.kd_form.proofs.Prelude.{FailureAgrees, Parts, IsEarlyFault, form_message, IsKeyFault, order_message}
-pub use Rattle.kd_form.proofs.Prelude.{IsStreamAnswer, HaveNotFailed, is_device, is_off_key, text_message, IsWithout}
+pub use Rattle.kd_form.proofs.Prelude.{IsStreamAnswer, KeepFailureFlags, is_device, is_off_key, text_message, IsWithout}
 pub use Rattle.kd_form.proofs.Prelude.{FormsBecomeOneText, FormsHaveOneFault, FormsStayRefused}
 pub use Rattle.kd_form.proofs.Prelude.{ReceivedFormsHaveNoFault, plaintext_with_end, false≢true}
 use Rattle.kd_form.proofs.OneOrder.{HasOneAnswer-either, HasOneAnswer-FindsThen, HasOneAnswer-DemandsThen}

@@ -62,7 +62,7 @@ pub use Rattle.kd_form.specs.StreamSteps.{AtSource, IsCloseAnswer, IsFinishAnswe
 pub use Rattle.kd_form.specs.StreamSteps.{HasRoom, HasReadSoFar, InFeeding, IsFed, IsChunkRead, IsReadStopped}
 pub use Rattle.kd_form.specs.StreamSteps.{IsReadNextAnswer, answer_with_fault, fault_of_interruption}
 pub use Rattle.kd_form.specs.StreamSteps.{is_device_interruption}
-pub use Rattle.kd_form.specs.Streams.{IsStreamAnswer, HaveNotFailed, FaultAtEnd, ByTheEnd, ByThen, IsMessageAnswer}
+pub use Rattle.kd_form.specs.Streams.{IsStreamAnswer, KeepFailureFlags, FaultAtEnd, ByTheEnd, ByThen, IsMessageAnswer}
 pub use Rattle.kd_form.specs.Streams.{FallsShort, IsOpen, HasFaultForGood, IsStreamed, Message, FaultBefore, SinkFails}
 pub use Rattle.kd_form.specs.Streams.{FaultForGood, TooLong, MessageComplete, is_device, is_off_key}
 pub use Rattle.kd_form.specs.Typing.{IsAllowedUpTo, IsTextFault, HasTyped, IsTypedChunk, cipher_text, text_message}
@@ -73,15 +73,15 @@ pub use Rattle.kd_form.specs.declared.sending.pattern_line.PatternFault.{Pattern
 pub use Rattle.kd_form.specs.declared.fault.FormFault.TheVariants.{BadByte, BadHeading, EmptyText, NotReady, PartKeys}
 pub use Rattle.kd_form.specs.declared.fault.FormFault.TheVariants.{PartOrder}
 pub use Rattle.kd_state.proofs.Lines.{IsNumeralModel-digits, lines_split_into_words, numbers_are_words}
-pub use Rattle.kd_state.proofs.Lines.{parts_make_lines, texts_tell_first_parts, word_by_bytes}
+pub use Rattle.kd_state.proofs.Lines.{parts_make_lines, texts_determine_first_parts, word_by_bytes}
 pub use Rattle.kd_state.proofs.Keys.{cipher_in_turn, engine_cipher, twice_on_key}
 pub use Rattle.kd_state.specs.declared.machine.parts.Parts.{Parts}
-pub use Rattle.kd_state.specs.FirstFaults.{GoesOn, HasFault, HasOneAnswer-Demands, HasOneAnswer-Finds}
-pub use Rattle.kd_state.specs.FirstFaults.{HasOneAnswer-ThenNext, HasOneAnswer-Yields}
+pub use Rattle.kd_state.specs.AnswerRules.{GoesOn, HasFault, HasOneAnswer-Demands, HasOneAnswer-Finds}
+pub use Rattle.kd_state.specs.AnswerRules.{HasOneAnswer-ThenNext, HasOneAnswer-Yields}
 pub use Rattle.kd_state.specs.SheetDay.{Day, IsLegalDay, OfPins, OfRotors, pin_day}
 pub use Rattle.kd_state.specs.TwoCiphers.{EngineKey, IsWindow, cipher, physical_cipher, sheet_key}
-pub use Rattle.kd_state.specs.Words.{IsFirstPart, IsWithout, line_of, words_of}
-pub use Rattle.kd_tables.specs.{Ports.EndAgrees, Ports.FailureAgrees, Ports.HasNotFailed, Ports.Port, Ports.port}
+pub use Rattle.kd_state.specs.LineWords.{IsFirstPart, IsWithout, line_of, words_of}
+pub use Rattle.kd_tables.specs.{Ports.EndAgrees, Ports.FailureAgrees, Ports.KeepsFailureFlag, Ports.Port, Ports.port}
 pub use Rattle.kd_tables.specs.{Ports.read_limit, Text.is_text_byte, Text.letters_text, Writing.TakesPrefix}
 
 -- an answer that is an error, as `?` returns it, and whose error is `fault`, is `Err fault`

@@ -3,7 +3,7 @@ pub use Rattle.kd_form.proofs.Prelude.{err_is, append-nil, take-append-drop, AtS
 pub use Rattle.kd_form.proofs.Prelude.{◌≡◌, ℕ, ◌+◌, ◌-◌, ◌≤◌, ◌<◌, Bool, true, false, ◌||◌, List, ◌++◌, Option, Some}
 pub use Rattle.kd_form.proofs.Prelude.{Result, Ok, Err, length, take, drop, IsTrue, refl, sym, ap, subst, ◌∙◌}
 pub use Rattle.kd_form.proofs.Prelude.{append_assoc, length-append, length-drop, arith, Appends, Consumes, Keeps}
-pub use Rattle.kd_form.proofs.Prelude.{IsAtEnd, starts_with_of_append, read_limit, Port, HasNotFailed, EndAgrees}
+pub use Rattle.kd_form.proofs.Prelude.{IsAtEnd, starts_with_of_append, read_limit, Port, KeepsFailureFlag, EndAgrees}
 pub use Rattle.kd_form.proofs.Prelude.{TakesPrefix, FormFault, Message, ByThen, ByTheEnd, IsStreamAnswer}
 pub use Rattle.kd_form.proofs.Prelude.{MessageComplete, FaultForGood, FaultAtEnd, SinkFails, IsStreamed, FallsShort}
 pub use Rattle.kd_form.proofs.Prelude.{IsFinishAnswer, HasReadSoFar, HasRoom, IsFed, IsFeedAllAnswer, HasBeenEnded}
@@ -90,7 +90,7 @@ pub record SoFar (m : Message) (holds : List ℕ → List ℕ → Type 0) (sourc
   pub given : Consumes source.had source.has read
   pub written : Appends sink.had sink.has text
   pub held : HasReadSoFar m holds read text
-  pub well : HasNotFailed source × HasNotFailed sink
+  pub well : KeepsFailureFlag source × KeepsFailureFlag sink
 
 -- the answer when a read stops, if neither port had failed before this read
 IsStreamAnswer-stopped : {m : Message} {new : List ℕ → List ℕ → Type 0} {read text : List ℕ}
@@ -135,7 +135,7 @@ module _ {m : Message} {old new : List ℕ → List ℕ → Type 0} {had has nex
 
 IsStreamAnswer-closed : {m : Message} {holds : List ℕ → List ℕ → Type 0} {read text : List ℕ} {source : Port}
     {took wrote : Option (List ℕ)} {d e f : Bool} (made : List ℕ) (finished : Result (Unit {0}) Interruption)
-    → HasReadSoFar m holds read text → length read ≤ read_limit → IsAtEnd source.has → HasNotFailed source → e ≡ d
+    → HasReadSoFar m holds read text → length read ≤ read_limit → IsAtEnd source.has → KeepsFailureFlag source → e ≡ d
     → HasBeenEnded m read (text ++ made) finished → f ≡ (e || is_device_interruption finished)
     → IsStreamAnswer m source (port_over took wrote d f) read (text ++ made) (answer_with_fault finished)
 IsStreamAnswer-closed made (Ok done) held few ended well same ends up =

@@ -1,6 +1,6 @@
 -- The pattern of a line of keys, and the letters that fill it. No public contract cites this file.
 use Rattle.std.specs.Prelude.{codes, ◌≡◌, ◌⊎◌, ℕ, List, [], ◌∷◌, ◌++◌, length, replicate}
-use Rattle.kd_state.specs.Words.{line_of}
+use Rattle.kd_state.specs.LineWords.{line_of}
 use Rattle.kd_state.specs.SheetDay.{Day, RotorDay, PinDay, OfRotors, OfPins}
 use Rattle.kd_form.specs.declared.keys.Keys.{Keys}
 use Rattle.kd_form.specs.declared.keys.Keys.TheVariants.{Rotor, Pin}

@@ -2,7 +2,7 @@
 -- definition says where a head has its fault. Bytes are counted from 1.
 -- Test: orders_are_sent
 use Rattle.std.specs.Prelude.{codes, ◌≡◌, ◌≢◌, ◌⊎◌, ℕ, ◌+◌, ◌≤◌, List, [], ◌∷◌, ◌++◌, length}
-use Rattle.kd_state.specs.Words.{line_of}
+use Rattle.kd_state.specs.LineWords.{line_of}
 use Rattle.kd_state.specs.SheetDay.{Day}
 use Rattle.kd_form.specs.declared.keys.Keys.{Keys}
 use Rattle.kd_form.specs.declared.sending.pattern_line.PatternFault.{PatternFault}

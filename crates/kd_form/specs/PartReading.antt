@@ -3,9 +3,9 @@
 -- Test: forms_are_received
 use Rattle.std.specs.Prelude.{◌≡◌, ◌≢◌, ◌⊎◌, ℕ, ◌+◌, ◌-◌, List, length, All, IsTrue, Option, Some, None, Ok, Err}
 use Rattle.kd_tables.specs.Text.{is_text_byte}
-use Rattle.kd_state.specs.FirstFaults.{AnswerRule, ◌>>=◌, Demands}
+use Rattle.kd_state.specs.AnswerRules.{AnswerRule, ◌>>=◌, Demands}
 use Rattle.kd_state.specs.SheetDay.{Day}
-use Rattle.kd_state.specs.Words.{line_of}
+use Rattle.kd_state.specs.LineWords.{line_of}
 use Rattle.kd_form.specs.declared.fault.FormFault.{FormFault}
 use Rattle.kd_form.specs.declared.fault.FormFault.TheVariants.{BadByte, BadHeading, CountWrong, PartOrder}
 use Rattle.kd_form.specs.declared.heading.Heading.{Heading}

@@ -3,7 +3,7 @@ use Rattle.std.specs.Prelude.{◌≡◌, ℕ, ◌+◌, ◌^◌, ◌<◌, ◌≤�
 use Rattle.std.specs.Prelude.{Ok, Err, MatchResult}
 use Rattle.std.specs.Io.{StartsWith}
 use Rattle.std.specs.Io.KnownBytes.{Appends, Consumes, IsAtEnd}
-use Rattle.kd_tables.specs.Ports.{read_limit, Port, HasNotFailed, FailsAlone}
+use Rattle.kd_tables.specs.Ports.{read_limit, Port, KeepsFailureFlag, FailsAlone}
 use Rattle.kd_form.specs.declared.fault.FormFault.{FormFault}
 use Rattle.kd_form.specs.declared.fault.FormFault.TheVariants as faults
 use Rattle.kd_form.specs.declared.stream.interruption.Interruption.{Interruption}
@@ -114,7 +114,7 @@ pub data IsReadStopped (m : Message) (new : List ℕ → List ℕ → Type 0) (s
     (stop : Interruption) : Type 0 where
   AtSource : IsOpen m read text → FailsAlone source sink → stop ≡ Device
       → IsReadStopped m new source sink read text stop
-  InFeeding : HasBeenFed m new read text (Err stop) → HasNotFailed source
+  InFeeding : HasBeenFed m new read text (Err stop) → KeepsFailureFlag source
       → sink.has_failed ≡ (sink.had_failed || is_device_interruption {T = Unit {0}} (Err stop))
       → IsReadStopped m new source sink read text stop
 
@@ -125,8 +125,8 @@ abbrev pub HasBeenRead : Message → (List ℕ → List ℕ → Type 0) → Port
     → Type 0
 HasBeenRead m new source sink bytes more text (Ok count) =
     (count ≡ length more) × HasReadSoFar m new (bytes ++ more) text × (count ≡ 0 → IsAtEnd source.has)
-    × HasNotFailed source
-    × HasNotFailed sink
+    × KeepsFailureFlag source
+    × KeepsFailureFlag sink
 HasBeenRead m new source sink bytes more text (Err stop) = IsReadStopped m new source sink (bytes ++ more) text stop
 
 pub record IsChunkRead (m : Message) (new : List ℕ → List ℕ → Type 0) (bytes text : List ℕ) (room : ℕ)

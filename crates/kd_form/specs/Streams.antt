@@ -3,7 +3,7 @@ use Rattle.std.specs.Prelude.{◌≡◌, ◌≢◌, ℕ, ◌≤◌, Bool, true, 
 use Rattle.std.specs.Prelude.{Result, Ok, Err, MatchResult}
 use Rattle.std.specs.Io.{StartsWith}
 use Rattle.std.specs.Io.KnownBytes.{Appends, Consumes, IsAtEnd}
-use Rattle.kd_tables.specs.Ports.{read_limit, Port, HasNotFailed, FailsAlone}
+use Rattle.kd_tables.specs.Ports.{read_limit, Port, KeepsFailureFlag, FailsAlone}
 use Rattle.kd_state.specs.declared.machine.parts.Parts.{Parts}
 use Rattle.kd_state.specs.SheetDay.{Day}
 use Rattle.kd_form.specs.declared.fault.FormFault.{FormFault}
@@ -42,8 +42,8 @@ pub data IsDue (m : Message) (source : Port) (read text : List ℕ) : Type 0 whe
       → IsDue m source read text
 
 -- Neither port failed in the call.
-abbrev pub HaveNotFailed : Port → Port → Type 0
-HaveNotFailed source sink = HasNotFailed source × HasNotFailed sink
+abbrev pub KeepFailureFlags : Port → Port → Type 0
+KeepFailureFlags source sink = KeepsFailureFlag source × KeepsFailureFlag sink
 
 -- `text` is a proper prefix of `due`.
 pub record FallsShort (due text : List ℕ) : Type 0 where
@@ -57,18 +57,19 @@ pub record FallsShort (due text : List ℕ) : Type 0 where
 -- due for the bytes read is written. `SinkFails`: only a proper prefix of the text that was due is written.
 pub data IsStreamAnswer (m : Message) (source sink : Port) (read text : List ℕ)
     (answer : Result (Unit {0}) FormFault) : Type 0 where
-  MessageComplete : length read ≤ read_limit → IsAtEnd source.has → m.becomes read text → HaveNotFailed source sink
+  MessageComplete : length read ≤ read_limit → IsAtEnd source.has → m.becomes read text → KeepFailureFlags source sink
       → answer ≡ Ok tt
       → IsStreamAnswer m source sink read text answer
   FaultForGood : (fault : FormFault) → length read ≤ read_limit → m.stands read fault
-      → m.written_before (Some fault) read text → HaveNotFailed source sink → answer ≡ Err fault
+      → m.written_before (Some fault) read text → KeepFailureFlags source sink → answer ≡ Err fault
       → IsStreamAnswer m source sink read text answer
   FaultAtEnd : (fault : FormFault) → length read ≤ read_limit → IsAtEnd source.has
       → ((other : FormFault) → ¬ (m.stands read other))
-      → m.refused read fault → m.written_before (Some fault) read text → HaveNotFailed source sink → answer ≡ Err fault
+      → m.refused read fault → m.written_before (Some fault) read text → KeepFailureFlags source sink
+      → answer ≡ Err fault
       → IsStreamAnswer m source sink read text answer
   TooLong : (front : List ℕ) (byte : ℕ) → read ≡ front ++ byte ∷ [] → length front ≡ read_limit → IsOpen m front text
-      → HaveNotFailed source sink → answer ≡ Err ReadTooLong → IsStreamAnswer m source sink read text answer
+      → KeepFailureFlags source sink → answer ≡ Err ReadTooLong → IsStreamAnswer m source sink read text answer
   SourceFails : length read ≤ read_limit → IsOpen m read text → FailsAlone source sink → answer ≡ Err Device
       → IsStreamAnswer m source sink read text answer
   SinkFails : (due : List ℕ) → length read ≤ read_limit → IsDue m source read due → FallsShort due text
@@ -100,7 +101,7 @@ is_off_key _ = false
 -- The call left the port as it was, and the port didn't fail.
 pub record IsUntouched (p : Port) : Type 0 where
   pub has : p.has ≡ p.had
-  pub well : HasNotFailed p
+  pub well : KeepsFailureFlag p
 
 -- Either the answer is a fault that satisfies `is_fault`, and both ports are left as they were; or `may` holds, and the
 -- call reads and writes as `IsStreamed` says.

@@ -2,14 +2,15 @@
 -- places. So equal keys have equal prices exactly if prices are equal wherever one of the two holds.
 use Rattle.kd_prices.proofs.AlikePrices.{nothing_at, same_at}
 use Rattle.kd_prices.proofs.Prelude.{All, Pin, Some, [], arith, eqb, false, inl, inr, map, pos, refl, subst, zero, ◌++◌}
-use Rattle.kd_prices.proofs.Prelude.{All-from_recursion, columns_are_the_pairs, recursion_from_All, tests_tell_letters}
-use Rattle.kd_prices.proofs.Prelude.{AllByRecursion, HaveSameLetters, cable_in_order, get_or_default, slice_get-get_or}
-use Rattle.kd_prices.proofs.Prelude.{AreEnds, IsPairInOrder, NoLetterTwice, cable_letters, pair_in_order, smaller_first}
-use Rattle.kd_prices.proofs.Prelude.{Contains, None, OfRotors, Option, Parts, Rotor, RotorDay, get_or, length, price_at}
-use Rattle.kd_prices.proofs.Prelude.{HaveOnePriceEach, IsMachine, columns_in_order, letters_in_cables, letters_in_pairs}
-use Rattle.kd_prices.proofs.Prelude.{IsLegalDay, RotorParts, StandAlike, columns_of, get_or-map, get_or-zip, length-map}
-use Rattle.kd_prices.proofs.Prelude.{List, ReadAlike, eqb-false, length-zip, nat_tests, replicate, slice_get, unwrap_or}
-use Rattle.kd_prices.proofs.Prelude.{ap, suc, sym, zip, ℕ, ℤ, ◌-◌, ◌<◌, ◌↔◌, ◌∙◌, ◌∷◌, ◌≡◌, ◌≤◌, ◌⊎◌}
+use Rattle.kd_prices.proofs.Prelude.{All-from_recursion, columns_are_the_pairs, recursion_from_All}
+use Rattle.kd_prices.proofs.Prelude.{tests_determine_letters, AllByRecursion, HaveSameLetters, cable_in_order}
+use Rattle.kd_prices.proofs.Prelude.{get_or_default, slice_get-get_or, AreEnds, IsPairInOrder, NoLetterTwice}
+use Rattle.kd_prices.proofs.Prelude.{cable_letters, pair_in_order, smaller_first, Contains, None, OfRotors, Option}
+use Rattle.kd_prices.proofs.Prelude.{Parts, Rotor, RotorDay, get_or, length, price_at, HaveOnePriceEach, IsMachine}
+use Rattle.kd_prices.proofs.Prelude.{columns_in_order, letters_in_cables, letters_in_pairs, IsLegalDay, RotorParts}
+use Rattle.kd_prices.proofs.Prelude.{StandAlike, columns_of, get_or-map, get_or-zip, length-map, List, ReadAlike}
+use Rattle.kd_prices.proofs.Prelude.{eqb-false, length-zip, nat_tests, replicate, slice_get, unwrap_or, ap, suc, sym}
+use Rattle.kd_prices.proofs.Prelude.{zip, ℕ, ℤ, ◌-◌, ◌<◌, ◌↔◌, ◌∙◌, ◌∷◌, ◌≡◌, ◌≤◌, ◌⊎◌}
 use Rattle.{kd_state.specs.Setting.has_letter, std.{proofs.lemmas.List.Elements.Contains-get_or, specs.List.IsDistinct}}
 
 -- ---- the letters of cables and columns are in order, as a card writes them
@@ -106,7 +107,7 @@ cables_told m machine i k inside within =
           inl (subst (λ ends. HaveSameLetters (cable_letters (cable i)) (cable_letters ends)) same
           (λ letter. (λ h. h, λ h. h))),
       λ alike. ends_told (cable i) (cable k) (forms i (None, None) inside) (forms k (None, None) within)
-          ((tests_tell_letters (cable_letters (cable i)) (cable_letters (cable k))).0 alike),
+          ((tests_determine_letters (cable_letters (cable i)) (cable_letters (cable k))).0 alike),
     )
 
 pub columns_told : (s : RotorDay) → IsLegalDay (OfRotors s)

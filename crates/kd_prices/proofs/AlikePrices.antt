@@ -1,11 +1,12 @@
 -- In a card by number that proves itself, equal keys have equal prices. For equal rows have equal costs in each
 -- column, and each row has a column where the two prices add up to the cost; likewise for equal columns.
 use Rattle.kd_prices.proofs.Prelude.{AlikePricesAreEqual, PriceParts, columns_are_the_pairs, proving_prices_are_tight}
-use Rattle.kd_prices.proofs.Prelude.{AreEqualWhereAlike, Day, tests_tell_letters, thirteen_columns, unwrap_or-slice_get}
-use Rattle.kd_prices.proofs.Prelude.{ArePricesTight, StandAlike, cable_cost, cable_letters, columns_of, slice_get_past}
-use Rattle.kd_prices.proofs.Prelude.{Bars, List, None, Pin, ap, ints, map, sym, ℕ, ◌<◌, ◌∙◌, ◌≡◌, ◌≤◌}
-use Rattle.kd_prices.proofs.Prelude.{Cables, OfPins, OfRotors, Parts, Rotor, arith, bar_cost, cost_at, get_or, length}
-use Rattle.kd_prices.proofs.Prelude.{One, PricesFit, ReadAlike, get_or-map, no_rotors, slice_get, table_size, unwrap_or}
+use Rattle.kd_prices.proofs.Prelude.{AreEqualWhereAlike, Day, tests_determine_letters, thirteen_columns}
+use Rattle.kd_prices.proofs.Prelude.{unwrap_or-slice_get, ArePricesTight, StandAlike, cable_cost, cable_letters}
+use Rattle.kd_prices.proofs.Prelude.{columns_of, slice_get_past, Bars, List, None, Pin, ap, ints, map, sym, ℕ, ◌<◌, ◌∙◌}
+use Rattle.kd_prices.proofs.Prelude.{◌≡◌, ◌≤◌, Cables, OfPins, OfRotors, Parts, Rotor, arith, bar_cost, cost_at, get_or}
+use Rattle.kd_prices.proofs.Prelude.{length, One, PricesFit, ReadAlike, get_or-map, no_rotors, slice_get, table_size}
+use Rattle.kd_prices.proofs.Prelude.{unwrap_or}
 
 -- Prices that fit a table of costs. Each row has a column, and each column has a row, where the two prices add up
 -- to the cost.
@@ -49,7 +50,7 @@ alike_prices_are_equal (Rotor m) (OfRotors s) settings (Cables row column) machi
     equal_where_alike cable_cost m.cables (columns_of s.pairs) (None, None) None (Rotor m) (OfRotors s)
     (Cables row column) machine.legal.cables.count (thirteen_columns s.pairs legal.pairs.few) h.fits
     (proving_prices_are_tight (Rotor m) (OfRotors s) settings (Cables row column) machine legal are_prices h)
-    (λ i k alike column. simp ((tests_tell_letters (cable_letters (get_or m.cables i (None, None)))
+    (λ i k alike column. simp ((tests_determine_letters (cable_letters (get_or m.cables i (None, None)))
     (cable_letters (get_or m.cables k (None, None)))).0 alike))
     (λ j k alike. nothing_at s.pairs j alike.0 ∙ sym (nothing_at s.pairs k alike.1))
 alike_prices_are_equal (Pin m) (OfPins s) settings (Bars row column) machine legal are_prices h =

@@ -9,8 +9,9 @@ use Rattle.kd_prices.proofs.Prelude.{ArePrices, CableKind, IsMachine, List, Read
 use Rattle.kd_prices.proofs.Prelude.{ArePricesInRange, Bars, Contains-permutation, HaveOnePriceEach, length_permutation}
 use Rattle.kd_prices.proofs.Prelude.{BarKind, ByKind, Cables, Expands, IfSome, IsGroup, None, RowKind, price_at}
 use Rattle.kd_prices.proofs.Prelude.{CableKinds, IsLegalDay, KindFormat, PriceParts, RotorParts, StandAlike, bar_format}
-use Rattle.kd_prices.proofs.Prelude.{IsSome, IsValidKeyAndPrice, OfPins, Option, Parts, PinDay, Rotor, Some, arith, length, refl, subst}
-use Rattle.kd_prices.proofs.Prelude.{columns_of, get_or-zip, length-map, length-zip, row_format, row_prices, table_size}
+use Rattle.kd_prices.proofs.Prelude.{IsSome, IsValidKeyAndPrice, OfPins, Option, Parts, PinDay, Rotor, Some, arith}
+use Rattle.kd_prices.proofs.Prelude.{length, refl, subst, columns_of, get_or-zip, length-map, length-zip, row_format}
+use Rattle.kd_prices.proofs.Prelude.{row_prices, table_size}
 
 -- what `kinds_of` ensures of the kinds of `keys` with `prices`
 abbrev pub AreGrouped : {K X : Type 0} → KindFormat K X → List X → List ℤ → List K → Type 0

@@ -4,7 +4,7 @@ use Rattle.kd_prices.proofs.Prelude.{AreSettingsNeeded, HasOneAnswer-Demands, Ha
 use Rattle.kd_prices.proofs.Prelude.{Day, Err, List, Why, [], ap, arith, refl, subst, sym, ℕ, ◌++◌, ◌↔◌, ◌∙◌, ◌∷◌, ◌≡◌}
 use Rattle.kd_prices.proofs.Prelude.{Doubt, GoesOn, IfErr, IllegalAt, Leads, Parts, Proves, Result, Setting}
 use Rattle.kd_prices.proofs.Prelude.{HasOneAnswer, IsCheckedAnswer, IsFirstNeedless, IsFirstWithout, IsNeededAnswer, Ok}
-use Rattle.kd_prices.proofs.Prelude.{IsOk, NeedlessLine, PriceParts, ThenNext-Ok, cases_order, cost_table, leads_to_one}
+use Rattle.kd_prices.proofs.Prelude.{IsOk, NeedlessLine, PriceParts, ThenNext-Ok, cases_order, cost_table, leads_unique}
 use Rattle.{kd_prices.specs.Doubt.{IsCarriedAnswer, IsDoubt, IsFitsAnswer}, kd_state.specs.Setting.IsFirstIllegal}
 
 -- A list has only one good prefix that, with the item after it, begins no good list.
@@ -43,7 +43,7 @@ IsFirstNeedless-not_needed {m} {s} h rest needed =
 
 module _ (m : Parts) (settings : List Setting) where
   only_carried : HasOneAnswer (IsCarriedAnswer m settings)
-  only_carried (Ok n) (Ok o) a b = ap Ok (leads_to_one m n o settings a b)
+  only_carried (Ok n) (Ok o) a b = ap Ok (leads_unique m n o settings a b)
   only_carried (Ok n) (Err (IllegalAt line why)) a b =
       absurd (IsFirstIllegal-not_Leads b n b.rest (subst (λ xs. Leads m xs n) b.split a))
   only_carried (Err (IllegalAt line why)) (Ok n) a b =
@@ -54,7 +54,7 @@ module _ (m : Parts) (settings : List Setting) where
       (sym a.split ∙ b.split) (a.between, a.leads) (b.between, b.leads)
       (λ rest leads. IsFirstIllegal-not_Leads a leads.0 rest leads.1)
       (λ rest leads. IsFirstIllegal-not_Leads b leads.0 rest leads.1) in
-      let between = leads_to_one m a.between b.between b.front
+      let between = leads_unique m a.between b.between b.front
       (subst (λ front. Leads m front a.between) same.0 a.leads) b.leads in
       grind (arith, a.refused, b.refused, a.number, b.number)
   only_carried v w a b = absurd (assumption)

@@ -6,7 +6,8 @@ use Rattle.kd_prices.proofs.Prelude.{Bars, List, None, Parts, Pin, Rotor, Same, 
 use Rattle.kd_prices.proofs.Prelude.{CableKinds, KindFormat, PriceParts, RotorParts, bar_format, row_format, row_prices}
 use Rattle.kd_prices.proofs.Prelude.{Cables, Doubt, GoesOn, OfPins, Option, PinDay, Result, RowKind, Setting, length, ℤ}
 use Rattle.kd_prices.proofs.Prelude.{Err, Expanded, Expands, HasFault, OfRotors, PairKind, PinParts, RotorDay, model_of}
-use Rattle.kd_prices.{proofs.{Prelude.{Ok, PricesSuitMachine, ap}, Runs.prices_alike}, specs.Doubt.{ArePricesFound, IsByNumberAnswer}}
+use Rattle.kd_prices.{proofs.{Prelude.{Ok, PricesSuitMachine, ap}, Runs.prices_alike}}
+use Rattle.kd_prices.{specs.Doubt.{ArePricesFound, IsByNumberAnswer}}
 use Rattle.std.specs.Option.{ok_or, option_zip}
 
 -- ---- prices by kind

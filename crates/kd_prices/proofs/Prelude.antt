@@ -11,16 +11,18 @@ pub use Rattle.kd_card.specs.declared.{kinds.KindOf.KindOf, prices.Version.TheVa
 pub use Rattle.kd_card.specs.declared.prices.PriceParts.{PriceParts, TheVariants.{BarKinds, Bars, CableKinds, Cables}}
 pub use Rattle.kd_enigma.specs.Plugs.{NoLetterTwice, letters_in_pairs}
 pub use Rattle.kd_prices.specs.{Alike.{ReadAlike, StandAlike}, Fitting.{FitsAtColumn, ListsFitAt}}
-pub use Rattle.kd_prices.specs.Doubt.{IsCheckedAnswer, IsFirstNeedless, IsFirstWithout, IsNeededAnswer, PricesSuitMachine}
+pub use Rattle.kd_prices.specs.Doubt.{IsCheckedAnswer, IsFirstNeedless, IsFirstWithout, IsNeededAnswer}
+pub use Rattle.kd_prices.specs.Doubt.{PricesSuitMachine}
 pub use Rattle.kd_prices.specs.Grouping.{AppendsKinds, CanBeKinds, HaveOnePriceEach, IsValidKeyAndPrice, kind_of_one}
 pub use Rattle.kd_prices.specs.{KindCards.CanBeByKind, Laws.{AlikePricesAreEqual, AreEqualWhereAlike, RestIsShortest}}
 pub use Rattle.kd_prices.specs.declared.doubt.Doubt.{Doubt, TheVariants.{IllegalAt, OtherModel, SumDiffers}}
 pub use Rattle.kd_prices.specs.declared.doubt.Doubt.TheVariants.{NeedlessLine, NotTheSheet, PriceMissing, PriceTooHigh}
-pub use Rattle.kd_state.proofs.{Cables.tests_tell_letters, Telling.Refusing.{leads_join, leads_next, leads_to_one}}
+pub use Rattle.kd_state.proofs.{Cables.tests_determine_letters}
+pub use Rattle.kd_state.proofs.{SettingEffects.Refusals.{leads_join, leads_next, leads_unique}}
 pub use Rattle.kd_state.proofs.CostTable.{columns_are_the_pairs, thirteen_columns}
-pub use Rattle.kd_state.specs.{Costs.{bar_cost, cable_cost, columns_of, cost_table}, OneModel.AreTakenApart}
-pub use Rattle.kd_state.specs.FirstFaults.{GoesOn, HasFault, HasOneAnswer}
-pub use Rattle.kd_state.specs.FirstFaults.{HasOneAnswer-Demands, HasOneAnswer-Finds, HasOneAnswer-ThenNext, ThenNext-Ok}
+pub use Rattle.kd_state.specs.{Costs.{bar_cost, cable_cost, columns_of, cost_table}, OneModel.IsOneModelOf}
+pub use Rattle.kd_state.specs.AnswerRules.{GoesOn, HasFault, HasOneAnswer}
+pub use Rattle.kd_state.specs.AnswerRules.{HasOneAnswer-Demands, HasOneAnswer-Finds, HasOneAnswer-ThenNext, ThenNext-Ok}
 pub use Rattle.kd_state.specs.Machine.{IsMachine, cable_in_order, cable_letters, letters_in_cables, model_of}
 pub use Rattle.kd_state.specs.{OnKey.HaveSameLetters, declared.setting.{Setting.Setting, why.Why.Why}}
 pub use Rattle.kd_state.specs.Setting.{Leads, machine_after, why_refused}

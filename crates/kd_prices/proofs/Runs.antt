@@ -5,8 +5,8 @@ use Rattle.kd_prices.proofs.Prelude.{All-append, All-weaker, AreKindsOf, CanBeKi
 use Rattle.kd_prices.proofs.Prelude.{All-contains_itself, Contains-permutation, HaveOnePriceEach, IsPermutation-sym, []}
 use Rattle.kd_prices.proofs.Prelude.{All-head, All-nil, All-tail, AreKinds, Contains, Greater, Ordering, map, replicate}
 use Rattle.kd_prices.proofs.Prelude.{AppendsKinds, IsTotalOrder, append_assoc, common_steps, kind_of_one, tied_itself}
-use Rattle.kd_prices.proofs.Prelude.{Equal, IsKind, IsValidKeyAndPrice, KindOf, Less, List, None, Option, arith, false, length}
-use Rattle.kd_prices.proofs.Prelude.{Some, ap, refl, suc, zip, ℤ, ◌++◌, ◌+◌, ◌↔◌, ◌∙◌, ◌∷◌, ◌≡◌, ◌≢◌, ◌≤◌, ◌⊎◌}
+use Rattle.kd_prices.proofs.Prelude.{Equal, IsKind, IsValidKeyAndPrice, KindOf, Less, List, None, Option, arith, false}
+use Rattle.kd_prices.proofs.Prelude.{length, Some, ap, refl, suc, zip, ℤ, ◌++◌, ◌+◌, ◌↔◌, ◌∙◌, ◌∷◌, ◌≡◌, ◌≢◌, ◌≤◌, ◌⊎◌}
 use Rattle.std.proofs.lemmas.List.{get_or-replicate, replicate_more, Elements.Contains-append_cases}
 use Rattle.std.specs.{List.{refill, Sorted.IsSorted}, Ordering.{int_cmp, is_lt, ordering_reverse, ordering_then}}
 

@@ -1,7 +1,7 @@
 -- Why a card doesn't prove itself: the first doubt, in a fixed order. The numbers of settings, rows and columns in a
 -- doubt count from 1.
 use Rattle.std.specs.Prelude.{◌≡◌, ◌⊎◌, ℕ, ◌+◌, ◌<◌, List, ◌∷◌, ◌++◌, length, ℤ, pos, Ok, Err}
-use Rattle.kd_state.specs.{FirstFaults.{AnswerRule, Demands, Finds, ◌>>=◌}, Setting.{IsFirstIllegal, Leads}}
+use Rattle.kd_state.specs.{AnswerRules.{AnswerRule, Demands, Finds, ◌>>=◌}, Setting.{IsFirstIllegal, Leads}}
 use Rattle.kd_state.specs.declared.{machine.parts.Parts.{Parts, TheVariants.{Pin, Rotor}}, setting.Setting.Setting}
 use Rattle.kd_state.specs.{Costs.cost_table, Machine.model_of, OnKey.ReadsAs, SheetDay.{Day, day_model}}
 use Rattle.kd_card.specs.Prices.{PricesFit, PricesFitAt, column_prices, price_sum, row_prices, table_size}

@@ -6,7 +6,7 @@ use Rattle.std.specs.List.{flat_map}
 use Rattle.std.specs.Option.{option_map_or}
 use Rattle.toml.specs.Data.{Data, Members, get_member}
 use Rattle.kd_state.specs.Machine.{letters_in_cables}
-use Rattle.kd_state.specs.Setting.{are_new_letters}
+use Rattle.kd_state.specs.Setting.{are_new_and_distinct}
 use Rattle.kd_sheet.specs.Document.{◌>>=◌, ◌>>◌, demand, value_at, from_text, read_array}
 use Rattle.kd_sheet.specs.Key.{key_name}
 use Rattle.kd_sheet.specs.Letters.{capital_letters}
@@ -18,7 +18,7 @@ use Rattle.kd_sheet.specs.declared.fault.SheetFault.TheVariants.{BadValue, Lette
 unfoldable pub cable_for : List (Option ℕ × Option ℕ) → Data → Result (Option ℕ × Option ℕ) SheetFault
 cable_for cables item = do
   letters ← ok_or (from_text (capital_letters (λ n. nat_le n 2)) item) (BadValue keys.Cables)
-  demand (are_new_letters letters (letters_in_cables cables)) LetterTwice
+  demand (are_new_and_distinct letters (letters_in_cables cables)) LetterTwice
   Ok (slice_get letters 0, slice_get letters 1)
 
 -- The 13 cables of a machine file. Cables that the key `cables` doesn't give are empty; without the key, all are empty.
@@ -32,7 +32,7 @@ cables_in table = do
 unfoldable pub pair_for : List (ℕ × ℕ) → Data → Result (ℕ × ℕ) SheetFault
 pair_for pairs item = do
   letters ← ok_or (from_text (capital_letters (nat_eq 2)) item) (BadValue keys.Plugs)
-  demand (are_new_letters letters (flat_map (λ pair. pair.0 ∷ pair.1 ∷ []) pairs)) LetterTwice
+  demand (are_new_and_distinct letters (flat_map (λ pair. pair.0 ∷ pair.1 ∷ []) pairs)) LetterTwice
   Ok (slice_index letters 0, slice_index letters 1)
 
 unfoldable pub pairs_in : Members → Result (List (ℕ × ℕ)) SheetFault

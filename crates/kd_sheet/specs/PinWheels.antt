@@ -8,7 +8,7 @@ use Rattle.kd_tables.specs.Rings.{ring_of}
 use Rattle.kd_tables.specs.Text.{letters_text}
 use Rattle.kd_pins.specs.declared.pin_set.PinSet.{PinSet}
 use Rattle.kd_state.specs.Pins.{pin_set}
-use Rattle.kd_state.specs.Setting.{has_letter, are_new_letters}
+use Rattle.kd_state.specs.Setting.{has_letter, are_new_and_distinct}
 use Rattle.kd_sheet.specs.Document.{◌>>=◌, ◌>>◌, demand, value_at, from_text, read_array, read_items}
 use Rattle.kd_sheet.specs.Letters.{letters_at}
 use Rattle.kd_sheet.specs.declared.key.Key.{Key}
@@ -27,7 +27,7 @@ shown_letters_in key table = do
 -- The result is `None` if a byte of `text` isn't a capital letter of the wheel, or comes twice.
 unfoldable pub pins_of_text : List ℕ → List ℕ → Option (List Bool)
 pins_of_text ring text =
-    if list_all (has_letter (letters_text ring)) text && are_new_letters text []
+    if list_all (has_letter (letters_text ring)) text && are_new_and_distinct text []
     then Some (map (has_letter text) (letters_text ring)) else None
 
 -- the pins that an item describes; `earlier` has the pins of the wheels before the item's wheel

@@ -2,7 +2,7 @@
 use Rattle.kd_state.proofs.Prelude.{option_zip}
 use Rattle.kd_state.proofs.Prelude.{common_steps, NoLetterTwice, letters_in_pairs, AreCables, cable_letters}
 use Rattle.kd_state.proofs.Prelude.{cable_in_order, letters_in_cables, AreLettersOfPair, AreThePairs}
-use Rattle.kd_state.proofs.Prelude.{HasPairLetters, HaveSameLetters, are_new_letters, cable_with}
+use Rattle.kd_state.proofs.Prelude.{HasPairLetters, HaveSameLetters, are_new_and_distinct, cable_with}
 use Rattle.kd_state.proofs.Prelude.{cable_without, has_letter, is_some, and_from, and_parts, cond_both, eq-eqb}
 use Rattle.kd_state.proofs.Prelude.{eqb-false, le-leb, leb-false, not-true, or_from, or_parts, true≢false, nat_tests}
 use Rattle.kd_state.proofs.Prelude.{append_assoc, drop_more, All-contains, All-from_recursion, Contains-append_right}
@@ -12,7 +12,7 @@ use Rattle.kd_state.proofs.Prelude.{IsPermutation-trans, none-some, same_Some, s
 use Rattle.kd_state.proofs.Prelude.{option_map_or, Contains, List, None, Option, Some, [], ap, arith, drop}
 use Rattle.kd_state.proofs.Prelude.{false, filter_map, get_or, length, map, nat_eq, refl, rules, set, slice_get}
 use Rattle.kd_state.proofs.Prelude.{suc, true, zero, ℕ, ◌++◌, ◌+◌, ◌<◌, ◌↔◌, ◌∙◌, ◌∷◌, ◌≡◌, ◌≢◌, IsDistinct}
-use Rattle.kd_state.proofs.Prelude.{IsPermutation, TestsTellLetters, both_ways, sym, ◌&&◌}
+use Rattle.kd_state.proofs.Prelude.{IsPermutation, TestsDetermineLetters, both_ways, sym, ◌&&◌}
 use Rattle.{kd_state.proofs.Slots.has_letter-Decides, std.proofs.Common.Any}
 use Rattle.kd_enigma.specs.Plugs as plugs
 
@@ -27,8 +27,8 @@ has_letter-AllByRecursion (other ∷ letters) letter = grind
     (arith, or_parts, or_from, eqb_flips, has_letter-AllByRecursion letters letter)
 
 -- two lists have the same letters exactly if `has_letter` has the same value for both at each letter
-pub tests_tell_letters : TestsTellLetters
-tests_tell_letters xs ys = (
+pub tests_determine_letters : TestsDetermineLetters
+tests_determine_letters xs ys = (
   λ same letter. grind (arith, same letter, has_letter-Decides xs letter, has_letter-Decides ys letter, both_ways),
   λ alike letter. (
     λ c. (has_letter-Decides ys letter).0 (sym (alike letter) ∙ (has_letter-Decides xs letter).1 c),
@@ -36,10 +36,10 @@ tests_tell_letters xs ys = (
   ),
 )
 
--- all of `letters` and `others` are different exactly if `others` are all different, and `are_new_letters` is true
+-- all of `letters` and `others` are different exactly if `others` are all different, and `are_new_and_distinct` is true
 -- for `letters` and `others`
 pub new_tells : (letters others : List ℕ)
-    → IsDistinct nat_eq (letters ++ others) ↔ ((are_new_letters letters others ≡ true) × IsDistinct nat_eq others)
+    → IsDistinct nat_eq (letters ++ others) ↔ ((are_new_and_distinct letters others ≡ true) × IsDistinct nat_eq others)
 unfolding IsDistinct
 new_tells [] others = (λ h. (refl, h), λ h. h.1)
 new_tells (letter ∷ letters) others = grind
@@ -133,7 +133,7 @@ set_moves out into (first ∷ cables) (suc place) cable new here moves =
 pub distinct_from : (cables : List (Option ℕ × Option ℕ)) (place : ℕ) (cable : Option ℕ × Option ℕ)
     → place < length cables → cable ≡ get_or cables place cable
     → IsDistinct nat_eq (letters_in_cables (drop place cables))
-    ↔ ((are_new_letters (cable_letters cable) (letters_in_cables (drop (place + 1) cables)) ≡ true)
+    ↔ ((are_new_and_distinct (cable_letters cable) (letters_in_cables (drop (place + 1) cables)) ≡ true)
     × IsDistinct nat_eq (letters_in_cables (drop (place + 1) cables)))
 distinct_from cables place cable within is = grind (arith, drop_more, new_tells)
 
@@ -159,7 +159,7 @@ of_one a x e = grind arith
 pub same_two : (a b : ℕ) (pair : ℕ × ℕ) → HaveSameLetters (a ∷ b ∷ []) (pair.0 ∷ pair.1 ∷ [])
     → AreLettersOfPair a b pair
 same_two a b pair same =
-    let tests = (tests_tell_letters (a ∷ b ∷ []) (pair.0 ∷ pair.1 ∷ [])).0 same in
+    let tests = (tests_determine_letters (a ∷ b ∷ []) (pair.0 ∷ pair.1 ∷ [])).0 same in
     grind (arith, nat_tests, tests a, tests b, tests pair.0, tests pair.1)
 
 -- the letters of a day's pair differ
@@ -249,7 +249,7 @@ pub joined_by_tests : (cable : Option ℕ × Option ℕ) (pair : ℕ × ℕ) →
     → option_map_or (has_letter (pair.0 ∷ pair.1 ∷ [])) cable.1 true ≡ true → HasPairLetters cable pair
 joined_by_tests cable pair a b c d =
     record {
-      letters = (tests_tell_letters (cable_letters cable) (pair.0 ∷ pair.1 ∷ [])).1
+      letters = (tests_determine_letters (cable_letters cable) (pair.0 ∷ pair.1 ∷ [])).1
           (λ letter. grind (arith, nat_tests, a, b, c, d));
     }
 
@@ -258,5 +258,5 @@ pub tests_of_joined : (cable : Option ℕ × Option ℕ) (pair : ℕ × ℕ) →
     × (option_map_or (has_letter (pair.0 ∷ pair.1 ∷ [])) cable.0 true ≡ true)
     × (option_map_or (has_letter (pair.0 ∷ pair.1 ∷ [])) cable.1 true ≡ true)
 tests_of_joined cable pair joined =
-    let same = (tests_tell_letters (cable_letters cable) (pair.0 ∷ pair.1 ∷ [])).0 joined.letters in
+    let same = (tests_determine_letters (cable_letters cable) (pair.0 ∷ pair.1 ∷ [])).0 joined.letters in
     grind (arith, nat_tests, same)

@@ -1,22 +1,23 @@
 -- Lemmas on machines on a day's key: they are ready, and encipher as the day asks.
-use Rattle.kd_state.proofs.Prelude.{AreCables, Bool, CipherInTurn, Day, EngineIsTheMachine, EngineKey}
+use Rattle.kd_state.proofs.Prelude.{AreCables, Bool, CipherOfChunks, Day, EngineEnciphersAsMachine, EngineKey}
 use Rattle.kd_state.proofs.Prelude.{EquallySetDecipher, IsLegalDay, IsLegalRotorDay, IsMachine, IsPermutation}
-use Rattle.kd_state.proofs.Prelude.{IsRotorOnKey, KeyInTurn, List, OfDrum, OfPins, OfRotors, OfWheels, OnKey}
-use Rattle.kd_state.proofs.Prelude.{OnKeyIsItsCipher, OnKeyIsReady, Parts, Pin, Place}
-use Rattle.kd_state.proofs.Prelude.{ReadingIsItsCipher, ReadingIsReady, Rotor, RotorDay, RotorParts, SheetWheel, Some}
-use Rattle.kd_state.proofs.Prelude.{TheDayDeciphersItself, TurnedEngineIsTheTurnedMachine, TurnedHasItsKey}
-use Rattle.kd_state.proofs.Prelude.{TurnedHasTheDaysCipher, TurnedIsOnKey, [], is_acting_after, ap, arith}
-use Rattle.kd_state.proofs.Prelude.{cipher, common_steps, converter_cipher, count_by, enumerate_from, filter_map}
-use Rattle.kd_state.proofs.Prelude.{key_with_window, letter_at, map, physical_cipher, physical_key, pins_of}
-use Rattle.kd_state.proofs.Prelude.{place_number, reading_of, recursion_from_All, refl, ring_at, sheet_key}
+use Rattle.kd_state.proofs.Prelude.{IsRotorOnKey, KeyAfterChunks, List, OfDrum, OfPins, OfRotors, OfWheels, OnKey}
+use Rattle.kd_state.proofs.Prelude.{OnKeyEnciphersByDaysKey, OnKeyIsReady, Parts, Pin, Place, ReadsAsDayEnciphersAsDay}
+use Rattle.kd_state.proofs.Prelude.{ReadsAsDayIsReady, Rotor, RotorDay, RotorParts, SheetWheel, Some}
+use Rattle.kd_state.proofs.Prelude.{DaysEngineDeciphersItself, TurnedEngineEnciphersAsMachine}
+use Rattle.kd_state.proofs.Prelude.{TurningChangesOnlyLetters, TurnedEnciphersByDaysKey, TurnedStaysOnKey, []}
+use Rattle.kd_state.proofs.Prelude.{is_acting_after, ap, arith, cipher, common_steps, converter_cipher, count_by}
+use Rattle.kd_state.proofs.Prelude.{enumerate_from, filter_map, key_with_window, letter_at, map, physical_cipher}
+use Rattle.kd_state.proofs.Prelude.{physical_key, pins_of, place_number, reading_of, recursion_from_All, refl, ring_at}
+use Rattle.kd_state.proofs.Prelude.{sheet_key}
 use Rattle.kd_enigma.proofs.Cables.{pairs_make_a_plugboard, same_pairs_exchange_alike}
 use Rattle.kd_state.proofs.Cables.{no_letter_twice, pairs_of, pairs_joined, whole_cables}
 use Rattle.kd_state.proofs.Prelude.{sum_by-IsPermutation, sum_by-cons, sym, window_of, ℕ, ◌+◌, ◌-◌, ◌||◌, ◌∙◌, ◌∷◌, ◌≡◌}
-use Rattle.{kd_state.proofs.Seating.{all_seated, read_all, wheels_of_slots}, std.proofs.Common.{max, min, ◌%◌}}
+use Rattle.{kd_state.proofs.WheelsInSlots.{all_seated, read_all, wheels_of_slots}, std.proofs.Common.{max, min, ◌%◌}}
 use Rattle.std.proofs.Math.{Bool.or_comm, Nat.{max-eq_left, max-eq_right, min-eq_left, min-eq_right}}
 use Rattle.kd_enigma.proofs.Ciphers as enigma
 use Rattle.kd_drum.proofs.Ciphers as drum
-use Rattle.kd_drum.proofs.Starts as starts
+use Rattle.kd_drum.proofs.WheelsAfterLetters as starts
 
 -- ---- the bars that are met are counted alike by lugs and by readings
 
@@ -30,7 +31,7 @@ met_by_lugs : (acts : ℕ → Bool) (bars : List (Place × Place))
 met_by_lugs acts [] = refl
 met_by_lugs acts (bar ∷ bars) = grind (arith, common_steps, sum_by-cons, or-min_max, met_by_lugs acts bars)
 
-pub engine_cipher : EngineIsTheMachine
+pub engine_cipher : EngineEnciphersAsMachine
 engine_cipher (Rotor m) text = refl
 engine_cipher (Pin m) text =
     let met = λ (count : ℕ). met_by_lugs (is_acting_after (pins_of m.pins) m.letters count) m.bars in
@@ -40,7 +41,7 @@ engine_cipher (Pin m) text =
 pub on_key_ready : OnKeyIsReady
 on_key_ready = grind (arith, all_seated, whole_cables)
 
-pub reading_ready : ReadingIsReady
+pub reading_ready : ReadsAsDayIsReady
 reading_ready m s machine legal h = on_key_ready m s machine legal h.key
 
 own_window : (m : Parts) → physical_key m ≡ key_with_window (physical_key m) (window_of m)
@@ -74,12 +75,12 @@ key_on_key (Rotor m) (OfRotors s) window text machine legal h =
     ap (λ key. cipher key text) (rotor_key m s window machine.legal.cables legal h)
 key_on_key m s window text machine legal h = grind (arith, converter_alike)
 
-pub on_key_cipher : OnKeyIsItsCipher
+pub on_key_cipher : OnKeyEnciphersByDaysKey
 on_key_cipher m s text machine legal h =
     sym (engine_cipher m text) ∙ ap (λ key. cipher key text) (own_window m)
     ∙ key_on_key m s (window_of m) text machine legal h
 
-pub reading_cipher : ReadingIsItsCipher
+pub reading_cipher : ReadsAsDayEnciphersAsDay
 reading_cipher (Rotor m) (OfRotors s) text machine legal h =
     let shows = ap (filter_map (letter_at m)) (wheels_of_slots m s.wheels h.key.slots)
     ∙ read_all (letter_at m) (λ w. w.letter) s.wheels
@@ -93,7 +94,7 @@ reading_cipher m s text machine legal h = absurd h.key
 
 -- an engine set as the day says that enciphers a text twice, each time from the same letters, gives the text
 -- back
-pub twice_on_key : TheDayDeciphersItself
+pub twice_on_key : DaysEngineDeciphersItself
 twice_on_key = grind (arith, pairs_make_a_plugboard, enigma.twice_gives_back, drum.twice_gives_back)
 
 pub equally_set : EquallySetDecipher
@@ -105,27 +106,27 @@ equally_set m n s text machine other legal h k same letters =
     ∙ twice_on_key s (window_of m) text legal letters
 
 -- a machine on the day's key that is turned to other letters stays on the key
-pub turned_on_key : TurnedIsOnKey
+pub turned_on_key : TurnedStaysOnKey
 turned_on_key m n s window turned h = grind arith
 
 -- if a machine is turned to other letters, its new key is its old key with these letters
-pub turned_key : TurnedHasItsKey
+pub turned_key : TurningChangesOnlyLetters
 turned_key m n window turned = grind (arith, Rotor, Pin)
 
 -- an engine turned to other letters enciphers as its machine does once it is turned to these letters
-pub turned_engine : TurnedEngineIsTheTurnedMachine
+pub turned_engine : TurnedEngineEnciphersAsMachine
 turned_engine m n window text turned =
     ap (λ key. cipher key text) (sym (turned_key m n window turned)) ∙ engine_cipher n text
 
-pub turned_cipher : TurnedHasTheDaysCipher
+pub turned_cipher : TurnedEnciphersByDaysKey
 turned_cipher m n s window text machine legal h turned =
     sym (turned_engine m n window text turned) ∙ key_on_key m s window text machine legal h
 
 -- a text is enciphered chunk by chunk: the first one, and then the rest with the key that the engine has by
 -- then
-pub cipher_in_turn : CipherInTurn
+pub cipher_in_turn : CipherOfChunks
 cipher_in_turn = grind (arith, enigma.cipher_in_turn, drum.cipher_in_turn)
 
-pub key_in_turn : KeyInTurn
+pub key_in_turn : KeyAfterChunks
 key_in_turn (OfWheels key) m n = ap OfWheels (enigma.key_in_turn key m n)
 key_in_turn (OfDrum key) m n = ap OfDrum (starts.key_in_turn key m n)

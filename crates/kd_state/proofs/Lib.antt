@@ -5,6 +5,6 @@ pub mod Slots
 pub mod Lines
 pub mod CostTable
 pub mod Keys
-mod Seating
+mod WheelsInSlots
 pub mod SortedAlike
-pub mod Telling
+pub mod SettingEffects

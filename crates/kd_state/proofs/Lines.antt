@@ -4,18 +4,19 @@ use Rattle.kd_state.proofs.Prelude.{All-weaker, AllByRecursion, AllPass-from_lis
 use Rattle.kd_state.proofs.Prelude.{BeginsWithSettingLine, BeginsWithNoSetting, Bool, Decides, IsAscii-decimal}
 use Rattle.kd_state.proofs.Prelude.{IsSettingInRange, IsListText, IsSettingOfWords, List, ListsHaveNoFault, Lug}
 use Rattle.kd_state.proofs.Prelude.{MatchOption, None, One, OneListFault, Option, ParsesUnsigned, Place, Reflector}
-use Rattle.kd_state.proofs.Prelude.{Setting, Some, TextsTellLists, Wheel, [], ap, append-nil, append_assoc}
+use Rattle.kd_state.proofs.Prelude.{Setting, Some, TextsDetermineLists, Wheel, [], ap, append-nil, append_assoc}
 use Rattle.kd_state.proofs.Prelude.{append_cancel_left, arith, common_steps, decimal_injective, decimal_nonempty}
 use Rattle.kd_state.proofs.Prelude.{digits_decimal, eq-eqb, eqb-true, false, get_or, get_or_at, length, length-append}
 use Rattle.kd_state.proofs.Prelude.{list_all, list_text, ltb-true, lug_text, map, map_push, ne_eqb, parse-decimal}
 use Rattle.kd_state.proofs.Prelude.{on_off_text, place_text, places, recursion_from_All, refl, reflector_text, rules}
 use Rattle.kd_state.proofs.Prelude.{setting_line, setting_words, slice_split, sym, then_some, true, wheel_text, ℕ, ◌++◌}
 use Rattle.kd_state.proofs.Prelude.{◌+◌, ◌<◌, ◌∷◌, ◌≡◌, ◌≢◌}
-use Rattle.kd_state.specs.Words.{IsFirstPart, IsWithout, IsWord, LettersAreWords, LinesSplitIntoWords, LinesTellWords}
-use Rattle.kd_state.specs.Words.{NumbersAreWords, PartsMakeLines, TextsTellFirstParts, WordsMakeOneLine, line_of}
+use Rattle.kd_state.specs.LineWords.{IsFirstPart, IsWithout, IsWord, LettersAreWords, LinesSplitIntoWords}
+use Rattle.kd_state.specs.LineWords.{LinesDetermineWords, NumbersAreWords, PartsMakeLines, TextsDetermineFirstParts}
+use Rattle.kd_state.specs.LineWords.{WordsMakeOneLine, line_of}
 use Rattle.std.proofs.lemmas.List.Splits.{join_with_byte-slice_split, length-slice_split, slice_split_at}
 use Rattle.kd_state.proofs.{Prelude.◌≤◌, Wheels.{named_or, one_reflector, one_wheel, name-injective}}
-use Rattle.kd_state.specs.{Words.words_of, declared.setting.list.ListFault.TheVariants.{BadLine, TooMany}}
+use Rattle.kd_state.specs.{LineWords.words_of, declared.setting.list.ListFault.TheVariants.{BadLine, TooMany}}
 use Rattle.std.proofs.Common.{Bor, MatchResult, Result, eqb, ltb, ◌^◌}
 use Rattle.std.proofs.lemmas.List.{Concat.flat_map-append, Splits.slice_split_none}
 use Rattle.std.proofs.lemmas.Str.{Parse.{IsNumeralModel, numerals_by_value, tells_by_index}, IsUtf8-from_ascii}
@@ -30,8 +31,8 @@ slice_split-first : (byte : ℕ) (part rest : List ℕ) → IsWithout byte part
     → slice_split (λ b. eqb b byte) (part ++ byte ∷ rest) ≡ part ∷ slice_split (λ b. eqb b byte) rest
 slice_split-first byte part rest h = grind (arith, slice_split_at, none_is, eq-eqb)
 
-pub texts_tell_first_parts : TextsTellFirstParts
-texts_tell_first_parts byte first other rest more a b e =
+pub texts_determine_first_parts : TextsDetermineFirstParts
+texts_determine_first_parts byte first other rest more a b e =
     let one = slice_split-first byte first rest a in
     let two = slice_split-first byte other more b in
     grind (arith, one, two, append_cancel_left other (byte ∷ rest) (byte ∷ more))
@@ -60,8 +61,8 @@ words-same_line (word ∷ words) [] a b e = grind (arith, words_of-line_of word 
 words-same_line (word ∷ words) (other ∷ others) a b e =
     grind (arith, words_of-line_of word words a, words_of-line_of other others b)
 
-pub lines_tell_words : LinesTellWords
-lines_tell_words words others a b e =
+pub lines_determine_words : LinesDetermineWords
+lines_determine_words words others a b e =
     words-same_line words others (recursion_from_All IsWord words a) (recursion_from_All IsWord others b) e
 
 one_line : (words : List (List ℕ)) → AllByRecursion IsWord words → IsWithout 10 (line_of words)
@@ -218,9 +219,10 @@ read_by_words text words r e d = grind (arith, words_of_line, parts_make_lines)
 pub line_has_no_break : (x : Setting) → IsSettingInRange x → IsWithout 10 (setting_line x)
 line_has_no_break x r = words_make_one_line (setting_words x) (setting_words_are_words x r)
 
-pub lines_tell_settings : (x y : Setting) → IsSettingInRange x → IsSettingInRange y → setting_line x ≡ setting_line y
+pub lines_determine_settings : (x y : Setting) → IsSettingInRange x → IsSettingInRange y
+    → setting_line x ≡ setting_line y
     → x ≡ y
-lines_tell_settings x y r s e = search (rules, same_settings, lines_tell_words, setting_words_are_words)
+lines_determine_settings x y r s e = search (rules, same_settings, lines_determine_words, setting_words_are_words)
 
 -- ---- a text determines its list of settings; any other text has exactly one fault
 
@@ -238,8 +240,8 @@ same_first : (x y : Setting) (xs ys : List Setting) (rest more : List ℕ) → I
     → (x ≡ y) × (list_text xs ++ rest ≡ list_text ys ++ more)
 same_first x y xs ys rest more r s e =
     let parts =
-    texts_tell_first_parts 10 (setting_line x) (setting_line y) (list_text xs ++ rest) (list_text ys ++ more) in
-    grind (arith, parts, line_has_no_break x, line_has_no_break y, text_of_more, lines_tell_settings x y)
+    texts_determine_first_parts 10 (setting_line x) (setting_line y) (list_text xs ++ rest) (list_text ys ++ more) in
+    grind (arith, parts, line_has_no_break x, line_has_no_break y, text_of_more, lines_determine_settings x y)
 
 -- two lists are equal if one text begins with the lines of each, and no further setting's line follows them
 same_lists : (xs ys : List Setting) (rest more : List ℕ) → AllByRecursion IsSettingInRange xs
@@ -275,7 +277,8 @@ no_line_without_break bytes without x rest r e =
 
 pub no_line_by_first : (bytes line rest : List ℕ) → IsFirstPart 10 bytes line rest
     → ((x : Setting) → IsSettingInRange x → setting_line x ≢ line) → BeginsWithNoSetting bytes
-no_line_by_first bytes line rest first none x other r e = grind (arith, texts_tell_first_parts, line_has_no_break, none)
+no_line_by_first bytes line rest first none x other r e =
+    grind (arith, texts_determine_first_parts, line_has_no_break, none)
 
 -- ---- laws
 
@@ -293,8 +296,8 @@ pub not_longer : (bytes : List ℕ) (xs ys : List Setting) (rest more : List ℕ
     → BeginsWithNoSetting rest → length ys ≤ length xs
 not_longer bytes xs ys rest more a b = grind (arith, length-same_lines, recursion_from_All)
 
-pub texts_tell_lists : TextsTellLists
-texts_tell_lists bytes xs ys a b =
+pub texts_determine_lists : TextsDetermineLists
+texts_determine_lists bytes xs ys a b =
     (same_end bytes xs ys [] [] (BeginsWithSettingLines-IsListText bytes xs a)
     (BeginsWithSettingLines-IsListText bytes ys b) BeginsWithNoSetting-empty BeginsWithNoSetting-empty).0
 

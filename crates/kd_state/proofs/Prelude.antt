@@ -7,14 +7,15 @@ pub use Rattle.kd_state.specs.Changes.{IsKept, IsSeatOf, ChangesTo, MovesLug, Se
 pub use Rattle.kd_state.specs.Changes.{TheLetter, ThePin, TheReflector, TheRing, TheShown, TheSlot, Thing, TurnsWheel}
 pub use Rattle.kd_state.specs.Changes.{letters_at_cable, lug_place, other_lug, HasLugsInOrder}
 pub use Rattle.kd_state.specs.Costs.{bar_cost, cable_cost, column_letters, columns_of, costs_by, exactly_one}
-pub use Rattle.kd_state.specs.Laws.{AllowedWheelsLieInTheBox, CipherInTurn, ColumnsAreThePairs, CostTablesAreSquare}
-pub use Rattle.kd_state.specs.Laws.{DaysWheelsHaveTheirPlaces, EngineIsTheMachine, EquallySetDecipher, KeyInTurn}
-pub use Rattle.kd_state.specs.Laws.{ListsHaveNoFault, MachinesCanBeTurned, OnKeyIsItsCipher, OnKeyIsReady, OneListFault}
-pub use Rattle.kd_state.specs.Laws.{PlacesTellWheels, ReadingIsItsCipher, ReadingIsReady, RefusalsAreTold}
-pub use Rattle.kd_state.specs.Laws.{SettingsAreTold, SettingsKeepMachines, TellingIsMaking, TestsTellLetters}
-pub use Rattle.kd_state.specs.Laws.{TextsTellLists, TheDayDeciphersItself, ThirteenColumns}
-pub use Rattle.kd_state.specs.Laws.{TurnedEngineIsTheTurnedMachine, TurnedHasItsKey, TurnedHasTheDaysCipher}
-pub use Rattle.kd_state.specs.Laws.{TurnedIsOnKey}
+pub use Rattle.kd_state.specs.Laws.{AllowedWheelsLieInTheBox, CipherOfChunks, ColumnsAreThePairs, CostTablesAreSquare}
+pub use Rattle.kd_state.specs.Laws.{DaysWheelsHaveTheirPlaces, EngineEnciphersAsMachine, EquallySetDecipher}
+pub use Rattle.kd_state.specs.Laws.{KeyAfterChunks, ListsHaveNoFault, MachinesCanBeTurned, OnKeyEnciphersByDaysKey}
+pub use Rattle.kd_state.specs.Laws.{OnKeyIsReady, OneListFault, PlacesDetermineWheels, ReadsAsDayEnciphersAsDay}
+pub use Rattle.kd_state.specs.Laws.{ReadsAsDayIsReady, AllowedIsCarriedOut, SettingsChangeOnlyTheirThing}
+pub use Rattle.kd_state.specs.Laws.{SettingsKeepMachines, ChangeDeterminesResult, TestsDetermineLetters}
+pub use Rattle.kd_state.specs.Laws.{TextsDetermineLists, DaysEngineDeciphersItself, ThirteenColumns}
+pub use Rattle.kd_state.specs.Laws.{TurnedEngineEnciphersAsMachine, TurningChangesOnlyLetters, TurnedEnciphersByDaysKey}
+pub use Rattle.kd_state.specs.Laws.{TurnedStaysOnKey}
 pub use Rattle.kd_state.specs.Line.{BeginsWithSettingLines, BeginsWithSettingLine, BeginsWithNoSetting}
 pub use Rattle.kd_state.specs.Line.{IsSettingInRange, IsListText, IsSettingOfWords, list_text, on_off_text}
 pub use Rattle.kd_state.specs.Line.{setting_line, setting_words}
@@ -25,7 +26,7 @@ pub use Rattle.kd_state.specs.Machine.{letters_in_cables, ring_at, machine_ring,
 pub use Rattle.kd_state.specs.OnKey.{AreLettersOfPair, AreThePairs}
 pub use Rattle.kd_state.specs.OnKey.{IsRotorOnKey, HasPairLetters, OnKey, HaveSameLetters, ShowsWindow}
 pub use Rattle.kd_state.specs.Pins.{pin_at, pin_set, wheel_pins, with_pin}
-pub use Rattle.kd_state.specs.Setting.{Carries, Leads, are_new_letters, cable_at, cable_with}
+pub use Rattle.kd_state.specs.Setting.{Carries, Leads, are_new_and_distinct, cable_at, cable_with}
 pub use Rattle.kd_state.specs.Setting.{cable_without, machine_after, has_letter, is_same_place}
 pub use Rattle.kd_state.specs.Setting.{refusal_reasons, why_refused}
 pub use Rattle.kd_state.specs.Setting.{with_lug, seat_without}

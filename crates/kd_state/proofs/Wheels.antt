@@ -1,16 +1,16 @@
 -- Lemmas on wheels and reflectors by their names, and on the slots and places that wheels have.
-use Rattle.kd_state.proofs.Prelude.{place_in_box, same_reflector, same_wheel}
-use Rattle.kd_state.proofs.Prelude.{AllowedWheelsLieInTheBox, DaysWheelsHaveTheirPlaces, PlacesTellWheels, IsSeatedAt}
-use Rattle.kd_state.proofs.Prelude.{ShowsWindow, Day, OfPins, PinDay, AllByRecursion, All-from_recursion}
-use Rattle.kd_state.proofs.Prelude.{recursion_from_All, seats_of_wheels, Parts, Pin, PinParts, SheetWheel}
-use Rattle.kd_state.proofs.Prelude.{box_of, reflector_text, slots_of, wheel_text, wheels_for, Model}
-use Rattle.kd_state.proofs.Prelude.{Reflector, Wheel, I, cases_Bool, eqb-true, false_from_ne_true, leb-true}
-use Rattle.kd_state.proofs.Prelude.{Decides-like, Contains-append_left, Contains-append_right, Contains-get_or}
-use Rattle.kd_state.proofs.Prelude.{passes_at_first, position_or_len_is, is_member-Decides, same_Some, slice_get-get_or}
-use Rattle.kd_state.proofs.Prelude.{slice_get-map, Decides, pointwise_decides, All, list_any, position_or_len}
-use Rattle.kd_state.proofs.Prelude.{option_eq, unwrap_or, Bool, Contains, List, Option, [], ap, arith, false, find}
-use Rattle.kd_state.proofs.Prelude.{get_or, length, refl, rules, sym, true, ℕ, ◌<◌, ◌↔◌, ◌∙◌, ◌∷◌, ◌≡◌, ◌≢◌, ◌≤◌}
-use Rattle.kd_state.proofs.Prelude.{pointwise, ◌&&◌, drop, subst, take, ◌-◌}
+use Rattle.kd_state.proofs.Prelude.{place_in_box, same_reflector, same_wheel, AllowedWheelsLieInTheBox}
+use Rattle.kd_state.proofs.Prelude.{DaysWheelsHaveTheirPlaces, PlacesDetermineWheels, IsSeatedAt, ShowsWindow, Day}
+use Rattle.kd_state.proofs.Prelude.{OfPins, PinDay, AllByRecursion, All-from_recursion, recursion_from_All}
+use Rattle.kd_state.proofs.Prelude.{seats_of_wheels, Parts, Pin, PinParts, SheetWheel, box_of, reflector_text, slots_of}
+use Rattle.kd_state.proofs.Prelude.{wheel_text, wheels_for, Model, Reflector, Wheel, I, cases_Bool, eqb-true}
+use Rattle.kd_state.proofs.Prelude.{false_from_ne_true, leb-true, Decides-like, Contains-append_left}
+use Rattle.kd_state.proofs.Prelude.{Contains-append_right, Contains-get_or, passes_at_first, position_or_len_is}
+use Rattle.kd_state.proofs.Prelude.{is_member-Decides, same_Some, slice_get-get_or, slice_get-map, Decides}
+use Rattle.kd_state.proofs.Prelude.{pointwise_decides, All, list_any, position_or_len, option_eq, unwrap_or, Bool}
+use Rattle.kd_state.proofs.Prelude.{Contains, List, Option, [], ap, arith, false, find, get_or, length, refl, rules}
+use Rattle.kd_state.proofs.Prelude.{sym, true, ℕ, ◌<◌, ◌↔◌, ◌∙◌, ◌∷◌, ◌≡◌, ◌≢◌, ◌≤◌, pointwise, ◌&&◌, drop, subst, take}
+use Rattle.kd_state.proofs.Prelude.{◌-◌}
 use Rattle.std.proofs.lemmas.List.{take_all}
 use Rattle.std.specs.Prelude.{nat_le}
 use Rattle.{kd_tables.specs.contracts.wheel.Wheel.the_type, kd_tables.specs.declared.model.Model.TheVariants.M4}
@@ -127,8 +127,8 @@ at_its_place : (model : Model) (wheel : Wheel) → Contains (box_of model) wheel
     → wheel ≡ get_or (box_of model) (place_in_box model wheel) I
 at_its_place model wheel h = grind (arith, same_wheel-Decides, passes_at_first, place_within)
 
-pub places_tell_wheels : PlacesTellWheels
-places_tell_wheels model wheel other h k e =
+pub places_determine_wheels : PlacesDetermineWheels
+places_determine_wheels model wheel other h k e =
     at_its_place model wheel h ∙ ap (λ place. get_or (box_of model) place I) e ∙ sym (at_its_place model other k)
 
 IsSeatedAt-seats : (wheels : List SheetWheel) (i : ℕ) (d : SheetWheel) → i < length wheels
@@ -137,7 +137,7 @@ IsSeatedAt-seats wheels i d lt = grind (arith, slice_get-map, slice_get-get_or)
 
 pub days_wheels_have_their_places : DaysWheelsHaveTheirPlaces
 days_wheels_have_their_places model wheels h i j d before within same =
-    grind (arith, IsSeatedAt-seats, places_tell_wheels, allowed_in_box, h.allowed, h.apart)
+    grind (arith, IsSeatedAt-seats, places_determine_wheels, allowed_in_box, h.allowed, h.apart)
 
 seat_Decides : (one other : Option Wheel) → Decides (option_eq (sameb the_type) one other) (one ≡ other)
 seat_Decides one other = grind (arith, same_true, same_false, same_Some)

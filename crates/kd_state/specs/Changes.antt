@@ -49,7 +49,7 @@ pub record KeepsAllBut (IsTouched : Thing → Type 0) (m n : Parts) : Type 0 whe
 abbrev pub SetsOnly : Thing → Parts → Parts → Type 0
 SetsOnly thing m n = KeepsAllBut (λ other. other ≡ thing) m n
 
--- ---- What each setting changes, as the readers of a machine show it, without using `machine_after`.
+-- ---- What each setting changes, as the getters of a machine show it, without using `machine_after`.
 
 -- the letters in cable `cable`; none if the machine lacks this cable
 abbrev pub letters_at_cable : Parts → ℕ → List ℕ
@@ -120,7 +120,7 @@ ChangesTo m (PinTo wheel letter effective) n =
     (machine_pin n wheel letter ≡ Some effective) × SetsOnly (ThePin wheel letter) m n
 ChangesTo m (LugTo bar lug place) n = MovesLug m bar lug place n × SetsOnly (TheBar bar) m n
 
--- ---- Which settings a machine carries out, as its readers show it.
+-- ---- Which settings a machine carries out, as its getters show it.
 
 -- The machine has the cable, and the cable has fewer than two letters.
 abbrev pub HasLooseEnd : Parts → ℕ → Type 0

@@ -17,7 +17,7 @@ use Rattle.kd_state.specs.SameParts.{same_wheel, same_reflector, place_in_box}
 use Rattle.kd_state.specs.Machine.{AreLegalSeats, IsMachine}
 use Rattle.kd_state.specs.Setting.{has_letter, why_refused, Carries, Leads}
 use Rattle.kd_state.specs.Changes.{ChangesTo, AllowsSetting}
-use Rattle.kd_state.specs.Words.{IsWord}
+use Rattle.kd_state.specs.LineWords.{IsWord}
 use Rattle.kd_state.specs.Line.{setting_words, setting_line, IsSettingInRange, IsListText, IsListFault}
 use Rattle.kd_state.specs.SheetDay.{seats_of_wheels, Day, IsLegalDay}
 use Rattle.kd_state.specs.OnKey.{HaveSameLetters, OnKey, ReadsAs}
@@ -26,12 +26,12 @@ use Rattle.kd_state.specs.TwoCiphers.{EngineKey, cipher, engine_key_after, key_w
 use Rattle.kd_state.specs.TwoCiphers.{window_of, physical_key, physical_cipher, sheet_key, sheet_cipher, IsTurnedTo}
 
 -- Two wheels have the same name exactly if they are the same wheel.
-abbrev pub NamesTellWheels : Type 0
-NamesTellWheels = (wheel other : Wheel) → Decides (same_wheel wheel other) (wheel ≡ other)
+abbrev pub NamesDetermineWheels : Type 0
+NamesDetermineWheels = (wheel other : Wheel) → Decides (same_wheel wheel other) (wheel ≡ other)
 
 -- Two reflectors have the same name exactly if they are the same reflector.
-abbrev pub NamesTellReflectors : Type 0
-NamesTellReflectors = (reflector other : Reflector) → Decides (same_reflector reflector other) (reflector ≡ other)
+abbrev pub NamesDetermineReflectors : Type 0
+NamesDetermineReflectors = (reflector other : Reflector) → Decides (same_reflector reflector other) (reflector ≡ other)
 
 -- A wheel that is allowed in a slot of a model is in the model's box.
 abbrev pub AllowedWheelsLieInTheBox : Type 0
@@ -44,8 +44,9 @@ WheelsHavePlaces =
     (model : Model) (wheel : Wheel) → Contains (box_of model) wheel → place_in_box model wheel < length (box_of model)
 
 -- Different wheels of a box have different places in the box.
-abbrev pub PlacesTellWheels : Type 0
-PlacesTellWheels = (model : Model) (wheel other : Wheel) → Contains (box_of model) wheel → Contains (box_of model) other
+abbrev pub PlacesDetermineWheels : Type 0
+PlacesDetermineWheels =
+    (model : Model) (wheel other : Wheel) → Contains (box_of model) wheel → Contains (box_of model) other
     → place_in_box model wheel ≡ place_in_box model other → wheel ≡ other
 
 -- Two wheels of one day have different places in the model's box.
@@ -53,7 +54,7 @@ abbrev pub DaysWheelsHaveTheirPlaces : Type 0
 DaysWheelsHaveTheirPlaces = (model : Model) (wheels : List SheetWheel) → AreLegalSeats model (seats_of_wheels wheels)
     → AllPairs (λ (w other : SheetWheel). place_in_box model w.wheel ≢ place_in_box model other.wheel) wheels
 
--- ---- The laws of settings: each is refused or has one result, which is just the change that the readers show.
+-- ---- The laws of settings: each is refused or has one result, which is just the change that the getters show.
 
 -- After a setting, a machine's parts are legal, and each cable's letters are in alphabetical order.
 abbrev pub SettingsKeepMachines : Type 0
@@ -71,43 +72,43 @@ RefusesOrCarries =
     → MatchOption (why_refused m x) ((n : Parts) × Carries m x n) (λ why. (n : Parts) → ¬ (Carries m x n))
 
 -- Carrying out a setting on a machine has only one result.
-abbrev pub CarriesToOne : Type 0
-CarriesToOne = (m n o : Parts) (x : Setting) → Carries m x n → Carries m x o → n ≡ o
+abbrev pub CarryingHasOneResult : Type 0
+CarryingHasOneResult = (m n o : Parts) (x : Setting) → Carries m x n → Carries m x o → n ≡ o
 
 -- Carrying out a list of settings on a machine has only one result.
-abbrev pub LeadsToOne : Type 0
-LeadsToOne = (m n o : Parts) (xs : List Setting) → Leads m xs n → Leads m xs o → n ≡ o
+abbrev pub ListsHaveOneResult : Type 0
+ListsHaveOneResult = (m n o : Parts) (xs : List Setting) → Leads m xs n → Leads m xs o → n ≡ o
 
 -- A setting that is carried out changes what it is meant to change, and nothing else.
-abbrev pub SettingsAreTold : Type 0
-SettingsAreTold = (m n : Parts) (x : Setting) → IsMachine m → Carries m x n → ChangesTo m x n
+abbrev pub SettingsChangeOnlyTheirThing : Type 0
+SettingsChangeOnlyTheirThing = (m n : Parts) (x : Setting) → IsMachine m → Carries m x n → ChangesTo m x n
 
 -- If machine `m` allows a setting, and `n` differs from `m` by the setting's change alone, the setting turns `m` into
 -- `n`.
-abbrev pub TellingIsMaking : Type 0
-TellingIsMaking =
+abbrev pub ChangeDeterminesResult : Type 0
+ChangeDeterminesResult =
     (m n : Parts) (x : Setting) → IsMachine m → IsMachine n → IsSettingInRange x → AllowsSetting m x
     → ChangesTo m x n → Carries m x n
 
 -- A machine carries a setting out exactly if `AllowsSetting` holds.
-abbrev pub RefusalsAreTold : Type 0
-RefusalsAreTold = (m : Parts) (x : Setting) → IsMachine m → (why_refused m x ≡ None) ↔ AllowsSetting m x
+abbrev pub AllowedIsCarriedOut : Type 0
+AllowedIsCarriedOut = (m : Parts) (x : Setting) → IsMachine m → (why_refused m x ≡ None) ↔ AllowsSetting m x
 
 -- A wheel can be put into a slot of a rotor machine if it is allowed there, and only then.
-abbrev pub SeatsAreByTheTables : Type 0
-SeatsAreByTheTables =
+abbrev pub SeatsFollowTables : Type 0
+SeatsFollowTables =
     (m : RotorParts) (slot : ℕ) (wheel : Wheel)
     → (why_refused (Rotor m) (Seat slot wheel) ≡ None) ↔ Contains (wheels_for m.model slot) wheel
 
 -- A reflector can be put into a rotor machine exactly if the model has this reflector.
-abbrev pub ReflectorsAreByTheTables : Type 0
-ReflectorsAreByTheTables =
+abbrev pub ReflectorsFollowTables : Type 0
+ReflectorsFollowTables =
     (m : RotorParts) (reflector : Reflector)
     → (why_refused (Rotor m) (SeatReflector reflector) ≡ None) ↔ Contains (reflectors_of m.model) reflector
 
 -- The ring of a wheel can be set on a rotor machine exactly if the model has this wheel.
-abbrev pub RingsAreByTheTables : Type 0
-RingsAreByTheTables =
+abbrev pub RingsFollowTables : Type 0
+RingsFollowTables =
     (m : RotorParts) (wheel : Wheel) (letter : ℕ)
     → (why_refused (Rotor m) (RingTo wheel letter) ≡ None) ↔ Contains (box_of m.model) wheel
 
@@ -118,12 +119,13 @@ abbrev pub SettingsHaveWords : Type 0
 SettingsHaveWords = (x : Setting) → IsSettingInRange x → All IsWord (setting_words x)
 
 -- Different settings have different lines.
-abbrev pub LinesTellSettings : Type 0
-LinesTellSettings = (x y : Setting) → IsSettingInRange x → IsSettingInRange y → setting_line x ≡ setting_line y → x ≡ y
+abbrev pub LinesDetermineSettings : Type 0
+LinesDetermineSettings =
+    (x y : Setting) → IsSettingInRange x → IsSettingInRange y → setting_line x ≡ setting_line y → x ≡ y
 
 -- Bytes are the text of at most one list of settings.
-abbrev pub TextsTellLists : Type 0
-TextsTellLists = (bytes : List ℕ) (xs ys : List Setting) → IsListText bytes xs → IsListText bytes ys → xs ≡ ys
+abbrev pub TextsDetermineLists : Type 0
+TextsDetermineLists = (bytes : List ℕ) (xs ys : List Setting) → IsListText bytes xs → IsListText bytes ys → xs ≡ ys
 
 -- The text of a list of settings has no fault.
 abbrev pub ListsHaveNoFault : Type 0
@@ -138,21 +140,21 @@ OneListFault =
 -- ---- The laws of ciphers: machines on the day's key encipher as the day asks, and read each other's texts.
 
 -- An engine with a machine's key enciphers as the machine itself does.
-abbrev pub EngineIsTheMachine : Type 0
-EngineIsTheMachine = (m : Parts) (text : List ℕ) → cipher (physical_key m) text ≡ physical_cipher m text
+abbrev pub EngineEnciphersAsMachine : Type 0
+EngineEnciphersAsMachine = (m : Parts) (text : List ℕ) → cipher (physical_key m) text ≡ physical_cipher m text
 
 -- An engine with a machine's key enciphers as the machine does, also after both are turned to the same letters.
-abbrev pub TurnedEngineIsTheTurnedMachine : Type 0
-TurnedEngineIsTheTurnedMachine = (m n : Parts) (window text : List ℕ) → IsTurnedTo m window n
+abbrev pub TurnedEngineEnciphersAsMachine : Type 0
+TurnedEngineEnciphersAsMachine = (m n : Parts) (window text : List ℕ) → IsTurnedTo m window n
     → cipher (key_with_window (physical_key m) window) text ≡ physical_cipher n text
 
 -- If a machine is set as the day says and shows the day's letters, it is ready to encipher.
-abbrev pub ReadingIsReady : Type 0
-ReadingIsReady = (m : Parts) (s : Day) → IsMachine m → IsLegalDay s → ReadsAs m s → IsReady m
+abbrev pub ReadsAsDayIsReady : Type 0
+ReadsAsDayIsReady = (m : Parts) (s : Day) → IsMachine m → IsLegalDay s → ReadsAs m s → IsReady m
 
 -- If a machine is set as the day says and shows the day's letters, it enciphers as the day asks.
-abbrev pub ReadingIsItsCipher : Type 0
-ReadingIsItsCipher =
+abbrev pub ReadsAsDayEnciphersAsDay : Type 0
+ReadsAsDayEnciphersAsDay =
     (m : Parts) (s : Day) (text : List ℕ) → IsMachine m → IsLegalDay s → ReadsAs m s
     → physical_cipher m text ≡ sheet_cipher s text
 
@@ -162,14 +164,14 @@ OnKeyIsReady = (m : Parts) (s : Day) → IsMachine m → IsLegalDay s → OnKey 
 
 -- A machine on the day's key enciphers as the day asks, but it starts from the letters that it shows, not from the
 -- day's letters.
-abbrev pub OnKeyIsItsCipher : Type 0
-OnKeyIsItsCipher = (m : Parts) (s : Day) (text : List ℕ) → IsMachine m → IsLegalDay s → OnKey m s
+abbrev pub OnKeyEnciphersByDaysKey : Type 0
+OnKeyEnciphersByDaysKey = (m : Parts) (s : Day) (text : List ℕ) → IsMachine m → IsLegalDay s → OnKey m s
     → physical_cipher m text ≡ cipher (key_with_window (sheet_key s) (window_of m)) text
 
 -- If a machine on the day's key is turned to other letters, it then enciphers by the day's key, starting from these
 -- letters.
-abbrev pub TurnedHasTheDaysCipher : Type 0
-TurnedHasTheDaysCipher =
+abbrev pub TurnedEnciphersByDaysKey : Type 0
+TurnedEnciphersByDaysKey =
     (m n : Parts) (s : Day) (window text : List ℕ) → IsMachine m → IsLegalDay s → OnKey m s → IsTurnedTo m window n
     → physical_cipher n text ≡ cipher (key_with_window (sheet_key s) window) text
 
@@ -186,34 +188,35 @@ EquallySetDecipher =
     → window_of m ≡ window_of n → All (λ letter. letter < 26) text → physical_cipher n (physical_cipher m text) ≡ text
 
 -- An engine on the day's key deciphers its own ciphertext, if it is turned back to the letters with which it began.
-abbrev pub TheDayDeciphersItself : Type 0
-TheDayDeciphersItself = (s : Day) (window text : List ℕ) → IsLegalDay s → All (λ letter. letter < 26) text
+abbrev pub DaysEngineDeciphersItself : Type 0
+DaysEngineDeciphersItself = (s : Day) (window text : List ℕ) → IsLegalDay s → All (λ letter. letter < 26) text
     → cipher (key_with_window (sheet_key s) window) (cipher (key_with_window (sheet_key s) window) text) ≡ text
 
 -- A machine on the day's key stays on the key when it is turned to other letters.
-abbrev pub TurnedIsOnKey : Type 0
-TurnedIsOnKey = (m n : Parts) (s : Day) (window : List ℕ) → IsTurnedTo m window n → OnKey m s → OnKey n s
+abbrev pub TurnedStaysOnKey : Type 0
+TurnedStaysOnKey = (m n : Parts) (s : Day) (window : List ℕ) → IsTurnedTo m window n → OnKey m s → OnKey n s
 
 -- If a machine is turned to other letters, only the letters in its key change.
-abbrev pub TurnedHasItsKey : Type 0
-TurnedHasItsKey =
+abbrev pub TurningChangesOnlyLetters : Type 0
+TurningChangesOnlyLetters =
     (m n : Parts) (window : List ℕ) → IsTurnedTo m window n → physical_key n ≡ key_with_window (physical_key m) window
 
 -- A text can be enciphered in two chunks, the second with the key that the engine has after the first.
-abbrev pub CipherInTurn : Type 0
-CipherInTurn =
+abbrev pub CipherOfChunks : Type 0
+CipherOfChunks =
     (key : EngineKey) (first rest : List ℕ)
     → cipher key (first ++ rest) ≡ cipher key first ++ cipher (engine_key_after key (length first)) rest
 
 -- The key after `m` letters, and then `n` more letters, is the key after `m + n` letters.
-abbrev pub KeyInTurn : Type 0
-KeyInTurn = (key : EngineKey) (m n : ℕ) → engine_key_after (engine_key_after key m) n ≡ engine_key_after key (m + n)
+abbrev pub KeyAfterChunks : Type 0
+KeyAfterChunks =
+    (key : EngineKey) (m n : ℕ) → engine_key_after (engine_key_after key m) n ≡ engine_key_after key (m + n)
 
 -- ---- The laws of columns and costs.
 
 -- Two lists have the same letters exactly if `has_letter` finds the same letters in both lists.
-abbrev pub TestsTellLetters : Type 0
-TestsTellLetters = (xs ys : List ℕ) → HaveSameLetters xs ys
+abbrev pub TestsDetermineLetters : Type 0
+TestsDetermineLetters = (xs ys : List ℕ) → HaveSameLetters xs ys
     ↔ ((letter : ℕ) → has_letter xs letter ≡ has_letter ys letter)
 
 -- A day with at most 13 pairs has 13 columns in the cost table.
@@ -226,8 +229,8 @@ ColumnsAreThePairs =
     (pairs : List (ℕ × ℕ)) (place : ℕ) → slice_index_or (columns_of pairs) place None ≡ slice_get pairs place
 
 -- It takes at most 4 settings to give a cable the letters of a column.
-abbrev pub CablesCostFour : Type 0
-CablesCostFour = (cable : Option ℕ × Option ℕ) (column : Option (ℕ × ℕ)) → cable_cost cable column ≤ 4
+abbrev pub CablesCostAtMostFour : Type 0
+CablesCostAtMostFour = (cable : Option ℕ × Option ℕ) (column : Option (ℕ × ℕ)) → cable_cost cable column ≤ 4
 
 -- Each row of a cost table has as many costs as the table has rows.
 abbrev pub CostTablesAreSquare : Type 0

@@ -93,8 +93,8 @@ pub record IsMachine (m : Parts) : Type 0 where
   pub legal : IsLegal m
   pub cables : with_cables_in_order m ≡ m
 
--- ---- What the readers of a machine show; `None` for a thing that the machine lacks.
--- Test: kd_trials/src/state/reading.rt
+-- ---- What the getters of a machine show; `None` for a thing that the machine lacks.
+-- Test: kd_trials/src/state/getters.rt
 
 abbrev pub model_of : Parts → Model
 model_of (Rotor m) = m.model

@@ -30,9 +30,9 @@ abbrev pub has_letter : List ℕ → ℕ → Bool
 has_letter letters letter = list_any (λ other. nat_eq other letter) letters
 
 -- whether the letters of the first list differ from each other, and from all letters of the second list
-abbrev pub are_new_letters : List ℕ → List ℕ → Bool
-are_new_letters [] others = true
-are_new_letters (first ∷ rest) others = not (has_letter (rest ++ others) first) && are_new_letters rest others
+abbrev pub are_new_and_distinct : List ℕ → List ℕ → Bool
+are_new_and_distinct [] others = true
+are_new_and_distinct (first ∷ rest) others = not (has_letter (rest ++ others) first) && are_new_and_distinct rest others
 
 -- the letters in cable `cable` (cables are counted from 1); none if there is no such cable
 abbrev pub cable_at : RotorParts → ℕ → Option ℕ × Option ℕ

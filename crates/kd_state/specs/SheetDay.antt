@@ -98,7 +98,7 @@ abbrev pub IsLegalDay : Day → Type 0
 IsLegalDay (OfRotors s) = IsLegalRotorDay s
 IsLegalDay (OfPins s) = IsLegalPinDay s
 
--- ---- What the readers of a day show.
+-- ---- What the getters of a day show.
 -- Test: kd_trials/src/state/days.rt
 
 abbrev pub day_number : Day → ℕ

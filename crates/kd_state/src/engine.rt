@@ -9,7 +9,7 @@ ghost use Rattle.kd_drum.specs.Converter.{pin_key_turned};
 ghost use Rattle.kd_state.specs.Machine.{AreLetters, AreOnWheels};
 ghost use Rattle.kd_state.specs.TwoCiphers.{sheet_key};
 
-use crate::facts::learn_letters;
+use crate::prover_facts::learn_letters;
 use crate::sheet_day::SheetDay;
 use crate::sheet_day::entry::Entry;
 use crate::sheet_day::rotor_entry::SheetWheel;
@@ -48,7 +48,7 @@ impl Model for Engine {
 impl Engine {
     ghost use Rattle.std.specs.Prelude.{◌⊎◌, length};
     ghost use Rattle.kd_pins.specs.PinWheels.{pins_of};
-    ghost use Rattle.kd_state.specs.Seated.{key_of_wheels};
+    ghost use Rattle.kd_state.specs.SeatedWheels.{key_of_wheels};
     ghost use Rattle.kd_state.specs.TwoCiphers.{OfWheels, OfDrum, cipher, engine_key_after, key_with_window, IsWindow};
 
     /// Enciphers or deciphers `text` in place. The wheels step on with each letter.

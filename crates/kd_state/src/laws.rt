@@ -1,34 +1,35 @@
 //! Laws of machines, settings and days.
-ghost use Rattle.kd_state.specs.Words.{LinesTellWords, LinesSplitIntoWords, PartsMakeLines, WordsMakeOneLine};
-ghost use Rattle.kd_state.specs.Words.{TextsTellFirstParts, NumbersAreWords, LettersAreWords};
-ghost use Rattle.kd_state.specs.Laws.{NamesTellWheels, NamesTellReflectors, AllowedWheelsLieInTheBox};
-ghost use Rattle.kd_state.specs.Laws.{WheelsHavePlaces, PlacesTellWheels, DaysWheelsHaveTheirPlaces};
-ghost use Rattle.kd_state.specs.Laws.{SettingsHaveWords, LinesTellSettings, TextsTellLists, ListsHaveNoFault};
+ghost use Rattle.kd_state.specs.LineWords.{LinesDetermineWords, LinesSplitIntoWords, PartsMakeLines, WordsMakeOneLine};
+ghost use Rattle.kd_state.specs.LineWords.{TextsDetermineFirstParts, NumbersAreWords, LettersAreWords};
+ghost use Rattle.kd_state.specs.Laws.{NamesDetermineWheels, NamesDetermineReflectors, AllowedWheelsLieInTheBox};
+ghost use Rattle.kd_state.specs.Laws.{WheelsHavePlaces, PlacesDetermineWheels, DaysWheelsHaveTheirPlaces};
+ghost use Rattle.kd_state.specs.Laws.{SettingsHaveWords, LinesDetermineSettings, TextsDetermineLists, ListsHaveNoFault};
 ghost use Rattle.kd_state.specs.Laws.{OneListFault, SettingsKeepMachines, ListsKeepMachines, RefusesOrCarries};
-ghost use Rattle.kd_state.specs.Laws.{CarriesToOne, LeadsToOne, SettingsAreTold, TellingIsMaking, RefusalsAreTold};
-ghost use Rattle.kd_state.specs.Laws.{SeatsAreByTheTables, ReflectorsAreByTheTables, RingsAreByTheTables};
-ghost use Rattle.kd_state.specs.Laws.{EngineIsTheMachine, TurnedEngineIsTheTurnedMachine, ReadingIsReady};
-ghost use Rattle.kd_state.specs.Laws.{ReadingIsItsCipher, OnKeyIsReady, OnKeyIsItsCipher, TurnedIsOnKey};
-ghost use Rattle.kd_state.specs.Laws.{TurnedHasItsKey, TurnedHasTheDaysCipher, MachinesCanBeTurned};
-ghost use Rattle.kd_state.specs.Laws.{EquallySetDecipher, TheDayDeciphersItself, CipherInTurn, KeyInTurn};
-ghost use Rattle.kd_state.specs.Laws.{TestsTellLetters, ThirteenColumns, ColumnsAreThePairs, CablesCostFour};
+ghost use Rattle.kd_state.specs.Laws.{CarryingHasOneResult, ListsHaveOneResult, SettingsChangeOnlyTheirThing};
+ghost use Rattle.kd_state.specs.Laws.{ChangeDeterminesResult, AllowedIsCarriedOut, SeatsFollowTables};
+ghost use Rattle.kd_state.specs.Laws.{ReflectorsFollowTables, RingsFollowTables, EngineEnciphersAsMachine};
+ghost use Rattle.kd_state.specs.Laws.{TurnedEngineEnciphersAsMachine, ReadsAsDayIsReady, ReadsAsDayEnciphersAsDay};
+ghost use Rattle.kd_state.specs.Laws.{OnKeyIsReady, OnKeyEnciphersByDaysKey, TurnedStaysOnKey};
+ghost use Rattle.kd_state.specs.Laws.{TurningChangesOnlyLetters, TurnedEnciphersByDaysKey, MachinesCanBeTurned};
+ghost use Rattle.kd_state.specs.Laws.{EquallySetDecipher, DaysEngineDeciphersItself, CipherOfChunks, KeyAfterChunks};
+ghost use Rattle.kd_state.specs.Laws.{TestsDetermineLetters, ThirteenColumns, ColumnsAreThePairs, CablesCostAtMostFour};
 ghost use Rattle.kd_state.specs.Laws.{CostTablesAreSquare};
 
 /// If words are joined into a line with single spaces, splitting the line at its spaces gives the words again.
 ///
 /// The parts of a split line, joined with single spaces, make this line again. A line of words has no LF.
-#[tactic(auto, using(crate::proofs::Lines::lines_tell_words, crate::proofs::Lines::lines_split_into_words, crate::proofs::Lines::parts_make_lines, crate::proofs::Lines::words_make_one_line))]
-pub fn lines_tell_words()
-    ensures told { LinesTellWords }
+#[tactic(auto, using(crate::proofs::Lines::lines_determine_words, crate::proofs::Lines::lines_split_into_words, crate::proofs::Lines::parts_make_lines, crate::proofs::Lines::words_make_one_line))]
+pub fn lines_determine_words()
+    ensures determined { LinesDetermineWords }
     ensures split { LinesSplitIntoWords }
     ensures joined { PartsMakeLines }
     ensures one_line { WordsMakeOneLine }
 {}
 
 /// A text can be split at the first occurrence of a given byte, such as a space or LF, in only one way.
-#[tactic(auto, using(crate::proofs::Lines::texts_tell_first_parts))]
-pub fn texts_tell_first_parts()
-    ensures { TextsTellFirstParts }
+#[tactic(auto, using(crate::proofs::Lines::texts_determine_first_parts))]
+pub fn texts_determine_first_parts()
+    ensures { TextsDetermineFirstParts }
 {}
 
 /// Decimal numbers below 2^64 and single letters are words: they aren't empty, and have no space and no LF.
@@ -48,9 +49,9 @@ pub fn settings_have_words()
 ///
 /// The text of a list has no fault, and no text has two faults. For a text that isn't a list, `read_list` returns
 /// the fault.
-pub fn texts_tell_settings()
-    ensures setting { LinesTellSettings }
-    ensures list { TextsTellLists }
+pub fn texts_determine_settings()
+    ensures setting { LinesDetermineSettings }
+    ensures list { TextsDetermineLists }
     ensures no_fault { ListsHaveNoFault }
     ensures one_fault { OneListFault }
 {}
@@ -60,14 +61,14 @@ pub fn texts_tell_settings()
 /// A wheel that is allowed in a slot is in the model's box. Each wheel has its own place in the box, so two
 /// wheels of a day have different places. Two lists have the same letters exactly if each letter is in both or in
 /// neither.
-pub fn parts_are_told_apart()
-    ensures names { NamesTellWheels }
-    ensures reflectors { NamesTellReflectors }
+pub fn parts_have_distinct_names_and_places()
+    ensures names { NamesDetermineWheels }
+    ensures reflectors { NamesDetermineReflectors }
     ensures in_box { AllowedWheelsLieInTheBox }
     ensures within { WheelsHavePlaces }
-    ensures wheels { PlacesTellWheels }
+    ensures wheels { PlacesDetermineWheels }
     ensures days { DaysWheelsHaveTheirPlaces }
-    ensures letters { TestsTellLetters }
+    ensures letters { TestsDetermineLetters }
 {}
 
 /// After a setting or a list of settings is carried out, the machine's parts are still legal.
@@ -79,23 +80,23 @@ pub fn settings_keep_machines()
 /// A machine either refuses a setting or carries the setting out.
 ///
 /// Carrying out a setting, or a list of settings, has only one result.
-#[tactic(auto, using(crate::proofs::Telling::Refusing::refuses_or_carries, crate::proofs::Telling::Refusing::carries_to_one, crate::proofs::Telling::Refusing::leads_to_one))]
+#[tactic(auto, using(crate::proofs::SettingEffects::Refusals::refuses_or_carries, crate::proofs::SettingEffects::Refusals::carries_unique, crate::proofs::SettingEffects::Refusals::leads_unique))]
 pub fn a_setting_is_refused_or_carried()
     ensures either { RefusesOrCarries }
-    ensures to_one { CarriesToOne }
-    ensures lists_to_one { LeadsToOne }
+    ensures one_result { CarryingHasOneResult }
+    ensures lists { ListsHaveOneResult }
 {}
 
 /// A setting that is carried out changes what it is meant to change, and nothing else.
 ///
-/// The machine's readers, such as `slot` and `ring`, show the change. Conversely, if a machine allows a setting,
+/// The machine's getters, such as `slot` and `ring`, show the change. Conversely, if a machine allows a setting,
 /// and another machine differs by the setting's change alone, the setting turns the first machine into the
-/// second. What the readers show also determines which settings are refused.
-#[tactic(auto, using(crate::proofs::Telling::Refusing::Changing::settings_are_told, crate::proofs::Telling::telling_is_making, crate::proofs::Telling::Refusing::refusals_are_told))]
-pub fn readers_tell_what_settings_change()
-    ensures told { SettingsAreTold }
-    ensures made { TellingIsMaking }
-    ensures refused { RefusalsAreTold }
+/// second. What the getters show also determines which settings are refused.
+#[tactic(auto, using(crate::proofs::SettingEffects::Refusals::Changes::settings_change_only_their_thing, crate::proofs::SettingEffects::change_determines_result, crate::proofs::SettingEffects::Refusals::allowed_is_carried_out))]
+pub fn getters_show_what_settings_change()
+    ensures change { SettingsChangeOnlyTheirThing }
+    ensures determined { ChangeDeterminesResult }
+    ensures allowed { AllowedIsCarriedOut }
 {}
 
 /// A rotor machine refuses wheels, reflectors and rings just as the tables of its model say.
@@ -103,31 +104,31 @@ pub fn readers_tell_what_settings_change()
 /// The machine refuses a wheel that isn't allowed in the slot, and a reflector that the model lacks. It refuses to set
 /// the ring of a wheel that the model lacks. It refuses no other wheels, reflectors or rings.
 pub fn tables_say_what_is_refused()
-    ensures seats { SeatsAreByTheTables }
-    ensures reflectors { ReflectorsAreByTheTables }
-    ensures rings { RingsAreByTheTables }
+    ensures seats { SeatsFollowTables }
+    ensures reflectors { ReflectorsFollowTables }
+    ensures rings { RingsFollowTables }
 {}
 
 /// An engine made from a machine enciphers as the machine does, also after both are turned to the same letters.
 #[tactic(auto, using(crate::proofs::Keys::engine_cipher, crate::proofs::Keys::turned_engine))]
 pub fn engines_encipher_as_their_machines()
-    ensures standing { EngineIsTheMachine }
-    ensures turned { TurnedEngineIsTheTurnedMachine }
+    ensures standing { EngineEnciphersAsMachine }
+    ensures turned { TurnedEngineEnciphersAsMachine }
 {}
 
 /// If a machine is set as the day says and shows the day's letters, it is ready, and enciphers as the day asks.
 #[tactic(auto, using(crate::proofs::Keys::reading_ready, crate::proofs::Keys::reading_cipher))]
-pub fn reading_as_the_day_is_its_cipher()
-    ensures ready { ReadingIsReady }
-    ensures cipher { ReadingIsItsCipher }
+pub fn reads_as_day_enciphers_as_day()
+    ensures ready { ReadsAsDayIsReady }
+    ensures cipher { ReadsAsDayEnciphersAsDay }
 {}
 
 /// A machine on the day's key is ready. It enciphers as the day asks, but it starts from the letters that it shows, not
 /// from the day's letters.
 #[tactic(auto, using(crate::proofs::Keys::on_key_ready, crate::proofs::Keys::on_key_cipher))]
-pub fn being_on_the_key_is_its_cipher()
+pub fn on_key_enciphers_by_days_key()
     ensures ready { OnKeyIsReady }
-    ensures cipher { OnKeyIsItsCipher }
+    ensures cipher { OnKeyEnciphersByDaysKey }
 {}
 
 /// If a machine is turned to other letters, the rest of its key stays the same.
@@ -136,15 +137,15 @@ pub fn being_on_the_key_is_its_cipher()
 /// the letters that it shows.
 #[tactic(auto, using(crate::proofs::Keys::turned_key, crate::proofs::Keys::turned_on_key, crate::proofs::Keys::turned_cipher))]
 pub fn turning_keeps_the_key()
-    ensures key { TurnedHasItsKey }
-    ensures on_key { TurnedIsOnKey }
-    ensures cipher { TurnedHasTheDaysCipher }
+    ensures key { TurningChangesOnlyLetters }
+    ensures on_key { TurnedStaysOnKey }
+    ensures cipher { TurnedEnciphersByDaysKey }
 {}
 
 /// A ready machine can be turned to any window.
 ///
 /// A window is one letter for each slot; or, on a Converter, one letter of each pin wheel.
-#[tactic(auto, using(crate::proofs::Seating::can_be_turned))]
+#[tactic(auto, using(crate::proofs::WheelsInSlots::can_be_turned))]
 pub fn ready_machines_can_be_turned()
     ensures { MachinesCanBeTurned }
 {}
@@ -155,14 +156,14 @@ pub fn ready_machines_can_be_turned()
 /// began.
 pub fn equally_set_machines_decipher()
     ensures another { EquallySetDecipher }
-    ensures itself { TheDayDeciphersItself }
+    ensures itself { DaysEngineDeciphersItself }
 {}
 
 /// A text can be enciphered in two chunks, the second with the key that the engine has after the first.
 #[tactic(auto, using(crate::proofs::Keys::cipher_in_turn, crate::proofs::Keys::key_in_turn))]
-pub fn pieces_are_enciphered_in_turn()
-    ensures cipher { CipherInTurn }
-    ensures after { KeyInTurn }
+pub fn chunks_are_enciphered_in_turn()
+    ensures cipher { CipherOfChunks }
+    ensures after { KeyAfterChunks }
 {}
 
 /// The cost tables are square, and it takes at most 4 settings to give a cable the letters of a column.
@@ -173,5 +174,5 @@ pub fn cost_tables_are_square()
     ensures count { ThirteenColumns }
     ensures pairs { ColumnsAreThePairs }
     ensures square { CostTablesAreSquare }
-    ensures four { CablesCostFour }
+    ensures four { CablesCostAtMostFour }
 {}

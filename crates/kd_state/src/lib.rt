@@ -3,19 +3,23 @@
 
 mod costs;
 mod engine;
-mod facts;
 pub mod laws;
+mod line_words;
 mod machine;
 mod numbered_items;
+mod prover_facts;
 mod setting;
 mod sheet_day;
-mod words;
 
 pub use costs::tables::{bar_costs, cable_costs, column_at};
 pub use costs::{bar_cost, cable_cost, lies_in_column, nearest_standing};
 pub use engine::{Engine, NotReady, own_engine};
+pub use line_words::{
+    day_of_text, is_word, letter_of_text, number_of_text, push_letter, push_number, split_once,
+    split_words, wide_number_of_text,
+};
 pub use machine::Machine;
-pub use machine::cable::{Cable, are_new_letters, letters_in_order, lies_in};
+pub use machine::cable::{Cable, are_new_and_distinct, letters_in_order, lies_in};
 pub use machine::one_model::OneModel;
 pub use machine::parts::Parts;
 pub use machine::per_slot::PerSlot;
@@ -23,14 +27,10 @@ pub use machine::per_wheel::PerWheel;
 pub use machine::pin_parts::PinParts;
 pub use machine::rotor_parts::RotorParts;
 pub use setting::Setting;
-pub use setting::carrying::{IllegalAt, carry_all};
+pub use setting::carry_list::{IllegalAt, carry_all};
 pub use setting::list::{ListFault, Settings, read_list, split_settings};
 pub use setting::why::{Illegal, Why};
 pub use sheet_day::SheetDay;
 pub use sheet_day::entry::Entry;
 pub use sheet_day::pin_entry::PinEntry;
 pub use sheet_day::rotor_entry::{RotorEntry, SheetWheel};
-pub use words::{
-    day_of_text, is_word, letter_of_text, number_of_text, push_letter, push_number, split_once,
-    split_words, wide_number_of_text,
-};

@@ -1,6 +1,7 @@
 //! The machine on the desk.
 
 pub(crate) mod cable;
+pub(crate) mod getters;
 mod on_key;
 pub(crate) mod one_model;
 pub(crate) mod parts;
@@ -8,11 +9,10 @@ pub(crate) mod per_slot;
 pub(crate) mod per_wheel;
 pub(crate) mod pin_parts;
 pub(crate) mod pin_rings;
-pub(crate) mod readers;
 pub(crate) mod rotor_parts;
 pub(crate) mod seats;
 
-use crate::facts::learn_setting_range;
+use crate::prover_facts::learn_setting_range;
 use crate::setting::Setting;
 use crate::setting::why::Illegal;
 use parts::Parts;

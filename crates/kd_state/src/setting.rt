@@ -1,10 +1,10 @@
 //! A single setting that an operator makes at a machine.
 
-pub(crate) mod carrying;
+pub(crate) mod carry_list;
+mod carry_pin;
+mod carry_rotor;
 mod line;
 pub(crate) mod list;
-mod pin_settings;
-mod rotor_settings;
 pub(crate) mod why;
 
 use kd_tables::{Letter, Lug, Place, Reflector, Wheel};

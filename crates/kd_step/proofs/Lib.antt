@@ -1,2 +1,2 @@
 pub mod Steps
-pub mod Moved
+pub mod LettersAfterStep

@@ -1,4 +1,4 @@
 pub mod Wirings
 pub mod Products
 pub mod Rings
-pub mod Taken
+pub mod SeveralPuts

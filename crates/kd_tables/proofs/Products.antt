@@ -105,9 +105,9 @@ is_inverse p back h hb leads = fill_by_all (slice_index back) (inverse p) 26 0 (
     (λ y lt. (inverse_by_letter p (slice_index back y) y h (hb.each_once.within y lt) lt).0 (leads y lt))
     ∙ sym (fill_by_all (slice_index back) back 26 0 hb.size (λ y lt. refl))
 
-pub product_backwards : (p q : List ℕ) → IsPermutation26 p → IsPermutation26 q
+pub inverse_of_product : (p q : List ℕ) → IsPermutation26 p → IsPermutation26 q
     → inverse (followed_by p q) ≡ followed_by (inverse q) (inverse p)
-product_backwards p q hp hq =
+inverse_of_product p q hp hq =
     let ip = inverse_permutes p hp in
     let iq = inverse_permutes q hq in
     is_inverse (followed_by p q) (followed_by (inverse q) (inverse p)) (product_permutes p q hp hq)
@@ -125,8 +125,8 @@ product_backwards p q hp hq =
 shifted_back : (k y : ℕ) → k ≤ 26 → y < 26 → ((y + (26 - k)) % 26 + k) % 26 ≡ y
 shifted_back k y k_le lt = omega arith
 
-pub shift_backwards : (k : ℕ) → k ≤ 26 → inverse (shift k) ≡ shift (26 - k)
-shift_backwards k k_le =
+pub inverse_of_shift : (k : ℕ) → k ≤ 26 → inverse (shift k) ≡ shift (26 - k)
+inverse_of_shift k k_le =
     is_inverse (shift k) (shift (26 - k)) (shift_permutes k) (shift_permutes (26 - k))
     (λ y lt. ap (slice_index (shift k)) (shift-at (26 - k) y lt) ∙ shift-at k ((y + (26 - k)) % 26) (omega arith)
     ∙ shifted_back k y k_le lt)

@@ -16,8 +16,8 @@ abbrev pub ReflectorsArePermutations : Type 0
 ReflectorsArePermutations = (reflector : Reflector) → IsPermutation26 (reflector_of reflector)
 
 -- If a reflector turns a letter `x` into `y`, it turns `y` into `x`.
-abbrev pub ReflectorsLeadBack : Type 0
-ReflectorsLeadBack = (reflector : Reflector) → IsOwnInverse (reflector_of reflector)
+abbrev pub ReflectorsAreOwnInverses : Type 0
+ReflectorsAreOwnInverses = (reflector : Reflector) → IsOwnInverse (reflector_of reflector)
 
 -- A reflector turns no letter into itself.
 abbrev pub ReflectorsMoveEachLetter : Type 0
@@ -59,14 +59,14 @@ abbrev pub InverseUndoesBefore : Type 0
 InverseUndoesBefore = (p : List ℕ) → IsPermutation26 p → followed_by (inverse p) p ≡ alphabet
 
 -- The inverse of a product is the product of the inverses in reverse order.
-abbrev pub ProductsBackwards : Type 0
-ProductsBackwards =
+abbrev pub InversesOfProducts : Type 0
+InversesOfProducts =
     (p q : List ℕ) → IsPermutation26 p → IsPermutation26 q
     → inverse (followed_by p q) ≡ followed_by (inverse q) (inverse p)
 
 -- The inverse of a shift by `k` is the shift by 26 - `k`.
-abbrev pub ShiftsBackwards : Type 0
-ShiftsBackwards = (k : ℕ) → k ≤ 26 → inverse (shift k) ≡ shift (26 - k)
+abbrev pub InversesOfShifts : Type 0
+InversesOfShifts = (k : ℕ) → k ≤ 26 → inverse (shift k) ≡ shift (26 - k)
 
 -- If a pin wheel has a letter at a place, `place_on` finds this place for the letter.
 abbrev pub LettersLeadToPlaces : Type 0

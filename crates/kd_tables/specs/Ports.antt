@@ -4,8 +4,8 @@
 use Rattle.std.specs.Prelude.{◌≡◌, ◌⊎◌, ℕ, ◌<◌, ◌≤◌, Bool, true, false, List, [], ◌∷◌, length, take, Option, Result}
 use Rattle.std.specs.Prelude.{IfOk, OnErr, Ok, Err, IsTrue}
 use Rattle.std.specs.Io.KnownBytes.{Appends, Consumes, Keeps, IsAtEnd}
-use Rattle.kd_tables.specs.declared.failed.Failed.{Failed}
-use Rattle.kd_tables.specs.declared.writing.Device.{Device}
+use Rattle.kd_tables.specs.declared.ports.failed.Failed.{Failed}
+use Rattle.kd_tables.specs.declared.ports.writing.Device.{Device}
 
 -- the most bytes that the desk reads from one source or file
 abbrev pub read_limit : ℕ
@@ -29,14 +29,14 @@ pub record Gets (old new : Option (List ℕ)) (buffer : List ℕ) (answer : Resu
 
 -- A source in memory. `rest`: the bytes still to come. `piece`: the most bytes that one `get` gives. `gets_left`: how
 -- many more calls of `get` succeed, or `None` if all do. `failed`: whether a `get` has failed.
-pub record MemoryBytes : Type 0 where
+pub record MemorySourceState : Type 0 where
   pub rest : List ℕ
   pub piece : ℕ
   pub gets_left : Option ℕ
   pub failed : Bool
 
 -- A sink in memory: the bytes taken so far, the most bytes that it can take, and whether a `put` has failed.
-pub record MemoryTaken : Type 0 where
+pub record MemorySinkState : Type 0 where
   pub taken : List ℕ
   pub limit : ℕ
   pub failed : Bool
@@ -59,18 +59,18 @@ port bytes failed old new =
     record { had = bytes old; has = bytes new; had_failed = failed old; has_failed = failed new }
 
 -- The call doesn't change whether the port has failed: `has_failed` equals `had_failed`.
-abbrev pub HasNotFailed : Port → Type 0
-HasNotFailed p = p.has_failed ≡ p.had_failed
+abbrev pub KeepsFailureFlag : Port → Type 0
+KeepsFailureFlag p = p.has_failed ≡ p.had_failed
 
 -- After the call, port `p` has failed. The call doesn't change whether port `other` has failed.
 pub record FailsAlone (p other : Port) : Type 0 where
   pub failed : IsTrue p.has_failed
-  pub well : HasNotFailed other
+  pub well : KeepsFailureFlag other
 
 -- The flag tells whether a call returned the error `Device`. If it is true, the source or the sink has failed, and the
 -- call didn't make the other one fail. If it is false, the call made neither of them fail.
 abbrev pub FailureAgrees : Port → Port → Bool → Type 0
-FailureAgrees source sink false = HasNotFailed source × HasNotFailed sink
+FailureAgrees source sink false = KeepsFailureFlag source × KeepsFailureFlag sink
 FailureAgrees source sink true = FailsAlone source sink ⊎ FailsAlone sink source
 
 -- The result of `is_at_end` agrees with what the source did. With `true`, the source is at its end. With `false`,

@@ -2,12 +2,12 @@
 ghost use Rattle.std.specs.Prelude.{◌≡◌, ℕ};
 ghost use Rattle.std.specs.Ordering.{ordering_then, nat_cmp};
 ghost use Rattle.kd_tables.specs.Ports.{read_limit};
-ghost use Rattle.kd_tables.specs.declared.limit.TheConstants.{READ_LIMIT};
-ghost use Rattle.kd_tables.specs.Laws.{WiringsArePermutations, ReflectorsArePermutations, ReflectorsLeadBack};
+ghost use Rattle.kd_tables.specs.declared.ports.limit.TheConstants.{READ_LIMIT};
+ghost use Rattle.kd_tables.specs.Laws.{WiringsArePermutations, ReflectorsArePermutations, ReflectorsAreOwnInverses};
 ghost use Rattle.kd_tables.specs.Laws.{ReflectorsMoveEachLetter};
 ghost use Rattle.kd_tables.specs.Laws.{ProductsByLetter, InversesByLetter, ShiftsByLetter};
 ghost use Rattle.kd_tables.specs.Laws.{ProductsArePermutations, InversesArePermutations, ShiftsArePermutations};
-ghost use Rattle.kd_tables.specs.Laws.{InverseUndoesAfter, InverseUndoesBefore, ProductsBackwards, ShiftsBackwards};
+ghost use Rattle.kd_tables.specs.Laws.{InverseUndoesAfter, InverseUndoesBefore, InversesOfProducts, InversesOfShifts};
 ghost use Rattle.kd_tables.specs.Laws.{LettersLeadToPlaces, PlacesLeadToLetters};
 
 use super::letter::Letter;
@@ -18,21 +18,21 @@ use super::reading::Reading;
 pub fn tables_are_permutations()
     ensures wheels { WiringsArePermutations }
     ensures reflectors { ReflectorsArePermutations }
-    ensures own_inverse { ReflectorsLeadBack }
+    ensures own_inverse { ReflectorsAreOwnInverses }
     ensures none_fixed { ReflectorsMoveEachLetter }
 {}
 
 /// How a permutation that is a product, an inverse or a shift maps one letter.
 pub fn permutations_by_letter()
     ensures product { ProductsByLetter }
-    ensures backwards { InversesByLetter }
+    ensures inverse { InversesByLetter }
     ensures shifts { ShiftsByLetter }
 {}
 
 /// Products and inverses of permutations are permutations, and so are shifts of the alphabet.
 pub fn products_are_permutations()
     ensures product { ProductsArePermutations }
-    ensures backwards { InversesArePermutations }
+    ensures inverse { InversesArePermutations }
     ensures shifts { ShiftsArePermutations }
 {}
 
@@ -40,12 +40,12 @@ pub fn products_are_permutations()
 ///
 /// The inverse of a product is the product of the inverses in reverse order. The inverse of a shift by `k` is the
 /// shift by 26 - `k`.
-#[tactic(auto, using(crate::proofs::Products::product_inverse, crate::proofs::Products::inverse_product, crate::proofs::Products::product_backwards, crate::proofs::Products::shift_backwards))]
+#[tactic(auto, using(crate::proofs::Products::product_inverse, crate::proofs::Products::inverse_product, crate::proofs::Products::inverse_of_product, crate::proofs::Products::inverse_of_shift))]
 pub fn inverse_undoes()
     ensures after { InverseUndoesAfter }
     ensures before { InverseUndoesBefore }
-    ensures products { ProductsBackwards }
-    ensures shifts { ShiftsBackwards }
+    ensures products { InversesOfProducts }
+    ensures shifts { InversesOfShifts }
 {}
 
 /// On a pin wheel, each letter leads to its place, and each place leads back to its letter.

@@ -2,7 +2,7 @@
 ghost use Rattle.std.specs.Prelude.{◌≡◌, ◌≢◌, MatchOption};
 ghost use Rattle.kd_tables.specs.Places.{lug_text};
 
-use super::names::{name_of, named};
+use super::variant_names::{name_of, named};
 use arrayvec::ArrayString;
 
 /// One of the two lugs on a bar of the Converter M-209.

@@ -2,8 +2,8 @@
 ghost use Rattle.std.specs.Prelude.{◌≡◌, ◌↔◌, ◌≢◌, IsTrue, MatchOption, Contains};
 ghost use Rattle.kd_tables.specs.Tables.{model_text, box_of, slots_of, wheels_for, reflectors_of};
 
-use super::names::{name_of, named};
 use super::reflector::Reflector;
+use super::variant_names::{name_of, named};
 use super::wheel::Wheel;
 use arrayvec::ArrayString;
 

@@ -2,7 +2,7 @@
 ghost use Rattle.std.specs.Prelude.{◌≡◌, ◌≢◌, ◌≤◌, length, MatchOption};
 ghost use Rattle.kd_tables.specs.Places.{place_text, place_number, places};
 
-use super::names::{name_of, named};
+use super::variant_names::{name_of, named};
 use arrayvec::ArrayString;
 
 /// A place of a lug on a bar of the Converter M-209. Places are in order from left to right.

@@ -69,13 +69,13 @@ impl Reading {
             (λ reading. reading_text reading ≡ text.now) }
     {
         match text {
-            [first, b'-', second] => Reading::from_figures(*first, *second),
+            [first, b'-', second] => Reading::from_digits(*first, *second),
             _ => None,
         }
     }
 
     /// Makes a reading from the ASCII codes of its two digits. The smaller digit has to come first.
-    fn from_figures(first: u8, second: u8) -> Option<Self>
+    fn from_digits(first: u8, second: u8) -> Option<Self>
         ensures { MatchOption result
             ((numbers : _) → IsReading numbers → reading_text numbers ≢ first ∷ codes "-" ++ second ∷ [])
             (λ reading. reading_text reading ≡ first ∷ codes "-" ++ second ∷ []) }

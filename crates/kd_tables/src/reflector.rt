@@ -4,8 +4,8 @@ ghost use Rattle.kd_tables.specs.Permutation.{IsOwnInverse, MovesEachLetter};
 ghost use Rattle.kd_tables.specs.Tables.{reflector_text, reflector_of};
 
 use super::letter::Letter;
-use super::names::{name_of, named};
-use super::table::{reflection, wiring};
+use super::published_text::{reflection, wiring};
+use super::variant_names::{name_of, named};
 use arrayvec::ArrayString;
 
 /// A reflector of the rotor machines: it sends the current back through the wheels.

@@ -3,7 +3,7 @@ ghost use Rattle.std.specs.Prelude.{◌≡◌, ◌↔◌, ◌<◌, ◌≤◌, le
 ghost use Rattle.kd_tables.specs.Rings.{ring_of, place_on, IsRing};
 
 use super::letter::Letter;
-use super::table::ring;
+use super::published_text::ring;
 use std::marker::Model;
 
 /// The letters of a pin wheel of the Converter M-209, in their order on the wheel, from A on.

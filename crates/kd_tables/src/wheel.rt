@@ -4,8 +4,8 @@ ghost use Rattle.kd_tables.specs.Permutation.{inverse};
 ghost use Rattle.kd_tables.specs.Tables.{wheel_text, wiring_of, is_notch};
 
 use super::letter::Letter;
-use super::names::{name_of, named};
-use super::table::{letters, letters_back, wiring};
+use super::published_text::{inverse_letters, letters, wiring};
+use super::variant_names::{name_of, named};
 use arrayvec::ArrayString;
 
 /// A wheel of the rotor machines. Wheels I to VIII can step; Beta and Gamma, which only the M4 has, can't.
@@ -96,7 +96,7 @@ pub fn wiring(wheel: Wheel) -> [Letter; 26]
 pub fn unwiring(wheel: Wheel) -> [Letter; 26]
     ensures { result ≡ inverse (wiring_of wheel) }
 {
-    wirings!(letters_back, wheel)
+    wirings!(inverse_letters, wheel)
 }
 
 /// Whether `wheel` is at a notch when it shows the letter `window`. The ring makes no difference.

@@ -3,6 +3,6 @@ mod carrying;
 mod costs;
 mod days;
 mod engine;
+mod getters;
 mod line;
 mod list;
-mod reading;

@@ -14,7 +14,7 @@ pub use Rattle.std.proofs.lemmas.List.{get_or-map, FromFn.{fill_by_all, get_or-r
 pub use Rattle.std.proofs.lemmas.{Grind.common_steps, Simd.map-map, Slice.Zip.{firsts-zip, length-zip, seconds-zip}}
 pub use Rattle.std.specs.{List.{All, AllByRecursion, list_any, range_with_len, sum_by}, Option.option_map_or}
 pub use Rattle.kd_state.proofs.Slots.{has_letter-Decides, is_some-place_on, set_here, set_other}
-pub use Rattle.kd_state.proofs.{SortedAlike.count_by-cons, Telling.{letters_have_places, Refusing.leads_join}}
+pub use Rattle.kd_state.proofs.{SortedAlike.count_by-cons, SettingEffects.{letters_have_places, Refusals.leads_join}}
 pub use Rattle.kd_state.proofs.{CostTable.sums_add, Wheels.{days_wheels_have_their_places, same_wheel_self}}
 pub use Rattle.kd_state.proofs.Wheels.{has_reflector-Decides, place_within, same_reflector-Decides, same_wheel_differs}
 pub use Rattle.kd_state.{proofs.Wheels.{allowed_in_box, has_wheel-Decides, same_wheel-Decides}, specs.Pins.wheel_pins}

@@ -127,7 +127,7 @@ cables-matched cables (pair ∷ pairs) nothings e h =
     cables-matched rest pairs nothings (omega arith) (rest_matched cables rest found.0 pair pairs order h found.2) in
     let all = IsPermutation-trans cables (found.0 ∷ rest) (found.0 ∷ further.0) order
     (IsPermutation-cons found.0 rest further.0 further.1) in
-    let same = (tests_tell_letters (cable_letters found.0) (pair_letters pair)).0 found.2 in
+    let same = (tests_determine_letters (cable_letters found.0) (pair_letters pair)).0 found.2 in
     (found.0 ∷ further.0, all, (none_differ (cable_letters found.0) (pair_letters pair) same alphabet, further.2))
 
 -- An assignment that costs nothing: the columns with their prices, in an order in which each is beside its row.

@@ -1,7 +1,7 @@
 //! The files of the host system.
 ghost use Rattle.std.specs.Prelude.{◌≡◌, [], false, IfOk};
 
-use super::asked::Asked;
+use super::asked_names::AskedNames;
 use super::{Content, FileFault, Files, read_whole};
 use crate::ports::ReaderSource;
 use kd_tables::{Failed, Source};
@@ -12,7 +12,7 @@ use std::fs::File;
 #[derive(Drop)]
 pub struct HostFiles<'n> {
     rt: &'n HostRuntime,
-    asked: Asked<'n>,
+    asked: AskedNames<'n>,
 }
 
 impl<'n> HostFiles<'n> {
@@ -22,7 +22,7 @@ impl<'n> HostFiles<'n> {
     {
         HostFiles {
             rt,
-            asked: Asked::new(),
+            asked: AskedNames::new(),
         }
     }
 }

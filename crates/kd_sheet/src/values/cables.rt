@@ -10,7 +10,7 @@ use super::letters::capital_letters;
 use crate::document::find_at;
 use crate::{Key, SheetFault};
 use arrayvec::ArrayVec;
-use kd_state::{Cable, are_new_letters};
+use kd_state::{Cable, are_new_and_distinct};
 use toml::{Table, Value};
 
 /// The number of cables of a plugboard.
@@ -39,7 +39,7 @@ impl FromItem<()> for Cable {
     #[tactic(auto, unfolding(crate::specs::Cables::cable_for))]
     fn read_item(_given: &(), earlier: &[Self], item: &Value) -> Result<Self, SheetFault> {
         let cable = cable_of_item(item).ok_or(SheetFault::BadValue(Key::Cables))?;
-        if !are_new_letters(&cable, earlier) {
+        if !are_new_and_distinct(&cable, earlier) {
             return Err(SheetFault::LetterTwice);
         }
         Ok(cable)

@@ -7,15 +7,15 @@ ghost use Rattle.kd_tables.specs.Permutation.{exchange};
 ghost use Rattle.kd_tables.specs.Refusals.{refusal_name};
 ghost use Rattle.kd_tables.specs.Tables.{box_of};
 ghost use Rattle.kd_state.specs.Machine.{cable_letters, AreCables, IsLegalRotor};
-ghost use Rattle.kd_state.specs.Seated.{wheel_in_seat};
+ghost use Rattle.kd_state.specs.SeatedWheels.{wheel_in_seat};
 ghost use Rattle.kd_state.specs.TwoCiphers.{IsReady, physical_key};
 
 use super::Engine;
 use crate::machine::Machine;
 use crate::machine::cable::Cable;
+use crate::machine::getters::letter_of_wheel;
 use crate::machine::parts::Parts;
 use crate::machine::pin_parts::readings_of;
-use crate::machine::readers::letter_of_wheel;
 use crate::machine::rotor_parts::RotorParts;
 use crate::sheet_day::rotor_entry::SheetWheel;
 use arrayvec::ArrayVec;
@@ -73,7 +73,7 @@ impl Machine {
 }
 
 /// Creates the engine of a rotor machine, if the machine is ready.
-#[tactic(auto, using(crate::proofs::Seating::not_ready))]
+#[tactic(auto, using(crate::proofs::WheelsInSlots::not_ready))]
 fn rotor_engine(parts: &RotorParts) -> Option<Engine>
     requires { IsLegalRotor parts.now }
     ensures ready { IsSome result ↔ IsReady (Parts.Rotor parts.now) }

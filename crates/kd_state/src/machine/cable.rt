@@ -4,7 +4,7 @@ ghost use Rattle.std.specs.List.{IsDistinct};
 ghost use Rattle.std.specs.Option.{option_to_list};
 ghost use Rattle.kd_tables.specs.Places.{smaller_first};
 ghost use Rattle.kd_state.specs.Machine.{cable_letters, letters_in_cables, cable_in_order};
-ghost use Rattle.kd_state.specs.Setting.{has_letter, are_new_letters, cable_without};
+ghost use Rattle.kd_state.specs.Setting.{has_letter, are_new_and_distinct, cable_without};
 
 use kd_tables::Letter;
 
@@ -87,7 +87,7 @@ pub(crate) fn have_no_letter_twice(cables: &[Cable]) -> bool
 {
     for (place, cable) in cables.iter().enumerate() {
         let (_, later) = cables.split_at(place + 1);
-        if !are_new_letters(cable, later) {
+        if !are_new_and_distinct(cable, later) {
             return false;
         }
     }
@@ -95,8 +95,9 @@ pub(crate) fn have_no_letter_twice(cables: &[Cable]) -> bool
 }
 
 /// Whether the letters of `cable` differ from each other, and from all letters in `others`.
-pub fn are_new_letters(cable: &Cable, others: &[Cable]) -> bool
-    ensures { result ≡ are_new_letters (cable_letters cable.now) (letters_in_cables others.now) }
+pub fn are_new_and_distinct(cable: &Cable, others: &[Cable]) -> bool
+    ensures { result
+        ≡ are_new_and_distinct (cable_letters cable.now) (letters_in_cables others.now) }
 {
     match *cable {
         (None, None) => true,

@@ -11,10 +11,10 @@ ghost use Rattle.kd_state.specs.SameParts.{place_in_box};
 
 use crate::machine::Machine;
 use crate::machine::cable::{Cable, lies_in};
+use crate::machine::getters::letter_of_wheel;
 use crate::machine::parts::Parts;
 use crate::machine::per_wheel::PerWheel;
 use crate::machine::pin_parts::readings_of;
-use crate::machine::readers::letter_of_wheel;
 use crate::machine::rotor_parts::RotorParts;
 use crate::sheet_day::SheetDay;
 use crate::sheet_day::entry::Entry;
@@ -166,12 +166,12 @@ fn has_letters_of_pair(cable: Cable, pair: (Letter, Letter)) -> bool
 {
     lies_in(&cable, pair.0)
         && lies_in(&cable, pair.1)
-        && is_loose_or_of(cable.0, &pair)
-        && is_loose_or_of(cable.1, &pair)
+        && is_empty_or_of(cable.0, &pair)
+        && is_empty_or_of(cable.1, &pair)
 }
 
 /// Whether `end`, one end of a cable, is empty or has a letter of `pair`.
-fn is_loose_or_of(end: Option<Letter>, pair: &(Letter, Letter)) -> bool
+fn is_empty_or_of(end: Option<Letter>, pair: &(Letter, Letter)) -> bool
     ensures { result ≡ option_map_or (has_letter (pair.now.0 ∷ pair.now.1 ∷ [])) end true }
 {
     match end {

@@ -21,13 +21,13 @@ impl Machine {
     ghost use Rattle.std.specs.Prelude.{◌≢◌, MatchOption};
     ghost use Rattle.kd_state.specs.Machine.{IsMachine, model_of};
     ghost use Rattle.kd_state.specs.SheetDay.{IsLegalDay, day_model};
-    ghost use Rattle.kd_state.specs.OneModel.{AreTakenApart};
+    ghost use Rattle.kd_state.specs.OneModel.{IsOneModelOf};
 
     /// The machine's parts and the day's values; `None` if machine and day are of different models.
     pub fn of_one_model<'a>(&'a self, day: &'a SheetDay) -> Option<OneModel<'a>>
         ensures parted { MatchOption result
             (model_of self.now ≢ day_model day.now)
-            (AreTakenApart self.now day.now) }
+            (IsOneModelOf self.now day.now) }
         ensures machine { IsMachine self.now }
         ensures day { IsLegalDay day.now }
     {

@@ -3,12 +3,12 @@ ghost use Rattle.std.specs.Prelude.{◌≡◌, ◌↔◌, IsTrue, length};
 ghost use Rattle.kd_tables.specs.Tables.{box_of};
 ghost use Rattle.kd_state.specs.Machine.{IsLegalRotor, AreLetters, with_cables_in_order};
 
-use crate::facts::{learn_cable_letters, learn_letters};
 use crate::machine::cable::{self, Cable};
 use crate::machine::parts::Parts;
 use crate::machine::per_slot::PerSlot;
 use crate::machine::per_wheel::PerWheel;
 use crate::machine::seats;
+use crate::prover_facts::{learn_cable_letters, learn_letters};
 use kd_tables::{Letter, Model, Reflector, Wheel, allowed_reflector};
 
 /// The parts of a rotor machine as it stands on the desk.

@@ -37,7 +37,7 @@ fn are_allowed(model: Model, slots: &[Option<Wheel>]) -> bool
         ↔ ((place : ℕ) (wheel : _) → IsSeatedAt slots.now place wheel → Contains (wheels_for model (place + 1)) wheel) }
 {
     for (place, seated) in slots.iter().enumerate() {
-        if !may_stand(model, place as u8 + 1, *seated) {
+        if !may_hold(model, place as u8 + 1, *seated) {
             return false;
         }
     }
@@ -45,7 +45,7 @@ fn are_allowed(model: Model, slots: &[Option<Wheel>]) -> bool
 }
 
 /// Whether slot `slot` (1 is the left slot) may hold `seated`. A slot may always be empty.
-fn may_stand(model: Model, slot: u8, seated: Option<Wheel>) -> bool
+fn may_hold(model: Model, slot: u8, seated: Option<Wheel>) -> bool
     ensures { IsTrue result ↔ IfSome seated (Contains (wheels_for model slot)) }
 {
     match seated {

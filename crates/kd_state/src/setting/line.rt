@@ -5,11 +5,11 @@ ghost use Rattle.kd_state.specs.declared.setting.Setting.TheVariants.{SeatReflec
 ghost use Rattle.kd_tables.specs.Text.{letters_text};
 ghost use Rattle.kd_state.specs.Line.{setting_line, on_off_text, IsSettingInRange, IsSettingOfWords};
 
-use crate::facts::learn_setting_range;
-use crate::setting::Setting;
-use crate::words::{
+use crate::line_words::{
     is_word, letter_of_text, number_of_text, push_letter, push_number, split_words,
 };
+use crate::prover_facts::learn_setting_range;
+use crate::setting::Setting;
 use arrayvec::ArrayString;
 use kd_tables::{Letter, Lug, Place, Reflector, Wheel};
 

@@ -4,8 +4,8 @@ ghost use Rattle.kd_state.specs.FaultText.{list_fault_text};
 ghost use Rattle.kd_state.specs.Line.{BeginsWithSettingLine, BeginsWithNoSetting, BeginsWithAllSettings, IsListText};
 ghost use Rattle.kd_state.specs.Line.{IsListFault};
 
+use crate::line_words::split_once;
 use crate::setting::Setting;
-use crate::words::split_once;
 use arrayvec::ArrayVec;
 use kd_tables::{Refusal, Text};
 use std::fmt;

@@ -1,6 +1,6 @@
 //! The values of a Converter's day.
-use crate::facts::{learn_pins, learn_readings};
 use crate::machine::pin_parts::are_on_wheels;
+use crate::prover_facts::{learn_pins, learn_readings};
 use crate::sheet_day::entry::is_day_number;
 use kd_pins::PinSet;
 use kd_tables::{Letter, Reading};

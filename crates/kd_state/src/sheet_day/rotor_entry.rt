@@ -1,9 +1,9 @@
 //! The values of a rotor machine's day.
 ghost use Rattle.std.specs.Prelude.{◌↔◌, IsPermutation, IsTrue};
 
-use crate::facts::{learn_group_letters, learn_pair_letters, learn_wheel_letters};
 use crate::machine::per_slot::PerSlot;
 use crate::machine::seats;
+use crate::prover_facts::{learn_group_letters, learn_pair_letters, learn_wheel_letters};
 use crate::sheet_day::entry::is_day_number;
 use arrayvec::ArrayVec;
 use kd_enigma::Plugs;

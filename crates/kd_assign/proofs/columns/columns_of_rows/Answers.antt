@@ -1,4 +1,5 @@
-use Rattle.{kd_assign.proofs.Places.length-IsColumnTakenBy, kd_assign.proofs.Whole.one_to_one, std.proofs.Common.arith}
+use Rattle.{kd_assign.proofs.Places.length-IsColumnTakenBy, kd_assign.proofs.AllRows.one_to_one}
+use Rattle.{std.proofs.Common.arith}
 use Rattle.kd_assign.proofs.columns.columns_of_rows.Goals as goal
 
 pub returns-clause-columns : goal.returns-clause-columns

@@ -1,6 +1,7 @@
 use Rattle.std.proofs.Common.{add-one, ◌+◌, ◌∙◌, count_by, is_some, None, set, false, w16, rules, arith}
-use Rattle.kd_assign.proofs.Counting.{scans_of_tree-grows, scans_of_tree-most}
-use Rattle.kd_assign.proofs.Growing.{IsSolvedTo-with_root, IsGrownTree-root_alone, IsGrownTree-with_end, outside-exists}
+use Rattle.kd_assign.proofs.ScanCounts.{scans_of_tree-grows, scans_of_tree-most}
+use Rattle.kd_assign.proofs.TreeGrowth.{IsSolvedUpTo-with_root, IsGrownTree-root_alone, IsGrownTree-with_end}
+use Rattle.kd_assign.proofs.TreeGrowth.{outside-exists}
 use Rattle.kd_assign.proofs.Places.{count-reached, count_at_most}
 use Rattle.kd_assign.proofs.Prelude.{common_steps, length-set, to_z-of_z, count_by-le-length}
 use Rattle.kd_assign.proofs.growth.assign_row.Goals as goal
@@ -53,7 +54,7 @@ pub returns-in-None-clause-solved : goal.returns-in-None-clause-solved
 returns-in-None-clause-solved g c =
     let so_far = c.loop-holders.invariant in
     let room = to_z-of_z w16 c.room-by.result (search rules) ∙ c.room-by.ensures in
-    IsSolvedTo-with_root so_far.solved so_far.grown c.column-column.ensures c.in-None.is room _
+    IsSolvedUpTo-with_root so_far.solved so_far.grown c.column-column.ensures c.in-None.is room _
     c.lower_prices.ensures.lowered
 
 pub returns-in-None-clause-least_scans : goal.returns-in-None-clause-least_scans

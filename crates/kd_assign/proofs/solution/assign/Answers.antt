@@ -1,5 +1,5 @@
-use Rattle.kd_assign.proofs.Counting.{scans_of_trees-all, scans_of_trees-most}
-use Rattle.kd_assign.proofs.Whole.{columns_at_most, fits, is_least, price_sum_is, rows_at_most}
+use Rattle.kd_assign.proofs.ScanCounts.{scans_of_trees-all, scans_of_trees-most}
+use Rattle.kd_assign.proofs.AllRows.{columns_at_most, fits, is_least, price_sum_is, rows_at_most}
 use Rattle.std.proofs.Common.{arith, sym}
 use Rattle.kd_assign.proofs.solution.assign.Goals as goal
 

@@ -1,4 +1,4 @@
-use Rattle.{std.proofs.Common.{◌≡◌, ◌*◌, ◌≤◌, length}, kd_assign.proofs.Prelude.{IsSolvedTo, scans_of_trees}}
+use Rattle.{std.proofs.Common.{◌≡◌, ◌*◌, ◌≤◌, length}, kd_assign.proofs.Prelude.{IsSolvedUpTo, scans_of_trees}}
 use Rattle.kd_assign.proofs.solution.assign.Given as goal
 
 abbrev pub invariant-loop-row : goal.invariant-loop-row
@@ -6,5 +6,5 @@ invariant-loop-row g l = record {
   len : length l.col ≡ g.row.N;
   least_scans : g.row.N * l.row ≤ l.scans;
   most_scans : l.scans ≤ scans_of_trees g.row.N l.row;
-  solved : IsSolvedTo g.row.N l.cost l.col l.holders l.row;
+  solved : IsSolvedUpTo g.row.N l.cost l.col l.holders l.row;
 }

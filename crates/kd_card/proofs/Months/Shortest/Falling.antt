@@ -29,7 +29,7 @@ one_apart : (x : ℕ) (fewer letters : List ℕ) → IsPermutation letters (x �
 one_apart x fewer letters order letter =
     let there = λ (l : ℕ). Contains-permutation letters (x ∷ fewer) l order in
     let back = λ (l : ℕ). Contains-permutation (x ∷ fewer) letters l (IsPermutation-sym letters (x ∷ fewer) order) in
-    let same = (tests_tell_letters letters (x ∷ fewer)).0 (λ l. (there l, back l)) in
+    let same = (tests_determine_letters letters (x ∷ fewer)).0 (λ l. (there l, back l)) in
     grind (arith, same letter)
 
 -- If the cable with number `cable` becomes `new`, its letters stay the same except perhaps `letter`, and `HasCables`

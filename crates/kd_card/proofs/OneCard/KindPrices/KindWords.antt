@@ -22,7 +22,7 @@ same_pair : (a b : Option (ℕ × ℕ)) → letters_text (column_letters a) ≡ 
 same_pair a b e = grind arith
 
 same_standing : (a b c d : Place) → standing_text (a, b) ≡ standing_text (c, d) → ◌≡◌ {A = Place × Place} (a, b) (c, d)
-same_standing a b c d e = grind (arith, common_steps, texts_tell_first_parts, place_without, append_assoc)
+same_standing a b c d e = grind (arith, common_steps, texts_determine_first_parts, place_without, append_assoc)
 
 same_reading : (x y : ℕ × ℕ) → reading_text x ≡ reading_text y → x ≡ y
 same_reading (a, b) (c, d) e = grind arith

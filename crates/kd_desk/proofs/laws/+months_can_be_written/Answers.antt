@@ -1,5 +1,5 @@
 use Rattle.kd_desk.proofs.{Months.days_on, Months.papers_on, Prelude.arith, Prelude.subst, Prelude.sym}
-use Rattle.{kd_desk.specs.Month.HasPapersInTurn, kd_state.specs.Machine.model_of}
+use Rattle.{kd_desk.specs.Month.CanWriteDays, kd_state.specs.Machine.model_of}
 use Rattle.kd_desk.proofs.laws.+months_can_be_written.Goals as goal
 
 pub months_can_be_written-requires : goal.months_can_be_written-requires
@@ -13,7 +13,7 @@ pub returns-in-Some : goal.returns-in-Some
 returns-in-Some t c =
     let number = rw c.unwrap-day.ensures at c.day.ensures.number in
     let of_month = rw c.unwrap-day.ensures at c.day.ensures.value in
-    subst (HasPapersInTurn c.args.machine.now c.args.sheet.now) (sym c.in-Some.ensures.cases.0)
+    subst (CanWriteDays c.args.machine.now c.args.sheet.now) (sym c.in-Some.ensures.cases.0)
     (papers_on c.args.machine.now c.machine_after_card.result c.unwrap-day.result.now c.args.sheet.now
     c.in-Some.number.now
     c.in-Some.rest.now number (sym of_month) c.machine_after_card.ensures.written c.months_can_be_written.ensures)

@@ -5,12 +5,12 @@ pub returns-in_err-write_card-clause-prints : goal.returns-in_err-write_card-cla
 returns-in_err-write_card-clause-prints g c =
     let writing = c.in_err-write_card.ensures in
     printed _ _ (search rules) (search rules)
-    _ _ c.in_ok-plan.ensures.card c.in_kinds-card.ensures _ _ _ _ c.day.ensures.value
+    _ _ c.in_ok-plan.ensures.card c.with_prices_by_kind-card.ensures _ _ _ _ c.day.ensures.value
     writing.card (in_part _ _ _ writing.text.front c.from_residual-in_err-write_card.ensures.1)
 
 pub returns-clause-prints : goal.returns-clause-prints
 returns-clause-prints g c =
     let writing = c.in_ok-write_card.ensures in
     printed _ _ (search rules) (search rules)
-    _ _ c.in_ok-plan.ensures.card c.in_kinds-card.ensures _ _ _ _ c.day.ensures.value
+    _ _ c.in_ok-plan.ensures.card c.with_prices_by_kind-card.ensures _ _ _ _ c.day.ensures.value
     writing.card (in_whole _ _ writing.text.whole)

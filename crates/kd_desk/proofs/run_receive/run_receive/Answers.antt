@@ -1,4 +1,4 @@
-use Rattle.kd_desk.proofs.{Days.not_found, Days.on_day, Receiving.tell_of_orders}
+use Rattle.kd_desk.proofs.{Days.not_found, Days.on_day, Receiving.forms_agree_with_orders}
 use Rattle.kd_desk.proofs.{Streaming.{FailureAgrees-passed_on, off_key, passed_on}}
 use Rattle.kd_desk.proofs.run_receive.run_receive.Goals as goal
 
@@ -14,7 +14,7 @@ returns-clause-receives g c =
         so = c.receive_stream.ensures.streamed;
         answers = passed_on _ _ c.map_err.ensures.cases;
       };
-      orders = tell_of_orders c.in_ok-machine.day c.in_ok-machine.ensures.legal.1;
+      orders = forms_agree_with_orders c.in_ok-machine.day c.in_ok-machine.ensures.legal.1;
     })
 
 pub returns-clause-untouched : goal.returns-clause-untouched

@@ -1,4 +1,4 @@
-use Rattle.{kd_enigma.specs.Around.around_wheels, std.proofs.Common.take, std.proofs.Common.◌≡◌}
+use Rattle.{kd_enigma.specs.CurrentPath.around_wheels, std.proofs.Common.take, std.proofs.Common.◌≡◌}
 use Rattle.kd_enigma.proofs.enigma.around_slow.Given as goal
 
 abbrev pub invariant-loop-slot : goal.invariant-loop-slot

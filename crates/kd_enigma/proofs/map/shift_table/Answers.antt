@@ -1,4 +1,5 @@
-use Rattle.{kd_enigma.proofs.Made.each_made, std.proofs.{Common.{rules, ◌%◌, ◌+◌, ◌≡◌}, lemmas.List.FromFn.fill_by_all}}
+use Rattle.{kd_enigma.proofs.FilledArrays.each_made}
+use Rattle.{std.proofs.{Common.{rules, ◌%◌, ◌+◌, ◌≡◌}, lemmas.List.FromFn.fill_by_all}}
 use Rattle.kd_tables.specs.Permutation.{shift}
 use Rattle.kd_enigma.proofs.map.shift_table.Goals as goal
 

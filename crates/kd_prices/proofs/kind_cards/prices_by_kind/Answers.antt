@@ -1,12 +1,12 @@
 use Rattle.kd_prices.proofs.{ByKind.{bars_by_kind, cables_by_kind}, Prelude.◌∙◌}
-use Rattle.kd_prices.proofs.Prelude.{ArePrices, AreTakenApart, IsLegalDay, IsMachine, refl, rules, subst, sym}
+use Rattle.kd_prices.proofs.Prelude.{ArePrices, IsOneModelOf, IsLegalDay, IsMachine, refl, rules, subst, sym}
 use Rattle.kd_prices.proofs.kind_cards.prices_by_kind.Goals as goal
 
 pub returns-in-Rotor-Cables : goal.returns-in-Rotor-Cables
 returns-in-Rotor-Cables c =
     let h = c.in-Rotor-Cables in
     let so = c.in_ok-parts.ensures in
-    let parted = subst (AreTakenApart _ _) h.is-0 so.parted in
+    let parted = subst (IsOneModelOf _ _) h.is-0 so.parted in
     let rows =
     rw (c.with_prices.ensures, c.as_slice-in-Rotor-Cables.ensures.value, c.ends_of-ends.ensures.value)
     at c.kinds_of.ensures in
@@ -29,7 +29,7 @@ pub returns-in-Pin-Bars : goal.returns-in-Pin-Bars
 returns-in-Pin-Bars c =
     let h = c.in-Pin-Bars in
     let so = c.in_ok-parts.ensures in
-    let parted = subst (AreTakenApart _ _) h.is-0 so.parted in
+    let parted = subst (IsOneModelOf _ _) h.is-0 so.parted in
     let rows = rw c.with_prices-in-Pin-Bars.ensures at c.kinds_of-in-Pin-Bars.ensures in
     let columns = rw c.with_prices-in-Pin-Bars-2.ensures at c.kinds_of-in-Pin-Bars-2.ensures in
     rw (sym c.parts.ensures.value ∙ h.is-1, parted.0, parted.1)

@@ -220,7 +220,7 @@ wheels_have_letters slots rings letters within also = tt
 -- ---- cables or pairs that share no letter
 
 pub IsDistinct-append : (plugged letters : List ℕ) → IsDistinct nat_eq (plugged ++ letters)
-    ↔ ((are_new_letters letters plugged ≡ true) × IsDistinct nat_eq plugged)
+    ↔ ((are_new_and_distinct letters plugged ≡ true) × IsDistinct nat_eq plugged)
 IsDistinct-append plugged letters = (
   λ apart. (new_tells letters plugged).0
       (IsDistinct-IsPermutation nat_eq eqb_flips _ _ (IsPermutation-append_comm plugged letters) apart),
@@ -236,7 +236,7 @@ AllByRecursion-parts P (x ∷ xs) ys all = let rest = AllByRecursion-parts P xs 
 -- the letters of `x` are letters of the alphabet, all different, and nothing in `before` has one of them
 pub record IsFree {X : Type 0} (letters_in : X → List ℕ) (before : List X) (x : X) : Type 0 where
   pub within : All (λ letter. letter < 26) (letters_in x)
-  pub new : are_new_letters (letters_in x) (flat_map letters_in before) ≡ true
+  pub new : are_new_and_distinct (letters_in x) (flat_map letters_in before) ≡ true
 
 pub record AreFree {X : Type 0} (letters_in : X → List ℕ) (plugged : List X) : Type 0 where
   pub within : All (λ letter. letter < 26) (flat_map letters_in plugged)
@@ -380,7 +380,7 @@ letters_below letters are place d within =
 -- ---- texts of effective pins
 
 -- no letter of the wheel occurs twice
-letters_apart : (wheel : ℕ) → are_new_letters (ring_of wheel) [] ≡ true
+letters_apart : (wheel : ℕ) → are_new_and_distinct (ring_of wheel) [] ≡ true
 unfolding ring_of
 letters_apart wheel = grind arith
 
@@ -412,15 +412,15 @@ list_all-pins_text test [] pins all = refl
 list_all-pins_text test (x ∷ ring) [] all = refl
 list_all-pins_text test (x ∷ ring) (pin ∷ pins) all = grind (arith, nat_tests, list_all-pins_text test ring pins)
 
-pins_text-apart : (ring : List ℕ) (pins : List Bool) → are_new_letters ring [] ≡ true
-    → are_new_letters (pins_text ring pins) [] ≡ true
+pins_text-apart : (ring : List ℕ) (pins : List Bool) → are_new_and_distinct ring [] ≡ true
+    → are_new_and_distinct (pins_text ring pins) [] ≡ true
 pins_text-apart [] pins apart = refl
 pins_text-apart (x ∷ ring) [] apart = refl
 pins_text-apart (x ∷ ring) (pin ∷ pins) apart =
     grind (arith, nat_tests, append-nil, pins_text-lacks, pins_text-apart ring pins)
 
 -- the text of a wheel's pins has the letters of the effective pins
-pins_again : (ring : List ℕ) (pins : List Bool) → are_new_letters ring [] ≡ true → length pins ≡ length ring
+pins_again : (ring : List ℕ) (pins : List Bool) → are_new_and_distinct ring [] ≡ true → length pins ≡ length ring
     → map (has_letter (pins_text ring pins)) (letters_text ring) ≡ pins
 pins_again [] [] apart same = refl
 pins_again (x ∷ ring) (pin ∷ pins) apart same =
@@ -444,18 +444,18 @@ pins_of_text-pins_text wheel pins same =
 -- ---- the pins of a text, byte by byte
 
 new_letters-push : (front : List ℕ) (byte : ℕ)
-    → are_new_letters (front ++ byte ∷ []) [] ≡ (are_new_letters front [] && not (has_letter front byte))
+    → are_new_and_distinct (front ++ byte ∷ []) [] ≡ (are_new_and_distinct front [] && not (has_letter front byte))
 new_letters-push [] byte = refl
 new_letters-push (x ∷ front) byte = grind (arith, nat_tests, list_any-append, append-nil, new_letters-push front byte)
 
 new_letters-twice : (front : List ℕ) (byte : ℕ) (rest : List ℕ) → has_letter front byte ≡ true
-    → are_new_letters (front ++ byte ∷ rest) [] ≡ false
+    → are_new_and_distinct (front ++ byte ∷ rest) [] ≡ false
 new_letters-twice [] byte rest has = absurd (false≢true has)
 new_letters-twice (x ∷ front) byte rest has =
     grind (arith, nat_tests, list_any-append, append-nil, new_letters-twice front byte rest)
 
 -- setting the pin of one letter gives the pins of the text with this letter added
-set_pin : (ring front : List ℕ) (byte place : ℕ) → are_new_letters ring [] ≡ true → place < length ring
+set_pin : (ring front : List ℕ) (byte place : ℕ) → are_new_and_distinct ring [] ≡ true → place < length ring
     → get_or ring place 0 + 65 ≡ byte
     → set (map (has_letter front) (letters_text ring)) place true
     ≡ map (has_letter (front ++ byte ∷ [])) (letters_text ring)
@@ -495,7 +495,7 @@ module _ (ring text : List ℕ) (k byte : ℕ) (left : k < length text) (here : 
   module _ (pins : List Bool) (place : ℕ) (so_far : pins_of_text ring (take k text) ≡ Some pins)
       (at : byte_at ring byte ≡ Some place) where
     prefix : (list_all (has_letter (letters_text ring)) (take k text) ≡ true)
-        × (are_new_letters (take k text) [] ≡ true) × (map (has_letter (take k text)) (letters_text ring) ≡ pins)
+        × (are_new_and_distinct (take k text) [] ≡ true) × (map (has_letter (take k text)) (letters_text ring) ≡ pins)
     unfolding pins_of_text
     prefix = grind (arith, cond-Some, nat_tests)
 

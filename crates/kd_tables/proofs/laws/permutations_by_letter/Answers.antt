@@ -4,8 +4,8 @@ use Rattle.kd_tables.proofs.laws.permutations_by_letter.Goals as goal
 pub returns-clause-product : goal.returns-clause-product
 returns-clause-product c = followed_by-at
 
-pub returns-clause-backwards : goal.returns-clause-backwards
-returns-clause-backwards c = inverse_by_letter
+pub returns-clause-inverse : goal.returns-clause-inverse
+returns-clause-inverse c = inverse_by_letter
 
 pub returns-clause-shifts : goal.returns-clause-shifts
 returns-clause-shifts c = shift-at

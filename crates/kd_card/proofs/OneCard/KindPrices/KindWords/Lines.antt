@@ -32,18 +32,19 @@ pub use Rattle.kd_card.specs.declared.prices.PriceParts.{PriceParts, TheVariants
 pub use Rattle.kd_card.specs.declared.{kinds.KindOf.KindOf, prices.Version.{Version, TheVariants.{ByKind, ByNumber}}}
 pub use Rattle.kd_card.specs.declared.fault.CardFault.{CardFault, TheVariants.{BadLine, PriceMissing, Trailing}}
 pub use Rattle.kd_card.specs.Laws.{CardsHaveNoFault, NoCardBeginsAnother, OneCardFault, ReadingGivesCards}
-pub use Rattle.kd_card.specs.{Laws.TextsTellCards, Reading.{EndsKindsAt, head_prefix, IsBadKindAt}}
+pub use Rattle.kd_card.specs.{Laws.TextsDetermineCards, Reading.{EndsKindsAt, head_prefix, IsBadKindAt}}
 pub use Rattle.kd_card.specs.Reading.{IsKindOfWords, IsPriceText}
 pub use Rattle.kd_card.specs.Prices.{ArePrices, column_prices, IsPriceList, price_sum, table_size, version_of}
 pub use Rattle.{kd_card.specs.Prices.{ArePricesInRange, row_prices}, kd_state.specs.SheetDay.IsDayNumber}
-pub use Rattle.kd_state.specs.FirstFaults.{HasOneAnswer, HasOneAnswer-Demands, ThenNext, ThenNext-Ok, Yields, Yields-Ok}
-pub use Rattle.kd_state.specs.FirstFaults.{Demands, HasOneAnswer-Finds, HasOneAnswer-FindsAlways, HasOneAnswer-ThenNext}
-pub use Rattle.kd_state.specs.{Costs.column_letters, FirstFaults.{GoesOn, HasFault, HasOneAnswer-Yields}}
-pub use Rattle.kd_state.specs.{declared.setting.Setting.Setting, Words.{IsWithout, IsWord, line_of, words_of}}
-pub use Rattle.kd_state.specs.{Line.{BeginsWithAllSettings, BeginsWithSettingLines, setting_line}, Words.IsFirstPart}
-pub use Rattle.kd_state.specs.{Line.{BeginsWithNoSetting, list_text, setting_words}, Machine.cable_letters}
+pub use Rattle.kd_state.specs.AnswerRules.{HasOneAnswer, HasOneAnswer-Demands, ThenNext, ThenNext-Ok, Yields, Yields-Ok}
+pub use Rattle.kd_state.specs.AnswerRules.{Demands, HasOneAnswer-Finds, HasOneAnswer-FindsAlways, HasOneAnswer-ThenNext}
+pub use Rattle.kd_state.specs.{Costs.column_letters, AnswerRules.{GoesOn, HasFault, HasOneAnswer-Yields}}
+pub use Rattle.kd_state.specs.{declared.setting.Setting.Setting, LineWords.{IsWithout, IsWord, line_of, words_of}}
+pub use Rattle.kd_state.specs.{Line.{BeginsWithAllSettings, BeginsWithSettingLines, setting_line}}
+pub use Rattle.kd_state.specs.{LineWords.IsFirstPart, Line.{BeginsWithNoSetting, list_text, setting_words}}
+pub use Rattle.kd_state.specs.{Machine.cable_letters}
 pub use Rattle.kd_state.proofs.Lines.{lines_split_into_words, not_longer, same_end, word_by_test, words_make_one_line}
-pub use Rattle.kd_state.proofs.Lines.{IsNumeralModel-digits, numbers_are_words, ok_part, texts_tell_first_parts}
+pub use Rattle.kd_state.proofs.Lines.{IsNumeralModel-digits, numbers_are_words, ok_part, texts_determine_first_parts}
 pub use Rattle.kd_state.proofs.Lines.{word_by_bytes}
 
 abbrev pub settings_words : ℕ → List (List ℕ)
@@ -155,7 +156,7 @@ some_bytes {rest} has none = omega (arith, ap length (sym has.first.joined ∙ n
 
 pub same_words : {bytes rest more : List ℕ} {words others : List (List ℕ)} → HasLineWords bytes words rest
     → HasLineWords bytes others more → (words ≡ others) × (rest ≡ more)
-same_words a b = grind (arith, common_steps, texts_tell_first_parts)
+same_words a b = grind (arith, common_steps, texts_determine_first_parts)
 
 pub line_has_words : {bytes : List ℕ} (words : List (List ℕ)) (rest : List ℕ) → words ≢ [] → All IsWord words
     → bytes ≡ line_then words rest → HasLineWords bytes words rest
@@ -345,7 +346,7 @@ pub same_values : {bytes : List ℕ} (prefix : List ℕ) {value other rest more 
     → IsWithout 10 other
     → bytes ≡ prefix ++ value ++ 10 ∷ rest → bytes ≡ prefix ++ other ++ 10 ∷ more → (value ≡ other) × (rest ≡ more)
 same_values prefix {value} {other} {rest} {more} free clear e d =
-    grind (arith, common_steps, texts_tell_first_parts, append_cancel_left, append_assoc)
+    grind (arith, common_steps, texts_determine_first_parts, append_cancel_left, append_assoc)
 
 -- ---- a first word, and prices
 

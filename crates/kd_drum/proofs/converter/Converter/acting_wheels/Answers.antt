@@ -1,5 +1,5 @@
 use Rattle.std.proofs.Common.{◌≡◌, ◌+◌, ◌%◌, ℕ, length, subst, sym, ◌∙◌, refl}
-use Rattle.kd_drum.proofs.{Sets.{in_set_of, set_of}, Starts.{acts_now, key_stands}}
+use Rattle.kd_drum.proofs.{WheelSets.{in_set_of, set_of}, WheelsAfterLetters.{acts_now, key_stands}}
 use Rattle.kd_drum.specs.{Converter.{PinKey, is_acting_after, pin_key_after, shown_place}, Counts.is_in_set}
 use Rattle.{kd_drum.specs.SixWheels.converter_key, kd_tables.specs.Rings.ring_of}
 use Rattle.kd_pins.specs.{PinWheel.is_effective, PinWheels.acting_offset, PinWheels.pins_on}

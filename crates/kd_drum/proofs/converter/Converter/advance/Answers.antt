@@ -1,4 +1,4 @@
-use Rattle.kd_drum.{proofs.Starts.key_moved, specs.Converter.PinKey, specs.Converter.pin_key_after}
+use Rattle.kd_drum.{proofs.WheelsAfterLetters.key_moved, specs.Converter.PinKey, specs.Converter.pin_key_after}
 use Rattle.std.proofs.Common.{ap, refl, ◌∙◌}
 use Rattle.kd_drum.proofs.converter.Converter.advance.Goals as goal
 

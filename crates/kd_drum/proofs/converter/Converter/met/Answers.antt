@@ -1,4 +1,4 @@
-use Rattle.{kd_drum.proofs.Starts.count_alike, kd_drum.specs.Counts.bars_met_by, std.proofs.Common.arith}
+use Rattle.{kd_drum.proofs.WheelsAfterLetters.count_alike, kd_drum.specs.Counts.bars_met_by, std.proofs.Common.arith}
 use Rattle.std.proofs.lemmas.List.Sums.{count_by-le-length}
 use Rattle.kd_drum.proofs.converter.Converter.met.Goals as goal
 

@@ -1,4 +1,4 @@
-use Rattle.kd_drum.proofs.{Ciphers.converter_cipher-set, Starts.key_in_turn}
+use Rattle.kd_drum.proofs.{Ciphers.converter_cipher-set, WheelsAfterLetters.key_in_turn}
 use Rattle.{kd_drum.specs.Converter.{PinKey, pin_key_after}, std.proofs.Common.{ap, arith, ◌∙◌}}
 use Rattle.kd_drum.proofs.converter.Converter.run.Goals as goal
 

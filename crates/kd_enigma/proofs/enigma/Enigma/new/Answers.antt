@@ -1,5 +1,6 @@
-use Rattle.kd_enigma.proofs.{Made.each_made, Seats.IsSeatedAs, Seats.are_seats, Seats.IsWired-path, Ways.no_shift}
-use Rattle.{kd_enigma.specs.Wired.key_of_parts, std.proofs.Common.arith, std.proofs.Common.refl}
+use Rattle.kd_enigma.proofs.{FilledArrays.each_made, Seats.IsSeatedAs, Seats.are_seats, Seats.AreMapsOf-path}
+use Rattle.kd_enigma.proofs.{Ways.no_shift}
+use Rattle.{kd_enigma.specs.KeptMaps.key_of_parts, std.proofs.Common.arith, std.proofs.Common.refl}
 use Rattle.{std.proofs.Common.rules}
 use Rattle.kd_enigma.proofs.enigma.Enigma.new.Goals as goal
 
@@ -11,7 +12,7 @@ invariant_of-result g c =
     (λ slot s q lt called. (search rules, (search rules, search rules, search (rules, no_shift)))) in
     rw c.new.ensures (
       refl,
-      IsWired-path (key_of_parts (record { wheels = key.wheels; window = key.window }) key.rings key.reflector
+      AreMapsOf-path (key_of_parts (record { wheels = key.wheels; window = key.window }) key.rings key.reflector
           key.plugs)
           c.from_fn-rotors.result c.from_table-reflecting.result c.around_slow-slow_map.result c.enclose-path_map.result
           c.index-rotors.result c.index-window.result g.row.S c.index-window.result

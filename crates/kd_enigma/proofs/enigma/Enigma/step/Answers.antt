@@ -1,7 +1,7 @@
-use Rattle.kd_enigma.proofs.{Seats.IsWired-path, enigma.Enigma.step.Goals.{else-stands-stood, then-stands-stood}}
-use Rattle.{kd_enigma.specs.Around.around_wheels, kd_enigma.specs.Wired.{key_of_parts, slow_slots}}
+use Rattle.kd_enigma.proofs.{Seats.AreMapsOf-path, enigma.Enigma.step.Goals.{else-stands-stood, then-stands-stood}}
+use Rattle.{kd_enigma.specs.CurrentPath.around_wheels, kd_enigma.specs.KeptMaps.{key_of_parts, slow_slots}}
 use Rattle.{std.proofs.Common.{arith, rules, ◌≡◌}}
-use Rattle.kd_step.proofs.Moved.{slow_still}
+use Rattle.kd_step.proofs.LettersAfterStep.{slow_still}
 use Rattle.kd_enigma.proofs.enigma.Enigma.step.Goals as goal
 
 pub invariant_of-self : goal.invariant_of-self
@@ -16,7 +16,7 @@ invariant_of-self g c =
       | else-stands-stood w ↦ grind (arith, slow_still)
     ] in (
       grind arith,
-      IsWired-path (key_of_parts now.stepper now.rings now.reflector now.plugs) now.rotors now.reflecting now.slow_map
+      AreMapsOf-path (key_of_parts now.stepper now.rings now.reflector now.plugs) now.rotors now.reflecting now.slow_map
           c.enclose-self-inside.result c.index-self.result c.shown-right.result g.row.S 0
           (grind (arith, kept)) (grind (arith, kept)) (grind (arith, kept)) (grind arith)
           (search rules) (search rules) (search rules) c.shown-right.ensures.size

@@ -1,5 +1,6 @@
 use Rattle.std.proofs.Common.{◌≡◌, ◌<◌, ℕ, slice_index, if◌then◌else◌, ltb, arith, rules}
-use Rattle.{kd_enigma.proofs.{Made.each_made, Maps.lanes_of, Maps.told_front}, std.proofs.lemmas.Bool.Decides.nat_tests}
+use Rattle.{kd_enigma.proofs.{FilledArrays.each_made, Maps.lanes_of, Maps.told_front}}
+use Rattle.{std.proofs.lemmas.Bool.Decides.nat_tests}
 use Rattle.kd_enigma.proofs.map.Map.from_table.Goals as goal
 
 each_lane : (c : goal.After-from_fn-lanes) (k : ℕ) → k < 32

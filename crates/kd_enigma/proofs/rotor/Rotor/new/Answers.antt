@@ -1,4 +1,4 @@
-use Rattle.kd_enigma.{proofs.{Made.each_made, Ways.turned_undone}, specs.Rotor.{offset, rotor}}
+use Rattle.kd_enigma.{proofs.{FilledArrays.each_made, Ways.turned_undone}, specs.Rotor.{offset, rotor}}
 use Rattle.kd_tables.{proofs.Wirings.wiring_permutes, specs.{Permutation.{followed_by, inverse}, Tables.wiring_of}}
 use Rattle.std.proofs.{Common.{[], arith, rules, ℕ, ◌≡◌}, lemmas.List.FromFn.fill_by_all}
 use Rattle.kd_enigma.proofs.rotor.Rotor.new.Goals as goal

@@ -35,7 +35,7 @@ pub use Rattle.kd_state.proofs.{Cables.{eqb_flips, new_tells, IsDistinct-nil}, S
 pub use Rattle.kd_state.proofs.Wheels.{has_reflector-Decides, has_wheel-Decides, same_wheel-Decides}
 pub use Rattle.kd_state.specs.Machine.{IsLegalRotor, IsSeatedAt, cable_letters, with_cables_in_order, cable_in_order}
 pub use Rattle.kd_state.specs.Machine.{letters_in_cables}
-pub use Rattle.kd_state.specs.{Setting.{are_new_letters, has_letter}}
+pub use Rattle.kd_state.specs.{Setting.{are_new_and_distinct, has_letter}}
 pub use Rattle.kd_state.specs.{declared.sheet_day.rotor_entry.SheetWheel.SheetWheel}
 pub use Rattle.kd_state.specs.SheetDay.{IsLegalRotorDay, OfPins, OfRotors, PinDay, RotorDay, day_number}
 pub use Rattle.kd_state.specs.SheetDay.{seats_of_wheels}

@@ -1,4 +1,4 @@
-use Rattle.kd_state.proofs.{Prelude.{arith, refl}, Seating.of_seated}
+use Rattle.kd_state.proofs.{Prelude.{arith, refl}, WheelsInSlots.of_seated}
 use Rattle.kd_state.proofs.engine.ready.rotor_engine.Goals as goal
 
 pub returns-clause-ready : goal.returns-clause-ready

@@ -1,5 +1,5 @@
 use Rattle.kd_state.proofs.Prelude.{Some, ◌≡◌, map, take}
-use Rattle.{arrayvec.specs.ArrayVec.array_vec_len, kd_state.specs.Seated.wheel_in_seat}
+use Rattle.{arrayvec.specs.ArrayVec.array_vec_len, kd_state.specs.SeatedWheels.wheel_in_seat}
 use Rattle.kd_state.proofs.engine.ready.seated_wheels.Given as goal
 
 abbrev pub invariant-loop-seated : goal.invariant-loop-seated

@@ -1,4 +1,5 @@
-use Rattle.kd_state.proofs.{Telling.Refusing.Changing.ordered_parts, Prelude.IsMachine, Prelude.subst, Prelude.sym}
+use Rattle.kd_state.proofs.{SettingEffects.Refusals.Changes.ordered_parts, Prelude.IsMachine, Prelude.subst}
+use Rattle.kd_state.proofs.{Prelude.sym}
 use Rattle.kd_state.proofs.machine.Machine.rotor.Goals as goal
 
 pub invariant_of-result : goal.invariant_of-result

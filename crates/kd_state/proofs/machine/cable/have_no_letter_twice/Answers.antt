@@ -7,5 +7,5 @@ loop-place-preserved c = grind (arith, distinct_from, c.loop-place.invariant.0)
 pub returns : goal.returns
 returns c = grind (arith, drop_all, IsDistinct-nil)
 
-pub returns-then-not-are_new_letters : goal.returns-then-not-are_new_letters
-returns-then-not-are_new_letters c = grind (arith, false, distinct_from, both_ways, c.loop-place.invariant.0)
+pub returns-then-not-are_new_and_distinct : goal.returns-then-not-are_new_and_distinct
+returns-then-not-are_new_and_distinct c = grind (arith, false, distinct_from, both_ways, c.loop-place.invariant.0)

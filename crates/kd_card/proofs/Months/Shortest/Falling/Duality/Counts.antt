@@ -33,9 +33,9 @@ pub use Rattle.kd_tables.specs.declared.{place.Place.{Place, TheVariants.One}, r
 pub use Rattle.kd_tables.specs.{Places.{IsBefore, reading_of}, Tables.{reflector_text, reflectors_of, wheel_text}}
 pub use Rattle.{kd_state.proofs.Wheels.days_wheels_have_their_places, kd_tables.specs.Permutation.alphabet}
 pub use Rattle.kd_state.proofs.{Cables.{eqb_flips, has_letter-AllByRecursion, without_moves}, SortedAlike.count_by-cons}
-pub use Rattle.kd_state.proofs.{Cables.{set_moves, tests_tell_letters, with_moves}, Slots.IsNumbered-not_none}
-pub use Rattle.kd_state.proofs.{CostTable.thirteen_columns, Slots.set_other, Telling.Refusing.Changing.six_lists}
-pub use Rattle.kd_state.proofs.Telling.Refusing.Changing.{bars_with_lug, letters_with, no_reason, still_before}
+pub use Rattle.kd_state.proofs.{Cables.{set_moves, tests_determine_letters, with_moves}, Slots.IsNumbered-not_none}
+pub use Rattle.kd_state.proofs.{CostTable.thirteen_columns, Slots.set_other, SettingEffects.Refusals.Changes.six_lists}
+pub use Rattle.kd_state.proofs.SettingEffects.Refusals.Changes.{bars_with_lug, letters_with, no_reason, still_before}
 pub use Rattle.kd_state.specs.{Changes.HasLugsInOrder, Costs.{bar_cost, cable_cost, columns_of, exactly_one}}
 pub use Rattle.kd_state.specs.Costs.{column_letters, cost_table, loose_count, lugs_moved, one_unless}
 pub use Rattle.kd_state.specs.Setting.{cable_at, cable_without, refusal_reasons, seat_without, wheel_in_slot, with_lug}

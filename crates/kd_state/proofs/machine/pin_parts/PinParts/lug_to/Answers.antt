@@ -1,4 +1,4 @@
-use Rattle.kd_state.proofs.{Prelude.{refl, sym, ◌∙◌}, Telling.Refusing.Changing.would_pass}
+use Rattle.kd_state.proofs.{Prelude.{refl, sym, ◌∙◌}, SettingEffects.Refusals.Changes.would_pass}
 use Rattle.kd_state.proofs.machine.pin_parts.PinParts.lug_to.Goals as goal
 
 pub returns-in_default-with_lug : goal.returns-in_default-with_lug

@@ -1,0 +1,38 @@
+-- A partial assignment of columns to rows: `holders` has each column's row, or `None` for a free column. No public
+-- contract cites this file.
+use Rattle.std.specs.Prelude.{◌≡◌, ℕ, ◌*◌, ◌<◌, List, length, Option, Some, None, is_some, slice_index_or, count_by, ℤ}
+use Rattle.std.specs.Prelude.{pos, ◌+ℤ◌, ◌≤ℤ◌}
+use Rattle.kd_assign.specs.Prices.{cost_at, price_at}
+
+-- Row `i` has column `j`, according to `holders`.
+abbrev pub IsColumnTakenBy : List (Option ℕ) → ℕ → ℕ → Type 0
+IsColumnTakenBy holders j i = slice_index_or holders j None ≡ Some i
+
+-- Column `j` is free: no row has it, according to `holders`.
+abbrev pub IsColumnFree : List (Option ℕ) → ℕ → Type 0
+IsColumnFree holders j = slice_index_or holders j None ≡ None
+
+-- Row `i` has a column, according to `holders`.
+abbrev pub IsRowAssigned : List (Option ℕ) → ℕ → Type 0
+IsRowAssigned holders i = (j : ℕ) × IsColumnTakenBy holders j i
+
+-- Column `j` is the cheapest for row `i`: its cost in row `i` minus its price is the least of all columns.
+abbrev pub IsCheapestColumn : ℕ → List (List ℕ) → List ℤ → ℕ → ℕ → Type 0
+IsCheapestColumn n cost prices i j =
+    (k : ℕ) → k < n → (pos (cost_at cost i j) +ℤ price_at prices k) ≤ℤ (pos (cost_at cost i k) +ℤ price_at prices j)
+
+-- The rows before `next` have columns, and no other row has one. Each row's column is its cheapest at the prices
+-- `prices`.
+pub record IsSolvedUpTo (n : ℕ) (cost : List (List ℕ)) (prices : List ℤ)
+    (holders : List (Option ℕ)) (next : ℕ) : Type 0 where
+  pub places : length holders ≡ n
+  pub rows : (i j : ℕ) → IsColumnTakenBy holders j i → i < n
+  pub seated : (i : ℕ) → i < next → IsRowAssigned holders i
+  pub count : count_by is_some holders ≡ next
+  pub cheapest : (i j : ℕ) → IsColumnTakenBy holders j i → IsCheapestColumn n cost prices i j
+  -- each free column has price 0; some column has price 0, even if no column is free
+  pub free : (j : ℕ) → j < n → IsColumnFree holders j → price_at prices j ≡ pos 0
+  pub zero : (j : ℕ) × (j < n) × (price_at prices j ≡ pos 0)
+  -- no price is above 0; no price is below -4 times the number of rows that have columns
+  pub high : (j : ℕ) → j < n → price_at prices j ≤ℤ pos 0
+  pub low : (j : ℕ) → j < n → pos 0 ≤ℤ (price_at prices j +ℤ pos (4 * next))

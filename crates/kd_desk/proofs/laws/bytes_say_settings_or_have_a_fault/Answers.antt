@@ -1,5 +1,0 @@
-use Rattle.kd_desk.proofs.Exclusions.{no_fault, one_fault, one_list}
-use Rattle.kd_desk.proofs.laws.bytes_say_settings_or_have_a_fault.Goals as goal
-
-pub returns : goal.returns
-returns c = record { settings = one_list; no_fault = no_fault; one_fault = one_fault }

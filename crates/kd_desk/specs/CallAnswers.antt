@@ -1,0 +1,27 @@
+-- Answers of a call: lack of memory, a fault, a refusal before anything was written, or a failed device.
+-- Test: refuses_the_machine_first
+use Rattle.std.specs.Prelude.{◌≡◌, ◌⊎◌, Bool, true, false, Result, Ok, Err}
+use Rattle.kd_sheet.specs.declared.fault.SheetFault.TheVariants.{NoMemory}
+use Rattle.kd_desk.specs.declared.fault.DeskFault.{DeskFault}
+use Rattle.kd_desk.specs.declared.fault.DeskFault.TheVariants.{File, Device, ReadTooLong, Message}
+use Rattle.kd_form.specs.Streams.{is_off_key}
+
+-- The call ran out of memory while it read a file.
+abbrev pub LacksMemory : {A : Type 0} → Result A DeskFault → Type 0
+LacksMemory answer = answer ≡ Err (File NoMemory)
+
+-- The answer is `fault`, unless the call ran out of memory.
+abbrev pub AnswersFault : Result (Unit {0}) DeskFault → DeskFault → Type 0
+AnswersFault answer fault = (answer ≡ Err fault) ⊎ LacksMemory answer
+
+-- whether a call was refused before it read a message or wrote anything; a message is a text, an order or a form
+abbrev pub is_refused_before_message : Result (Unit {0}) DeskFault → Bool
+is_refused_before_message (Ok _) = false
+is_refused_before_message (Err Device) = false
+is_refused_before_message (Err ReadTooLong) = false
+is_refused_before_message (Err (Message fault)) = is_off_key (Err fault)
+is_refused_before_message (Err _) = true
+
+abbrev pub is_device : Result (Unit {0}) DeskFault → Bool
+is_device (Err Device) = true
+is_device _ = false

@@ -1,0 +1,8 @@
+use Rattle.kd_state.proofs.{Lines.AreTaken, Prelude.length, Prelude.map}
+use Rattle.kd_state.proofs.line_words.split_words.Given as goal
+
+abbrev pub invariant-loop-word : goal.invariant-loop-word
+invariant-loop-word g l = AreTaken l.line l.rest (map (λ word. word.now) l.words.items)
+
+abbrev pub decreases-loop-word : goal.decreases-loop-word
+decreases-loop-word g l = length l.rest
