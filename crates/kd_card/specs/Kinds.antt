@@ -130,8 +130,7 @@ prices_of_kinds format kinds = flat_map (λ k. replicate (format.kind k).count (
 abbrev pub expansion : {X : Type 0} → List (KindOf X) → List (X × ℤ)
 expansion kinds = flat_map (λ kind. replicate kind.count (kind.key, kind.price)) kinds
 
--- `keys` (letters, standings or readings) with their prices are what `kinds` count, in any order: each kind's key and
--- price, as often as its count says.
+-- Each kind's key and price, repeated as often as the kind's count says, are `keys` with their prices, in some order.
 -- Code: `kinds_of` sorts keys with their prices, and counts equal ones; `prices_of` lowers the count of a key's kind.
 pub record AreKindsOf {K X : Type 0} (format : KindFormat K X) (keys : List X) (prices : List ℤ) (kinds : List K)
     : Type 0 where

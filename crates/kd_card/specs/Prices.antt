@@ -43,8 +43,7 @@ pub record IsPriceList (number : ℕ) (prices : List ℤ) : Type 0 where
   pub count : length prices ≡ number
   pub in_range : ArePricesInRange prices
 
--- There is a price from -9999 to 9999 for each row and each column of the table of costs. Kinds are valid and strictly
--- ascending.
+-- Each row and column of the table of costs has a price from -9999 to 9999; kinds are valid and strictly ascending.
 abbrev pub ArePrices : PriceParts → Type 0
 ArePrices (Cables row col) = IsPriceList 13 row × IsPriceList 13 col
 ArePrices (Bars row col) = IsPriceList 27 row × IsPriceList 27 col

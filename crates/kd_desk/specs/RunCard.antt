@@ -20,9 +20,8 @@ use Rattle.kd_desk.specs.Headline.{LeavesTheSheetsMachine, EquallySetDecipherOn}
 use Rattle.kd_tables.specs.Ports.{Port}
 use Rattle.kd_desk.specs.Ports.{WritesText}
 
--- The text of a shortest card for day `number` was written, or a prefix of it if the device failed. The card's settings
--- lead to the machine that the day asks for, and leave spare cables free. Its prices prove that it is shortest; equal
--- cables, columns, bars or rows have one price. What one machine enciphers, an equally set machine deciphers.
+-- A shortest card for day `number` was written, or a prefix of its text if the device failed. The settings lead to the
+-- day's machine, and leave spare cables free. The prices, one for each kind, prove that no list is shorter.
 pub record WritesCard (m : Parts) (s : Day) (number : ℕ) (sink : Port)
     (answer : Result (Unit {0}) DeskFault) : Type 0 where
   pub settings : List Setting

@@ -31,8 +31,7 @@ IsEachOnItsWheel letters = (wheel : ℕ) → 1 ≤ wheel → wheel ≤ 6
 abbrev pub shown_place : List ℕ → ℕ → ℕ
 shown_place letters wheel = unwrap_or (place_on (ring_of wheel) (slice_index letters (wheel - 1))) 0
 
--- whether wheel `wheel` has an effective acting pin after `count` letters of a text; before the text, the wheels show
--- `letters`
+-- whether wheel `wheel` has an effective acting pin after `count` letters; before them, the wheels show `letters`
 abbrev pub is_acting_after : List (List Bool) → List ℕ → ℕ → ℕ → Bool
 is_acting_after pins letters count wheel =
     (nat_le 1 wheel && nat_le wheel 6) && is_effective (pins_on pins wheel)

@@ -66,8 +66,7 @@ columns_of pairs = map Some pairs ++ replicate (13 - length pairs) None
 abbrev pub costs_by : {X Y : Type 0} → (X → Y → ℕ) → List X → List Y → List (List ℕ)
 costs_by cost rows columns = map (λ row. map (cost row) columns) rows
 
--- the cost table of a machine and a day of the same model: the cost of each cable with each column, or of each bar with
--- each row
+-- the costs for a machine and a day of the same model: of each cable with each column, or of each bar with each row
 abbrev pub cost_table : Parts → Day → List (List ℕ)
 cost_table (Rotor m) (OfRotors s) = costs_by cable_cost m.cables (columns_of s.pairs)
 cost_table (Pin m) (OfPins s) = costs_by bar_cost m.bars s.rows
@@ -75,8 +74,7 @@ cost_table _ _ = []
 
 -- ---- Loose things: all things that differ from the day, except cables and bars.
 
--- how many things other than cables and bars differ from the day; rings and window letters count for each of the day's
--- wheels, in a slot or in the box
+-- how many things, except cables and bars, differ from the day; rings and letters count for the day's wheels alone
 abbrev pub loose_count : Parts → Day → ℕ
 loose_count (Rotor m) (OfRotors s) =
     count_by (λ slot. not (option_map_or (same_wheel slot.1.wheel) slot.0 false)) (zip m.slots s.wheels)

@@ -21,14 +21,12 @@ AreLettersOfPair one other pair = ((one ≡ pair.0) × (other ≡ pair.1)) ⊎ (
 pub record HasPairLetters (cable : Option ℕ × Option ℕ) (pair : ℕ × ℕ) : Type 0 where
   pub letters : HaveSameLetters (cable_letters cable) (pair.0 ∷ pair.1 ∷ [])
 
--- Each cable is empty or has the letters of a pair, and each pair's letters are in a cable. The order of cables,
--- pairs and letters doesn't matter.
+-- Each cable is empty or has a pair's letters, and each pair's letters are in a cable, in whatever order.
 pub record AreThePairs (cables : List (Option ℕ × Option ℕ)) (pairs : List (ℕ × ℕ)) : Type 0 where
   pub pair : All (λ cable. cable_letters cable ≢ [] → Any (HasPairLetters cable) pairs) cables
   pub cable : All (λ pair. Any (λ cable. HasPairLetters cable pair) cables) pairs
 
--- Each slot has the day's wheel with the day's ring. The machine has the day's model and reflector, and exactly the
--- day's pairs in its cables.
+-- The model, each slot's wheel with its ring, the reflector, and the pairs in the cables are the day's.
 pub record IsRotorOnKey (m : RotorParts) (s : RotorDay) : Type 0 where
   pub model : m.model ≡ s.model
   pub slots : m.slots ≡ seats_of_wheels s.wheels
@@ -36,8 +34,7 @@ pub record IsRotorOnKey (m : RotorParts) (s : RotorDay) : Type 0 where
   pub reflector : m.reflector ≡ s.reflector
   pub cables : AreThePairs m.cables s.pairs
 
--- The machine is set as the day says, whatever letters it shows. A Converter's bars have the day's readings,
--- in any order.
+-- The machine is set as the day says, whatever letters it shows. Its bars have the day's readings, in any order.
 abbrev pub OnKey : Parts → Day → Type 0
 OnKey (Rotor m) (OfRotors s) = IsRotorOnKey m s
 OnKey (Pin m) (OfPins s) = (m.pins ≡ s.pins) × IsPermutation (map reading_of m.bars) s.rows
