@@ -22,8 +22,8 @@ abbrev pub head_prefix : Version → List ℕ
 head_prefix ByNumber = codes "CARD 1 DAY "
 head_prefix ByKind = codes "CARD 2 DAY "
 
--- The first line of `bytes`, which is line `line` of the card, doesn't have `word` and then words. For any number of
--- prices that are due there, the fault is `fault`.
+-- `bytes` begin with line `line` of a card. Whatever number of prices above 0 has to follow `word` there, the result of
+-- reading the line is `fault`.
 abbrev pub IsNoPriceLine : List ℕ → ℕ → List ℕ → CardFault → Type 0
 IsNoPriceLine word line bytes fault =
     (number : ℕ) → 0 < number → IsPriceLineAnswer word number line bytes (Err fault)

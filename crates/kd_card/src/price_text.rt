@@ -42,7 +42,7 @@ pub(crate) fn price_of_text(text: &[u8]) -> Option<i16>
 {
     let price: i16 = str::from_utf8(text).ok()?.parse().ok()?;
     let mut buffer = Buffer::new();
-    // `parse` also accepts leading zeros and a plus sign, which `format` never writes.
+    // `parse` also accepts leading zeros, a plus sign and `-0`, which `format` never writes.
     let is_written_so = is_word(text, buffer.format(price));
     (price.unsigned_abs() <= 9999 && is_written_so).then_some(price)
 }

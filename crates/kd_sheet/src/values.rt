@@ -1,4 +1,4 @@
-//! Reads the value of each key of a machine file or a day.
+//! Reads values of machine files and key sheets: a file for each sort of value.
 
 pub(crate) mod bars;
 pub(crate) mod cables;
