@@ -6,7 +6,7 @@ use Rattle.kd_desk.specs.declared.fault.DeskFault.{DeskFault}
 use Rattle.kd_desk.specs.declared.fault.DeskFault.TheVariants.{File, Device, ReadTooLong, Message}
 use Rattle.kd_form.specs.Streams.{is_off_key}
 
--- The call ran out of memory while it read a file.
+-- The answer is `NoMemory`. No clause says that memory really ran out.
 abbrev pub LacksMemory : {A : Type 0} → Result A DeskFault → Type 0
 LacksMemory answer = answer ≡ Err (File NoMemory)
 
