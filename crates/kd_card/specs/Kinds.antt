@@ -79,7 +79,7 @@ row_format = record {
 }
 
 -- The key `x` (letters, standing or reading) comes before the key `y` in the dictionary order of a card's lines.
--- Code: keys are compared by derived orders, which the law `ordered` of `Kind` proves equal to this order.
+-- Code: `compare` of the trait `Kind` compares keys in this order, by derived orders.
 abbrev pub KeyComesBefore : {K X : Type 0} → KindFormat K X → X → X → Type 0
 KeyComesBefore format x y = slice_cmp nat_cmp (format.order x) (format.order y) ≡ Less
 

@@ -1,4 +1,4 @@
-use Rattle.kd_prices.proofs.{Found.cable_kinds_found, Prelude.{GoesOn, HasFault, OtherModel, Same, arith, refl}}
+use Rattle.kd_prices.proofs.{Found.cable_kinds_found, Prelude.{GoesOn, HasFault, OtherModel, Same, arith, refl, rules}}
 use Rattle.kd_state.specs.Entry.{rotor_values}
 use Rattle.kd_prices.proofs.checking.cable_prices.Goals as goal
 
@@ -10,15 +10,11 @@ returns-in-CableKinds-clause-found c =
     let day = rotor_values c.args.entry.now in
     rw (c.in-CableKinds.is, c.ok_or.ensures.value, c.zip.ensures)
     (cable_kinds_found c.args.parts.now day c.in-CableKinds.rows.items c.in-CableKinds.columns.items
-    (rw c.in-CableKinds.is at c.requires.prices) (rw c.ends_of.ensures.value at c.ends_of.ensures.number)
-    (rw (c.columns_of.ensures.value, c.as_slice-in-CableKinds.ensures.value) at c.columns_of.ensures.number)
+    (rw c.in-CableKinds.is at c.requires.prices) (search rules)
+    (rw (c.columns_of.ensures.value, c.as_slice.ensures.value) at c.columns_of.ensures.number)
     c.prices_of-rows.result c.prices_of-columns.result
-    (rw (c.as_slice.ensures.value, c.ends_of.ensures.value) at c.prices_of-rows.ensures)
-    (rw (
-      c.as_slice-in-CableKinds-2.ensures.value,
-      c.columns_of.ensures.value,
-      c.as_slice-in-CableKinds.ensures.value,
-    )
+    c.prices_of-rows.ensures
+    (rw (c.as_slice-in-CableKinds.ensures.value, c.columns_of.ensures.value, c.as_slice.ensures.value)
     at c.prices_of-columns.ensures))
 
 pub returns-in-Bars-clause-found : goal.returns-in-Bars-clause-found
