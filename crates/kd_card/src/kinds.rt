@@ -66,8 +66,7 @@ pub struct KindOf<T> {
 /// A kind: equal cables, columns, bars or rows, which have one price.
 pub trait Kind: Copy + Default {
     ghost use Rattle.std.specs.Prelude.{◌≡◌, ◌↔◌, ◌≤◌, length, List, IsTrue, MatchOption};
-    ghost use Rattle.std.specs.{Cmp.Lexicographic.slice_cmp, Ordering.nat_cmp};
-    ghost use Rattle.kd_card.specs.Kinds.{KindFormat, HasText, IsOnlyKey};
+    ghost use Rattle.kd_card.specs.Kinds.{KindFormat, key_cmp, HasText, IsOnlyKey};
 
     /// The key of a kind: what its cables, columns, bars or rows have in common, such as their letters.
     type Key: Copy + Default;
@@ -104,7 +103,7 @@ pub trait Kind: Copy + Default {
 
     /// Compares two keys. A card sorts the lines of kinds by this order of their keys.
     fn compare(one: &Self::Key, other: &Self::Key) -> Ordering
-        ensures { result ≡ slice_cmp nat_cmp (format.order one.now) (format.order other.now) };
+        ensures { result ≡ key_cmp format one.now other.now };
 
     /// Keys with the same place in this order are the same key.
     ghost told_apart: { (x y : Self.Key) → format.order x ≡ format.order y → x ≡ y };

@@ -1,7 +1,6 @@
 -- Sorted keys with their prices are grouped into kinds. Valid kinds determine the price of each key.
-use Rattle.{kd_card.specs.Kinds.KeyComesBefore, std.proofs.{Common.add-one, lemmas.Cmp.nat_list_cmp_total}}
+use Rattle.{kd_card.specs.Kinds.{KeyComesBefore, key_cmp}, std.proofs.{Common.add-one, lemmas.Cmp.nat_list_cmp_total}}
 use Rattle.kd_prices.{proofs.Taking.eq_decides, specs.Grouping.AreSorted}
-use Rattle.std.specs.Cmp.Lexicographic.{slice_cmp}
 use Rattle.kd_prices.proofs.Prelude.{All, All-contains, All-permutation, All-replicate, IsPermutation, length-replicate}
 use Rattle.kd_prices.proofs.Prelude.{All-append, All-weaker, AreKindsOf, CanBeKinds, KindFormat, expansion, true≢false}
 use Rattle.kd_prices.proofs.Prelude.{All-contains_itself, Contains-permutation, HaveOnePriceEach, IsPermutation-sym, []}
@@ -10,7 +9,7 @@ use Rattle.kd_prices.proofs.Prelude.{AppendsKinds, append_assoc, common_steps, k
 use Rattle.kd_prices.proofs.Prelude.{Equal, IsKind, IsValidKeyAndPrice, KindOf, Less, List, None, Option, arith, false}
 use Rattle.kd_prices.proofs.Prelude.{length, Some, ap, refl, suc, zip, ℤ, ◌++◌, ◌+◌, ◌∙◌, ◌∷◌, ◌≡◌, ◌≢◌, ◌≤◌, ◌⊎◌}
 use Rattle.std.proofs.lemmas.List.{get_or-replicate, replicate_more, Elements.Contains-append_cases}
-use Rattle.std.specs.{List.refill, Ordering.{is_eq, is_lt, nat_cmp, ordering_reverse}}
+use Rattle.std.specs.{List.refill, Ordering.{is_eq, is_lt, ordering_reverse}}
 
 -- ---- grouping
 
@@ -83,16 +82,15 @@ module _ {K X : Type 0} (format : KindFormat K X) where
       expand = rw is (ap (λ rest. replicate kind.count (kind.key, kind.price) ++ rest) inner.expand);
       in_order = λ last can comes.
           let key = ap (λ (k : KindOf X). k.key) is in
-          let cmp : X → X → Ordering = λ x y. slice_cmp nat_cmp (format.order x) (format.order y) in
-          let apart : cmp pair.0 kind.key ≢ Equal = λ tied.
+          let apart : key_cmp format pair.0 kind.key ≢ Equal = λ tied.
           let same = (eq_decides format told pair.0 kind.key).0 (ap is_eq tied) in
           let price = can.one_price kind.key pair.1 kind.price in
           let equal = price (1, omega arith, ap (λ x. (x, pair.1)) same) (0, omega arith, refl) in
           other (cc) in
           let back = nat_list_cmp_total.antisymm (format.order kind.key) (format.order pair.0) in
           let less =
-          comes_before (cmp pair.0 kind.key) (cmp kind.key pair.0) back (can.sorted 0 pair (omega arith) (omega arith))
-          apart in (
+          comes_before (key_cmp format pair.0 kind.key) (key_cmp format kind.key pair.0) back
+          (can.sorted 0 pair (omega arith) (omega arith)) apart in (
             valid made (pair ∷ pairs) is can,
             comes made key,
             inner.in_order (Some made) (can_tail (kind.key, kind.price) (pair ∷ pairs) can)

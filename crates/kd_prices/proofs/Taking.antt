@@ -1,20 +1,18 @@
 -- Keys are taken out of kinds, one by one. If all can be taken, the kinds' prices are the prices of the keys.
-use Rattle.{kd_card.specs.Kinds.total_count, kd_prices.specs.Grouping.{HasNoneLeft, TakesOne}}
-use Rattle.kd_prices.proofs.Prelude.{All, [], ap, map, set, suc, sym, zip, ℕ, ℤ, ◌-◌, ◌<◌, ◌↔◌, ◌∙◌, ◌∷◌, ◌≡◌, ◌≤◌}
-use Rattle.kd_prices.proofs.Prelude.{All-append, AreKindsOf, Bool, MatchOption, common_steps, tied_itself, unsigned_abs}
+use Rattle.{kd_card.specs.Kinds.{key_cmp, total_count}, kd_prices.specs.Grouping.{HasNoneLeft, TakesOne}}
 use Rattle.kd_prices.proofs.Prelude.{All-nil, ArePricesInRange, IsPermutation-sym, length-replicate, length_permutation}
-use Rattle.kd_prices.proofs.Prelude.{All-permutation, All-replicate, IsPermutation, KindOf, length-append}
-use Rattle.kd_prices.proofs.Prelude.{AreKinds, KindFormat, List, append-nil, expansion, length-zip, replicate}
-use Rattle.kd_prices.proofs.Prelude.{Equal, IsGroup, None, Option, Some, arith, length, refl, subst, true, ◌++◌}
+use Rattle.kd_prices.proofs.Prelude.{All-permutation, All-replicate, IsPermutation, [], length-append, take-append-drop}
+use Rattle.kd_prices.proofs.Prelude.{All-append, MatchOption, ap, append_assoc, common_steps, tied_itself, unsigned_abs}
+use Rattle.kd_prices.proofs.Prelude.{AreKindsOf, KindFormat, append-nil, expansion, get_or-zip, length-zip, replicate}
+use Rattle.kd_prices.proofs.Prelude.{All-head, All-tail, AreKinds, IsGroup, KindOf, Option, get_or, length, nat_tests}
+use Rattle.kd_prices.proofs.Prelude.{Bool, Equal, List, None, Some, arith, drop, refl, subst, take, true, zero, ℕ, ◌++◌}
 use Rattle.std.proofs.lemmas.List.{Folds.{fold-map}, Sums.{sum_by-append, sum_by-cons}}
 use Rattle.std.proofs.lemmas.List.Sorted.{IsPermutation-append_right, IsPermutation-middle, sum_by-IsPermutation}
 use Rattle.std.proofs.lemmas.List.Sorted.{IsPermutation-refl, IsPermutation-trans}
 use Rattle.std.proofs.lemmas.{List.{nil_from_length, Elements.All-map}, Slice.Zip.{firsts-zip, seconds-zip}}
-use Rattle.std.specs.{Cmp.{Equal-is, Lexicographic.slice_cmp}, List.sum_by, Ordering.{is_eq, nat_cmp}, Prelude.if◌then◌else◌}
-use Rattle.std.proofs.lemmas.Cmp.{nat_list_cmp_total}
-use Rattle.kd_prices.proofs.Prelude.{All-head, All-tail, nat_tests, zero, ◌≢◌}
-use Rattle.kd_prices.proofs.Prelude.{append_assoc, get_or, get_or-zip, take, ◌+◌}
-use Rattle.kd_prices.proofs.Prelude.{drop, pos, take-append-drop}
+use Rattle.std.{proofs.lemmas.Cmp.nat_list_cmp_total, specs.{Cmp.Equal-is, List.sum_by, Prelude.if◌then◌else◌}}
+use Rattle.std.specs.{Cmp.Lexicographic.slice_cmp, Ordering.{is_eq, nat_cmp}}
+use Rattle.kd_prices.proofs.Prelude.{All, map, pos, set, suc, sym, zip, ℤ, ◌+◌, ◌-◌, ◌<◌, ◌↔◌, ◌∙◌, ◌∷◌, ◌≡◌, ◌≢◌, ◌≤◌}
 use Rattle.std.proofs.{Math.Seq.drop-cons, lemmas.List.{take_all, take_more_set}}
 
 -- ---- equal keys
@@ -27,7 +25,7 @@ same_numbers (x ∷ xs) (y ∷ ys) same = grind (arith, nat_tests, same_numbers 
 
 -- Keys are equal exactly if they compare as equal.
 pub eq_decides : {K X : Type 0} (format : KindFormat K X) → ((x y : X) → format.order x ≡ format.order y → x ≡ y)
-    → (x y : X) → (is_eq (slice_cmp nat_cmp (format.order x) (format.order y)) ≡ true) ↔ (x ≡ y)
+    → (x y : X) → (is_eq (key_cmp format x y) ≡ true) ↔ (x ≡ y)
 eq_decides format told x y = (
   λ same. told x y (same_numbers _ _ ((Equal-is _).0 same)),
   λ same. rw same (ap is_eq (tied_itself nat_list_cmp_total (format.order y))),

@@ -1,9 +1,8 @@
 -- Grouping keys with prices into kinds, and finding the price of a key in the kinds. A key is the letters of a cable,
 -- the pair of a column, a standing or a reading. No contract of a public function cites these definitions.
 use Rattle.std.specs.Prelude.{IsPermutation, List, Option, replicate, unsigned_abs, ◌++◌}
-use Rattle.std.specs.{List.{Contains, Sorted.IsSortedByKey}, Prelude.{All, map, ℤ, ◌∷◌, ◌≡◌, ◌≢◌, ◌≤◌}}
-use Rattle.std.specs.{Cmp.Lexicographic.slice_cmp, Ordering.nat_cmp}
-use Rattle.kd_card.specs.{Kinds.{AreKinds, ComesAfter, KindFormat, expansion}, declared.kinds.KindOf.KindOf}
+use Rattle.std.specs.{List.{Contains, Sorted.IsSorted}, Prelude.{All, map, ℤ, ◌∷◌, ◌≡◌, ◌≢◌, ◌≤◌}}
+use Rattle.kd_card.specs.{Kinds.{AreKinds, ComesAfter, KindFormat, expansion, key_cmp}, declared.kinds.KindOf.KindOf}
 
 -- In this list of keys (letters, standings or readings) with their prices, equal keys have equal prices.
 abbrev pub HaveOnePriceEach : {X : Type 0} → List (X × ℤ) → Type 0
@@ -20,7 +19,7 @@ kind_of_one pair = record { key = pair.0; count = 1; price = pair.1 }
 
 -- The keys ascend in the order of a card's lines.
 abbrev pub AreSorted : {K X : Type 0} → KindFormat K X → List (X × ℤ) → Type 0
-AreSorted format pairs = IsSortedByKey (λ pair. format.order pair.0) (slice_cmp nat_cmp) pairs
+AreSorted format pairs = IsSorted (λ one other. key_cmp format one.0 other.0) pairs
 
 -- Keys with prices that can be grouped into valid kinds. They are sorted by key. Equal keys have equal prices. Each key
 -- has the form that a card writes, and each price is from -9999 to 9999.

@@ -1,7 +1,6 @@
-use Rattle.kd_prices.proofs.Prelude.{ap, arith, common_steps, drop, length, take, ◌-◌, ◌∙◌, ◌∷◌, ◌≡◌}
+use Rattle.kd_prices.proofs.Prelude.{ap, arith, common_steps, drop, length, rules, take, ◌-◌, ◌∙◌, ◌∷◌, ◌≡◌}
 use Rattle.kd_prices.proofs.Runs.{all_kinds, refilled}
 use Rattle.std.proofs.lemmas.{Cmp.nat_list_cmp_total, List.Sorted.{answers_always, ranks_by}}
-use Rattle.kd_prices.proofs.Prelude.{rules}
 use Rattle.kd_prices.proofs.grouping.kinds_of.Goals as goal
 
 pub returns-in-len1-up-clause-in_order : goal.returns-in-len1-up-clause-in_order

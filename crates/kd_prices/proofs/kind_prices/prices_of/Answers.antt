@@ -24,7 +24,8 @@ returns-in_err-prices g c =
     rw c.from_residual.ensures
     (not_kinds_of g.K.Kind.format c.args.kinds.items (map g.K.Kind.format.kind at.kinds.items) _ at.prices _ key
     c.loop-place-test.true (sym c.index-keys-place.is) (at.invariant.0 ∙ sym c.requires.number) at.invariant.1
-    _ (λ x. eq_decides g.K.Kind.format g.met.K.Kind.told_apart x key) (rw c.as_mut_slice.ensures.value at c.in_err-prices.ensures))
+    _ (λ x. eq_decides g.K.Kind.format g.met.K.Kind.told_apart x key)
+    (rw c.as_mut_slice.ensures.value at c.in_err-prices.ensures))
 
 pub returns : goal.returns
 returns g c =
