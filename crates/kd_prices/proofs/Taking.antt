@@ -2,34 +2,28 @@
 use Rattle.{kd_card.specs.Kinds.{key_cmp, total_count}, kd_prices.specs.Grouping.{HasNoneLeft, TakesOne}}
 use Rattle.kd_prices.proofs.Prelude.{All-nil, ArePricesInRange, IsPermutation-sym, length-replicate, length_permutation}
 use Rattle.kd_prices.proofs.Prelude.{All-permutation, All-replicate, IsPermutation, [], length-append, take-append-drop}
-use Rattle.kd_prices.proofs.Prelude.{All-append, MatchOption, ap, append_assoc, common_steps, tied_itself, unsigned_abs}
+use Rattle.kd_prices.proofs.Prelude.{All-append, MatchOption, ap, append_assoc, common_steps, unsigned_abs}
 use Rattle.kd_prices.proofs.Prelude.{AreKindsOf, KindFormat, append-nil, expansion, get_or-zip, length-zip, replicate}
-use Rattle.kd_prices.proofs.Prelude.{All-head, All-tail, AreKinds, IsGroup, KindOf, Option, get_or, length, nat_tests}
-use Rattle.kd_prices.proofs.Prelude.{Bool, Equal, List, None, Some, arith, drop, refl, subst, take, true, zero, ℕ, ◌++◌}
+use Rattle.kd_prices.proofs.Prelude.{All-head, All-tail, AreKinds, IsGroup, KindOf, Option, get_or, length}
+use Rattle.kd_prices.proofs.Prelude.{Bool, List, None, Some, arith, drop, refl, subst, take, true, zero, ℕ, ◌++◌}
 use Rattle.std.proofs.lemmas.List.{Folds.{fold-map}, Sums.{sum_by-append, sum_by-cons}}
 use Rattle.std.proofs.lemmas.List.Sorted.{IsPermutation-append_right, IsPermutation-middle, sum_by-IsPermutation}
 use Rattle.std.proofs.lemmas.List.Sorted.{IsPermutation-refl, IsPermutation-trans}
 use Rattle.std.proofs.lemmas.{List.{nil_from_length, Elements.All-map}, Slice.Zip.{firsts-zip, seconds-zip}}
-use Rattle.std.{proofs.lemmas.Cmp.nat_list_cmp_total, specs.{Cmp.Equal-is, List.sum_by, Prelude.if◌then◌else◌}}
-use Rattle.std.specs.{Cmp.Lexicographic.slice_cmp, Ordering.{is_eq, nat_cmp}}
+use Rattle.std.proofs.lemmas.{Map.Text.is_eq-slice_cmp, Slice.Eq.bytes_eq-Decides}
+use Rattle.std.specs.{List.sum_by, Ordering.is_eq, Prelude.if◌then◌else◌}
 use Rattle.kd_prices.proofs.Prelude.{All, map, pos, set, suc, sym, zip, ℤ, ◌+◌, ◌-◌, ◌<◌, ◌↔◌, ◌∙◌, ◌∷◌, ◌≡◌, ◌≢◌, ◌≤◌}
 use Rattle.std.proofs.{Math.Seq.drop-cons, lemmas.List.{take_all, take_more_set}}
 
 -- ---- equal keys
 
-same_numbers : (xs ys : List ℕ) → slice_cmp nat_cmp xs ys ≡ Equal → xs ≡ ys
-same_numbers [] [] same = refl
-same_numbers [] (y ∷ ys) same = grind arith
-same_numbers (x ∷ xs) [] same = grind arith
-same_numbers (x ∷ xs) (y ∷ ys) same = grind (arith, nat_tests, same_numbers xs ys)
-
 -- Keys are equal exactly if they compare as equal.
 pub eq_decides : {K X : Type 0} (format : KindFormat K X) → ((x y : X) → format.order x ≡ format.order y → x ≡ y)
     → (x y : X) → (is_eq (key_cmp format x y) ≡ true) ↔ (x ≡ y)
-eq_decides format told x y = (
-  λ same. told x y (same_numbers _ _ ((Equal-is _).0 same)),
-  λ same. rw same (ap is_eq (tied_itself nat_list_cmp_total (format.order y))),
-)
+eq_decides format told x y =
+    let tested = is_eq-slice_cmp (format.order x) (format.order y) in
+    let decides = bytes_eq-Decides (format.order x) (format.order y) in
+    (λ equal. told x y (decides.0 (sym tested ∙ equal)), λ same. tested ∙ decides.1 (ap format.order same))
 
 -- ---- one key
 
