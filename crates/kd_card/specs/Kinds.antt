@@ -7,8 +7,8 @@ use Rattle.kd_tables.specs.Places.{standing_text, reading_text, place_rank, IsBe
 use Rattle.kd_tables.specs.declared.place.Place.{Place}
 use Rattle.std.specs.Prelude.{codes, decimal, ◌≡◌, ℕ, ◌+◌, ◌<◌, ◌≤◌, List, [], ◌∷◌, ◌++◌, length, map, replicate}
 use Rattle.std.specs.Prelude.{flat_map, ℤ, unsigned_abs, Option, Some, None, is_some, IsPermutation, zip}
-use Rattle.std.specs.{declared.cmp.Ordering.TheVariants.Less, Cmp.Lexicographic.slice_cmp, Fmt.signed_decimal}
-use Rattle.std.specs.Ordering.{nat_cmp}
+use Rattle.std.specs.{Cmp.Lexicographic.slice_cmp, Fmt.signed_decimal, Ordering.nat_cmp}
+use Rattle.std.specs.declared.cmp.Ordering.{Ordering, TheVariants.Less}
 
 -- ---- keys: a cable's letters, a column's pair, a bar's standing, a row's reading
 
@@ -78,10 +78,14 @@ row_format = record {
   order = λ reading. reading.0 ∷ reading.1 ∷ [];
 }
 
--- The key `x` (letters, standing or reading) comes before the key `y` in the dictionary order of a card's lines.
--- Code: keys are compared by derived orders, which the law `ordered` of `Kind` proves equal to this order.
+-- Two keys (letters, standings or readings), compared in the dictionary order of a card's lines. `KeyComesBefore`: `x`
+-- comes before `y` in this order.
+-- Code: `compare` of the trait `Kind` compares keys by derived orders, and has this order as its contract.
+abbrev pub key_cmp : {K X : Type 0} → KindFormat K X → X → X → Ordering
+key_cmp format x y = slice_cmp nat_cmp (format.order x) (format.order y)
+
 abbrev pub KeyComesBefore : {K X : Type 0} → KindFormat K X → X → X → Type 0
-KeyComesBefore format x y = slice_cmp nat_cmp (format.order x) (format.order y) ≡ Less
+KeyComesBefore format x y = key_cmp format x y ≡ Less
 
 -- `key` (letters, a standing or a reading) is valid on a card, and `text` is how a card writes it.
 pub record HasText {K X : Type 0} (format : KindFormat K X) (text : List ℕ) (key : X) : Type 0 where

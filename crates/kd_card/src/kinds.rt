@@ -6,10 +6,10 @@ ghost use Rattle.kd_state.specs.Machine.{cable_letters};
 ghost use Rattle.kd_card.specs.Kinds.{cable_format, pair_format, bar_format, row_format, letters_text};
 ghost use Rattle.kd_card.specs.{Kinds.{ComesAfter, IsKind, AreKinds, total_count, prices_of_kinds}, Prices.IsPriceList};
 
-use super::kind_key::{Column, Ends, KindKey};
 use arrayvec::{ArrayString, ArrayVec};
-use kd_state::push_letter;
+use kd_state::{Cable, push_letter};
 use kd_tables::{Letter, Reading, Standing};
+use std::cmp::Ordering;
 
 /// A kind of cables: all cables with the same letters.
 #[derive(Clone, Copy, Default)]
@@ -66,11 +66,10 @@ pub struct KindOf<T> {
 /// A kind: equal cables, columns, bars or rows, which have one price.
 pub trait Kind: Copy + Default {
     ghost use Rattle.std.specs.Prelude.{◌≡◌, ◌↔◌, ◌≤◌, length, List, IsTrue, MatchOption};
-    ghost use Rattle.std.specs.declared.cmp.Ordering.TheVariants.{Less};
-    ghost use Rattle.kd_card.specs.Kinds.{KindFormat, KeyComesBefore, HasText, IsOnlyKey};
+    ghost use Rattle.kd_card.specs.Kinds.{KindFormat, key_cmp, HasText, IsOnlyKey};
 
     /// The key of a kind: what its cables, columns, bars or rows have in common, such as their letters.
-    type Key: KindKey;
+    type Key: Copy + Default;
 
     /// How a card writes kinds of this type, and in which order.
     ghost format: { KindFormat Self Self.Key };
@@ -102,16 +101,18 @@ pub trait Kind: Copy + Default {
             ((key : Self.Key) → ¬ (HasText format text.now key))
             (IsOnlyKey format text.now) };
 
-    /// `Ord` sorts the keys of kinds as a card sorts the lines of these kinds.
-    ghost ordered: { (x y : Self.Key) → KeyComesBefore format x y ↔ (Self.Key.cmp x y ≡ Less) };
+    /// Compares two keys. A card sorts the lines of kinds by this order of their keys.
+    fn compare(one: &Self::Key, other: &Self::Key) -> Ordering
+        ensures { result ≡ key_cmp format one.now other.now };
+
+    /// Keys with the same place in this order are the same key.
+    ghost told_apart: { (x y : Self.Key) → format.order x ≡ format.order y → x ≡ y };
 }
 
 impl Kind for CableKind {
-    ghost use Rattle.std.specs.Prelude.{Some, None};
-    ghost use Rattle.std.proofs.Common.{arith};
-    ghost use Rattle.std.proofs.lemmas.Bool.Decides.{nat_tests};
+    ghost use Rattle.std.proofs.Common.{Some, None, arith};
 
-    type Key = Ends;
+    type Key = Cable;
 
     ghost format = { cable_format };
 
@@ -119,19 +120,19 @@ impl Kind for CableKind {
         "CABLE"
     }
 
-    fn of(kind: KindOf<Ends>) -> Self
+    fn of(kind: KindOf<Self::Key>) -> Self
         ensures { cable_format.kind result ≡ kind }
     {
         CableKind {
-            ends: kind.key.letters,
+            ends: kind.key,
             count: kind.count,
             price: kind.price,
         }
     }
 
-    fn parts(&self) -> KindOf<Ends> {
+    fn parts(&self) -> KindOf<Self::Key> {
         KindOf {
-            key: Ends::new(self.ends),
+            key: self.ends,
             count: self.count,
             price: self.price,
         }
@@ -151,29 +152,31 @@ impl Kind for CableKind {
     }
 
     #[tactic(auto, using(crate::proofs::OneCard::one_cable))]
-    fn key_of_text(text: &[u8]) -> Option<Ends> {
+    fn key_of_text(text: &[u8]) -> Option<Self::Key> {
         match text {
-            [b'-'] => Some(Ends::new((None, None))),
-            [letter] => Some(Ends::new((Some(Letter::from_byte(*letter)?), None))),
+            [b'-'] => Some((None, None)),
+            [letter] => Some((Some(Letter::from_byte(*letter)?), None)),
             _ => {
                 let (one, other) = two_letters(text)?;
-                Some(Ends::new((Some(one), Some(other))))
+                Some((Some(one), Some(other)))
             }
         }
     }
 
-    ghost ordered = { λ x y. let (a, b) = x in let (c, d) = y in elim (a) [
-      | Some e ↦ elim (b) [ Some f ↦ Prim.grind (arith, nat_tests) | None ↦ Prim.grind (arith, nat_tests) ]
-      | None ↦ elim (b) [ Some f ↦ Prim.grind (arith, nat_tests) | None ↦ Prim.grind (arith, nat_tests) ]
+    fn compare(one: &Self::Key, other: &Self::Key) -> Ordering {
+        (one.0.is_none(), *one).cmp(&(other.0.is_none(), *other))
+    }
+
+    ghost told_apart = { λ x y. let (a, b) = x in let (c, d) = y in elim (a) [
+      | Some e ↦ elim (b) [ Some f ↦ Prim.grind arith | None ↦ Prim.grind arith ]
+      | None ↦ elim (b) [ Some f ↦ Prim.grind arith | None ↦ Prim.grind arith ]
     ] };
 }
 
 impl Kind for PairKind {
-    ghost use Rattle.std.specs.Prelude.{Some, None};
-    ghost use Rattle.std.proofs.Common.{arith};
-    ghost use Rattle.std.proofs.lemmas.Bool.Decides.{nat_tests};
+    ghost use Rattle.std.proofs.Common.{Some, None, arith};
 
-    type Key = Column;
+    type Key = Option<(Letter, Letter)>;
 
     ghost format = { pair_format };
 
@@ -181,19 +184,19 @@ impl Kind for PairKind {
         "PAIR"
     }
 
-    fn of(kind: KindOf<Column>) -> Self
+    fn of(kind: KindOf<Self::Key>) -> Self
         ensures { pair_format.kind result ≡ kind }
     {
         PairKind {
-            pair: kind.key.pair,
+            pair: kind.key,
             count: kind.count,
             price: kind.price,
         }
     }
 
-    fn parts(&self) -> KindOf<Column> {
+    fn parts(&self) -> KindOf<Self::Key> {
         KindOf {
-            key: Column::new(self.pair),
+            key: self.pair,
             count: self.count,
             price: self.price,
         }
@@ -212,21 +215,25 @@ impl Kind for PairKind {
     }
 
     #[tactic(auto, using(crate::proofs::OneCard::one_pair))]
-    fn key_of_text(text: &[u8]) -> Option<Column> {
+    fn key_of_text(text: &[u8]) -> Option<Self::Key> {
         match text {
-            [b'-'] => Some(Column::new(None)),
-            _ => Some(Column::new(Some(two_letters(text)?))),
+            [b'-'] => Some(None),
+            _ => Some(Some(two_letters(text)?)),
         }
     }
 
-    ghost ordered = { elim [
-      | Some p ↦ elim [ Some q ↦ Prim.grind (arith, nat_tests) | None ↦ Prim.grind arith ]
+    fn compare(one: &Self::Key, other: &Self::Key) -> Ordering {
+        (one.is_none(), *one).cmp(&(other.is_none(), *other))
+    }
+
+    ghost told_apart = { elim [
+      | Some p ↦ elim [ Some q ↦ Prim.grind arith | None ↦ Prim.grind arith ]
       | None ↦ elim [ Some q ↦ Prim.grind arith | None ↦ Prim.grind arith ]
     ] };
 }
 
 impl Kind for BarKind {
-    ghost use Rattle.kd_card.specs.Order.{standings_ordered};
+    ghost use Rattle.std.proofs.Common.{arith};
 
     type Key = Standing;
 
@@ -236,7 +243,7 @@ impl Kind for BarKind {
         "BAR"
     }
 
-    fn of(kind: KindOf<Standing>) -> Self
+    fn of(kind: KindOf<Self::Key>) -> Self
         ensures { bar_format.kind result ≡ kind }
     {
         BarKind {
@@ -246,7 +253,7 @@ impl Kind for BarKind {
         }
     }
 
-    fn parts(&self) -> KindOf<Standing> {
+    fn parts(&self) -> KindOf<Self::Key> {
         KindOf {
             key: self.standing,
             count: self.count,
@@ -263,16 +270,19 @@ impl Kind for BarKind {
     }
 
     #[tactic(auto, using(crate::proofs::OneCard::one_standing))]
-    fn key_of_text(text: &[u8]) -> Option<Standing> {
+    fn key_of_text(text: &[u8]) -> Option<Self::Key> {
         Standing::from_text(text)
     }
 
-    ghost ordered = { standings_ordered };
+    fn compare(one: &Self::Key, other: &Self::Key) -> Ordering {
+        one.cmp(other)
+    }
+
+    ghost told_apart = { λ x y same. let (a, b) = x in let (c, d) = y in Prim.grind arith };
 }
 
 impl Kind for RowKind {
     ghost use Rattle.std.proofs.Common.{arith};
-    ghost use Rattle.std.proofs.lemmas.Bool.Decides.{nat_tests};
 
     type Key = Reading;
 
@@ -282,7 +292,7 @@ impl Kind for RowKind {
         "ROW"
     }
 
-    fn of(kind: KindOf<Reading>) -> Self
+    fn of(kind: KindOf<Self::Key>) -> Self
         ensures { row_format.kind result ≡ kind }
     {
         RowKind {
@@ -292,7 +302,7 @@ impl Kind for RowKind {
         }
     }
 
-    fn parts(&self) -> KindOf<Reading> {
+    fn parts(&self) -> KindOf<Self::Key> {
         KindOf {
             key: self.reading,
             count: self.count,
@@ -309,11 +319,15 @@ impl Kind for RowKind {
     }
 
     #[tactic(auto, using(crate::proofs::OneCard::one_reading))]
-    fn key_of_text(text: &[u8]) -> Option<Reading> {
+    fn key_of_text(text: &[u8]) -> Option<Self::Key> {
         Reading::from_text(text)
     }
 
-    ghost ordered = { λ x y. Prim.grind (arith, nat_tests) };
+    fn compare(one: &Self::Key, other: &Self::Key) -> Ordering {
+        one.cmp(other)
+    }
+
+    ghost told_apart = { λ x y same. Prim.grind arith };
 }
 
 /// Whether `one` comes before `other` in the alphabet.
@@ -361,7 +375,7 @@ pub(crate) fn comes_after<K: Kind>(last: Option<K>, kind: &K) -> bool
     ensures { IsTrue result ↔ ComesAfter K.format last kind.now }
 {
     match last {
-        Some(last) => last.parts().key < kind.parts().key,
+        Some(last) => K::compare(&last.parts().key, &kind.parts().key).is_lt(),
         None => true,
     }
 }

@@ -1,5 +1,5 @@
 //! The prices of a card: one for each cable, pair, bar or row (by number), or one for each kind of them (by kind).
-ghost use Rattle.kd_card.specs.Prices.{price_sum, version_of, ArePricesInRange, ArePrices};
+ghost use Rattle.kd_card.specs.Prices.{price_sum, version_of, ArePricesInRange, IsPriceList, ArePrices};
 ghost use Rattle.kd_card.specs.{CardText.price_lines, Kinds.IsGroup, Reading.head_prefix};
 ghost use Rattle.std.specs.Prelude.{◌≡◌, ◌↔◌, ◌+◌, ◌*◌, ◌≤◌, ◌++◌, length, fold, pos, unsigned_abs, ◌+ℤ◌, IsTrue};
 ghost use Rattle.std.specs.Prelude.{MatchOption};
@@ -72,11 +72,8 @@ impl Prices {
             (¬ (ArePrices (PriceParts.Cables cables pairs)))
             (λ prices. prices ≡ PriceParts.Cables cables pairs) }
     {
-        if are_in_range(&cables) && are_in_range(&pairs) {
-            Some(Prices::of_parts(PriceParts::Cables(cables, pairs)))
-        } else {
-            None
-        }
+        let parts = PriceParts::Cables(if_in_range(cables)?, if_in_range(pairs)?);
+        Some(Prices::of_parts(parts))
     }
 
     /// Makes prices by number: one for each bar, and one for each row of the sheet.
@@ -87,11 +84,8 @@ impl Prices {
             (¬ (ArePrices (PriceParts.Bars bars rows)))
             (λ prices. prices ≡ PriceParts.Bars bars rows) }
     {
-        if are_in_range(&bars) && are_in_range(&rows) {
-            Some(Prices::of_parts(PriceParts::Bars(bars, rows)))
-        } else {
-            None
-        }
+        let parts = PriceParts::Bars(if_in_range(bars)?, if_in_range(rows)?);
+        Some(Prices::of_parts(parts))
     }
 
     /// Makes prices by kind: one for each kind of cables, and one for each kind of columns.
@@ -199,11 +193,14 @@ pub fn sum_of_prices(rows: &[i16], columns: &[i16]) -> i32
     sum_onto(sum_onto(0, rows), columns)
 }
 
-/// Whether all of `prices` are from -9999 to 9999.
-fn are_in_range(prices: &[i16]) -> bool
-    ensures { IsTrue result ↔ ArePricesInRange prices.now }
+/// Returns `prices`, or `None` if one of them is below -9999 or above 9999.
+fn if_in_range<const N: usize>(prices: [i16; N]) -> Option<[i16; N]>
+    ensures { MatchOption result
+        (¬ (IsPriceList N prices.entry))
+        (λ checked. (checked ≡ prices.entry) × IsPriceList N prices.entry) }
 {
-    prices.iter().all(|price| price.unsigned_abs() <= 9999)
+    let are_in_range = prices.iter().all(|price| price.unsigned_abs() <= 9999);
+    are_in_range.then_some(prices)
 }
 
 /// The sum of `sum` and all of `prices`.

@@ -1,16 +1,15 @@
 -- Cables, bars and columns at two different places are equal exactly if `StandAlike` or `ReadAlike` holds for these
 -- places. So equal keys have equal prices exactly if prices are equal wherever one of the two holds.
 use Rattle.kd_prices.proofs.AlikePrices.{nothing_at, same_at}
-use Rattle.kd_prices.proofs.Prelude.{All, Pin, Some, [], arith, eqb, false, inl, inr, map, pos, refl, subst, zero, ◌++◌}
-use Rattle.kd_prices.proofs.Prelude.{All-from_recursion, columns_are_the_pairs, recursion_from_All}
-use Rattle.kd_prices.proofs.Prelude.{tests_determine_letters, AllByRecursion, HaveSameLetters, cable_in_order}
-use Rattle.kd_prices.proofs.Prelude.{get_or_default, slice_get-get_or, AreEnds, IsPairInOrder, NoLetterTwice}
-use Rattle.kd_prices.proofs.Prelude.{cable_letters, pair_in_order, smaller_first, Contains, None, OfRotors, Option}
-use Rattle.kd_prices.proofs.Prelude.{Parts, Rotor, RotorDay, get_or, length, price_at, HaveOnePriceEach, IsMachine}
-use Rattle.kd_prices.proofs.Prelude.{columns_in_order, letters_in_cables, letters_in_pairs, IsLegalDay, RotorParts}
-use Rattle.kd_prices.proofs.Prelude.{StandAlike, columns_of, get_or-map, get_or-zip, length-map, List, ReadAlike}
-use Rattle.kd_prices.proofs.Prelude.{eqb-false, length-zip, nat_tests, replicate, slice_get, unwrap_or, ap, suc, sym}
-use Rattle.kd_prices.proofs.Prelude.{zip, ℕ, ℤ, ◌-◌, ◌<◌, ◌↔◌, ◌∙◌, ◌∷◌, ◌≡◌, ◌≤◌, ◌⊎◌}
+use Rattle.kd_prices.proofs.Prelude.{All-from_recursion, AllByRecursion, columns_are_the_pairs, tests_determine_letters}
+use Rattle.kd_prices.proofs.Prelude.{AreEnds, HaveOnePriceEach, letters_in_cables, recursion_from_All, slice_get-get_or}
+use Rattle.kd_prices.proofs.Prelude.{HaveSameLetters, IsPairInOrder, cable_in_order, columns_in_order, letters_in_pairs}
+use Rattle.kd_prices.proofs.Prelude.{NoLetterTwice, Option, cable_letters, get_or_default, pair_in_order, smaller_first}
+use Rattle.kd_prices.proofs.Prelude.{IsLegalDay, RotorParts, StandAlike, columns_of, get_or-map, get_or-zip, length-map}
+use Rattle.kd_prices.proofs.Prelude.{IsMachine, ReadAlike, Some, eqb-false, length-zip, nat_tests, replicate, slice_get}
+use Rattle.kd_prices.proofs.Prelude.{Contains, OfRotors, RotorDay, arith, false, get_or, length, price_at, unwrap_or, ℕ}
+use Rattle.kd_prices.proofs.Prelude.{All, List, None, Parts, Pin, Rotor, eqb, inl, inr, map, refl, subst, zero, ℤ, ◌++◌}
+use Rattle.kd_prices.proofs.Prelude.{[], ap, pos, suc, sym, zip, ◌-◌, ◌<◌, ◌↔◌, ◌∙◌, ◌∷◌, ◌≡◌, ◌≤◌, ◌⊎◌}
 use Rattle.{kd_state.specs.Setting.has_letter, std.{proofs.lemmas.List.Elements.Contains-get_or, specs.List.IsDistinct}}
 
 -- ---- the letters of cables and columns are in order, as a card writes them

@@ -1,12 +1,11 @@
 -- In a card by number that proves itself, equal keys have equal prices. For equal rows have equal costs in each
 -- column, and each row has a column where the two prices add up to the cost; likewise for equal columns.
-use Rattle.kd_prices.proofs.Prelude.{AlikePricesAreEqual, PriceParts, columns_are_the_pairs, proving_prices_are_tight}
-use Rattle.kd_prices.proofs.Prelude.{AreEqualWhereAlike, Day, tests_determine_letters, thirteen_columns}
-use Rattle.kd_prices.proofs.Prelude.{unwrap_or-slice_get, ArePricesTight, StandAlike, cable_cost, cable_letters}
-use Rattle.kd_prices.proofs.Prelude.{columns_of, slice_get_past, Bars, List, None, Pin, ap, ints, map, sym, ℕ, ◌<◌, ◌∙◌}
-use Rattle.kd_prices.proofs.Prelude.{◌≡◌, ◌≤◌, Cables, OfPins, OfRotors, Parts, Rotor, arith, bar_cost, cost_at, get_or}
-use Rattle.kd_prices.proofs.Prelude.{length, One, PricesFit, ReadAlike, get_or-map, no_rotors, slice_get, table_size}
-use Rattle.kd_prices.proofs.Prelude.{unwrap_or}
+use Rattle.kd_prices.proofs.Prelude.{OfRotors, columns_are_the_pairs, proving_prices_are_tight, tests_determine_letters}
+use Rattle.kd_prices.proofs.Prelude.{AlikePricesAreEqual, AreEqualWhereAlike, ap, thirteen_columns, unwrap_or-slice_get}
+use Rattle.kd_prices.proofs.Prelude.{ArePricesTight, PriceParts, StandAlike, cable_cost, cable_letters, slice_get_past}
+use Rattle.kd_prices.proofs.Prelude.{PricesFit, ReadAlike, columns_of, get_or-map, no_rotors, slice_get, table_size, ℕ}
+use Rattle.kd_prices.proofs.Prelude.{Cables, OfPins, Parts, Rotor, arith, bar_cost, cost_at, get_or, length, unwrap_or}
+use Rattle.kd_prices.proofs.Prelude.{Bars, Day, List, None, One, Pin, ints, map, sym, ◌<◌, ◌∙◌, ◌≡◌, ◌≤◌}
 
 -- Prices that fit a table of costs. Each row has a column, and each column has a row, where the two prices add up
 -- to the cost.

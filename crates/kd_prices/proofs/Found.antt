@@ -1,11 +1,10 @@
 -- If a result is right for the prices that were found for rows and columns, it is right for the check of the card.
-use Rattle.kd_prices.proofs.Prelude.{AreExpanded, AreKindsOf, Day, MatchOption, PriceMissing, cable_format, pair_format}
-use Rattle.kd_prices.proofs.Prelude.{AreModelPrices, ArePricesInRange, IsCheckedAnswer, column_prices, columns_in_order}
-use Rattle.kd_prices.proofs.Prelude.{ArePrices, BarKind, BarKinds, ByNumber, CableKind, day_model, version_of}
-use Rattle.kd_prices.proofs.Prelude.{Bars, List, None, Parts, Pin, Rotor, Same, Some, arith, refl, subst, sym, ◌∙◌, ◌≡◌}
-use Rattle.kd_prices.proofs.Prelude.{CableKinds, KindFormat, PriceParts, RotorParts, bar_format, row_format, row_prices}
-use Rattle.kd_prices.proofs.Prelude.{Cables, Doubt, GoesOn, OfPins, Option, PinDay, Result, RowKind, Setting, length, ℤ}
-use Rattle.kd_prices.proofs.Prelude.{Err, Expanded, Expands, HasFault, OfRotors, PairKind, PinParts, RotorDay, model_of}
+use Rattle.kd_prices.proofs.Prelude.{AreModelPrices, ArePricesInRange, IsCheckedAnswer, PriceMissing, column_prices, ℤ}
+use Rattle.kd_prices.proofs.Prelude.{AreExpanded, AreKindsOf, MatchOption, Parts, cable_format, pair_format, version_of}
+use Rattle.kd_prices.proofs.Prelude.{ArePrices, CableKinds, KindFormat, PriceParts, bar_format, row_format, row_prices}
+use Rattle.kd_prices.proofs.Prelude.{BarKinds, ByNumber, Expanded, HasFault, OfRotors, Setting, day_model, model_of}
+use Rattle.kd_prices.proofs.Prelude.{Bars, Cables, Doubt, Expands, GoesOn, OfPins, Option, Result, Rotor, arith, subst}
+use Rattle.kd_prices.proofs.Prelude.{Day, Err, List, None, Pin, Same, Some, refl, sym, ◌∙◌, ◌≡◌}
 use Rattle.kd_prices.{proofs.{Prelude.{Ok, PricesSuitMachine, ap}, Runs.prices_alike}}
 use Rattle.kd_prices.{specs.Doubt.{ArePricesFound, IsByNumberAnswer}}
 use Rattle.std.specs.Option.{ok_or, option_zip}
@@ -86,27 +85,8 @@ module _ {R X C Y : Type 0} (rows : KindFormat R X) (columns : KindFormat C Y) (
     → Expands m s prices (make found.0 found.1))
     (from : (found : List ℤ × List ℤ) → Expands m s prices (make found.0 found.1)
     → AreKindsOf rows xs found.0 row × AreKindsOf columns ys found.1 col) where
-  kinds_found : (a b : Option (List ℤ)) → AreFound rows xs row a → AreFound columns ys col b
+  pub kinds_found : (a b : Option (List ℤ)) → AreFound rows xs row a → AreFound columns ys col b
       → ArePricesFound m s prices make (ok_or (option_zip a b) PriceMissing)
   kinds_found None b none also = GoesOn tt belong ((λ found expands. none found.0 (from found expands).0), refl)
   kinds_found (Some x) None is none = GoesOn tt belong ((λ found expands. none found.1 (from found expands).1), refl)
   kinds_found (Some x) (Some y) is also = GoesOn tt belong (to (x, y) is also)
-
-pub cable_kinds_found : (m : RotorParts) (s : RotorDay) (row : List CableKind) (col : List PairKind)
-    → ArePrices (CableKinds (record { items = row }) (record { items = col })) → length m.cables ≡ 13
-    → length (columns_in_order s.pairs) ≡ 13 → (a b : Option (List ℤ)) → AreFound cable_format m.cables row a
-    → AreFound pair_format (columns_in_order s.pairs) col b
-    → ArePricesFound (Rotor m) (OfRotors s) (CableKinds (record { items = row }) (record { items = col })) Cables
-    (ok_or (option_zip a b) PriceMissing)
-cable_kinds_found m s row col are many also =
-    kinds_found cable_format pair_format m.cables (columns_in_order s.pairs) row col (Rotor m) (OfRotors s) _ Cables tt
-    (λ found one two. grind arith) (λ found expands. grind arith)
-
-pub bar_kinds_found : (m : PinParts) (s : PinDay) (row : List BarKind) (col : List RowKind)
-    → ArePrices (BarKinds (record { items = row }) (record { items = col })) → length m.bars ≡ 27 → length s.rows ≡ 27
-    → (a b : Option (List ℤ)) → AreFound bar_format m.bars row a → AreFound row_format s.rows col b
-    → ArePricesFound (Pin m) (OfPins s) (BarKinds (record { items = row }) (record { items = col })) Bars
-    (ok_or (option_zip a b) PriceMissing)
-bar_kinds_found m s row col are many also =
-    kinds_found bar_format row_format m.bars s.rows row col (Pin m) (OfPins s) _ Bars tt
-    (λ found one two. grind arith) (λ found expands. grind arith)

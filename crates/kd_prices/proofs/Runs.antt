@@ -1,32 +1,29 @@
 -- Sorted keys with their prices are grouped into kinds. Valid kinds determine the price of each key.
-use Rattle.{kd_card.specs.Kinds.KeyComesBefore, std.proofs.{Common.add-one, lemmas.Cmp.nat_list_cmp_total}}
+use Rattle.{kd_card.specs.Kinds.{KeyComesBefore, key_cmp}, std.proofs.{Common.add-one, lemmas.Cmp.nat_list_cmp_total}}
+use Rattle.kd_prices.{proofs.Taking.eq_decides, specs.Grouping.AreSorted}
 use Rattle.kd_prices.proofs.Prelude.{All, All-contains, All-permutation, All-replicate, IsPermutation, length-replicate}
 use Rattle.kd_prices.proofs.Prelude.{All-append, All-weaker, AreKindsOf, CanBeKinds, KindFormat, expansion, true≢false}
 use Rattle.kd_prices.proofs.Prelude.{All-contains_itself, Contains-permutation, HaveOnePriceEach, IsPermutation-sym, []}
 use Rattle.kd_prices.proofs.Prelude.{All-head, All-nil, All-tail, AreKinds, Contains, Greater, Ordering, map, replicate}
-use Rattle.kd_prices.proofs.Prelude.{AppendsKinds, IsTotalOrder, append_assoc, common_steps, kind_of_one, tied_itself}
+use Rattle.kd_prices.proofs.Prelude.{AppendsKinds, append_assoc, common_steps, kind_of_one, tied_itself}
 use Rattle.kd_prices.proofs.Prelude.{Equal, IsKind, IsValidKeyAndPrice, KindOf, Less, List, None, Option, arith, false}
-use Rattle.kd_prices.proofs.Prelude.{length, Some, ap, refl, suc, zip, ℤ, ◌++◌, ◌+◌, ◌↔◌, ◌∙◌, ◌∷◌, ◌≡◌, ◌≢◌, ◌≤◌, ◌⊎◌}
+use Rattle.kd_prices.proofs.Prelude.{length, Some, ap, refl, suc, zip, ℤ, ◌++◌, ◌+◌, ◌∙◌, ◌∷◌, ◌≡◌, ◌≢◌, ◌≤◌, ◌⊎◌}
 use Rattle.std.proofs.lemmas.List.{get_or-replicate, replicate_more, Elements.Contains-append_cases}
-use Rattle.std.specs.{List.{refill, Sorted.IsSorted}, Ordering.{int_cmp, is_lt, ordering_reverse, ordering_then}}
+use Rattle.std.specs.{List.refill, Ordering.{is_eq, is_lt, ordering_reverse}}
 
 -- ---- grouping
 
 -- a key that doesn't come before another one, and isn't tied with it, comes after it
-comes_before : (p o then : Ordering) → o ≡ ordering_reverse p → is_lt (ordering_then p then) ≡ false → p ≢ Equal
-    → o ≡ Less
-comes_before Less o then back h apart = absurd (true≢false h)
-comes_before Equal o then back h apart = absurd (apart refl)
-comes_before Greater o then back h apart = back
-
-pub both_same : {X : Type 0} {p : X × ℤ} {x : X} {price : ℤ} → p.0 ≡ x → p.1 ≡ price → ◌≡◌ {A = X × ℤ} p (x, price)
-both_same one other = rw (← one, ← other) refl
+comes_before : (p o : Ordering) → o ≡ ordering_reverse p → is_lt p ≡ false → p ≢ Equal → o ≡ Less
+comes_before Less o back h apart = absurd (true≢false h)
+comes_before Equal o back h apart = absurd (apart refl)
+comes_before Greater o back h apart = back
 
 pub refilled : {X : Type 0} (xs new : List X) → length new ≡ length xs → refill (length xs) xs new ≡ new
 refilled xs new same = grind (arith, common_steps)
 
-module _ {K X : Type 0} (format : KindFormat K X) (cmp : X → X → Ordering) where
-  can_tail : (pair : X × ℤ) (pairs : List (X × ℤ)) → CanBeKinds format cmp (pair ∷ pairs) → CanBeKinds format cmp pairs
+module _ {K X : Type 0} (format : KindFormat K X) where
+  can_tail : (pair : X × ℤ) (pairs : List (X × ℤ)) → CanBeKinds format (pair ∷ pairs) → CanBeKinds format pairs
   can_tail pair pairs can = record {
     sorted = λ k d low inside. rw add-one (rw add-one at (can.sorted (suc k) d (omega arith) (omega (arith, inside))));
     one_price = λ key price other a b.
@@ -35,13 +32,12 @@ module _ {K X : Type 0} (format : KindFormat K X) (cmp : X → X → Ordering) w
   }
 
   pub all_kinds : (pairs sorted rest : List (X × ℤ)) (pair : X × ℤ) (kinds : List K) → IsPermutation pairs sorted
-      → IsSorted (λ one other. ordering_then (cmp one.0 other.0) (int_cmp one.1 other.1)) sorted
-      → sorted ≡ pair ∷ rest → AppendsKinds format cmp (kind_of_one pair) rest [] kinds
+      → AreSorted format sorted → sorted ≡ pair ∷ rest → AppendsKinds format (kind_of_one pair) rest [] kinds
       → HaveOnePriceEach pairs → All (IsValidKeyAndPrice format) pairs → AreKinds format None kinds
   all_kinds pairs sorted rest pair kinds moved rise split appends one fine =
       let back = Contains-permutation sorted pairs in
       let moved_back = IsPermutation-sym pairs sorted moved in
-      let can : CanBeKinds format cmp sorted = record {
+      let can : CanBeKinds format sorted = record {
         sorted = rise;
         one_price = λ key price other a b.
             one key price other (back (key, price) moved_back a) (back (key, other) moved_back b);
@@ -51,13 +47,13 @@ module _ {K X : Type 0} (format : KindFormat K X) (cmp : X → X → Ordering) w
 
   module _ (kind : KindOf X) (some : 1 ≤ kind.count) (few : kind.count ≤ 255) (old new : List K) where
     valid : (made : K) (pairs : List (X × ℤ)) → format.kind made ≡ kind
-        → CanBeKinds format cmp ((kind.key, kind.price) ∷ pairs) → IsKind format made
+        → CanBeKinds format ((kind.key, kind.price) ∷ pairs) → IsKind format made
     valid made pairs is can =
         let fine = All-head (IsValidKeyAndPrice format) (kind.key, kind.price) pairs can.fine in
         record { form = rw is fine.0; some = rw is some; most = rw is few; in_range = rw is fine.1 }
 
     pub appends_one : (made : K) → format.kind made ≡ kind → new ≡ old ++ made ∷ []
-        → AppendsKinds format cmp kind [] old new
+        → AppendsKinds format kind [] old new
     appends_one made is same = record {
       made = made ∷ [];
       is = same;
@@ -66,8 +62,8 @@ module _ {K X : Type 0} (format : KindFormat K X) (cmp : X → X → Ordering) w
     }
 
     pub counts_more : (pair : X × ℤ) (pairs : List (X × ℤ)) → pair ≡ (kind.key, kind.price)
-        → AppendsKinds format cmp (record kind { count = kind.count + 1 }) pairs old new
-        → AppendsKinds format cmp kind (pair ∷ pairs) old new
+        → AppendsKinds format (record kind { count = kind.count + 1 }) pairs old new
+        → AppendsKinds format kind (pair ∷ pairs) old new
     counts_more pair pairs same inner = record {
       made = inner.made;
       is = inner.is;
@@ -76,28 +72,29 @@ module _ {K X : Type 0} (format : KindFormat K X) (cmp : X → X → Ordering) w
           inner.in_order last (rw same at (can_tail (kind.key, kind.price) (pair ∷ pairs) can)) comes;
     }
 
-    pub begins_another : IsTotalOrder cmp → ((x y : X) → cmp x y ≡ Equal → x ≡ y)
-        → ((x y : X) → KeyComesBefore format x y ↔ (cmp x y ≡ Less)) → (made : K) (pair : X × ℤ) (pairs : List (X × ℤ))
-        → format.kind made ≡ kind → ¬ ((pair.0 ≡ kind.key) × (pair.1 ≡ kind.price))
-        → AppendsKinds format cmp (kind_of_one pair) pairs (old ++ made ∷ []) new
-        → AppendsKinds format cmp kind (pair ∷ pairs) old new
-    begins_another order told ordered made pair pairs is other inner = record {
+    pub begins_another : ((x y : X) → format.order x ≡ format.order y → x ≡ y) → (made : K) (pair : X × ℤ)
+        (pairs : List (X × ℤ)) → format.kind made ≡ kind → ¬ (pair ≡ (kind.key, kind.price))
+        → AppendsKinds format (kind_of_one pair) pairs (old ++ made ∷ []) new
+        → AppendsKinds format kind (pair ∷ pairs) old new
+    begins_another told made pair pairs is other inner = record {
       made = made ∷ inner.made;
       is = inner.is ∙ append_assoc old (made ∷ []) inner.made;
       expand = rw is (ap (λ rest. replicate kind.count (kind.key, kind.price) ++ rest) inner.expand);
       in_order = λ last can comes.
           let key = ap (λ (k : KindOf X). k.key) is in
-          let apart : cmp pair.0 kind.key ≢ Equal = λ tied.
-          let same = told pair.0 kind.key tied in
+          let apart : key_cmp format pair.0 kind.key ≢ Equal = λ tied.
+          let same = (eq_decides format told pair.0 kind.key).0 (ap is_eq tied) in
           let price = can.one_price kind.key pair.1 kind.price in
-          other (same, price (1, omega arith, ap (λ x. (x, pair.1)) same) (0, omega arith, refl)) in
+          let equal = price (1, omega arith, ap (λ x. (x, pair.1)) same) (0, omega arith, refl) in
+          other (cc) in
+          let back = nat_list_cmp_total.antisymm (format.order kind.key) (format.order pair.0) in
           let less =
-          comes_before (cmp pair.0 kind.key) (cmp kind.key pair.0) (int_cmp pair.1 kind.price)
-          (order.antisymm kind.key pair.0) (can.sorted 0 pair (omega arith) (omega arith)) apart in (
+          comes_before (key_cmp format pair.0 kind.key) (key_cmp format kind.key pair.0) back
+          (can.sorted 0 pair (omega arith) (omega arith)) apart in (
             valid made (pair ∷ pairs) is can,
             comes made key,
             inner.in_order (Some made) (can_tail (kind.key, kind.price) (pair ∷ pairs) can)
-                (λ next is_next. (ordered (format.kind made).key (format.kind next).key).1 (rw (key, is_next) less)),
+                (λ next is_next. rw (key, is_next) less),
           );
     }
 

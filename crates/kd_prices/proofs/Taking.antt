@@ -1,29 +1,29 @@
 -- Keys are taken out of kinds, one by one. If all can be taken, the kinds' prices are the prices of the keys.
-use Rattle.{kd_card.specs.Kinds.total_count, kd_prices.specs.Grouping.{HasNoneLeft, TakesOne}}
-use Rattle.kd_prices.proofs.Prelude.{All, [], ap, map, set, suc, sym, zip, ℕ, ℤ, ◌-◌, ◌<◌, ◌↔◌, ◌∙◌, ◌∷◌, ◌≡◌, ◌≤◌}
-use Rattle.kd_prices.proofs.Prelude.{All-append, AreKindsOf, Bool, MatchOption, common_steps, tied_itself, unsigned_abs}
+use Rattle.{kd_card.specs.Kinds.{key_cmp, total_count}, kd_prices.specs.Grouping.{HasNoneLeft, TakesOne}}
 use Rattle.kd_prices.proofs.Prelude.{All-nil, ArePricesInRange, IsPermutation-sym, length-replicate, length_permutation}
-use Rattle.kd_prices.proofs.Prelude.{All-permutation, All-replicate, IsPermutation, IsTotalOrder, KindOf, length-append}
-use Rattle.kd_prices.proofs.Prelude.{AreKinds, KindFormat, List, Ordering, append-nil, expansion, length-zip, replicate}
-use Rattle.kd_prices.proofs.Prelude.{Equal, IsGroup, None, Option, Some, arith, length, refl, subst, true, ◌++◌}
-use Rattle.std.proofs.lemmas.List.{Folds.{fold-map, sum_by-replicate}, Sums.{sum_by-append, sum_by-cons}}
+use Rattle.kd_prices.proofs.Prelude.{All-permutation, All-replicate, IsPermutation, [], length-append, take-append-drop}
+use Rattle.kd_prices.proofs.Prelude.{All-append, MatchOption, ap, append_assoc, common_steps, unsigned_abs}
+use Rattle.kd_prices.proofs.Prelude.{AreKindsOf, KindFormat, append-nil, expansion, get_or-zip, length-zip, replicate}
+use Rattle.kd_prices.proofs.Prelude.{All-head, All-tail, AreKinds, IsGroup, KindOf, Option, get_or, length}
+use Rattle.kd_prices.proofs.Prelude.{Bool, List, None, Some, arith, drop, refl, subst, take, true, zero, ℕ, ◌++◌}
+use Rattle.std.proofs.lemmas.List.{Folds.{fold-map}, Sums.{sum_by-append, sum_by-cons}}
 use Rattle.std.proofs.lemmas.List.Sorted.{IsPermutation-append_right, IsPermutation-middle, sum_by-IsPermutation}
 use Rattle.std.proofs.lemmas.List.Sorted.{IsPermutation-refl, IsPermutation-trans}
 use Rattle.std.proofs.lemmas.{List.{nil_from_length, Elements.All-map}, Slice.Zip.{firsts-zip, seconds-zip}}
-use Rattle.std.specs.{Cmp.Equal-is, List.sum_by, Ordering.is_eq, Prelude.if◌then◌else◌}
-use Rattle.kd_prices.proofs.Prelude.{append_assoc, get_or, get_or-zip, take, ◌+◌}
-use Rattle.kd_prices.proofs.Prelude.{drop, pos, take-append-drop}
+use Rattle.std.proofs.lemmas.{Map.Text.is_eq-slice_cmp, Slice.Eq.bytes_eq-Decides}
+use Rattle.std.specs.{List.sum_by, Ordering.is_eq, Prelude.if◌then◌else◌}
+use Rattle.kd_prices.proofs.Prelude.{All, map, pos, set, suc, sym, zip, ℤ, ◌+◌, ◌-◌, ◌<◌, ◌↔◌, ◌∙◌, ◌∷◌, ◌≡◌, ◌≢◌, ◌≤◌}
 use Rattle.std.proofs.{Math.Seq.drop-cons, lemmas.List.{take_all, take_more_set}}
 
 -- ---- equal keys
 
-pub eq_decides : {X : Type 0} (cmp : X → X → Ordering) → IsTotalOrder cmp → (eq : X → X → Bool)
-    → ((x y : X) → eq x y ≡ is_eq (cmp x y)) → ((x y : X) → cmp x y ≡ Equal → x ≡ y) → (x y : X)
-    → (eq x y ≡ true) ↔ (x ≡ y)
-eq_decides cmp order eq matches told x y = (
-  λ same. told x y ((Equal-is (cmp x y)).0 (sym (matches x y) ∙ same)),
-  λ same. rw same (matches y y ∙ ap is_eq (tied_itself order y)),
-)
+-- Keys are equal exactly if they compare as equal.
+pub eq_decides : {K X : Type 0} (format : KindFormat K X) → ((x y : X) → format.order x ≡ format.order y → x ≡ y)
+    → (x y : X) → (is_eq (key_cmp format x y) ≡ true) ↔ (x ≡ y)
+eq_decides format told x y =
+    let tested = is_eq-slice_cmp (format.order x) (format.order y) in
+    let decides = bytes_eq-Decides (format.order x) (format.order y) in
+    (λ equal. told x y (decides.0 (sym tested ∙ equal)), λ same. tested ∙ decides.1 (ap format.order same))
 
 -- ---- one key
 
@@ -31,10 +31,6 @@ abbrev once : Bool → ℕ
 once holds = if holds then 1 else 0
 
 module _ {X : Type 0} (key : X) (kind : KindOf X) (kinds : List (KindOf X)) where
-  none_in_first : (eq : X → X → Bool) (same : Bool) → eq kind.key key ≡ same
-      → ¬ ((same ≡ true) × (0 < kind.count)) → HasNoneLeft eq kinds key → HasNoneLeft eq (kind ∷ kinds) key
-  none_in_first eq same is other none = grind (arith, sum_by-append, sum_by-replicate)
-
   pub takes_first : kind.key ≡ key → 0 < kind.count
       → TakesOne (kind ∷ kinds) key kind.price (record kind { count = kind.count - 1 } ∷ kinds)
   takes_first same some =
@@ -44,13 +40,19 @@ module _ {X : Type 0} (key : X) (kind : KindOf X) (kinds : List (KindOf X)) wher
       rw (← same) (subst (λ n. IsPermutation (replicate n pair ++ expansion kinds) (pair ∷ rest)) number
       (IsPermutation-refl (pair ∷ rest)))
 
-  pub takes_later : (eq : X → X → Bool) (price : Option ℤ) (left : List (KindOf X))
-      → ¬ ((eq kind.key key ≡ true) × (0 < kind.count))
-      → MatchOption price (HasNoneLeft eq kinds key) (λ price. TakesOne kinds key price left)
-      → MatchOption price (HasNoneLeft eq (kind ∷ kinds) key)
+  none_in_first : (count : ℕ) → ¬ ((kind.key ≡ key) × (0 < count))
+      → All (λ (z : X × ℤ). z.0 ≢ key) (replicate count (kind.key, kind.price))
+  none_in_first zero other = All-nil (λ (z : X × ℤ). z.0 ≢ key)
+  none_in_first (suc n) other =
+      let apart : kind.key ≢ key = λ same. other (same, omega arith) in
+      All-replicate (λ (z : X × ℤ). z.0 ≢ key) (suc n) (kind.key, kind.price) apart
+
+  pub takes_later : (price : Option ℤ) (left : List (KindOf X)) → ¬ ((kind.key ≡ key) × (0 < kind.count))
+      → MatchOption price (HasNoneLeft kinds key) (λ price. TakesOne kinds key price left)
+      → MatchOption price (HasNoneLeft (kind ∷ kinds) key)
       (λ price. TakesOne (kind ∷ kinds) key price (kind ∷ left))
-  takes_later eq None left other none = none_in_first eq (eq kind.key key) refl other none
-  takes_later eq (Some price) left other takes =
+  takes_later None left other none = All-append (λ (z : X × ℤ). z.0 ≢ key) _ _ (none_in_first kind.count other) none
+  takes_later (Some price) left other takes =
       let run = replicate kind.count (kind.key, kind.price) in
       IsPermutation-trans (run ++ expansion kinds) _ _ (IsPermutation-append_right run _ _ takes)
       (IsPermutation-middle run (key, price) (expansion left))
@@ -67,6 +69,15 @@ zip_set : {X : Type 0} (keys : List X) (prices : List ℤ) (place : ℕ) (key : 
 zip_set (x ∷ keys) (p ∷ prices) (suc place) key price inside is =
     grind (arith, common_steps, zip_set keys prices place key price)
 zip_set keys prices place key price inside is = grind (arith, common_steps)
+
+none_counted : {X : Type 0} (key : X) (is_key : X → Bool) → ((x : X) → is_key x ≡ true → x ≡ key)
+    → (pairs : List (X × ℤ)) → All (λ z. z.0 ≢ key) pairs → sum_by (λ z. once (is_key z.0)) pairs ≡ 0
+none_counted key is_key decides [] none = refl
+none_counted {X} key is_key decides (z ∷ pairs) none =
+    let Other : X × ℤ → Type 0 = λ z. z.0 ≢ key in
+    let rest = none_counted key is_key decides pairs (All-tail Other z pairs none) in
+    let apart = All-head Other z pairs none in
+    grind (arith, common_steps, apart, decides z.0, rest)
 
 -- The keys before `place` are taken out of `kinds`, with their prices; `left` are the kinds that remain.
 abbrev pub AreTaken : {X : Type 0} → List (KindOf X) → List X → List ℤ → ℕ → List (KindOf X) → Type 0
@@ -86,15 +97,17 @@ module _ {K X : Type 0} (format : KindFormat K X) (kinds : List K) (left : List 
       (IsPermutation-append_right (take place pairs) _ _ one))
 
   -- If no kind with the key at `place` is left, the kinds aren't those of the keys.
-  pub not_kinds_of : (eq : X → X → Bool) → eq key key ≡ true → HasNoneLeft eq left key → (others : List ℤ)
-      → ¬ (AreKindsOf format keys others kinds)
-  not_kinds_of eq equal none others are =
-      let f : X × ℤ → ℕ = λ z. once (eq z.0 key) in
+  pub not_kinds_of : (is_key : X → Bool) → ((x : X) → (is_key x ≡ true) ↔ (x ≡ key)) → HasNoneLeft left key
+      → (others : List ℤ) → ¬ (AreKindsOf format keys others kinds)
+  not_kinds_of is_key decides left_none others are =
+      let f : X × ℤ → ℕ = λ z. once (is_key z.0) in
+      let none = none_counted key is_key (λ x. (decides x).0) (expansion left) left_none in
+      let equal = (decides key).1 refl in
       let pairs = zip keys prices in
       let d : X × ℤ = (key, pos 0) in
       let within : place < length pairs = omega (arith, length-zip keys prices) in
       let here : f (get_or pairs place d) ≡ 1 =
-      ap f (get_or-zip keys prices place d inside (omega arith)) ∙ ap (λ x. once (eq x key)) is ∙ ap once equal in
+      ap f (get_or-zip keys prices place d inside (omega arith)) ∙ ap (λ x. once (is_key x)) is ∙ ap once equal in
       let split = ap (sum_by f) (sym (take-append-drop place pairs))
       ∙ sum_by-append f (take place pairs) (drop place pairs) in
       let next = ap (sum_by f) (drop-cons pairs place d within)
@@ -103,7 +116,7 @@ module _ {K X : Type 0} (format : KindFormat K X) (kinds : List K) (left : List 
       let before = sym (sum_by-IsPermutation f all _ taken)
       ∙ sum_by-append f (take place pairs) (expansion left) in
       let count = λ (prices : List ℤ) (many : length prices ≡ length keys).
-      sum_by-zip (λ x. once (eq x key)) keys prices many in
+      sum_by-zip (λ x. once (is_key x)) keys prices many in
       let whole = sum_by-IsPermutation f (zip keys others) all are.expand
       ∙ count others are.number ∙ sym (count prices many) in
       omega (arith, none, here, split, next, before, whole)

@@ -1,9 +1,8 @@
 -- Grouping keys with prices into kinds, and finding the price of a key in the kinds. A key is the letters of a cable,
 -- the pair of a column, a standing or a reading. No contract of a public function cites these definitions.
-use Rattle.std.specs.Prelude.{Bool, IsPermutation, List, Option, count_by, replicate, unsigned_abs, ◌++◌}
-use Rattle.std.specs.{List.{Contains, Sorted.IsSorted}, Prelude.{All, map, ℤ, ◌∷◌, ◌≡◌, ◌≤◌}}
-use Rattle.std.specs.{Ordering.{int_cmp, ordering_then}, declared.cmp.Ordering.Ordering}
-use Rattle.kd_card.specs.{Kinds.{AreKinds, ComesAfter, KindFormat, expansion}, declared.kinds.KindOf.KindOf}
+use Rattle.std.specs.Prelude.{IsPermutation, List, Option, replicate, unsigned_abs, ◌++◌}
+use Rattle.std.specs.{List.{Contains, Sorted.IsSorted}, Prelude.{All, map, ℤ, ◌∷◌, ◌≡◌, ◌≢◌, ◌≤◌}}
+use Rattle.kd_card.specs.{Kinds.{AreKinds, ComesAfter, KindFormat, expansion, key_cmp}, declared.kinds.KindOf.KindOf}
 
 -- In this list of keys (letters, standings or readings) with their prices, equal keys have equal prices.
 abbrev pub HaveOnePriceEach : {X : Type 0} → List (X × ℤ) → Type 0
@@ -18,31 +17,34 @@ IsValidKeyAndPrice format pair = format.InForm pair.0 × (unsigned_abs pair.1 �
 abbrev pub kind_of_one : {X : Type 0} → X × ℤ → KindOf X
 kind_of_one pair = record { key = pair.0; count = 1; price = pair.1 }
 
--- Keys with prices that can be grouped into valid kinds. They are sorted by key, then by price. Equal keys have equal
--- prices. Each key has the form that a card writes, and each price is from -9999 to 9999.
-pub record CanBeKinds {K X : Type 0} (format : KindFormat K X) (cmp : X → X → Ordering) (pairs : List (X × ℤ))
-    : Type 0 where
-  pub sorted : IsSorted (λ one other. ordering_then (cmp one.0 other.0) (int_cmp one.1 other.1)) pairs
+-- The keys ascend in the order of a card's lines.
+abbrev pub AreSorted : {K X : Type 0} → KindFormat K X → List (X × ℤ) → Type 0
+AreSorted format pairs = IsSorted (λ one other. key_cmp format one.0 other.0) pairs
+
+-- Keys with prices that can be grouped into valid kinds. They are sorted by key. Equal keys have equal prices. Each key
+-- has the form that a card writes, and each price is from -9999 to 9999.
+pub record CanBeKinds {K X : Type 0} (format : KindFormat K X) (pairs : List (X × ℤ)) : Type 0 where
+  pub sorted : AreSorted format pairs
   pub one_price : HaveOnePriceEach pairs
   pub fine : All (IsValidKeyAndPrice format) pairs
 
 -- `new` is `old`, and then added kinds. They count the key of `kind`, as often as `kind` does, and the keys in `pairs`,
 -- all with their prices. Suppose that these keys can be grouped into valid kinds. Then the added kinds are valid and
 -- strictly ascending. If the key of `kind` comes after a kind `last`, so do all added kinds.
-pub record AppendsKinds {K X : Type 0} (format : KindFormat K X) (cmp : X → X → Ordering) (kind : KindOf X)
-    (pairs : List (X × ℤ)) (old new : List K) : Type 0 where
+pub record AppendsKinds {K X : Type 0} (format : KindFormat K X) (kind : KindOf X) (pairs : List (X × ℤ))
+    (old new : List K) : Type 0 where
   pub made : List K
   pub is : new ≡ old ++ made
   pub expand : expansion (map format.kind made) ≡ replicate kind.count (kind.key, kind.price) ++ pairs
-  pub in_order : (last : Option K) → CanBeKinds format cmp ((kind.key, kind.price) ∷ pairs)
+  pub in_order : (last : Option K) → CanBeKinds format ((kind.key, kind.price) ∷ pairs)
       → ((first : K) → (format.kind first).key ≡ kind.key → ComesAfter format last first)
       → AreKinds format last made
 
 -- ---- the price of each key of a kind
 
 -- None of the kinds has this key and a count above 0.
-abbrev pub HasNoneLeft : {X : Type 0} → (X → X → Bool) → List (KindOf X) → X → Type 0
-HasNoneLeft eq kinds key = count_by (λ other. eq other.0 key) (expansion kinds) ≡ 0
+abbrev pub HasNoneLeft : {X : Type 0} → List (KindOf X) → X → Type 0
+HasNoneLeft kinds key = All (λ pair. pair.0 ≢ key) (expansion kinds)
 
 -- In `left`, one kind of `kinds` counts one less: the kind with the key `key` (letters, a standing or a reading) and
 -- this price.

@@ -10,7 +10,7 @@ ghost use Rattle.kd_prices.specs.Doubt.{IsDoubt, IsCheckedAnswer, IsByPricesAnsw
 use super::carried::{carry_settings, is_priced_setting};
 use super::doubt::Doubt;
 use super::fitting::first_too_high;
-use super::kind_keys::{columns_of, ends_of};
+use super::kind_keys::columns_of;
 use super::kind_prices::prices_of;
 use kd_card::{Card, PriceParts, sum_of_prices};
 use kd_state::{
@@ -65,7 +65,7 @@ fn cable_prices(
     match prices {
         PriceParts::Cables(rows, columns) => Ok((rows, columns)),
         PriceParts::CableKinds(rows, columns) => {
-            let rows = prices_of(ends_of(&parts.cables).as_slice(), rows);
+            let rows = prices_of(&parts.cables, rows);
             let columns = prices_of(columns_of(entry.pairs.as_slice()).as_slice(), columns);
             rows.zip(columns).ok_or(Doubt::PriceMissing)
         }

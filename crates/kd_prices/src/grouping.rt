@@ -1,15 +1,16 @@
 //! Groups keys with prices into kinds: equal keys with equal prices become one kind, which has their count.
-ghost use Rattle.std.specs.Prelude.{◌≡◌, ◌↔◌, ◌+◌, ◌<◌, ◌≤◌, length, map, IsPermutation, All, IsTrue, true, None};
+ghost use Rattle.std.specs.Prelude.{◌≡◌, ◌↔◌, ◌+◌, ◌<◌, ◌≤◌, length, map, IsPermutation, All, IsTrue, None};
 ghost use Rattle.kd_card.specs.Kinds.{AreKinds, expansion};
 ghost use Rattle.kd_prices.specs.Grouping.{HaveOnePriceEach, IsValidKeyAndPrice, AppendsKinds, kind_of_one};
 
+use super::kind_keys::is_same_key;
 use arrayvec::ArrayVec;
-use kd_card::{Kind, KindKey, KindOf};
+use kd_card::{Kind, KindOf};
 
 /// Groups equal keys with equal prices into kinds, in ascending order.
 ///
 /// `pairs` are keys (the letters of a cable or column, a standing or a reading) with their prices. If equal keys have
-/// different prices, each of these prices gets a kind, and `Prices` refuses the kinds.
+/// different prices, several kinds have this key, and `Prices` refuses the kinds.
 pub(crate) fn kinds_of<K: Kind, const N: usize>(pairs: ArrayVec<(K::Key, i16), N>) -> ArrayVec<K, N>
     requires small { N ≤ 255 }
     ensures expand { IsPermutation pairs.items (expansion (map K.format.kind result.items)) }
@@ -17,7 +18,7 @@ pub(crate) fn kinds_of<K: Kind, const N: usize>(pairs: ArrayVec<(K::Key, i16), N
         → AreKinds K.format None result.items }
 {
     let mut pairs = pairs;
-    pairs.sort_unstable();
+    pairs.sort_unstable_by(|one, other| K::compare(&one.0, &other.0));
     let mut kinds = ArrayVec::new();
     if let [pair, rest @ ..] = pairs.as_slice() {
         push_kinds(kind_of_one(pair), rest, &mut kinds);
@@ -25,7 +26,7 @@ pub(crate) fn kinds_of<K: Kind, const N: usize>(pairs: ArrayVec<(K::Key, i16), N
     kinds
 }
 
-fn kind_of_one<T: KindKey>(pair: &(T, i16)) -> KindOf<T>
+fn kind_of_one<T: Copy>(pair: &(T, i16)) -> KindOf<T>
     ensures { result ≡ kind_of_one pair.now }
 {
     let (key, price) = *pair;
@@ -48,11 +49,11 @@ fn push_kinds<K: Kind, const N: usize>(
     requires room { length kinds.old.items + length pairs.now < N }
     requires some { 1 ≤ kind.count }
     requires few { kind.count + length pairs.now ≤ 255 }
-    ensures { AppendsKinds K.format K.Key.cmp kind pairs.now kinds.old.items kinds.new.items }
+    ensures { AppendsKinds K.format kind pairs.now kinds.old.items kinds.new.items }
 {
     match pairs {
         [] => kinds.push(K::of(kind)),
-        [pair, rest @ ..] if is_of_kind(pair, &kind) => {
+        [pair, rest @ ..] if is_of_kind::<K>(pair, &kind) => {
             let count = kind.count + 1;
             push_kinds(KindOf { count, ..kind }, rest, kinds);
         }
@@ -63,8 +64,8 @@ fn push_kinds<K: Kind, const N: usize>(
     }
 }
 
-fn is_of_kind<T: KindKey>(pair: &(T, i16), kind: &KindOf<T>) -> bool
-    ensures { IsTrue result ↔ ((T.eq pair.now.0 kind.now.key ≡ true) × (pair.now.1 ≡ kind.now.price)) }
+fn is_of_kind<K: Kind>(pair: &(K::Key, i16), kind: &KindOf<K::Key>) -> bool
+    ensures { IsTrue result ↔ (pair.now ≡ (kind.now.key, kind.now.price)) }
 {
-    pair.0 == kind.key && pair.1 == kind.price
+    is_same_key::<K>(&pair.0, &kind.key) && pair.1 == kind.price
 }

@@ -4,7 +4,7 @@ ghost use Rattle.kd_card.specs.{Prices.version_of, Proving.Expands, declared.pri
 ghost use Rattle.kd_prices.specs.KindCards.{CanBeByKind, IsByKind};
 
 use super::grouping::kinds_of;
-use super::kind_keys::{columns_of, ends_of, with_prices};
+use super::kind_keys::{columns_of, with_prices};
 use arrayvec::ArrayVec;
 use kd_card::{Card, PriceParts, Prices};
 use kd_state::{Machine, OneModel, SheetDay};
@@ -32,10 +32,9 @@ fn prices_by_kind(machine: &Machine, day: &SheetDay, prices: &Prices) -> Option<
 {
     match (machine.of_one_model(day)?, prices.parts()) {
         (OneModel::Rotor(parts, entry), PriceParts::Cables(rows, columns)) => {
-            let ends = ends_of(&parts.cables);
             let pairs = columns_of(entry.pairs.as_slice());
             Prices::cable_kinds(
-                kinds_of(with_prices(ends.as_slice(), &rows)).as_slice(),
+                kinds_of(with_prices(&parts.cables, &rows)).as_slice(),
                 kinds_of(with_prices(pairs.as_slice(), &columns)).as_slice(),
             )
         }

@@ -1,26 +1,21 @@
-//! Converts cables and columns to `Ends` and `Column`, whose order is the order of a card's lines.
-ghost use Rattle.std.specs.Prelude.{◌≡◌, ◌≤◌, length, zip};
+//! The keys of kinds: comparing keys, the keys of a day's columns, and keys with their prices.
+ghost use Rattle.std.specs.Prelude.{◌≡◌, ◌↔◌, ◌≤◌, length, zip, IsTrue};
 ghost use Rattle.kd_card.specs.Proving.{columns_in_order};
 
 use arrayvec::ArrayVec;
-use kd_card::{Column, Ends, KindKey};
+use kd_card::Kind;
 use kd_state::{column_at, letters_in_order};
 use kd_tables::Letter;
 
-/// Converts the letters of each of `cables` to `Ends`, which can be sorted.
-pub(crate) fn ends_of(cables: &[(Option<Letter>, Option<Letter>); 13]) -> ArrayVec<Ends, 13>
-    ensures value { result.items ≡ cables.now }
-    ensures number { length result.items ≡ 13 }
+/// Whether two keys of kinds are the same.
+pub(crate) fn is_same_key<K: Kind>(one: &K::Key, other: &K::Key) -> bool
+    ensures { IsTrue result ↔ (one.now ≡ other.now) }
 {
-    let mut ends = ArrayVec::new();
-    for cable in cables {
-        ends.push(Ends::new(*cable));
-    }
-    ends
+    K::compare(one, other).is_eq()
 }
 
 /// The 13 columns of a day: its pairs, each with its letters in alphabetical order, and then empty columns.
-pub(crate) fn columns_of(pairs: &[(Letter, Letter)]) -> ArrayVec<Column, 13>
+pub(crate) fn columns_of(pairs: &[(Letter, Letter)]) -> ArrayVec<Option<(Letter, Letter)>, 13>
     requires { length pairs.now ≤ 13 }
     ensures value { result.items ≡ columns_in_order pairs.now }
     ensures number { length result.items ≡ 13 }
@@ -28,13 +23,13 @@ pub(crate) fn columns_of(pairs: &[(Letter, Letter)]) -> ArrayVec<Column, 13>
     let mut columns = ArrayVec::new();
     for place in 0..13 {
         let pair = column_at(pairs, place).map(|(one, other)| letters_in_order(one, other));
-        columns.push(Column::new(pair));
+        columns.push(pair);
     }
     columns
 }
 
 /// Pairs each key in `keys` with the price at the same place in `prices`.
-pub(crate) fn with_prices<T: KindKey, const N: usize>(
+pub(crate) fn with_prices<T: Copy + Default, const N: usize>(
     keys: &[T],
     prices: &[i16; N],
 ) -> ArrayVec<(T, i16), N>

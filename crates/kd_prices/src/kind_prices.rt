@@ -1,8 +1,9 @@
 //! Finds the price of each cable, column, bar or row on a card where each kind has one price.
-ghost use Rattle.std.specs.Prelude.{◌≡◌, ◌↔◌, ◌<◌, length, map, ℤ, List, true, IsTrue, MatchOption};
+ghost use Rattle.std.specs.Prelude.{◌≡◌, ◌↔◌, ◌<◌, length, map, ℤ, List, IsTrue, MatchOption};
 ghost use Rattle.kd_card.specs.{Kinds.{AreKindsOf, IsGroup}, Prices.ArePricesInRange};
 ghost use Rattle.kd_prices.specs.Grouping.{HasNoneLeft, TakesOne};
 
+use super::kind_keys::is_same_key;
 use arrayvec::ArrayVec;
 use kd_card::{Kind, KindOf};
 
@@ -31,7 +32,7 @@ pub(crate) fn prices_of<K: Kind, const N: usize>(
 /// Returns `None` if no kind with this key has a count above 0.
 fn take_one<K: Kind>(key: &K::Key, kinds: &mut [K]) -> Option<i16>
     ensures { MatchOption result
-        (HasNoneLeft K.Key.eq (map K.format.kind kinds.old) key.now)
+        (HasNoneLeft (map K.format.kind kinds.old) key.now)
         (λ price. TakesOne (map K.format.kind kinds.old) key.now price (map K.format.kind kinds.new)) }
 {
     let (kind, rest) = kinds.split_first_mut()?;
@@ -49,8 +50,8 @@ fn take_one<K: Kind>(key: &K::Key, kinds: &mut [K]) -> Option<i16>
 
 fn has_one_left<K: Kind>(key: &K::Key, kind: &K) -> bool
     ensures { let parts = K.format.kind kind.now in
-        IsTrue result ↔ ((K.Key.eq parts.key key.now ≡ true) × (0 < parts.count)) }
+        IsTrue result ↔ ((parts.key ≡ key.now) × (0 < parts.count)) }
 {
     let parts = kind.parts();
-    parts.key == *key && parts.count > 0
+    is_same_key::<K>(&parts.key, key) && parts.count > 0
 }

@@ -8,7 +8,7 @@ ghost use Rattle.kd_state.specs.Costs as costs;
 
 use kd_pins::PinSet;
 use kd_state::{Entry, Machine, Parts, SheetDay, SheetWheel};
-use kd_tables::{Letter, Wheel};
+use kd_tables::Wheel;
 
 /// Counts the loose things of `machine`: all things that aren't as `day` says, except cables and bars.
 ///
@@ -25,7 +25,7 @@ pub fn loose_count(machine: &Machine, day: &SheetDay) -> usize
             slots + reflector + loose_rings(machine, wheels) + loose_letters(machine, wheels)
         }
         (Parts::Pin(parts), Entry::Pin(entry)) => {
-            let letters = loose_pin_letters(&parts.letters, &entry.window);
+            let letters = count_differing(&parts.letters, &entry.window);
             loose_pins(&parts.pins, &entry.pins) + letters
         }
         _ => 0,
@@ -75,34 +75,22 @@ fn loose_pins(present: &PinSet, wanted: &PinSet) -> usize
         (zip (pins_of present.now) (pins_of wanted.now))) }
     ensures few { result ≤ 131 }
 {
-    loose_wheel_pins(&present.w1, &wanted.w1)
-        + loose_wheel_pins(&present.w2, &wanted.w2)
-        + loose_wheel_pins(&present.w3, &wanted.w3)
-        + loose_wheel_pins(&present.w4, &wanted.w4)
-        + loose_wheel_pins(&present.w5, &wanted.w5)
-        + loose_wheel_pins(&present.w6, &wanted.w6)
+    count_differing(&present.w1, &wanted.w1)
+        + count_differing(&present.w2, &wanted.w2)
+        + count_differing(&present.w3, &wanted.w3)
+        + count_differing(&present.w4, &wanted.w4)
+        + count_differing(&present.w5, &wanted.w5)
+        + count_differing(&present.w6, &wanted.w6)
 }
 
-/// Counts the pins that differ from the day's, on one wheel.
-fn loose_wheel_pins(present: &[bool], wanted: &[bool]) -> usize
-    ensures value { result ≡ count_by (λ pin. exactly_one pin.0 pin.1) (zip present.now wanted.now) }
+/// Counts the places where pins or letters in `present` differ from the day's in `wanted`.
+fn count_differing<T: PartialEq>(present: &[T], wanted: &[T]) -> usize
+    ensures value { result ≡ count_by (λ z. not (T.eq z.0 z.1)) (zip present.now wanted.now) }
     ensures few { result ≤ length present.now }
 {
     present
         .iter()
         .zip(wanted)
         .filter(|(now, due)| now != due)
-        .count()
-}
-
-/// Counts the pin wheels that show another letter than the day's.
-fn loose_pin_letters(letters: &[Letter], window: &[Letter]) -> usize
-    ensures value { result ≡ count_by (λ letter. not (nat_eq letter.0 letter.1)) (zip letters.now window.now) }
-    ensures few { result ≤ length letters.now }
-{
-    letters
-        .iter()
-        .zip(window)
-        .filter(|(present, wanted)| present != wanted)
         .count()
 }

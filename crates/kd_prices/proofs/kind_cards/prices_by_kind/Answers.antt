@@ -7,13 +7,11 @@ returns-in-Rotor-Cables c =
     let h = c.in-Rotor-Cables in
     let so = c.in_ok-parts.ensures in
     let parted = subst (IsOneModelOf _ _) h.is-0 so.parted in
-    let rows =
-    rw (c.with_prices.ensures, c.as_slice-in-Rotor-Cables.ensures.value, c.ends_of-ends.ensures.value)
-    at c.kinds_of.ensures in
+    let rows = rw c.with_prices.ensures at c.kinds_of.ensures in
     let columns =
     rw (
       c.with_prices-in-Rotor-Cables.ensures,
-      c.as_slice-in-Rotor-Cables-3.ensures.value,
+      c.as_slice-in-Rotor-Cables-2.ensures.value,
       c.columns_of-pairs.ensures.value,
       c.as_slice.ensures.value,
     )
@@ -22,7 +20,7 @@ returns-in-Rotor-Cables c =
     (cables_by_kind h.parts.now _ h.rows h.columns c.kinds_of.result.items c.kinds_of-in-Rotor-Cables.result.items
     (subst IsMachine parted.0 so.machine) (subst IsLegalDay parted.1 so.day)
     (subst ArePrices h.is-1 c.parts.ensures.are_prices) parted.2 rows columns _
-    (rw (c.as_slice-in-Rotor-Cables-2.ensures.value, c.as_slice-in-Rotor-Cables-4.ensures.value)
+    (rw (c.as_slice-in-Rotor-Cables.ensures.value, c.as_slice-in-Rotor-Cables-3.ensures.value)
     at c.cable_kinds.ensures) (search rules))
 
 pub returns-in-Pin-Bars : goal.returns-in-Pin-Bars

@@ -1,4 +1,4 @@
-use Rattle.kd_prices.proofs.Prelude.{SFits, ap, length, map, refl, rules, sym, to_z-of_z, w16, ◌∙◌}
+use Rattle.kd_prices.proofs.Prelude.{SFits, ap, length, map, rules, sym, to_z-of_z, w16, ◌∙◌}
 use Rattle.kd_prices.proofs.{Runs.refilled, Taking.{all_taken, eq_decides, not_kinds_of, one_more_taken}}
 use Rattle.std.proofs.lemmas.List.{length-set}
 use Rattle.kd_prices.proofs.kind_prices.prices_of.Goals as goal
@@ -21,13 +21,11 @@ pub returns-in_err-prices : goal.returns-in_err-prices
 returns-in_err-prices g c =
     let at = c.loop-place in
     let key = c.index-keys-place.result in
-    let equal =
-    eq_decides g.K.Key.Ord.cmp g.met.K.Key.Ord.total g.K.Key.PartialEq.eq g.met.K.Key.Ord.matches_eq
-    g.met.K.Key.KindKey.told_apart key key in
     rw c.from_residual.ensures
     (not_kinds_of g.K.Kind.format c.args.kinds.items (map g.K.Kind.format.kind at.kinds.items) _ at.prices _ key
     c.loop-place-test.true (sym c.index-keys-place.is) (at.invariant.0 ∙ sym c.requires.number) at.invariant.1
-    g.K.Key.PartialEq.eq (equal.1 refl) (rw c.as_mut_slice.ensures.value at c.in_err-prices.ensures))
+    _ (λ x. eq_decides g.K.Kind.format g.met.K.Kind.told_apart x key)
+    (rw c.as_mut_slice.ensures.value at c.in_err-prices.ensures))
 
 pub returns : goal.returns
 returns g c =
