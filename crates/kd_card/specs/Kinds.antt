@@ -17,8 +17,7 @@ abbrev pub letters_text : List ℕ → List ℕ
 letters_text [] = codes "-"
 letters_text (letter ∷ letters) = tables.letters_text (letter ∷ letters)
 
--- A kind of cables has two letters in alphabetical order, one letter (at the first end), or none. `IsPairInOrder`: a
--- kind of columns has a pair with its letters in alphabetical order, or no pair.
+-- A kind of cables has two letters in order, one at the first end, or none. `IsPairInOrder`: a pair in order, or none.
 abbrev pub AreEnds : Option ℕ → Option ℕ → Type 0
 AreEnds None None = Unit {0}
 AreEnds None (Some other) = ⊥
@@ -78,8 +77,7 @@ row_format = record {
   order = λ reading. reading.0 ∷ reading.1 ∷ [];
 }
 
--- Two keys (letters, standings or readings), compared in the dictionary order of a card's lines. `KeyComesBefore`: `x`
--- comes before `y` in this order.
+-- two keys (letters, standings or readings), compared in the order of a card's lines; `KeyComesBefore`: `x` is first
 -- Code: `compare` of the trait `Kind` compares keys by derived orders, and has this order as its contract.
 abbrev pub key_cmp : {K X : Type 0} → KindFormat K X → X → X → Ordering
 key_cmp format x y = slice_cmp nat_cmp (format.order x) (format.order y)
