@@ -4,7 +4,7 @@ use Rattle.std.specs.Prelude.{◌≡◌, ℕ, List, Result, Ok, Err}
 use Rattle.kd_state.specs.declared.machine.parts.Parts.{Parts}
 use Rattle.kd_state.specs.declared.setting.Setting.{Setting}
 use Rattle.kd_state.specs.Setting.{IsFirstIllegal, Leads}
-use Rattle.kd_state.specs.declared.setting.carry_list.IllegalAt.{IllegalAt}
+use Rattle.kd_state.specs.declared.setting.why.IllegalAt.{IllegalAt}
 use Rattle.kd_sheet.specs.MachineFile.{machine_of}
 use Rattle.kd_sheet.specs.MachineText.{machine_text}
 use Rattle.kd_desk.specs.declared.fault.DeskFault.{DeskFault}

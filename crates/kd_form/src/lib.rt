@@ -11,7 +11,7 @@ mod heading;
 mod internal_key;
 mod keys;
 pub mod laws;
-mod on_key;
+mod machine_check;
 mod receiving;
 mod sending;
 mod stream;

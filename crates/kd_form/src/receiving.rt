@@ -14,7 +14,7 @@ mod heading_reader;
 mod plaintext;
 
 use super::fault::FormFault;
-use super::on_key::check_machine;
+use super::machine_check::check_machine;
 use super::stream::reader::MessageReader;
 use super::stream::stream_message;
 use super::stream::whole_message::message_result;

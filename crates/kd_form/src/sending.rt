@@ -19,7 +19,7 @@ mod part_writer;
 mod pattern_line;
 
 use super::fault::FormFault;
-use super::on_key::check_machine;
+use super::machine_check::check_machine;
 use super::stream::reader::MessageReader;
 use super::stream::stream_message;
 use super::stream::whole_message::message_result;

@@ -2,7 +2,7 @@
 use Rattle.std.specs.Prelude.{codes, decimal, ℕ, List, ◌++◌}
 use Rattle.kd_tables.specs.declared.refusal.Refusal.TheVariants as refusals
 use Rattle.kd_tables.specs.Refusals.{refusal_name, word_after_space}
-use Rattle.kd_state.specs.declared.setting.carry_list.IllegalAt.{IllegalAt}
+use Rattle.kd_state.specs.declared.setting.why.IllegalAt.{IllegalAt}
 use Rattle.kd_state.specs.declared.setting.list.ListFault.{ListFault}
 use Rattle.kd_state.specs.declared.setting.list.ListFault.TheVariants.{BadLine, TooMany}
 use Rattle.kd_state.specs.declared.setting.why.Illegal.{Illegal}

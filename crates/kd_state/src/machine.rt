@@ -8,7 +8,7 @@ pub(crate) mod parts;
 pub(crate) mod per_slot;
 pub(crate) mod per_wheel;
 pub(crate) mod pin_parts;
-pub(crate) mod pin_rings;
+pub(crate) mod pins;
 pub(crate) mod rotor_parts;
 pub(crate) mod seats;
 

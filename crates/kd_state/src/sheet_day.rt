@@ -86,7 +86,8 @@ impl SheetDay {
         list: [Letter; 2],
     ) -> Option<SheetDay>
         ensures exists { IsSome result ↔ IsLegalPinDay (pin_day_of day rows pins window list) }
-        ensures value { IfSome result (λ sheet_day. sheet_day ≡ OfPins (pin_day_of day rows pins window list)) }
+        ensures value { IfSome result
+            (λ sheet_day. sheet_day ≡ OfPins (pin_day_of day rows pins window list)) }
     {
         let entry = PinEntry {
             day,

@@ -60,7 +60,8 @@ impl PartWriter {
             × (length letters < 2 ^ 63) }
         requires empty { output.old.items ≡ [] }
         ensures { (letters sent : List ℕ) → AreLettersTaken day.now keys.now self.old letters sent
-            → AreLettersTaken day.now keys.now self.new (letters ++ letter ∷ []) (sent ++ output.new.items) }
+            → AreLettersTaken day.now keys.now self.new
+            (letters ++ letter ∷ []) (sent ++ output.new.items) }
     {
         self.count += 1;
         if self.letters.len() < part_size(day) {

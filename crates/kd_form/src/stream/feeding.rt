@@ -109,7 +109,8 @@ pub(crate) fn read_next<Context, M: ChunkReader<Context>, R: Source, W: Sink>(
     ensures { let holds = M.holds context.now in
         let read = port R.remaining R.has_failed source.old source.new in
         let written = port W.taken W.has_failed sink.old sink.new in
-        IsReadNextAnswer (M.message context.now) (holds reader.old) (holds reader.new) room read written result }
+        IsReadNextAnswer (M.message context.now)
+        (holds reader.old) (holds reader.new) room read written result }
 {
     read_into(
         reader,
@@ -130,12 +131,14 @@ fn read_into<Context, M: ChunkReader<Context>, R: Source, W: Sink>(
 ) -> Result<usize, Interruption>
     requires some { 0 < length buffer.now }
     requires few { length buffer.now ≤ CHUNK }
-    requires room { HasRoom (M.message context.now) (M.holds context.now reader.old) (length buffer.now) }
+    requires room { HasRoom (M.message context.now)
+        (M.holds context.now reader.old) (length buffer.now) }
     ensures { let holds = M.holds context.now in
         let read = port R.remaining R.has_failed source.old source.new in
         let written = port W.taken W.has_failed sink.old sink.new in
         let room = length buffer.old in
-        IsReadNextAnswer (M.message context.now) (holds reader.old) (holds reader.new) room read written result }
+        IsReadNextAnswer (M.message context.now)
+        (holds reader.old) (holds reader.new) room read written result }
 {
     let Ok(count) = source.get(buffer) else {
         return Err(Interruption::Device);

@@ -37,14 +37,16 @@ pub(crate) trait ChunkReader<Context> {
         requires room { HasRoom (message context.now) (holds context.now self.old) (length bytes.now) }
         ensures fed { IsFeedAllAnswer (message context.now) (holds context.now self.old) (holds context.now self.new)
             bytes.now (port W.taken W.has_failed sink.old sink.new) result }
-        ensures failed { W.has_failed sink.new ≡ (W.has_failed sink.old || is_device_interruption result) };
+        ensures failed { W.has_failed sink.new
+            ≡ (W.has_failed sink.old || is_device_interruption result) };
 
     /// Ends the message, and writes to `sink` what is still to be written, even if a fault is returned.
     fn finish<W: Sink>(&mut self, context: &Context, sink: &mut W) -> Result<(), Interruption>
         requires { HasRoom (message context.now) (holds context.now self.old) 0 }
         ensures ended { IsFinishAnswer (message context.now) (holds context.now self.old)
             (port W.taken W.has_failed sink.old sink.new) result }
-        ensures failed { W.has_failed sink.new ≡ (W.has_failed sink.old || is_device_interruption result) };
+        ensures failed { W.has_failed sink.new
+            ≡ (W.has_failed sink.old || is_device_interruption result) };
 }
 
 /// What a reader outputs after one byte: usually nothing, and at most one part.

@@ -9,7 +9,7 @@ use super::Machine;
 use crate::machine::cable::Cable;
 use crate::machine::parts::Parts;
 use crate::machine::per_wheel::PerWheel;
-use crate::machine::pin_rings::pin_at;
+use crate::machine::pins::pin_at;
 use crate::machine::seats::place_in_box;
 use crate::numbered_items::numbered_item;
 use kd_tables::{Letter, Model, Reflector, Standing, Wheel};

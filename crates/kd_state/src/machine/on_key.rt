@@ -81,7 +81,8 @@ fn is_rotor_on_key(parts: &RotorParts, entry: &RotorEntry) -> bool
 fn have_rings(model: Model, rings: &PerWheel<Letter>, wheels: &[SheetWheel]) -> bool
     requires { length rings.now ≡ length (box_of model) }
     ensures { IsTrue result
-        ↔ AllByRecursion (λ w. slice_get rings.now (place_in_box model w.wheel) ≡ Some w.ring) wheels.now }
+        ↔ AllByRecursion (λ w. slice_get rings.now (place_in_box model w.wheel) ≡ Some w.ring)
+        wheels.now }
 {
     match wheels {
         [] => true,
@@ -96,7 +97,8 @@ fn have_rings(model: Model, rings: &PerWheel<Letter>, wheels: &[SheetWheel]) -> 
 fn have_letters(model: Model, letters: &PerWheel<Letter>, wheels: &[SheetWheel]) -> bool
     requires { length letters.now ≡ length (box_of model) }
     ensures { IsTrue result
-        ↔ AllByRecursion (λ w. slice_get letters.now (place_in_box model w.wheel) ≡ Some w.letter) wheels.now }
+        ↔ AllByRecursion (λ w. slice_get letters.now (place_in_box model w.wheel) ≡ Some w.letter)
+        wheels.now }
 {
     match wheels {
         [] => true,
@@ -127,7 +129,8 @@ fn are_the_pairs(cables: &[Cable], pairs: &[(Letter, Letter)]) -> bool
 /// Whether each cable is empty or has the letters of one of `pairs`.
 fn are_paired(cables: &[Cable], pairs: &[(Letter, Letter)]) -> bool
     ensures { IsTrue result
-        ↔ AllByRecursion (λ cable. cable_letters cable ≢ [] → Any (HasPairLetters cable) pairs.now) cables.now }
+        ↔ AllByRecursion (λ cable. cable_letters cable ≢ [] → Any (HasPairLetters cable) pairs.now)
+        cables.now }
 {
     match cables {
         [] => true,
@@ -137,7 +140,8 @@ fn are_paired(cables: &[Cable], pairs: &[(Letter, Letter)]) -> bool
 
 /// Whether each of `pairs` has its letters in one of `cables`.
 fn are_joined(pairs: &[(Letter, Letter)], cables: &[Cable]) -> bool
-    ensures { IsTrue result ↔ AllByRecursion (λ pair. Any (λ cable. HasPairLetters cable pair) cables.now) pairs.now }
+    ensures { IsTrue result
+        ↔ AllByRecursion (λ pair. Any (λ cable. HasPairLetters cable pair) cables.now) pairs.now }
 {
     match pairs {
         [] => true,

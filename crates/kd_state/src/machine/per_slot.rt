@@ -2,6 +2,7 @@
 ghost use Rattle.std.specs.Prelude.{◌≡◌, ◌⊎◌, ◌↔◌, ◌<◌, length, map, slice_set, IsSome, IfSome};
 ghost use Rattle.kd_state.specs.Setting.{seat_without};
 
+use crate::machine::seats::seat_without;
 use crate::numbered_items::set_item;
 use crate::sheet_day::rotor_entry::SheetWheel;
 use kd_tables::Wheel;
@@ -118,11 +119,4 @@ impl PerSlot<SheetWheel> {
         };
         PerSlot { values }
     }
-}
-
-/// What a slot with `seated` holds after `wheel` is taken out: nothing if `seated` is `wheel`, else `seated`.
-fn seat_without(seated: Option<Wheel>, wheel: Wheel) -> Option<Wheel>
-    ensures { result ≡ seat_without wheel seated }
-{
-    if seated == Some(wheel) { None } else { seated }
 }

@@ -3,7 +3,7 @@ ghost use Rattle.std.specs.Prelude.{◌≡◌, ◌↔◌, IsTrue, map};
 ghost use Rattle.kd_tables.specs.Places.{reading_of};
 ghost use Rattle.kd_state.specs.Machine.{IsLegalPin, AreOnWheels};
 
-use crate::machine::pin_rings::is_on_wheel;
+use crate::machine::pins::is_on_wheel;
 use crate::prover_facts::{learn_pins, learn_standings};
 use kd_pins::PinSet;
 use kd_tables::{Letter, Reading, Standing};

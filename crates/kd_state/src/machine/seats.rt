@@ -1,9 +1,9 @@
-//! Which wheels may be in which slots.
+//! Which wheels may be in which slots, and a slot without its wheel.
 ghost use Rattle.std.specs.Prelude.{◌≡◌, ◌↔◌, ℕ, ◌+◌, ◌≤◌, IsTrue, IfSome, Some, Contains, length};
 ghost use Rattle.std.specs.Option.{SomeIff};
 ghost use Rattle.kd_tables.specs.Tables.{box_of, wheels_for};
 ghost use Rattle.kd_state.specs.SameParts.{place_in_box};
-ghost use Rattle.kd_state.specs.Machine.{AreLegalSeats, IsSeatedAt};
+ghost use Rattle.kd_state.specs.{Machine.{AreLegalSeats, IsSeatedAt}, Setting.seat_without};
 
 use crate::machine::per_slot::PerSlot;
 use kd_tables::{Model, Wheel, allowed};
@@ -34,7 +34,8 @@ pub(crate) fn are_legal_seats(model: Model, slots: &PerSlot<Option<Wheel>>) -> b
 fn are_allowed(model: Model, slots: &[Option<Wheel>]) -> bool
     requires { length slots.now ≤ 4 }
     ensures { IsTrue result
-        ↔ ((place : ℕ) (wheel : _) → IsSeatedAt slots.now place wheel → Contains (wheels_for model (place + 1)) wheel) }
+        ↔ ((place : ℕ) (wheel : _) → IsSeatedAt slots.now place wheel
+        → Contains (wheels_for model (place + 1)) wheel) }
 {
     for (place, seated) in slots.iter().enumerate() {
         if !may_hold(model, place as u8 + 1, *seated) {
@@ -57,7 +58,8 @@ fn may_hold(model: Model, slot: u8, seated: Option<Wheel>) -> bool
 /// Whether no wheel is in two slots.
 fn are_seated_once(slots: &[Option<Wheel>]) -> bool
     ensures { IsTrue result
-        ↔ ((p q : ℕ) (wheel : _) → IsSeatedAt slots.now p wheel → IsSeatedAt slots.now q wheel → p ≡ q) }
+        ↔ ((p q : ℕ) (wheel : _) → IsSeatedAt slots.now p wheel → IsSeatedAt slots.now q wheel
+        → p ≡ q) }
 {
     for (place, seated) in slots.iter().enumerate() {
         if !is_alone(slots, place, *seated) {
@@ -78,4 +80,11 @@ fn is_alone(slots: &[Option<Wheel>], place: usize, seated: Option<Wheel>) -> boo
         }
     }
     true
+}
+
+/// What a slot with `seated` holds after `wheel` is taken out: nothing if `seated` is `wheel`, else `seated`.
+pub(crate) fn seat_without(seated: Option<Wheel>, wheel: Wheel) -> Option<Wheel>
+    ensures { result ≡ seat_without wheel seated }
+{
+    if seated == Some(wheel) { None } else { seated }
 }

@@ -1,30 +1,10 @@
 //! Carries settings out one after another, up to the first setting that the machine refuses.
-ghost use Rattle.std.specs.Prelude.{◌≡◌, IfErr, IfOk};
-ghost use Rattle.kd_state.specs.FaultText.{illegal_at_text};
+ghost use Rattle.std.specs.Prelude.{IfErr, IfOk};
 ghost use Rattle.kd_state.specs.Setting.{IsFirstIllegal, Leads};
 
 use crate::machine::Machine;
 use crate::setting::Setting;
-use crate::setting::why::Why;
-use kd_tables::{Refusal, Text};
-use thiserror::Error;
-
-/// The first refusal in a list of settings: the refused setting's number, counted from 1, and the reason.
-#[derive(Clone, Copy, Debug, PartialEq, Eq, Error)]
-#[error("{}", self.text())]
-pub struct IllegalAt {
-    pub line: usize,
-    pub why: Why,
-}
-
-impl IllegalAt {
-    /// The refusal's number and name, the number of the line, and the reason.
-    pub fn text(&self) -> Text
-        ensures { result.bytes ≡ illegal_at_text self.now }
-    {
-        Refusal::IllegalAt.text_at_with_word(self.line, self.why.name())
-    }
-}
+use crate::setting::why::IllegalAt;
 
 /// Carries `settings` out one after another; returns the new machine, or the first refusal.
 #[tactic(auto, using(crate::proofs::SettingEffects::Refusals::leads_next, crate::proofs::SettingEffects::Refusals::stops_at))]

@@ -7,7 +7,7 @@ ghost use Rattle.std.specs.Prelude.{◌≡◌, ◌↔◌, IsSome, IfSome};
 
 use crate::machine::parts::Parts;
 use crate::machine::pin_parts::PinParts;
-use crate::machine::pin_rings::{is_on_wheel, set_pin};
+use crate::machine::pins::{is_on_wheel, set_pin};
 use crate::numbered_items::{numbered_item, set_numbered_item};
 use crate::setting::Setting;
 use crate::setting::why::Why;

@@ -1,6 +1,6 @@
-//! Why a machine refuses a setting.
+//! Why a machine refuses a setting, or the first refused setting of a list.
 ghost use Rattle.std.specs.Prelude.{◌≡◌, ◌≤◌, length};
-ghost use Rattle.kd_state.specs.FaultText.{illegal_text, why_name};
+ghost use Rattle.kd_state.specs.FaultText.{illegal_text, illegal_at_text, why_name};
 
 use kd_tables::{Refusal, Text};
 use thiserror::Error;
@@ -67,5 +67,22 @@ impl Illegal {
         ensures { result.bytes ≡ illegal_text self.now }
     {
         Refusal::Illegal.text_with_word(self.why.name())
+    }
+}
+
+/// The first refusal in a list of settings: the refused setting's number, counted from 1, and the reason.
+#[derive(Clone, Copy, Debug, PartialEq, Eq, Error)]
+#[error("{}", self.text())]
+pub struct IllegalAt {
+    pub line: usize,
+    pub why: Why,
+}
+
+impl IllegalAt {
+    /// The refusal's number and name, the number of the line, and the reason.
+    pub fn text(&self) -> Text
+        ensures { result.bytes ≡ illegal_at_text self.now }
+    {
+        Refusal::IllegalAt.text_at_with_word(self.line, self.why.name())
     }
 }
