@@ -30,7 +30,8 @@ pub fn row_prices<const N: usize>(cost: &[[u8; N]; N], prices: &[i16; N], to: &[
     requires low { (j : ℕ) → j < N → neg_ℤ (pos 128) ≤ℤ price_at prices.now j }
     requires high { (j : ℕ) → j < N → price_at prices.now j ≤ℤ pos 0 }
     ensures len { length result ≡ N }
-    ensures prices { (i : ℕ) → i < N → price_at result i ≡ pos (cost_at cost.now i (slice_index to.now i))
+    ensures prices { (i : ℕ) → i < N
+        → price_at result i ≡ pos (cost_at cost.now i (slice_index to.now i))
         -ℤ price_at prices.now (slice_index to.now i) }
 {
     let mut rows = [0; N];

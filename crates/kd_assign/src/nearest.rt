@@ -135,7 +135,8 @@ impl<const N: usize> Nearest<N> {
         requires close { AreWithinCeilings N prices.now self.now.ceiling }
         requires first { IfSome first (λ j. j < N) }
         requires second { second < N }
-        ensures one { (first ≡ result) ⊎ ((has_column reached.now second ≡ false) × (result ≡ Some second)) }
+        ensures one { (first ≡ result)
+            ⊎ ((has_column reached.now second ≡ false) × (result ≡ Some second)) }
         ensures first { (s : ℤ) → IsSomeAnd first (λ j. room_at self.now.ceiling prices.now j ≤ℤ s) →
             IsSomeAnd result (λ j. room_at self.now.ceiling prices.now j ≤ℤ s) }
         ensures second { has_column reached.now second ≡ false → IsSomeAnd result (λ j.

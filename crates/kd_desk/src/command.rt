@@ -88,7 +88,8 @@ pub type NamedAction<'a> = Action<&'a str, &'a str>;
 /// `--` may come once, after the command's name. An invalid command line gives `Usage`; the only other error is
 /// lack of memory.
 pub fn parse_words<'a, S: AsStr>(alloc: Global, words: &'a [S]) -> Result<NamedCommand<'a>, Stop>
-    ensures said { IfOk result (λ command. IsCommandLineOf (map S.text words.entry.now) (unborrowed_command command)) }
+    ensures said { IfOk result
+        (λ command. IsCommandLineOf (map S.text words.entry.now) (unborrowed_command command)) }
     ensures usage { result ≡ Err Stop.Usage → IsNoCommandLine (map S.text words.entry.now) }
     ensures memory { IfErr result (λ stop. stop ≢ Stop.Usage
         → stop ≡ Stop.Refused (DeskFault.File SheetFault.NoMemory)) }

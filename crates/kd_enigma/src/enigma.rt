@@ -37,7 +37,8 @@ impl<const S: usize> Model for Enigma<S> {
     ghost view = { λ e. key_of_parts e.stepper e.rings e.reflector e.plugs };
 
     ghost invariant = { λ e. (e.wheels ≡ e.stepper.wheels)
-        × AreMapsOf (key_of_parts e.stepper e.rings e.reflector e.plugs) e.rotors e.reflecting e.slow_map e.path_map
+        × AreMapsOf (key_of_parts e.stepper e.rings e.reflector e.plugs)
+        e.rotors e.reflecting e.slow_map e.path_map
         × (3 ≤ S) × (S ≤ 4) };
 }
 

@@ -36,7 +36,8 @@ impl Map {
             |lane: usize|
                 requires { lane < 32 }
                 ensures letter { lane < 26 → result < 26 }
-                ensures value { result ≡ (if nat_lt lane 26 then slice_index table.entry.now lane else lane) }
+                ensures value { result
+                    ≡ (if nat_lt lane 26 then slice_index table.entry.now lane else lane) }
             {
                 if lane < 26 {
                     table[lane].index() as u8

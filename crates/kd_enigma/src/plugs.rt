@@ -81,7 +81,8 @@ impl Plugs {
 
 /// Plugs `one` and `other` together. Returns `false` if the two are equal, or if either is plugged already.
 fn plug(table: &mut [Letter; 26], one: Letter, other: Letter) -> bool
-    ensures can { IsTrue result ↔ (one ≢ other) × IsFixedLetter table.old one × IsFixedLetter table.old other }
+    ensures can { IsTrue result
+        ↔ (one ≢ other) × IsFixedLetter table.old one × IsFixedLetter table.old other }
     ensures after { IsTrue result → table.new ≡ slice_set (slice_set table.old one other) other one }
     ensures letters { (one < 26) × (other < 26) }
 {

@@ -41,8 +41,10 @@ impl Rotor {
         let ways = std::array::from_fn(
             |window: usize|
                 requires { window < 26 }
-                ensures inward { result.0 ≡ followed_by board (wiring_turned_by (offset ring window) there) }
-                ensures outward { result.1 ≡ followed_by (wiring_turned_by (offset ring window) back) board }
+                ensures inward { result.0
+                    ≡ followed_by board (wiring_turned_by (offset ring window) there) }
+                ensures outward { result.1
+                    ≡ followed_by (wiring_turned_by (offset ring window) back) board }
             {
                 let inward = board.then(turn_map(there, ring, window));
                 (inward, turn_map(back, ring, window).then(board))

@@ -89,7 +89,8 @@ fn pin_card(parts: &PinParts, entry: &PinEntry) -> Card
 /// `prices`, or only zeros if `total`, the cost of the assignment, is 0.
 fn prices_or_zeros<const N: usize>(total: u16, prices: [i16; N]) -> [i16; N]
     requires { All (λ price. unsigned_abs price ≤ 4 * N) prices }
-    ensures due { result ≡ (if total == 0 then replicate (length prices.entry) (pos 0) else prices.entry) }
+    ensures due { result
+        ≡ (if total == 0 then replicate (length prices.entry) (pos 0) else prices.entry) }
     ensures bound { All (λ price. unsigned_abs price ≤ 4 * N) result }
 {
     if total == 0 { [0; N] } else { prices }

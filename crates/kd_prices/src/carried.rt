@@ -27,7 +27,8 @@ pub(crate) fn carry_settings(
 ) -> Result<Carried, Doubt>
     requires { model_of machine.now ≡ day_model day.now }
     ensures leads { IfOk result (λ carried. Leads machine.now settings.now carried.reached) }
-    ensures needed { IfOk result (λ carried. IsNeededAnswer machine.now day.now settings.now carried.need_result) }
+    ensures needed { IfOk result
+        (λ carried. IsNeededAnswer machine.now day.now settings.now carried.need_result) }
     ensures refused { IfErr result (λ doubt. IsCarriedAnswer machine.now settings.now (Err doubt)) }
 {
     let mut reached = *machine;

@@ -189,7 +189,8 @@ impl Refusal {
     /// The text of a refusal with one number, and then `word`, the name of a reason.
     pub fn text_at_with_word(self, place: usize, word: &str) -> Text
         requires { length word.now ≤ 22 }
-        ensures { result.bytes ≡ refusal_name self ++ word_after_space (decimal place) ++ word_after_space word.now }
+        ensures { result.bytes
+            ≡ refusal_name self ++ word_after_space (decimal place) ++ word_after_space word.now }
     {
         let mut text = self.text_at(place);
         push_word(&mut text, word);

@@ -35,7 +35,8 @@ pub fn loose_count(machine: &Machine, day: &SheetDay) -> usize
 /// Counts the slots that are empty or hold another wheel than the day's.
 fn loose_slots(slots: &[Option<Wheel>], wheels: &[SheetWheel]) -> usize
     ensures value { result ≡ count_by
-        (λ slot. not (option_map_or (same_wheel slot.1.wheel) slot.0 false)) (zip slots.now wheels.now) }
+        (λ slot. not (option_map_or (same_wheel slot.1.wheel) slot.0 false))
+        (zip slots.now wheels.now) }
     ensures few { result ≤ length wheels.now }
 {
     slots
@@ -48,7 +49,8 @@ fn loose_slots(slots: &[Option<Wheel>], wheels: &[SheetWheel]) -> usize
 /// Counts the day's wheels whose rings aren't set to the day's letters.
 fn loose_rings(machine: &Machine, wheels: &[SheetWheel]) -> usize
     ensures value { result ≡ count_by
-        (λ w. not (option_map_or (nat_eq w.ring) (machine_ring machine.now w.wheel) false)) wheels.now }
+        (λ w. not (option_map_or (nat_eq w.ring) (machine_ring machine.now w.wheel) false))
+        wheels.now }
     ensures few { result ≤ length wheels.now }
 {
     wheels
@@ -60,7 +62,8 @@ fn loose_rings(machine: &Machine, wheels: &[SheetWheel]) -> usize
 /// Counts the day's wheels that aren't turned to the day's window letters.
 fn loose_letters(machine: &Machine, wheels: &[SheetWheel]) -> usize
     ensures value { result ≡ count_by
-        (λ w. not (option_map_or (nat_eq w.letter) (machine_letter machine.now w.wheel) false)) wheels.now }
+        (λ w. not (option_map_or (nat_eq w.letter) (machine_letter machine.now w.wheel) false))
+        wheels.now }
     ensures few { result ≤ length wheels.now }
 {
     wheels
@@ -71,8 +74,9 @@ fn loose_letters(machine: &Machine, wheels: &[SheetWheel]) -> usize
 
 /// Counts the pins that differ from the day's, on all six wheels.
 fn loose_pins(present: &PinSet, wanted: &PinSet) -> usize
-    ensures value { result ≡ sum (map (λ wheel. count_by (λ pin. exactly_one pin.0 pin.1) (zip wheel.0 wheel.1))
-        (zip (pins_of present.now) (pins_of wanted.now))) }
+    ensures value { let pairs = zip (pins_of present.now) (pins_of wanted.now) in
+        result ≡ sum
+        (map (λ wheel. count_by (λ pin. exactly_one pin.0 pin.1) (zip wheel.0 wheel.1)) pairs) }
     ensures few { result ≤ 131 }
 {
     count_differing(&present.w1, &wanted.w1)

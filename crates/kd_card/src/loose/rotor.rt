@@ -86,7 +86,8 @@ fn push_turns(settings: &mut Settings, machine: &Machine, number: u8, wheels: &[
 /// Appends the setting RING for `wheel` if the day uses the wheel and its ring isn't at the day's letter.
 fn push_ring(settings: &mut Settings, machine: &Machine, wheels: &[SheetWheel], wheel: Wheel)
     requires { array_vec_len settings.old + 1 ≤ 192 }
-    ensures items { settings.new.items ≡ settings.old.items ++ wheel_ring_line machine.now wheels.now wheel }
+    ensures items { settings.new.items
+        ≡ settings.old.items ++ wheel_ring_line machine.now wheels.now wheel }
     ensures few { array_vec_len settings.new ≤ array_vec_len settings.old + 1 }
 {
     if let Some(SheetWheel { wheel, ring, .. }) = find_wheel(wheels, wheel) {
