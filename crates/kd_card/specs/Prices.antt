@@ -15,14 +15,14 @@ version_of (CableKinds row col) = ByKind
 version_of (BarKinds row col) = ByKind
 version_of _ = ByNumber
 
--- a price for each row of the table of costs; the price of a kind is repeated as often as its count says
+-- a price for each row of the table of costs: by number in the table's order, by kind one kind after another
 abbrev pub row_prices : PriceParts → List ℤ
 row_prices (Cables row col) = row
 row_prices (Bars row col) = row
 row_prices (CableKinds row col) = prices_of_kinds cable_format row.items
 row_prices (BarKinds row col) = prices_of_kinds bar_format row.items
 
--- a price for each column of the table of costs; the price of a kind is repeated as often as its count says
+-- a price for each column of the table of costs, in the same order as `row_prices`
 abbrev pub column_prices : PriceParts → List ℤ
 column_prices (Cables row col) = col
 column_prices (Bars row col) = col
@@ -53,7 +53,7 @@ ArePrices (BarKinds row col) = IsGroup bar_format 27 row.items × IsGroup row_fo
 abbrev pub cost_at : List (List ℕ) → ℕ → ℕ → ℕ
 cost_at costs i j = slice_index (slice_index_or costs i []) j
 
--- item `i` of a list of prices, counted from 0: the price of row `i`, or of column `i`
+-- item `i` of a list of prices, counted from 0; of prices by number: the price of row `i`, or of column `i`
 abbrev pub price_at : List ℤ → ℕ → ℤ
 price_at prices i = slice_index_or prices i (pos 0)
 

@@ -22,7 +22,7 @@ abbrev pub head_prefix : Version → List ℕ
 head_prefix ByNumber = codes "CARD 1 DAY "
 head_prefix ByKind = codes "CARD 2 DAY "
 
--- `bytes` begin with line `line` of a card. Whatever number of prices above 0 has to follow `word` there, the result of
+-- `bytes` are the rest of a card, from its line `line` on. Whatever number of prices above 0 has to follow `word` there, the result of
 -- reading the line is `fault`.
 abbrev pub IsNoPriceLine : List ℕ → ℕ → List ℕ → CardFault → Type 0
 IsNoPriceLine word line bytes fault =

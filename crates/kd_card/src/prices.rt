@@ -91,8 +91,8 @@ impl Prices {
     /// Makes prices by kind: one for each kind of cables, and one for each kind of columns.
     ///
     /// `None` if `cables` or `pairs` aren't strictly ascending, or the counts of either don't add up to 13. Also `None`
-    /// if a kind has letters out of order, a letter only at the second end, the count 0, or a price below -9999 or
-    /// above 9999.
+    /// if a kind has two letters that are equal or out of order, a letter only at the second end, the count 0, or a
+    /// price below -9999 or above 9999.
     pub fn cable_kinds(cables: &[CableKind], pairs: &[PairKind]) -> Option<Self>
         ensures { let parts =
             PriceParts.CableKinds (record { items = cables.now }) (record { items = pairs.now }) in

@@ -7,10 +7,11 @@ ghost use Rattle.kd_state.specs.Costs.{cable_cost, columns_of, costs_by};
 use kd_state::Cable;
 use kd_tables::Letter;
 
-/// In the assignment `to`, gives spare cables' pairs to cables in use, or to spare cables with lower numbers.
+/// Changes the assignment `to`, so that a spare cable has a pair only if each cable before it has one.
 ///
-/// In each move, a spare cable and a cable without a pair swap their columns. The spare cable's cost falls from 2 to 0,
-/// and the other cable's cost grows by at most 2. So the total cost doesn't grow.
+/// Cables in use come before spare cables, and spare cables are in the order of their numbers. In each step, a spare
+/// cable swaps its pair for the empty column of a cable before it. The spare cable's cost falls from 2 to 0, and the
+/// other cable's cost grows by at most 2. So the total cost doesn't grow.
 pub(crate) fn keep_spares_free(cables: &[Cable; 13], pairs: &[(Letter, Letter)], to: &mut [u8; 13])
     requires { IsOneToOne to.old }
     ensures one_to_one { IsOneToOne to.new }

@@ -1,4 +1,4 @@
-//! Groups keys with prices into kinds: equal keys with equal prices become one kind, which has their count.
+//! Groups keys with prices into kinds. If equal keys have equal prices, they become one kind, which has their count.
 ghost use Rattle.std.specs.Prelude.{◌≡◌, ◌↔◌, ◌+◌, ◌<◌, ◌≤◌, length, map, IsPermutation, All, IsTrue, None};
 ghost use Rattle.kd_card.specs.Kinds.{AreKinds, expansion};
 ghost use Rattle.kd_prices.specs.Grouping.{HaveOnePriceEach, IsValidKeyAndPrice, AppendsKinds, kind_of_one};
@@ -7,7 +7,7 @@ use super::kind_keys::is_same_key;
 use arrayvec::ArrayVec;
 use kd_card::{Kind, KindOf};
 
-/// Groups equal keys with equal prices into kinds, in ascending order.
+/// Groups keys into kinds. If equal keys have equal prices, each key gets one kind, and the kinds ascend.
 ///
 /// `pairs` are keys (the letters of a cable or column, a standing or a reading) with their prices. If equal keys have
 /// different prices, several kinds have this key, and `Prices` refuses the kinds.
@@ -37,8 +37,7 @@ fn kind_of_one<T: Copy>(pair: &(T, i16)) -> KindOf<T>
     }
 }
 
-/// Appends `kind` to `kinds`, and then the kinds of `pairs`. Each of the `pairs` is a key with its price, and the pairs
-/// are in ascending order.
+/// Appends `kind` to `kinds`, and then the kinds of `pairs`. Each of the `pairs` is a key with its price.
 ///
 /// If the list `pairs` begins with pairs that have the key and the price of `kind`, they are counted in `kind`.
 fn push_kinds<K: Kind, const N: usize>(
