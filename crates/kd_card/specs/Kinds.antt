@@ -17,7 +17,7 @@ abbrev pub letters_text : List ℕ → List ℕ
 letters_text [] = codes "-"
 letters_text (letter ∷ letters) = tables.letters_text (letter ∷ letters)
 
--- The ends of a kind of cables: two letters in alphabetical order, one letter at the first end, or none.
+-- The ends have two letters in alphabetical order, or only the first end has a letter, or neither end has one.
 abbrev pub AreEnds : Option ℕ → Option ℕ → Type 0
 AreEnds None None = Unit {0}
 AreEnds None (Some other) = ⊥
@@ -78,7 +78,7 @@ row_format = record {
 }
 
 -- two keys (letters, standings or readings), compared in the order of a card's lines
--- Code: `compare` of the trait `Kind` compares keys by Rust's orders of tuples, options and derived types.
+-- Code: `compare` of the trait `Kind` uses the orders of Rust's tuples and options, and the orders that types derive.
 abbrev pub key_cmp : {K X : Type 0} → KindFormat K X → X → X → Ordering
 key_cmp format x y = slice_cmp nat_cmp (format.order x) (format.order y)
 
@@ -133,7 +133,7 @@ abbrev pub expansion : {X : Type 0} → List (KindOf X) → List (X × ℤ)
 expansion kinds = flat_map (λ kind. replicate kind.count (kind.key, kind.price)) kinds
 
 -- Each kind's key and price, repeated as often as the kind's count says, are `keys` with their prices, in some order.
--- Code: `kinds_of` sorts pairs by key, and counts equal neighbours; `prices_of` lowers the count of a key's kind.
+-- Code: `kinds_of` sorts keys with prices, and counts equal neighbours; `prices_of` lowers the count of a key's kind.
 pub record AreKindsOf {K X : Type 0} (format : KindFormat K X) (keys : List X) (prices : List ℤ) (kinds : List K)
     : Type 0 where
   pub number : length prices ≡ length keys

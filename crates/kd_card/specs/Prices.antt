@@ -22,7 +22,7 @@ row_prices (Bars row col) = row
 row_prices (CableKinds row col) = prices_of_kinds cable_format row.items
 row_prices (BarKinds row col) = prices_of_kinds bar_format row.items
 
--- a price for each column of the table of costs, in the same order as `row_prices`
+-- a price for each column of the table of costs: by number in the table's order, by kind one kind after another
 abbrev pub column_prices : PriceParts → List ℤ
 column_prices (Cables row col) = col
 column_prices (Bars row col) = col

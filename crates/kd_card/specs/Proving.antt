@@ -50,7 +50,7 @@ pair_in_order column = option_map (λ pair. smaller_first pair.0 pair.1) column
 abbrev pub columns_in_order : List (ℕ × ℕ) → List (Option (ℕ × ℕ))
 columns_in_order pairs = map pair_in_order (columns_of pairs)
 
--- The first prices, by kind, count exactly the table's rows and columns. The second give each the price of its kind.
+-- The first prices' kinds count all cables and columns, or bars and rows. The second prices give each its kind's price.
 abbrev pub AreExpanded : Parts → Day → PriceParts → PriceParts → Type 0
 AreExpanded (Rotor m) (OfRotors s) (CableKinds row col) (Cables rows columns) =
     AreKindsOf cable_format m.cables rows row.items
@@ -59,7 +59,7 @@ AreExpanded (Pin m) (OfPins s) (BarKinds row col) (Bars rows columns) =
     AreKindsOf bar_format m.bars rows row.items × AreKindsOf row_format s.rows columns col.items
 AreExpanded _ _ _ _ = ⊥
 
--- `numbered` are `prices` if these are by number. If not, both are valid, and each row and column has its kind's price.
+-- If `prices` are by number, `numbered` equal them. If not, both are valid, and `AreExpanded` relates them.
 pub data Expands (m : Parts) (s : Day) (prices numbered : PriceParts) : Type 0 where
   Same : version_of prices ≡ ByNumber → prices ≡ numbered → Expands m s prices numbered
   Expanded : ArePrices prices → ArePrices numbered → AreExpanded m s prices numbered → Expands m s prices numbered

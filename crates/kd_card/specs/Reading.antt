@@ -22,8 +22,8 @@ abbrev pub head_prefix : Version → List ℕ
 head_prefix ByNumber = codes "CARD 1 DAY "
 head_prefix ByKind = codes "CARD 2 DAY "
 
--- `bytes` are the rest of a card, from its line `line` on. Whatever number of prices above 0 has to follow `word` there, the result of
--- reading the line is `fault`.
+-- `bytes` are the rest of a card, from its line `line` on. However many prices (at least one) have to follow `word` in
+-- this line, the result of reading the line is `fault`.
 abbrev pub IsNoPriceLine : List ℕ → ℕ → List ℕ → CardFault → Type 0
 IsNoPriceLine word line bytes fault =
     (number : ℕ) → 0 < number → IsPriceLineAnswer word number line bytes (Err fault)

@@ -11,8 +11,8 @@ use Rattle.kd_form.specs.declared.fault.FormFault.TheVariants.{NotReady, Device,
 use Rattle.kd_form.specs.OnTheKey.{IsReadyOnKey, IsKeyFault}
 
 -- A kind of message, such as orders. `stands`: the first bytes of a message have a fault that no further bytes can
--- change. `refused`: a whole message has a fault. `becomes`: a whole message has a result. `written_before`: if the bytes
--- have a fault, this text has to be written before the fault is returned; if not, before further bytes are read.
+-- change. `refused`: a whole message has a fault. `becomes`: a whole message has a result. `written_before`: all text
+-- that is written before the fault is returned or, without a fault, before further bytes are read.
 pub record Message : Type 1 where
   pub stands : List ℕ → FormFault → Type 0
   pub refused : List ℕ → FormFault → Type 0

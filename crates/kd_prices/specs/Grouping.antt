@@ -21,8 +21,8 @@ kind_of_one pair = record { key = pair.0; count = 1; price = pair.1 }
 abbrev pub AreSorted : {K X : Type 0} → KindFormat K X → List (X × ℤ) → Type 0
 AreSorted format pairs = IsSorted (λ one other. key_cmp format one.0 other.0) pairs
 
--- Pairs of a key and its price that can be grouped into valid kinds. The keys ascend, and equal keys have equal prices.
--- Each key has the form that a card writes, and each price is from -9999 to 9999.
+-- These keys with prices can be grouped into valid kinds. The keys ascend, and equal keys have equal prices. Each key
+-- has the form that a card writes, and each price is from -9999 to 9999.
 pub record CanBeKinds {K X : Type 0} (format : KindFormat K X) (pairs : List (X × ℤ)) : Type 0 where
   pub sorted : AreSorted format pairs
   pub one_price : HaveOnePriceEach pairs
@@ -46,7 +46,6 @@ pub record AppendsKinds {K X : Type 0} (format : KindFormat K X) (kind : KindOf 
 abbrev pub HasNoneLeft : {X : Type 0} → List (KindOf X) → X → Type 0
 HasNoneLeft kinds key = All (λ pair. pair.0 ≢ key) (expansion kinds)
 
--- If each kind's key and price are repeated as often as the kind's count says, `kinds` have what `left` have, and once
--- more this key with this price, in any order.
+-- `kinds` count the keys and prices that `left` count, and `key` with `price` once more, in any order.
 abbrev pub TakesOne : {X : Type 0} → List (KindOf X) → X → ℤ → List (KindOf X) → Type 0
 TakesOne kinds key price left = IsPermutation (expansion kinds) ((key, price) ∷ expansion left)

@@ -1,4 +1,4 @@
-//! Groups keys with prices into kinds. If equal keys have equal prices, they become one kind, which has their count.
+//! Groups keys with prices into kinds, by sorting.
 ghost use Rattle.std.specs.Prelude.{◌≡◌, ◌↔◌, ◌+◌, ◌<◌, ◌≤◌, length, map, IsPermutation, All, IsTrue, None};
 ghost use Rattle.kd_card.specs.Kinds.{AreKinds, expansion};
 ghost use Rattle.kd_prices.specs.Grouping.{HaveOnePriceEach, IsValidKeyAndPrice, AppendsKinds, kind_of_one};
@@ -7,7 +7,7 @@ use super::kind_keys::is_same_key;
 use arrayvec::ArrayVec;
 use kd_card::{Kind, KindOf};
 
-/// Groups keys into kinds. If equal keys have equal prices, each key gets one kind, and the kinds ascend.
+/// Groups keys into kinds. If keys and prices are valid, and equal keys have equal prices, equal keys share one kind.
 ///
 /// `pairs` are keys (the letters of a cable or column, a standing or a reading) with their prices. If equal keys have
 /// different prices, several kinds have this key, and `Prices` refuses the kinds.

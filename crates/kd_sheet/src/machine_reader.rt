@@ -77,8 +77,7 @@ fn parts_in(table: &Table, model: Model) -> Result<Machine, SheetFault>
 
 /// Reads a machine file of version 1 or 2, or returns its first fault. The M4 needs version 2.
 ///
-/// `NoMemory` may replace any other result. The call returns it if memory runs out, but the contract doesn't say when
-/// that is.
+/// `NoMemory` may replace any other result: the contract doesn't say when memory runs out.
 pub fn read_machine(alloc: Global, bytes: &[u8]) -> Result<Machine, SheetFault>
     ensures { AgreesOrNoMemory result (machine_of bytes.now) }
 {

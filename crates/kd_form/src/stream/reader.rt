@@ -35,7 +35,8 @@ pub(crate) trait ChunkReader<Context> {
     ) -> Result<(), Interruption>
         requires few { length bytes.now ≤ CHUNK }
         requires room { HasRoom (message context.now) (holds context.now self.old) (length bytes.now) }
-        ensures fed { IsFeedAllAnswer (message context.now) (holds context.now self.old) (holds context.now self.new)
+        ensures fed { IsFeedAllAnswer (message context.now)
+            (holds context.now self.old) (holds context.now self.new)
             bytes.now (port W.taken W.has_failed sink.old sink.new) result }
         ensures failed { W.has_failed sink.new
             ≡ (W.has_failed sink.old || is_device_interruption result) };

@@ -1,4 +1,4 @@
-//! Which wheels may be in which slots, and a slot without its wheel.
+//! Which wheels may be in which slots, and what a slot holds after a wheel is taken out.
 ghost use Rattle.std.specs.Prelude.{◌≡◌, ◌↔◌, ℕ, ◌+◌, ◌≤◌, IsTrue, IfSome, Some, Contains, length};
 ghost use Rattle.std.specs.Option.{SomeIff};
 ghost use Rattle.kd_tables.specs.Tables.{box_of, wheels_for};

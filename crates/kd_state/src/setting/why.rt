@@ -1,4 +1,4 @@
-//! Why a machine refuses a setting, or the first refused setting of a list.
+//! Why a machine refuses a setting; for a list, also which setting it refuses first.
 ghost use Rattle.std.specs.Prelude.{◌≡◌, ◌≤◌, length};
 ghost use Rattle.kd_state.specs.FaultText.{illegal_text, illegal_at_text, why_name};
 
