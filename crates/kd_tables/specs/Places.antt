@@ -39,6 +39,7 @@ places = One ∷ ZeroLeft ∷ Two ∷ Three ∷ Four ∷ Five ∷ ZeroRight ∷ 
 abbrev pub IsBefore : Place → Place → Type 0
 IsBefore first second = place_rank first < place_rank second
 
+-- the name of a lug in cards
 abbrev pub lug_text : Lug → List ℕ
 lug_text lugs.Left = codes "L"
 lug_text lugs.Right = codes "R"
@@ -50,6 +51,7 @@ lug_text lugs.Right = codes "R"
 abbrev pub standings : List (Place × Place)
 standings = flat_map (λ l. map (λ r. (l, r)) (filter (λ r. nat_lt (place_rank l) (place_rank r)) places)) places
 
+-- the text of a bar's standing: the names of its two places, with `-` between them
 abbrev pub standing_text : Place × Place → List ℕ
 standing_text standing = place_text standing.0 ++ codes "-" ++ place_text standing.1
 
@@ -59,6 +61,7 @@ ArePlaceNames standing left right = (place_text standing.0 ≡ left) × (place_t
 
 -- ---- How a bar reads: the numbers of the wheels at its lugs' places, the smaller one first.
 
+-- the two numbers, the smaller one first
 abbrev pub smaller_first : ℕ → ℕ → ℕ × ℕ
 smaller_first a b = (min a b, max a b)
 
@@ -72,8 +75,10 @@ pub record IsReading (numbers : ℕ × ℕ) : Type 0 where
 abbrev pub reading_of : Place × Place → ℕ × ℕ
 reading_of standing = smaller_first (place_number standing.0) (place_number standing.1)
 
+-- the digit of a number below 10
 abbrev pub digit_text : ℕ → List ℕ
 digit_text number = (number + 48) ∷ []
 
+-- the text of a reading: its two numbers, with `-` between them
 abbrev pub reading_text : ℕ × ℕ → List ℕ
 reading_text numbers = digit_text numbers.0 ++ codes "-" ++ digit_text numbers.1
