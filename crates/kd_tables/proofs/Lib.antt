@@ -4,3 +4,4 @@ pub mod Rings
 pub mod SeveralPuts
 pub mod DistinctLetters
 pub mod Orders
+pub mod Ciphers
