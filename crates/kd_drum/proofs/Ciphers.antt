@@ -1,10 +1,9 @@
 -- The Converter's cipher, letter by letter.
-use Rattle.std.proofs.Common.{All, List, [], add-one, add-zero, ap, arith, drop, get_or, length, map, refl, set, suc}
+use Rattle.std.proofs.Common.{List, [], ap, arith, length, map, refl}
 use Rattle.{kd_drum.proofs.WheelsAfterLetters.{bars_met_sum}, kd_tables.proofs.Ciphers.{enciphered-append, enciphered-twice}}
 use Rattle.kd_drum.{specs.Converter.{PinKey, bars_met, converter_cipher, pin_key_after}}
 use Rattle.{kd_drum.specs.Laws.{ConverterCipherOfChunks, ConverterTwiceGivesBack}}
-use Rattle.{std.proofs.lemmas.List.Elements.{All-head, All-tail}}
-use Rattle.std.{proofs.Common.{sym, take, zero, ℕ, ◌%◌, ◌++◌, ◌+◌, ◌-◌, ◌<◌, ◌∙◌, ◌∷◌, ◌≡◌}, specs.List.enumerate_from}
+use Rattle.std.{proofs.Common.{sym, ℕ, ◌%◌, ◌++◌, ◌+◌, ◌-◌, ◌<◌, ◌∙◌, ◌∷◌, ◌≡◌}, specs.List.enumerate_from}
 
 -- what `letter` is enciphered to if `met` bars are met
 abbrev pub reversed_by : ℕ → ℕ → ℕ

@@ -1,11 +1,11 @@
 -- The cipher of a rotor machine, letter by letter.
-use Rattle.std.proofs.Common.{All, List, [], add-one, add-suc, add-zero, ap, arith, drop, get_or, length, map, refl}
+use Rattle.std.proofs.Common.{List, [], add-suc, add-zero, ap, arith, length, map, refl}
 use Rattle.{kd_enigma.proofs.Ways.{path_exchanges}, kd_tables.proofs.Ciphers.{enciphered-append, enciphered-twice}}
 use Rattle.kd_enigma.{specs.Laws.{EnigmaCipherOfChunks, EnigmaKeyAfterChunks, EnigmaTwiceGivesBack}}
-use Rattle.kd_enigma.specs.Cipher.{IsPlugboard, RotorKey, enigma_cipher, key_after, key_turned, path}
+use Rattle.kd_enigma.specs.Cipher.{RotorKey, enigma_cipher, key_after, key_turned, path}
 use Rattle.{kd_step.specs.Stepper.{next_window, window_after}, kd_tables.specs.declared.wheel.Wheel.Wheel}
-use Rattle.std.proofs.Common.{rules, set, slice_index, suc, sym, take, zero, ℕ, ◌++◌, ◌+◌, ◌<◌, ◌∙◌, ◌∷◌, ◌≡◌}
-use Rattle.std.{proofs.lemmas.List.Elements.{All-head, All-tail}, specs.List.enumerate_from}
+use Rattle.std.proofs.Common.{rules, slice_index, suc, sym, zero, ℕ, ◌++◌, ◌+◌, ◌∙◌, ◌∷◌, ◌≡◌}
+use Rattle.std.{specs.List.enumerate_from}
 
 -- `lit_letter` is the letter that lights up after `steps` steps; `cipher_from` is the ciphertext of `text` if its
 -- first letter is enciphered after `start` steps
