@@ -1,4 +1,5 @@
 pub mod Prelude
+pub mod GrownTree
 pub mod ScanCounts
 pub mod TreeGrowth
 pub mod Places

@@ -1,6 +1,11 @@
 -- How many comparisons trees take: bounds, and sums in closed form.
 use Rattle.std.proofs.Common.{◌≡◌, ℕ, zero, suc, ◌+◌, ◌*◌, ◌/◌, ◌≤◌, inl, inr, arith}
-use Rattle.kd_assign.proofs.Prelude.{cases_eq, scans_of_tree, scans_of_trees}
+use Rattle.kd_assign.proofs.Prelude.{cases_eq, scans_of_tree}
+
+-- the number of comparisons for `trees` trees: the first tree has one row, and each next tree has one row more
+abbrev pub scans_of_trees : ℕ → ℕ → ℕ
+scans_of_trees n zero = 0
+scans_of_trees n (suc trees) = scans_of_trees n trees + scans_of_tree n (suc trees)
 
 -- a tree of more rows takes no fewer comparisons
 pub scans_of_tree-grows : (n few rows : ℕ) → few ≤ rows → scans_of_tree n few ≤ scans_of_tree n rows

@@ -4,9 +4,9 @@ use Rattle.std.proofs.Common.{Some, None, is_some, ◌⊎◌, inl, inr, ℤ, pos
 use Rattle.{kd_assign.proofs.AllRows.cost_at_most, std.specs.Int.int_min}
 use Rattle.kd_assign.proofs.Prelude.{cases_Bool, cases_eq, clamps, false≢true, get_or-set_other, get_or-set_same, ints}
 use Rattle.kd_assign.proofs.Prelude.{length-set, none-some, same_Some, AreCostsAtMost, IsColumnTakenBy}
-use Rattle.kd_assign.proofs.Prelude.{IsCheapestColumn, IsColumnFree, IsGrownTree, AreCompared, IsNearest}
-use Rattle.kd_assign.proofs.Prelude.{IsAssignmentWithout, IsRowAssigned, IsSolvedUpTo, cost_at, has_column, price_at}
-use Rattle.kd_assign.proofs.Prelude.{room_at}
+use Rattle.kd_assign.proofs.Prelude.{IsCheapestColumn, IsColumnFree, AreCompared, IsNearest, IsRowAssigned}
+use Rattle.kd_assign.proofs.Prelude.{IsSolvedUpTo, cost_at, has_column, price_at, room_at}
+use Rattle.kd_assign.proofs.GrownTree.{IsAssignmentWithout, IsGrownTree}
 use Rattle.kd_assign.proofs.Places.{count-set, count_at_most, free_column, length-IsColumnTakenBy, get_or-set-cases}
 
 module _ {n root : ℕ} {cost : List (List ℕ)} {prices ceilings : List ℤ} {holders : List (Option ℕ)}

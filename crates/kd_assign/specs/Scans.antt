@@ -7,14 +7,9 @@ pub record IsScanCount (n scans : ℕ) : Type 0 where
   pub least : n * n ≤ scans
   pub most : scans ≤ n * (n + 1) * (2 * n + 1) / 6
 
--- ---- Tree by tree. No public contract cites these definitions.
+-- ---- Of one tree. No public contract cites this definition.
 
 -- the number of comparisons for a tree of `rows` rows: `n` for the first row, `n - 1` for the second row, and so on
 abbrev pub scans_of_tree : ℕ → ℕ → ℕ
 scans_of_tree n zero = 0
 scans_of_tree n (suc rows) = scans_of_tree n rows + (n - rows)
-
--- the number of comparisons for `trees` trees: the first tree has one row, and each next tree has one row more
-abbrev pub scans_of_trees : ℕ → ℕ → ℕ
-scans_of_trees n zero = 0
-scans_of_trees n (suc trees) = scans_of_trees n trees + scans_of_tree n (suc trees)

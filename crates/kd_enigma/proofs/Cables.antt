@@ -1,14 +1,13 @@
--- Pairs of a plugboard: what each letter is exchanged for, and the table that plugging them one by one makes.
-use Rattle.std.proofs.Common.{All, Bool, Contains, List, [], ap, arith, cond, drop, eqb, false, get_or, inl, inr}
-use Rattle.std.proofs.Common.{length, refl, rules, set, slice_index, subst, suc, sym, take, true, zero, ℕ, ◌++◌, ◌+◌}
-use Rattle.kd_enigma.{proofs.Ways.each_letter, specs.Plugs.{IsFixedLetter, HavePairOf, NoLetterTwice, letters_in_pairs}}
+-- Pairs of a plugboard: what each letter is exchanged for, and the table of all letters.
+use Rattle.std.proofs.Common.{All, Bool, Contains, List, [], arith, eqb, false, get_or, inl, inr}
+use Rattle.std.proofs.Common.{length, refl, rules, slice_index, suc, sym, true, zero, ℕ}
+use Rattle.kd_enigma.{proofs.Ways.each_letter, specs.Plugs.{HavePairOf, NoLetterTwice, letters_in_pairs}}
 use Rattle.kd_enigma.specs.{Cipher.IsPlugboard, Laws.{PairsExchange, PairsMakeAPlugboard, SamePairsExchangeAlike}}
-use Rattle.kd_tables.specs.Permutation.{alphabet, exchange, exchanged}
-use Rattle.std.proofs.Common.{◌<◌, ◌↔◌, ◌∙◌, ◌∷◌, ◌≡◌, ◌≢◌, ◌≤◌, ◌⊎◌}
-use Rattle.std.proofs.lemmas.Bool.{cases_Bool, cases_eq, eq-eqb, eqb-true, false_from_ne_true, false≢true, ne_eqb}
-use Rattle.std.proofs.lemmas.{Bool.Decides.nat_tests, List.Folds.{Any-from_list_any, list_any-append, list_any_at}}
-use Rattle.std.proofs.lemmas.{Grind.{common_steps, flat_map-append}, List.Elements.{All-append, All-cons, All-nil}}
-use Rattle.std.proofs.lemmas.List.{drop_more, length-set, map-id, take-append-drop, take_all, take_more}
+use Rattle.kd_tables.specs.Permutation.{exchange, exchanged}
+use Rattle.std.proofs.Common.{◌<◌, ◌↔◌, ◌∙◌, ◌∷◌, ◌≡◌, ◌⊎◌}
+use Rattle.std.proofs.lemmas.Bool.{cases_Bool, cases_eq, eq-eqb, eqb-true, false_from_ne_true, false≢true}
+use Rattle.std.proofs.lemmas.{Bool.Decides.nat_tests, List.Folds.{Any-from_list_any, list_any_at}}
+use Rattle.std.proofs.lemmas.{List.Elements.{All-nil}}
 use Rattle.std.proofs.lemmas.List.FromFn.{fill_by_all, get_or-map-range_with_len, length-map-range_with_len}
 use Rattle.std.specs.List.{AllByRecursion, IsDistinct, list_any}
 
@@ -34,23 +33,6 @@ unfolding IsDistinct
 apart_tells [] = (λ _. tt, λ _. tt)
 apart_tells (pair ∷ pairs) = grind (arith, nat_tests, list_any-AllByRecursion, apart_tells pairs)
 
--- The two letters of `pair` differ, and occur in none of `pairs`.
-abbrev IsPairApart : List (ℕ × ℕ) → ℕ × ℕ → Type 0
-IsPairApart pairs pair = (eqb pair.0 pair.1 ≡ false) × (lies_in_pairs pair.0 pairs ≡ false)
-    × (lies_in_pairs pair.1 pairs ≡ false)
-
-apart_push : (pairs : List (ℕ × ℕ)) (pair : ℕ × ℕ) → HaveNoLetterTwice pairs → IsPairApart pairs pair
-    → HaveNoLetterTwice (pairs ++ pair ∷ [])
-apart_push [] pair apart is = (is.0, refl, refl, tt)
-apart_push (first ∷ pairs) pair apart is = grind
-    (arith, nat_tests, flat_map-append, list_any-append, apart_push pairs pair)
-
-apart_front : (pairs rest : List (ℕ × ℕ)) (pair : ℕ × ℕ) → HaveNoLetterTwice (pairs ++ pair ∷ rest)
-    → IsPairApart pairs pair
-apart_front [] rest pair apart = (apart.0, refl, refl)
-apart_front (first ∷ pairs) rest pair apart =
-    grind (arith, nat_tests, flat_map-append, list_any-append, apart_front pairs rest pair)
-
 -- ---- what a letter is exchanged for
 
 exchanged_free : (pairs : List (ℕ × ℕ)) (x : ℕ) → lies_in_pairs x pairs ≡ false → exchanged pairs x ≡ x
@@ -67,11 +49,6 @@ returns_where_it_came_from : (pairs : List (ℕ × ℕ)) (x : ℕ) → HaveNoLet
 returns_where_it_came_from [] x h = refl
 returns_where_it_came_from (pair ∷ pairs) x h =
     grind (arith, nat_tests, exchanged_stays pairs x, exchanged_free pairs x, returns_where_it_came_from pairs x)
-
-exchanged_moves : (pairs : List (ℕ × ℕ)) (x : ℕ) → HaveNoLetterTwice pairs → lies_in_pairs x pairs ≡ true
-    → exchanged pairs x ≢ x
-exchanged_moves [] x h lies e = false≢true lies
-exchanged_moves (pair ∷ pairs) x h lies e = grind (arith, nat_tests, exchanged_moves pairs x)
 
 -- ---- where a letter leads
 
@@ -145,7 +122,7 @@ exchange-size : (pairs : List (ℕ × ℕ)) → length (exchange pairs) ≡ 26
 unfolding exchange
 exchange-size pairs = length-map-range_with_len (exchanged pairs) 0 26
 
-exchange_is : (table : List ℕ) (pairs : List (ℕ × ℕ)) → length table ≡ 26 → ((x : ℕ) → x < 26
+pub exchange_is : (table : List ℕ) (pairs : List (ℕ × ℕ)) → length table ≡ 26 → ((x : ℕ) → x < 26
     → slice_index table x ≡ exchanged pairs x) → table ≡ exchange pairs
 unfolding exchange
 exchange_is table pairs size each = fill_by_all (exchanged pairs) table 26 0 size each
@@ -178,81 +155,3 @@ pairs_make_a_plugboard pairs once letters =
 
 pub no_cables : IsPlugboard (exchange [])
 no_cables = pairs_make_a_plugboard [] ((apart_tells []).1 tt) (All-nil (λ letter. letter < 26))
-
--- ---- pairs plugged one after the other
-
-exchanged_push : (pairs : List (ℕ × ℕ)) (pair : ℕ × ℕ) (x : ℕ) → HaveNoLetterTwice pairs → IsPairApart pairs pair
-    → exchanged (pairs ++ pair ∷ []) x ≡ cond (eqb x pair.0) pair.1 (cond (eqb x pair.1) pair.0 (exchanged pairs x))
-exchanged_push [] pair x apart is = refl
-exchanged_push (first ∷ pairs) pair x apart is = grind
-    (arith, nat_tests, exchanged_push pairs pair x, exchanged_free pairs x)
-
--- `board` is the table that exchanges the letters of `pairs`, the pairs plugged so far.
-pub record IsPlugged (board : List ℕ) (pairs : List (ℕ × ℕ)) : Type 0 where
-  pub table : board ≡ exchange pairs
-  pub apart : HaveNoLetterTwice pairs
-  pub letters : All (λ letter. letter < 26) (letters_in_pairs pairs)
-
-pub is_plugged_none : (table : List ℕ) → table ≡ alphabet → IsPlugged table []
-unfolding exchange
-is_plugged_none table e = grind (arith, map-id, All-nil)
-
--- A letter that the plugboard of the pairs leaves as it is occurs in none of the pairs.
-left_free : (pairs : List (ℕ × ℕ)) (x : ℕ) → HaveNoLetterTwice pairs → x < 26 → slice_index (exchange pairs) x ≡ x
-    → lies_in_pairs x pairs ≡ false
-left_free pairs x apart lt left = grind (arith, false_from_ne_true, exchanged_moves, exchange-at)
-
-plugged_push : (table after : List ℕ) (pairs : List (ℕ × ℕ)) (pair : ℕ × ℕ) → IsPlugged table pairs
-    → (pair.0 ≢ pair.1) × IsFixedLetter table pair.0 × IsFixedLetter table pair.1
-    → pair.0 < 26 → pair.1 < 26 → after ≡ set (set table pair.0 pair.1) pair.1 pair.0
-    → IsPlugged after (pairs ++ pair ∷ [])
-plugged_push table after pairs pair h can one_lt other_lt e =
-    let once = set (exchange pairs) pair.0 pair.1 in
-    let size : length once ≡ 26 = length-set (exchange pairs) pair.0 pair.1 ∙ exchange-size pairs in
-    let one = left_free pairs pair.0 h.apart one_lt (rw h.table at can.1) in
-    let other = left_free pairs pair.1 h.apart other_lt (rw h.table at can.2) in
-    let is : IsPairApart pairs pair = (ne_eqb pair.0 pair.1 can.0, one, other) in
-    let twice : set once pair.1 pair.0 ≡ exchange (pairs ++ pair ∷ []) =
-    exchange_is (set once pair.1 pair.0) (pairs ++ pair ∷ []) (length-set once pair.1 pair.0 ∙ size)
-    (λ x lt. grind (
-      arith,
-      nat_tests,
-      common_steps,
-      size,
-      exchange-size pairs,
-      exchange-at pairs x lt,
-      exchanged_push
-          pairs pair x h.apart is,
-    )) in
-    let letters = All-cons (λ letter. letter < 26) pair.0 (pair.1 ∷ []) one_lt (All-cons
-    (λ letter. letter < 26) pair.1 [] other_lt (All-nil (λ letter. letter < 26))) in
-    record {
-      table = e ∙ ap (λ t. set (set t pair.0 pair.1) pair.1 pair.0) h.table ∙ twice;
-      apart = apart_push pairs pair h.apart is;
-      letters = rw flat_map-append (All-append (λ letter. letter < 26) (letters_in_pairs pairs)
-          (pair.0 ∷ pair.1 ∷ []) h.letters letters);
-    }
-
-module _ (all : List (ℕ × ℕ)) (place : ℕ) (table : List ℕ) (h : IsPlugged table (take place all)) where
-  -- After all pairs are plugged, the table is the plugboard of these pairs, and no letter occurs in them twice.
-  pub plugged_all : length all ≤ place → (table ≡ exchange all) × NoLetterTwice all × IsPlugboard table
-  plugged_all past =
-      let whole = subst (IsPlugged table) (take_all place all past) h in
-      let once = (apart_tells all).1 whole.apart in
-      (whole.table, once, rw whole.table (pairs_make_a_plugboard all once whole.letters))
-
-  module _ (pair : ℕ × ℕ) (left : place < length all) (here : pair ≡ get_or all place pair) where
-    pub plugged_more : (after : List ℕ) → (pair.0 ≢ pair.1) × IsFixedLetter table pair.0 × IsFixedLetter table pair.1
-        → (pair.0 < 26) × (pair.1 < 26) → after ≡ set (set table pair.0 pair.1) pair.1 pair.0
-        → IsPlugged after (take (place + 1) all)
-    plugged_more after can low e =
-        rw (take_more all place pair left, ← here) (plugged_push table after (take place all) pair h can low.0 low.1 e)
-
-    -- If no letter occurs twice, the letters of the next pair differ, and neither is plugged yet.
-    pub can_plug : NoLetterTwice all → (pair.0 < 26) × (pair.1 < 26)
-        → (pair.0 ≢ pair.1) × IsFixedLetter table pair.0 × IsFixedLetter table pair.1
-    can_plug once low =
-        let split : take place all ++ pair ∷ drop (place + 1) all ≡ all =
-        rw here (rw (← drop_more all place pair left) (take-append-drop place all)) in
-        let apart = apart_front (take place all) (drop (place + 1) all) pair (rw split ((apart_tells all).0 once)) in
-        grind (arith, nat_tests, exchange-at, exchanged_free, h.table)

@@ -1,11 +1,11 @@
 -- The cipher of a rotor machine, letter by letter.
-use Rattle.std.proofs.Common.{All, List, [], add-one, add-suc, add-zero, ap, arith, drop, get_or, length, map, refl}
-use Rattle.kd_enigma.{proofs.Ways.path_exchanges}
+use Rattle.std.proofs.Common.{List, [], add-suc, add-zero, ap, arith, length, map, refl}
+use Rattle.{kd_enigma.proofs.Ways.{path_exchanges}, kd_tables.proofs.Ciphers.{enciphered-append, enciphered-twice}}
 use Rattle.kd_enigma.{specs.Laws.{EnigmaCipherOfChunks, EnigmaKeyAfterChunks, EnigmaTwiceGivesBack}}
-use Rattle.kd_enigma.specs.Cipher.{IsPlugboard, RotorKey, enigma_cipher, key_after, key_turned, path}
+use Rattle.kd_enigma.specs.Cipher.{RotorKey, enigma_cipher, key_after, key_turned, path}
 use Rattle.{kd_step.specs.Stepper.{next_window, window_after}, kd_tables.specs.declared.wheel.Wheel.Wheel}
-use Rattle.std.proofs.Common.{rules, set, slice_index, suc, sym, take, zero, ℕ, ◌++◌, ◌+◌, ◌<◌, ◌∙◌, ◌∷◌, ◌≡◌}
-use Rattle.std.{proofs.lemmas.List.Elements.{All-head, All-tail}, specs.List.enumerate_from}
+use Rattle.std.proofs.Common.{rules, slice_index, suc, sym, zero, ℕ, ◌++◌, ◌+◌, ◌∙◌, ◌∷◌, ◌≡◌}
+use Rattle.std.{specs.List.enumerate_from}
 
 -- `lit_letter` is the letter that lights up after `steps` steps; `cipher_from` is the ciphertext of `text` if its
 -- first letter is enciphered after `start` steps
@@ -20,19 +20,10 @@ pub path_turned : (key : RotorKey) (window shown : List ℕ) → path (key_turne
 unfolding path
 path_turned key window shown = refl
 
--- Enciphering a text, and then its ciphertext, both from the same start, gives the text back.
-twice_from : (key : RotorKey) (start : ℕ) (text : List ℕ) → IsPlugboard key.plugs
-    → All (λ letter. letter < 26) text
-    → cipher_from key start (cipher_from key start text) ≡ text
-twice_from key start [] board h = refl
-twice_from key start (letter ∷ text) board h =
-    ap (λ l. l ∷ cipher_from key (start + 1) (cipher_from key (start + 1) text))
-    ((path_exchanges key (window_after key.wheels key.window start) board).back letter
-    (All-head (λ l. l < 26) letter text h))
-    ∙ ap (λ ls. letter ∷ ls) (twice_from key (start + 1) text board (All-tail (λ l. l < 26) letter text h))
-
 pub twice_gives_back : EnigmaTwiceGivesBack
-twice_gives_back key text = twice_from key 1 text
+twice_gives_back key text board =
+    enciphered-twice (lit_letter key) 1 text
+    (λ n. (path_exchanges key (window_after key.wheels key.window n) board).back)
 
 -- ---- a text in two chunks
 
@@ -52,26 +43,8 @@ cipher_from-add key m start [] = refl
 cipher_from-add key m start (letter ∷ text) = search
     (rules, key, window_after_sum, path_turned, cipher_from-add key m (start + 1) text)
 
-append_from : (key : RotorKey) (start : ℕ) (first rest : List ℕ)
-    → cipher_from key start (first ++ rest) ≡ cipher_from key start first ++ cipher_from key (start + length first) rest
-append_from key start [] rest = ap (λ n. cipher_from key n rest) (sym (add-zero start))
-append_from key start (letter ∷ first) rest = grind (arith, key, append_from key (start + 1) first rest)
-
 pub cipher_in_turn : EnigmaCipherOfChunks
 cipher_in_turn key first rest =
-    append_from key 1 first rest
+    enciphered-append (lit_letter key) 1 first rest
     ∙ ap (λ ls. enigma_cipher key first ++ ls)
     (ap (λ n. cipher_from key n rest) (omega arith) ∙ cipher_from-add key (length first) 1 rest)
-
--- Enciphering the letters from place `n` on is enciphering letter `n` in place, and then the letters after it with
--- the key after one press.
-pub enigma_cipher-set : (key : RotorKey) (text : List ℕ) (n d light : ℕ) → n < length text
-    → enigma_cipher key (get_or text n d ∷ []) ≡ light ∷ []
-    → take n text ++ enigma_cipher key (drop n text)
-    ≡ take (n + 1) (set text n light) ++ enigma_cipher (key_after key 1) (drop (n + 1) (set text n light))
-enigma_cipher-set key [] n d light lt e = absurd (omega arith)
-enigma_cipher-set key (letter ∷ text) zero d light lt e = cipher_in_turn key (letter ∷ []) text
-    ∙ ap (λ l. l ++ enigma_cipher (key_after key 1) text) e
-enigma_cipher-set key (letter ∷ text) (suc n) d light lt e =
-    let rest = enigma_cipher-set key text n d light (omega arith) e in
-    rw (add-one (suc n)) (ap (λ l. letter ∷ l) (rw (add-one n) at rest))

@@ -27,10 +27,11 @@ SamePairsExchangeAlike =
 -- ---- The laws of the path and of the cipher.
 -- Source: the published accounts of the current's path.
 
--- The current's path is its own inverse. `PathsMoveEachLetter`, below, says that the path takes no letter to itself.
+-- The current's path is its own inverse.
 abbrev pub PathsAreOwnInverses : Type 0
 PathsAreOwnInverses = (key : RotorKey) (window : List ℕ) → IsPlugboard key.plugs → IsOwnInverse (path key window)
 
+-- The current's path takes no letter to itself.
 abbrev pub PathsMoveEachLetter : Type 0
 PathsMoveEachLetter = (key : RotorKey) (window : List ℕ) → IsPlugboard key.plugs → MovesEachLetter (path key window)
 
@@ -47,5 +48,6 @@ EnigmaCipherOfChunks =
     (key : RotorKey) (first rest : List ℕ)
     → enigma_cipher key (first ++ rest) ≡ enigma_cipher key first ++ enigma_cipher (key_after key (length first)) rest
 
+-- The key after `m`, and then `n`, key presses is the key after `m + n` key presses.
 abbrev pub EnigmaKeyAfterChunks : Type 0
 EnigmaKeyAfterChunks = (key : RotorKey) (m n : ℕ) → key_after (key_after key m) n ≡ key_after key (m + n)

@@ -1,12 +1,12 @@
 //! The plugboard, made from pairs of letters.
-ghost use Rattle.std.specs.Prelude.{◌≡◌, ◌≢◌, ◌<◌, ◌↔◌, IsOk, IsTrue, IfOk, slice_index, slice_set};
-ghost use Rattle.kd_tables.specs.Permutation.{exchange};
+ghost use Rattle.std.specs.Prelude.{◌≡◌, ◌<◌, ◌↔◌, IsOk, IfOk, slice_index};
+ghost use Rattle.kd_tables.specs.Pairs.{NoLetterTwice};
+ghost use Rattle.kd_tables.specs.Permutation.{exchange, exchanged};
 ghost use Rattle.kd_tables.specs.Refusals.{refusal_name};
 ghost use Rattle.kd_enigma.specs.Cipher.{IsPlugboard};
-ghost use Rattle.kd_enigma.specs.Plugs.{IsFixedLetter, NoLetterTwice};
 
-use super::map::{Map, shift_table};
-use kd_tables::{Letter, Refusal, Text};
+use super::map::Map;
+use kd_tables::{Letter, Refusal, Text, have_no_letter_twice};
 use std::marker::Model;
 use thiserror::Error;
 
@@ -53,12 +53,10 @@ impl Plugs {
         ensures value { IfOk result (λ plugs. plugs ≡ exchange pairs.now) }
         ensures plugboard { IfOk result IsPlugboard }
     {
-        let mut table = shift_table(0);
-        for (one, other) in pairs {
-            if !plug(&mut table, *one, *other) {
-                return Err(LetterTwice);
-            }
+        if !have_no_letter_twice(pairs) {
+            return Err(LetterTwice);
         }
+        let table = std::array::from_fn(|index| exchanged(pairs, Letter::at(index as u8)));
         Ok(Plugs { table })
     }
 
@@ -79,18 +77,20 @@ impl Plugs {
     }
 }
 
-/// Plugs `one` and `other` together. Returns `false` if the two are equal, or if either is plugged already.
-fn plug(table: &mut [Letter; 26], one: Letter, other: Letter) -> bool
-    ensures can { IsTrue result
-        ↔ (one ≢ other) × IsFixedLetter table.old one × IsFixedLetter table.old other }
-    ensures after { IsTrue result → table.new ≡ slice_set (slice_set table.old one other) other one }
-    ensures letters { (one < 26) × (other < 26) }
+/// The letter that `letter` becomes if the two letters of each pair are exchanged.
+fn exchanged(pairs: &[(Letter, Letter)], letter: Letter) -> Letter
+    ensures { result ≡ exchanged pairs.now letter }
 {
-    let (place, far) = (one.index(), other.index());
-    if one == other || table[place] != one || table[far] != other {
-        return false;
+    match pairs {
+        [(one, other), rest @ ..] => {
+            if letter == *one {
+                *other
+            } else if letter == *other {
+                *one
+            } else {
+                exchanged(rest, letter)
+            }
+        }
+        [] => letter,
     }
-    table[place] = other;
-    table[far] = one;
-    true
 }

@@ -24,6 +24,7 @@ pub record IsWheel (size : ℕ) (wheel : TurnedWheel) : Type 0 where
 abbrev pub place_past : ℕ → ℕ → ℕ → ℕ
 place_past size place by = (place + by) % size
 
+-- whether the pin at `place` is effective
 abbrev pub is_effective : List Bool → ℕ → Bool
 is_effective pins place = slice_index_or pins place false
 

@@ -2,6 +2,7 @@ pub mod Permutation
 pub mod Tables
 pub mod Text
 pub mod Rings
+pub mod Pairs
 pub mod Places
 pub mod WiringText
 pub mod Ports

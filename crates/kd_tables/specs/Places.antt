@@ -1,32 +1,35 @@
 -- A bar of the Converter M-209's drum: its eight places, and its two lugs.
 -- Test: bars_have_28_standings
-use Rattle.std.specs.Prelude.{codes, ◌≡◌, ℕ, ◌+◌, ◌-◌, ◌<◌, ◌≤◌, nat_lt, min, max, List, [], ◌∷◌, ◌++◌, map, filter}
-use Rattle.std.specs.Prelude.{flat_map, slice_index}
+use Rattle.std.specs.Prelude.{codes, ◌≡◌, ℕ, ◌+◌, ◌<◌, ◌≤◌, nat_lt, min, max, List, [], ◌∷◌, ◌++◌, map, filter}
+use Rattle.std.specs.Prelude.{flat_map}
 use Rattle.kd_tables.specs.declared.place.Place.{Place}
 use Rattle.kd_tables.specs.declared.place.Place.TheVariants.{One, ZeroLeft, Two, Three, Four, Five, ZeroRight, Six}
 use Rattle.kd_tables.specs.declared.lug.Lug.{Lug}
 use Rattle.kd_tables.specs.declared.lug.Lug.TheVariants as lugs
 
--- the name of each place of a bar, and how many places are to its left
-abbrev pub place_table : Place → List ℕ × ℕ
-place_table One = (codes "1", 0)
-place_table ZeroLeft = (codes "0L", 1)
-place_table Two = (codes "2", 2)
-place_table Three = (codes "3", 3)
-place_table Four = (codes "4", 4)
-place_table Five = (codes "5", 5)
-place_table ZeroRight = (codes "0R", 6)
-place_table Six = (codes "6", 7)
+-- for each place of a bar: its name, how many places are to its left, and the number of the pin wheel that acts there,
+-- or 0 if no wheel does
+abbrev pub place_table : Place → List ℕ × ℕ × ℕ
+place_table One = (codes "1", 0, 1)
+place_table ZeroLeft = (codes "0L", 1, 0)
+place_table Two = (codes "2", 2, 2)
+place_table Three = (codes "3", 3, 3)
+place_table Four = (codes "4", 4, 4)
+place_table Five = (codes "5", 5, 5)
+place_table ZeroRight = (codes "0R", 6, 0)
+place_table Six = (codes "6", 7, 6)
 
+-- the name of a place in machine files and cards
 abbrev pub place_text : Place → List ℕ
 place_text place = (place_table place).0
 
+-- how many places are to the left of a place
 abbrev pub place_rank : Place → ℕ
 place_rank place = (place_table place).1
 
--- the digit in the name of a place: the number of the pin wheel that acts there, or 0 if no wheel does
+-- the number of the pin wheel that acts at a place, or 0 if no wheel does
 abbrev pub place_number : Place → ℕ
-place_number place = slice_index (place_text place) 0 - 48
+place_number place = (place_table place).2
 
 -- the places of a bar, from left to right
 abbrev pub places : List Place
@@ -36,6 +39,7 @@ places = One ∷ ZeroLeft ∷ Two ∷ Three ∷ Four ∷ Five ∷ ZeroRight ∷ 
 abbrev pub IsBefore : Place → Place → Type 0
 IsBefore first second = place_rank first < place_rank second
 
+-- the name of a lug in cards
 abbrev pub lug_text : Lug → List ℕ
 lug_text lugs.Left = codes "L"
 lug_text lugs.Right = codes "R"
@@ -47,6 +51,7 @@ lug_text lugs.Right = codes "R"
 abbrev pub standings : List (Place × Place)
 standings = flat_map (λ l. map (λ r. (l, r)) (filter (λ r. nat_lt (place_rank l) (place_rank r)) places)) places
 
+-- the text of a bar's standing: the names of its two places, with `-` between them
 abbrev pub standing_text : Place × Place → List ℕ
 standing_text standing = place_text standing.0 ++ codes "-" ++ place_text standing.1
 
@@ -56,6 +61,7 @@ ArePlaceNames standing left right = (place_text standing.0 ≡ left) × (place_t
 
 -- ---- How a bar reads: the numbers of the wheels at its lugs' places, the smaller one first.
 
+-- the two numbers, the smaller one first
 abbrev pub smaller_first : ℕ → ℕ → ℕ × ℕ
 smaller_first a b = (min a b, max a b)
 
@@ -69,8 +75,10 @@ pub record IsReading (numbers : ℕ × ℕ) : Type 0 where
 abbrev pub reading_of : Place × Place → ℕ × ℕ
 reading_of standing = smaller_first (place_number standing.0) (place_number standing.1)
 
+-- the digit of a number below 10
 abbrev pub digit_text : ℕ → List ℕ
 digit_text number = (number + 48) ∷ []
 
+-- the text of a reading: its two numbers, with `-` between them
 abbrev pub reading_text : ℕ × ℕ → List ℕ
 reading_text numbers = digit_text numbers.0 ++ codes "-" ++ digit_text numbers.1

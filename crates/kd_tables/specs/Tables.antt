@@ -30,9 +30,11 @@ wheel_table VIII = (codes "VIII", codes "FKQHTLXOCBJSPDZRAMEWNIUYGV", codes "MZ"
 wheel_table Beta = (codes "Beta", codes "LEYJVCNIXWPBQMDRTAKZGFUHOS", codes "")
 wheel_table Gamma = (codes "Gamma", codes "FSOKANUERHMBTIYCWLQPZXVGJD", codes "")
 
+-- the name of a wheel
 abbrev pub wheel_text : Wheel → List ℕ
 wheel_text wheel = (wheel_table wheel).0
 
+-- the published wiring of a wheel, as a permutation
 unfoldable pub wiring_of : Wheel → List ℕ
 wiring_of wheel = letters_of (wheel_table wheel).1
 
@@ -52,9 +54,11 @@ reflector_table reflectors.C = (codes "C", codes "FVPJIAOYEDRZXWGCTKUQSBNMHL")
 reflector_table reflectors.ThinB = (codes "b", codes "ENKQAUYWJICOPBLMDXZVFTHRGS")
 reflector_table reflectors.ThinC = (codes "c", codes "RDOBJNTKVEHMLFCWZAXGYIPSUQ")
 
+-- the name of a reflector
 abbrev pub reflector_text : Reflector → List ℕ
 reflector_text reflector = (reflector_table reflector).0
 
+-- the published wiring of a reflector, as a permutation
 unfoldable pub reflector_of : Reflector → List ℕ
 reflector_of reflector = letters_of (reflector_table reflector).1
 
@@ -70,12 +74,15 @@ model_table M3 = (codes "M3", 3, reflectors.B ∷ reflectors.C ∷ [])
 model_table M4 = (codes "M4", 4, reflectors.ThinB ∷ reflectors.ThinC ∷ [])
 model_table M209 = (codes "M-209", 0, [])
 
+-- the name of a model
 abbrev pub model_text : Model → List ℕ
 model_text model = (model_table model).0
 
+-- how many slots for wheels a model has
 abbrev pub slots_of : Model → ℕ
 slots_of model = (model_table model).1
 
+-- the reflectors of a model
 abbrev pub reflectors_of : Model → List Reflector
 reflectors_of model = (model_table model).2
 

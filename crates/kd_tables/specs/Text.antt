@@ -6,6 +6,7 @@ use Rattle.std.specs.Prelude.{ℕ, ◌+◌, nat_le, ◌==◌, Bool, ◌&&◌, �
 abbrev pub letters_text : List ℕ → List ℕ
 letters_text letters = map (λ letter. letter + 65) letters
 
+-- whether a byte is a capital letter of the alphabet
 abbrev pub is_capital : ℕ → Bool
 is_capital byte = nat_le 65 byte && nat_le byte 90
 

@@ -1,6 +1,7 @@
 //! Laws of published tables, pin wheels, permutations, orderings and the read limit.
 ghost use Rattle.std.specs.Prelude.{◌≡◌, ℕ};
 ghost use Rattle.std.specs.Ordering.{ordering_then, nat_cmp};
+ghost use Rattle.kd_tables.specs.Places.{place_rank};
 ghost use Rattle.kd_tables.specs.Ports.{read_limit};
 ghost use Rattle.kd_tables.specs.declared.ports.limit.TheConstants.{READ_LIMIT};
 ghost use Rattle.kd_tables.specs.Laws.{WiringsArePermutations, ReflectorsArePermutations, ReflectorsAreOwnInverses};
@@ -11,7 +12,9 @@ ghost use Rattle.kd_tables.specs.Laws.{InverseUndoesAfter, InverseUndoesBefore, 
 ghost use Rattle.kd_tables.specs.Laws.{LettersLeadToPlaces, PlacesLeadToLetters};
 
 use super::letter::Letter;
+use super::place::Place;
 use super::reading::Reading;
+use super::standing::Standing;
 
 /// The published wirings of wheels and reflectors are permutations. A reflector exchanges letters in pairs.
 #[tactic(auto, using(crate::proofs::Wirings::reflector_returns, crate::proofs::Wirings::reflector_moves))]
@@ -59,6 +62,16 @@ pub fn letters_and_readings_have_their_order()
     ensures letters { (one other : ℕ) → ⟦<Letter as Ord>⟧.cmp one other ≡ nat_cmp one other }
     ensures readings { (one other : ℕ × ℕ) → ⟦<Reading as Ord>⟧.cmp one other
         ≡ ordering_then (nat_cmp one.0 other.0) (nat_cmp one.1 other.1) }
+{}
+
+/// Places are ordered from left to right, and standings by the left lug's place, then by the right lug's place.
+#[tactic(auto, using(crate::proofs::Orders::place_order, crate::proofs::Orders::standing_order))]
+pub fn places_and_standings_have_their_order()
+    ensures places { (one other : Place) → ⟦<Place as Ord>⟧.cmp one other
+        ≡ nat_cmp (place_rank one) (place_rank other) }
+    ensures standings { (one other : Place × Place) → ⟦<Standing as Ord>⟧.cmp one other
+        ≡ ordering_then (nat_cmp (place_rank one.0) (place_rank other.0))
+        (nat_cmp (place_rank one.1) (place_rank other.1)) }
 {}
 
 /// The code's constant `READ_LIMIT` equals `read_limit` in the definitions.

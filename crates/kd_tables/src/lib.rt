@@ -5,6 +5,7 @@ pub mod laws;
 mod letter;
 mod lug;
 mod model;
+mod pairs;
 mod place;
 mod ports;
 mod published_text;
@@ -19,6 +20,7 @@ mod wheel;
 pub use letter::Letter;
 pub use lug::Lug;
 pub use model::{Model, allowed, allowed_reflector, in_box};
+pub use pairs::{have_no_letter_twice, is_apart};
 pub use place::Place;
 pub use ports::{
     Device, Failed, MemorySink, MemorySource, READ_LIMIT, Sink, Source, is_at_end, put_all,

@@ -1,7 +1,6 @@
 //! Reads the pairs of a day, from the key `plugs`: letters that the day's cables exchange.
-ghost use Rattle.std.specs.{Prelude.{◌≡◌, [], ◌∷◌}, List.{flat_map}};
+ghost use Rattle.std.specs.Prelude.{◌≡◌};
 ghost use Rattle.toml.specs.View.{table_view};
-ghost use Rattle.kd_state.specs.Setting.{has_letter};
 ghost use Rattle.kd_sheet.specs.{Cables.{pair_for, pairs_in}, Document.{result_map}};
 
 use super::items::{FromItem, read_up_to};
@@ -9,21 +8,11 @@ use super::letters::letters_of_text;
 use crate::document::value_at;
 use crate::{Key, SheetFault};
 use arrayvec::ArrayVec;
-use kd_tables::Letter;
+use kd_tables::{Letter, is_apart};
 use toml::{Table, Value};
 
 /// Two letters that a plugged cable exchanges.
 pub type Pair = (Letter, Letter);
-
-/// Whether `letter` is in one of `pairs`.
-fn is_in_pairs(pairs: &[Pair], letter: Letter) -> bool
-    ensures { result ≡ has_letter (flat_map (λ pair. pair.0 ∷ pair.1 ∷ []) pairs.now) letter }
-{
-    match pairs {
-        [pair, rest @ ..] => pair.0 == letter || pair.1 == letter || is_in_pairs(rest, letter),
-        [] => false,
-    }
-}
 
 /// Reads an item as a pair. The pair must share no letter with the pairs before it.
 impl FromItem<()> for Pair {
@@ -32,7 +21,7 @@ impl FromItem<()> for Pair {
     #[tactic(auto, unfolding(crate::specs::Cables::pair_for))]
     fn read_item(_given: &(), earlier: &[Self], item: &Value) -> Result<Self, SheetFault> {
         let [one, other] = letters_of_text::<2>(item).ok_or(SheetFault::BadValue(Key::Plugs))?;
-        if one == other || is_in_pairs(earlier, one) || is_in_pairs(earlier, other) {
+        if !is_apart((one, other), earlier) {
             return Err(SheetFault::LetterTwice);
         }
         Ok((one, other))

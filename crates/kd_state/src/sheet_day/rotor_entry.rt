@@ -6,8 +6,7 @@ use crate::machine::seats;
 use crate::prover_facts::{learn_group_letters, learn_pair_letters, learn_wheel_letters};
 use crate::sheet_day::entry::is_day_number;
 use arrayvec::ArrayVec;
-use kd_enigma::Plugs;
-use kd_tables::{Letter, Model, Reflector, Wheel, allowed_reflector};
+use kd_tables::{Letter, Model, Reflector, Wheel, allowed_reflector, have_no_letter_twice};
 
 /// A wheel of a day, with its ring and its window letter.
 #[derive(Clone, Copy)]
@@ -64,7 +63,7 @@ impl RotorEntry {
         is_day_number(self.day)
             && allowed_reflector(self.model, self.reflector)
             && seats::are_legal_seats(self.model, &self.wheels.seats())
-            && Plugs::from_pairs(pairs).is_ok()
+            && have_no_letter_twice(pairs)
     }
 
     /// Whether `letters` are the letters of one of the day's groups, in any order.

@@ -1,5 +1,5 @@
 use Rattle.std.proofs.Common.{◌≡◌, ◌+◌, ◌-◌, length, count_by}
-use Rattle.kd_assign.proofs.Prelude.{scans_of_tree, IsGrownTree, IsSolvedUpTo}
+use Rattle.kd_assign.proofs.{GrownTree.IsGrownTree, Prelude.scans_of_tree, Prelude.IsSolvedUpTo}
 use Rattle.kd_assign.proofs.growth.assign_row.Given as goal
 
 abbrev pub invariant-loop-holders : goal.invariant-loop-holders

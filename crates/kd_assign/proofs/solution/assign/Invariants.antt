@@ -1,4 +1,5 @@
-use Rattle.{std.proofs.Common.{◌≡◌, ◌*◌, ◌≤◌, length}, kd_assign.proofs.Prelude.{IsSolvedUpTo, scans_of_trees}}
+use Rattle.std.proofs.Common.{◌≡◌, ◌*◌, ◌≤◌, length}
+use Rattle.kd_assign.proofs.{Prelude.IsSolvedUpTo, ScanCounts.scans_of_trees}
 use Rattle.kd_assign.proofs.solution.assign.Given as goal
 
 abbrev pub invariant-loop-row : goal.invariant-loop-row

@@ -1,38 +1,27 @@
-use Rattle.kd_enigma.proofs.{Cables.{can_plug, is_plugged_none, plugged_all, plugged_more}, Ways.no_shift}
-use Rattle.kd_enigma.specs.{Cipher.IsPlugboard, Plugs.NoLetterTwice}
-use Rattle.{kd_tables.specs.Permutation.exchange, std.proofs.{Common.{refl, rules, ◌∙◌, ◌≡◌}, lemmas.Bool.false≢true}}
+use Rattle.kd_enigma.proofs.{Cables.exchange_is, Cables.pairs_make_a_plugboard, FilledArrays.each_made}
+use Rattle.kd_enigma.specs.Cipher.{IsPlugboard}
+use Rattle.kd_tables.specs.Permutation.{exchange, exchanged}
+use Rattle.std.proofs.Common.{rules, ◌≡◌}
+use Rattle.kd_enigma.proofs.plugs.Plugs.from_pairs.Goals.{After-from_fn-table}
 use Rattle.kd_enigma.proofs.plugs.Plugs.from_pairs.Goals as goal
 
-pub loop-one-init : goal.loop-one-init
-loop-one-init c = is_plugged_none c.shift_table-table.result (c.shift_table-table.ensures ∙ no_shift)
+made : (c : After-from_fn-table) → c.from_fn-table.result ≡ exchange c.args.pairs.now
+made c =
+    let each = each_made c.from_fn-table.ensures.items (λ k letter. letter ≡ exchanged c.args.pairs.now k)
+    (λ k letter q lt called. search rules) in
+    exchange_is c.from_fn-table.result c.args.pairs.now c.from_fn-table.ensures.items.long (λ k lt. each k 0 lt)
 
-pub loop-one-preserved : goal.loop-one-preserved
-loop-one-preserved c =
-    let says = c.plug.ensures in
-    plugged_more c.args.pairs.now c.loop-one.one-index c.loop-one.table c.loop-one.invariant c.loop-one-item.result
-    c.loop-one-test.true c.loop-one-item.is c.plug.new.table (says.can.0 (search rules)) says.letters
-    (says.after (search rules))
-
-pub returns-then-not-plug-clause-ok : goal.returns-then-not-plug-clause-ok
-returns-then-not-plug-clause-ok c =
-    let says = c.plug.ensures in (
-      λ ok. absurd (false≢true ok),
-      λ once. let can = says.can.1 (can_plug c.args.pairs.now c.loop-one.one-index c.loop-one.table
-          c.loop-one.invariant c.loop-one-item.result c.loop-one-test.true c.loop-one-item.is once says.letters) in cc,
-    )
-
-whole : (c : goal.After-loop-one)
-    → (c.loop-one.table ≡ exchange c.args.pairs.now) × NoLetterTwice c.args.pairs.now × IsPlugboard c.loop-one.table
-whole c = plugged_all c.args.pairs.now c.loop-one.one-index c.loop-one.table c.loop-one.invariant c.loop-one-test.false
+is_plugboard : (c : After-from_fn-table) → IsPlugboard c.from_fn-table.result
+is_plugboard c =
+    let says = c.have_no_letter_twice.ensures in
+    let all_differ = c.if-not-have_no_letter_twice.false in
+    rw (made c) (pairs_make_a_plugboard c.args.pairs.now (says.once.0 all_differ) (says.letters all_differ))
 
 pub invariant_of-result : goal.invariant_of-result
-invariant_of-result c = (whole c).2
-
-pub returns-clause-ok : goal.returns-clause-ok
-returns-clause-ok c = (λ _. (whole c).1, λ _. refl)
+invariant_of-result = is_plugboard
 
 pub returns-clause-value : goal.returns-clause-value
-returns-clause-value c = (whole c).0
+returns-clause-value = made
 
 pub returns-clause-plugboard : goal.returns-clause-plugboard
-returns-clause-plugboard c = (whole c).2
+returns-clause-plugboard = is_plugboard

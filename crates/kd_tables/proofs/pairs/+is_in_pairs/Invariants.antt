@@ -1,5 +1,5 @@
 use Rattle.std.proofs.Common.{length}
-use Rattle.kd_sheet.proofs.values.pairs.+is_in_pairs.Given as goal
+use Rattle.kd_tables.proofs.pairs.+is_in_pairs.Given as goal
 
 abbrev pub decreases-is_in_pairs : goal.decreases-is_in_pairs
 decreases-is_in_pairs l = length l.pairs.now
