@@ -20,7 +20,7 @@ use Rattle.kd_state.specs.Changes.{ChangesTo, AllowsSetting}
 use Rattle.kd_state.specs.LineWords.{IsWord}
 use Rattle.kd_state.specs.Line.{setting_words, setting_line, IsSettingInRange, IsListText, IsListFault}
 use Rattle.kd_state.specs.SheetDay.{seats_of_wheels, Day, IsLegalDay}
-use Rattle.kd_state.specs.OnKey.{HaveSameLetters, OnKey, ReadsAs}
+use Rattle.kd_state.specs.OnKey.{OnKey, ReadsAs}
 use Rattle.kd_state.specs.Costs.{columns_of, cable_cost, cost_table}
 use Rattle.kd_state.specs.TwoCiphers.{EngineKey, cipher, engine_key_after, key_with_window, IsWindow, IsReady}
 use Rattle.kd_state.specs.TwoCiphers.{window_of, physical_key, physical_cipher, sheet_key, sheet_cipher, IsTurnedTo}
@@ -213,6 +213,9 @@ KeyAfterChunks =
     (key : EngineKey) (m n : ℕ) → engine_key_after (engine_key_after key m) n ≡ engine_key_after key (m + n)
 
 -- ---- The laws of columns and costs.
+
+abbrev pub HaveSameLetters : List ℕ → List ℕ → Type 0
+HaveSameLetters xs ys = (letter : ℕ) → Contains xs letter ↔ Contains ys letter
 
 -- Two lists have the same letters exactly if `has_letter` finds the same letters in both lists.
 abbrev pub TestsDetermineLetters : Type 0

@@ -9,15 +9,6 @@ not_differing b = grind arith
 pub one_less : (place : ℕ) → suc place - 1 ≡ place
 one_less place = omega arith
 
--- What holds of the cables or bars of a machine, and still holds after each legal setting.
-pub record HasCables (cables : List (Option ℕ × Option ℕ)) : Type 0 where
-  pub count : length cables ≡ 13
-  pub apart : IsDistinct nat_eq (letters_in_cables cables)
-
-pub record HasBars (bars : List (Place × Place)) : Type 0 where
-  pub count : length bars ≡ 27
-  pub stand : All HasLugsInOrder bars
-
 -- ---- a letter is pulled out of a cable, or put into one
 
 -- The two lists have the same letters, except perhaps for letter `x`.
@@ -25,53 +16,36 @@ abbrev pub SameBut : ℕ → List ℕ → List ℕ → Type 0
 SameBut x letters others =
     (letter : ℕ) → (has_letter letters letter ≡ has_letter others letter) ⊎ (nat_eq x letter ≡ true)
 
-one_apart : (x : ℕ) (fewer letters : List ℕ) → IsPermutation letters (x ∷ fewer) → SameBut x letters fewer
-one_apart x fewer letters order letter =
-    let there = λ (l : ℕ). Contains-permutation letters (x ∷ fewer) l order in
-    let back = λ (l : ℕ). Contains-permutation (x ∷ fewer) letters l (IsPermutation-sym letters (x ∷ fewer) order) in
-    let same = (tests_determine_letters letters (x ∷ fewer)).0 (λ l. (there l, back l)) in
-    grind (arith, same letter)
+pulled_same : (letter : ℕ) (one other : Option ℕ) → has_letter (cable_letters (one, other)) letter ≡ true
+    → SameBut letter (cable_letters (one, other)) (cable_letters (cable_without letter (one, other)))
+pulled_same x one other there letter = grind (arith, nat_tests)
 
--- If the cable with number `cable` becomes `new`, its letters stay the same except perhaps `letter`, and `HasCables`
--- still holds. This is so if the letter is pulled out or put in.
+put_same : (letter : ℕ) (one other : Option ℕ) → (is_some one && is_some other) ≡ false
+    → SameBut letter (cable_letters (one, other)) (cable_letters (cable_with letter (one, other)))
+put_same x one other loose letter = grind (arith, nat_tests, cond_both)
+
+-- If the cable with number `cable` becomes `new`, its letters stay the same except perhaps `letter`. This is so if the
+-- letter is pulled out or put in.
 pub record ChangesCable (m : RotorParts) (cable letter : ℕ) (new : Option ℕ × Option ℕ) : Type 0 where
   pub here : get_or m.cables (cable - 1) (cable_at m cable) ≡ cable_at m cable
   pub same : SameBut letter (cable_letters (cable_at m cable)) (cable_letters new)
-  pub keeps : HasCables m.cables → HasCables (set m.cables (cable - 1) new)
 
 ChangesCable-letters : (m : RotorParts) (cable letter : ℕ) (new : Option ℕ × Option ℕ)
     → is_none (numbered_item m.cables cable) ≡ false
-    → SameBut letter (cable_letters (cable_at m cable)) (cable_letters new)
-    → (slice_get m.cables (cable - 1) ≡ Some (cable_at m cable) → IsDistinct nat_eq (letters_in_cables m.cables)
-    → IsDistinct nat_eq (letters_in_cables (set m.cables (cable - 1) new))) → ChangesCable m cable letter new
-ChangesCable-letters m cable letter new some same keeps =
-    search (rules, IsNumbered-not_none, get_or_from_slice_get, length-set)
+    → SameBut letter (cable_letters (cable_at m cable)) (cable_letters new) → ChangesCable m cable letter new
+ChangesCable-letters m cable letter new some same = search (rules, IsNumbered-not_none, get_or_from_slice_get)
 
 pub ChangesCable-pull : (m : RotorParts) (cable letter : ℕ) → why_refused (Rotor m) (Pull cable letter) ≡ None
     → ChangesCable m cable letter (cable_without letter (cable_at m cable))
 ChangesCable-pull m cable letter e =
     let allowed = no_reason (refusal_reasons (Rotor m) (Pull cable letter)) e in
-    let old = cable_at m cable in
-    let new = cable_without letter old in
-    let moved = without_moves letter old.0 old.1 (not-false _ allowed.1.0) in
-    let one = one_apart letter (cable_letters new) (cable_letters old) moved in
-    ChangesCable-letters m cable letter new allowed.0 one (λ there apart.
-    let moves = set_moves [] (letter ∷ []) m.cables (cable - 1) old new there moved in
-    IsDistinct-tail nat_eq letter _ (IsDistinct-IsPermutation nat_eq eqb_flips _ _ moves apart))
+    ChangesCable-letters m cable letter _ allowed.0 (pulled_same letter _ _ (not-false _ allowed.1.0))
 
 pub ChangesCable-put : (m : RotorParts) (cable letter : ℕ) → why_refused (Rotor m) (Put cable letter) ≡ None
     → ChangesCable m cable letter (cable_with letter (cable_at m cable))
 ChangesCable-put m cable letter e =
     let allowed = no_reason (refusal_reasons (Rotor m) (Put cable letter)) e in
-    let old = cable_at m cable in
-    let new = cable_with letter old in
-    let moved = with_moves letter old.0 old.1 allowed.1.0 in
-    let one = one_apart letter (cable_letters old) (cable_letters new) (IsPermutation-sym _ _ moved) in
-    let free = (has_letter-AllByRecursion (letters_in_cables m.cables) letter).0 allowed.1.1.0 in
-    ChangesCable-letters m cable letter new allowed.0 (λ l. elim (one l) [ inl e ↦ inl (sym e) | inr e ↦ inr e ])
-    (λ there apart.
-    let moves = set_moves (letter ∷ []) [] m.cables (cable - 1) old new there moved in
-    IsDistinct-IsPermutation nat_eq eqb_flips _ _ moves (IsDistinct-cons nat_eq letter _ free apart))
+    ChangesCable-letters m cable letter _ allowed.0 (put_same letter _ _ allowed.1.0)
 
 counted_apart : (letters others wanted : List ℕ) (x : ℕ) → SameBut x letters others → (alphabet : List ℕ)
     → count_by (λ letter. exactly_one (has_letter letters letter) (has_letter wanted letter)) alphabet
@@ -107,7 +81,7 @@ least_falls f g h (x ∷ xs) a b start = least_falls f g h xs (min a (f x)) (min
 pub lug_moves : (m : PinParts) (ws : List ((ℕ × ℕ) × ℤ)) (bar : ℕ) (lug : Lug) (place : Place)
     → why_refused (Pin m) (LugTo bar lug place) ≡ None
     → (pairing_cost bar_cost m.bars ws ≤ pairing_cost bar_cost (bars_with_lug m bar lug place) ws + 1)
-    × (HasBars m.bars → HasBars (bars_with_lug m bar lug place))
+    × (All HasLugsInOrder m.bars → All HasLugsInOrder (bars_with_lug m bar lug place))
 lug_moves m ws bar lug place e =
     let allowed = no_reason (refusal_reasons (Pin m) (LugTo bar lug place)) e in
     let there = IsNumbered-not_none m.bars bar (place, place) allowed.0 in
@@ -121,29 +95,25 @@ lug_moves m ws bar lug place e =
           let step = lugs_moved_step lug place old in
           subst (λ was. bar_cost was w.0 ≤ bar_cost new w.0 + 1) (sym here)
           (least_falls (lugs_moved old) (lugs_moved new) step (standings_as w.0) 2 2 (omega arith))),
-      λ h. record { count = length-set m.bars _ new ∙ h.count; stand = All-set HasLugsInOrder _ _ new before h.stand },
+      All-set HasLugsInOrder _ _ new before,
     )
 
--- ---- what settings keep
+-- ---- settings keep the lugs of each bar in order
 
-abbrev pub HasAllParts : Parts → Type 0
-HasAllParts (Rotor m) = HasCables m.cables
-HasAllParts (Pin m) = HasBars m.bars
+abbrev pub HaveLugsInOrder : Parts → Type 0
+HaveLugsInOrder (Rotor m) = Unit {0}
+HaveLugsInOrder (Pin m) = All HasLugsInOrder m.bars
 
-pub machines_have_all : (m : Parts) → IsLegal m → HasAllParts m
-machines_have_all (Rotor m) h = record { count = h.cables.count; apart = h.cables.apart }
-machines_have_all (Pin m) h = record { count = h.bars; stand = h.apart }
-
-setting_keeps : (m : Parts) (x : Setting) → why_refused m x ≡ None → HasAllParts m → HasAllParts (machine_after m x)
-setting_keeps (Rotor m) (Pull cable letter) e h = (ChangesCable-pull m cable letter e).keeps h
-setting_keeps (Rotor m) (Put cable letter) e h = (ChangesCable-put m cable letter e).keeps h
+setting_keeps : (m : Parts) (x : Setting) → why_refused m x ≡ None → HaveLugsInOrder m
+    → HaveLugsInOrder (machine_after m x)
+setting_keeps (Rotor m) x e h = grind arith
 setting_keeps (Pin m) (LugTo bar lug place) e h = (lug_moves m [] bar lug place e).1 h
-setting_keeps m x e h = h
+setting_keeps (Pin m) x e h = h
 
-pub list_keeps : (m n : Parts) (xs : List Setting) → Leads m xs n → HasAllParts m → HasAllParts n
-list_keeps m n [] leads h = subst HasAllParts (sym leads) h
+pub list_keeps : (m n : Parts) (xs : List Setting) → Leads m xs n → HaveLugsInOrder m → HaveLugsInOrder n
+list_keeps m n [] leads h = subst HaveLugsInOrder (sym leads) h
 list_keeps m n (x ∷ xs) leads h =
-    list_keeps leads.0 n xs leads.2 (subst HasAllParts (sym leads.1.made) (setting_keeps m x leads.1.allowed h))
+    list_keeps leads.0 n xs leads.2 (subst HaveLugsInOrder (sym leads.1.made) (setting_keeps m x leads.1.allowed h))
 
 -- ---- loose things
 
