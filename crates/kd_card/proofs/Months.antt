@@ -107,47 +107,90 @@ module _ (s : RotorDay) (legal : IsLegalRotorDay s) (o : RotorParts) (reads : Re
   abbrev loose_letters : RotorParts → ℕ
   loose_letters m = count_by (λ w. not (option_map_or (nat_eq w.letter) (letter_at m w.wheel) false)) s.wheels
 
-  turned : (m : RotorParts) (seated : Option Wheel) (letter : ℕ) → m.model ≡ s.model
-      → loose_letters (record m { letters = letters_with m seated letter }) < loose_letters m
-      → gap_count (letters_with m seated letter) o.letters + 1 ≤ gap_count m.letters o.letters
-  turned m None letter same = λ fewer. omega arith
-  turned m (Some wheel) letter same =
-      gaps-fewer (λ w. place_in_box m.model w.wheel) (λ w. w.letter) o.letters m.letters
-      (place_in_box m.model wheel) letter s.wheels (rw (reads.key.model ∙ sym same) at reads.window)
+  -- machine `m` with other slots, another reflector and other cables
+  abbrev with_others : RotorParts → List (Option Wheel) → Reflector → List (Option ℕ × Option ℕ) → Parts
+  with_others m slots reflector cables = Rotor (record m { slots = slots; reflector = reflector; cables = cables })
 
-  left_for-changed : (ws : List Priced) (m : Parts) (x : Setting) → model_of m ≡ s.model → why_refused m x ≡ None
-      → left_for ws m ≤ left_for ws (machine_after m x) + 1
-  left_for-changed ws (Rotor m) (RingTo wheel letter) same e =
-      omega (arith, gaps-set m.rings o.rings (place_in_box m.model wheel) letter)
-  left_for-changed ws (Rotor m) (Turn slot letter) same e = grind (arith, gaps-set)
-  left_for-changed ws (Rotor m) x same e = omega (arith, left_to_do-lowered ws [] (Rotor m) (OfRotors s) x legal same e)
-  left_for-changed ws (Pin m) x same e = omega arith
+  -- `left_for` falls by at most one if the rings and the window letters stay.
+  falls_by_one : (ws : List Priced) (m : RotorParts) (slots : List (Option Wheel)) (reflector : Reflector)
+      (cables : List (Option ℕ × Option ℕ)) (x : Setting) (after : Parts) → m.model ≡ s.model
+      → Carries (Rotor m) x after → with_others m slots reflector cables ≡ after
+      → left_for ws (Rotor m) ≤ left_for ws after + 1
+  falls_by_one ws m slots reflector cables x after same carries made =
+      let falls = subst (λ k. left_to_do ws [] (Rotor m) (OfRotors s) ≤ left_to_do ws [] k (OfRotors s) + 1) (sym made)
+      (left_to_do-lowered ws [] (Rotor m) (OfRotors s) x after legal same carries) in
+      subst (λ k. left_for ws (Rotor m) ≤ left_for ws k + 1) made (omega (arith, falls))
+
+  left_for-changed : (ws : List Priced) (m : Parts) (x : Setting) (after : Parts) → model_of m ≡ s.model
+      → Carries m x after → left_for ws m ≤ left_for ws after + 1
+  left_for-changed ws (Rotor m) (RingTo wheel letter) after same e =
+      if_carried (λ n. left_for ws (Rotor m) ≤ left_for ws n + 1) e (grind (arith, gaps-set))
+  left_for-changed ws (Rotor m) (Turn slot letter) after same e =
+      if_carried (λ n. left_for ws (Rotor m) ≤ left_for ws n + 1) e (grind (arith, gaps-set))
+  left_for-changed ws (Rotor m) (Pull cable letter) after same e =
+      falls_by_one ws m m.slots m.reflector _ (Pull cable letter) after same e (pulled m cable letter after e).made
+  left_for-changed ws (Rotor m) (Put cable letter) after same e =
+      falls_by_one ws m m.slots m.reflector _ (Put cable letter) after same e (was_put m cable letter after e).made
+  left_for-changed ws (Rotor m) (Seat slot wheel) after same e =
+      falls_by_one ws m _ m.reflector m.cables (Seat slot wheel) after same e (seat_made m slot wheel after e).1
+  left_for-changed ws (Rotor m) (SeatReflector reflector) after same e =
+      falls_by_one ws m m.slots _ m.cables (SeatReflector reflector) after same e (reflector_made m reflector after e).1
+  left_for-changed ws (Rotor m) x after same e = absurd (cc)
+  left_for-changed ws (Pin m) x after same e = omega arith
 
   left_for-list : (ws : List Priced) (m n : Parts) (xs : List Setting) → model_of m ≡ s.model → Leads m xs n
       → left_for ws m ≤ left_for ws n + length xs
   left_for-list ws m n [] same leads = subst (λ n. left_for ws m ≤ left_for ws n + 0) (sym leads) (omega arith)
   left_for-list ws m n (x ∷ xs) same leads =
-      let rest = left_for-list ws leads.0 n xs (ap model_of leads.1.made ∙ model_of-changed m x ∙ same) leads.2 in
-      grind (arith, left_for-changed)
+      omega (
+        arith,
+        left_for-list ws leads.0 n xs (model_of-changed m x leads.0 leads.1 ∙ same) leads.2,
+        left_for-changed ws m x leads.0 same leads.1,
+      )
+
+  one_is_needed : (m : RotorParts) (slots : List (Option Wheel)) (reflector : Reflector)
+      (cables : List (Option ℕ × Option ℕ)) (x : Setting) (after : Parts) → Carries (Rotor m) x after
+      → with_others m slots reflector cables ≡ after → IsSettingNeeded (Rotor m) (OfRotors s) x
+      → loose_for after + 1 ≤ loose_for (Rotor m) + cond (is_priced_setting x) 1 0
+  one_is_needed m slots reflector cables x after carries made needed =
+      let one = subst
+      (λ k. loose_count (Rotor m) (OfRotors s) + cond (is_priced_setting x) 1 0 ≡ loose_count k (OfRotors s) + 1)
+      (sym made) (needed_one (Rotor m) (OfRotors s) x (is_priced_setting x) after refl carries needed) in
+      subst (λ k. loose_for k + 1 ≤ loose_for (Rotor m) + cond (is_priced_setting x) 1 0) made (omega (arith, one))
 
   -- A needed setting lowers `loose_for` by at least one, unless it changes a cable.
-  loose_for-needed : (m : Parts) (x : Setting) → model_of m ≡ s.model → IsSettingNeeded m (OfRotors s) x
-      → loose_for (machine_after m x) + 1 ≤ loose_for m + cond (is_priced_setting x) 1 0
-  loose_for-needed (Rotor m) (RingTo wheel letter) same needed =
+  loose_for-needed : (m : Parts) (x : Setting) (after : Parts) → model_of m ≡ s.model → Carries m x after
+      → IsSettingNeeded m (OfRotors s) x → loose_for after + 1 ≤ loose_for m + cond (is_priced_setting x) 1 0
+  loose_for-needed (Rotor m) (RingTo wheel letter) after same e needed =
       let fewer = gaps-fewer (λ w. place_in_box m.model w.wheel) (λ w. w.ring) o.rings m.rings
       (place_in_box m.model wheel) letter s.wheels (rw (reads.key.model ∙ sym same) at reads.key.rings) in
-      omega (arith, needed refl, fewer)
-  loose_for-needed (Rotor m) (Turn slot letter) same needed =
-      omega (arith, needed refl, turned m (wheel_in_slot m slot) letter same)
-  loose_for-needed m x same needed = grind arith
+      let made = ring_made m wheel letter after e in
+      let one = if_carried (λ n. loose_count (Rotor m) (OfRotors s) ≡ loose_count n (OfRotors s) + 1) e (needed refl) in
+      subst (λ n. loose_for n + 1 ≤ loose_for (Rotor m) + 0) made (omega (arith, rw (← made) at one, fewer))
+  loose_for-needed (Rotor m) (Turn slot letter) after same e needed =
+      let (wheel, made) = turn_made m slot letter after e in
+      let fewer = gaps-fewer (λ w. place_in_box m.model w.wheel) (λ w. w.letter) o.letters m.letters
+      (place_in_box m.model wheel) letter s.wheels (rw (reads.key.model ∙ sym same) at reads.window) in
+      let one = if_carried (λ n. loose_count (Rotor m) (OfRotors s) ≡ loose_count n (OfRotors s) + 1) e (needed refl) in
+      subst (λ n. loose_for n + 1 ≤ loose_for (Rotor m) + 0) made (omega (arith, rw (← made) at one, fewer))
+  loose_for-needed (Rotor m) (Pull cable letter) after same e needed =
+      one_is_needed m m.slots m.reflector _ (Pull cable letter) after e (pulled m cable letter after e).made needed
+  loose_for-needed (Rotor m) (Put cable letter) after same e needed =
+      one_is_needed m m.slots m.reflector _ (Put cable letter) after e (was_put m cable letter after e).made needed
+  loose_for-needed (Rotor m) (Seat slot wheel) after same e needed =
+      one_is_needed m _ m.reflector m.cables (Seat slot wheel) after e (seat_made m slot wheel after e).1 needed
+  loose_for-needed (Rotor m) (SeatReflector reflector) after same e needed =
+      one_is_needed m m.slots _ m.cables (SeatReflector reflector) after e (reflector_made m reflector after e).1 needed
+  loose_for-needed (Rotor m) x after same e needed = absurd (cc)
+  loose_for-needed (Pin m) x after same e needed = absurd (no_rotors s.model s.reflector (sym same) legal.reflector)
 
   loose_for-list : (m n : Parts) (xs : List Setting) → model_of m ≡ s.model → Leads m xs n
       → AreSettingsNeeded m (OfRotors s) xs → loose_for n + length xs ≤ loose_for m + priced_count xs
   loose_for-list m n [] same leads needed = subst (λ n. loose_for n + 0 ≤ loose_for m + 0) (sym leads) (omega arith)
   loose_for-list m n (x ∷ xs) same leads needed =
-      let after = subst (λ between. Leads between xs n) leads.1.made leads.2 in
-      let rest = loose_for-list (machine_after m x) n xs (model_of-changed m x ∙ same) after needed.1 in
-      omega (arith, rest, loose_for-needed m x same needed.0, count_by-cons is_priced_setting x xs)
+      let rest = loose_for-list leads.0 n xs (model_of-changed m x leads.0 leads.1 ∙ same) leads.2
+      (if_carried (λ after. AreSettingsNeeded after (OfRotors s) xs) leads.1 needed.1) in
+      omega (arith, rest, loose_for-needed m x leads.0 same leads.1 needed.0, count_by-cons is_priced_setting x xs)
 
 -- ---- one day, and day after day
 

@@ -1,13 +1,13 @@
 -- A day of at most `number` pairs needs only the first `number` cables, if no other cable is in use.
-use Rattle.std.specs.Prelude.{ℕ, ◌<◌, ◌≤◌, All, IsTrue, List, length}
+use Rattle.std.specs.Prelude.{ℕ, ◌<◌, ◌≤◌, All, List, length}
 use Rattle.kd_state.specs.declared.machine.parts.Parts.{Parts, TheVariants.{Pin, Rotor}}
-use Rattle.kd_state.specs.{Setting.{Leads, cable_at}, declared.setting.Setting.{Setting, TheVariants.{Pull, Put}}}
+use Rattle.kd_state.specs.{Setting.Leads, declared.setting.Setting.{Setting, TheVariants.{Pull, Put}}}
 use Rattle.kd_state.specs.SheetDay.{Day, OfPins, OfRotors}
-use Rattle.kd_plan.specs.Spares.{is_spare, SparesStayFree}
+use Rattle.kd_plan.specs.Spares.{IsSpareCable, SparesStayFree}
 
 -- All cables with numbers above `number` are spare: they have no letter.
 abbrev pub UsesNoneAbove : ℕ → Parts → Type 0
-UsesNoneAbove number (Rotor m) = (cable : ℕ) → number < cable → IsTrue (is_spare (cable_at m cable))
+UsesNoneAbove number (Rotor m) = (cable : ℕ) → number < cable → IsSpareCable m.cables cable
 UsesNoneAbove number (Pin m) = Unit {0}
 
 -- The day has at most `number` pairs.

@@ -17,14 +17,14 @@ pub use Rattle.kd_prices.specs.Grouping.{AppendsKinds, CanBeKinds, HaveOnePriceE
 pub use Rattle.kd_prices.specs.{KindCards.CanBeByKind, Laws.{AlikePricesAreEqual, AreEqualWhereAlike, RestIsShortest}}
 pub use Rattle.kd_prices.specs.declared.doubt.Doubt.{Doubt, TheVariants.{IllegalAt, OtherModel, SumDiffers}}
 pub use Rattle.kd_prices.specs.declared.doubt.Doubt.TheVariants.{NeedlessLine, NotTheSheet, PriceMissing, PriceTooHigh}
-pub use Rattle.kd_state.proofs.{SettingEffects.Refusals.{leads_join, leads_next, leads_unique}}
+pub use Rattle.kd_state.proofs.{Carrying.{if_carried, leads_join, leads_next, leads_unique, when_carried}}
 pub use Rattle.kd_state.proofs.CostTable.{columns_are_the_pairs, thirteen_columns}
 pub use Rattle.kd_state.specs.{Costs.{bar_cost, cable_cost, columns_of, cost_table}, OneModel.IsOneModelOf}
 pub use Rattle.kd_state.specs.AnswerRules.{GoesOn, HasFault, HasOneAnswer}
 pub use Rattle.kd_state.specs.AnswerRules.{HasOneAnswer-Demands, HasOneAnswer-Finds, HasOneAnswer-ThenNext, ThenNext-Ok}
 pub use Rattle.kd_state.specs.Machine.{IsMachine, cable_in_order, letters_in_cables, model_of}
 pub use Rattle.kd_state.specs.declared.setting.{Setting.Setting, why.Why.Why}
-pub use Rattle.kd_state.specs.Setting.{Leads, machine_after, why_refused}
+pub use Rattle.kd_state.specs.Setting.{Leads, Refuses, outcome}
 pub use Rattle.kd_state.specs.SheetDay.{Day, IsLegalDay, OfPins, OfRotors, PinDay, RotorDay, day_model}
 pub use Rattle.kd_state.specs.declared.machine.parts.Parts.{Parts, TheVariants.{Pin, Rotor}}
 pub use Rattle.kd_state.specs.declared.machine.{pin_parts.PinParts.PinParts, rotor_parts.RotorParts.RotorParts}

@@ -12,7 +12,7 @@ use Rattle.kd_state.proofs.Prelude.{IsPermutation-trans, All, AllByRecursion}
 use Rattle.kd_state.proofs.Prelude.{option_map_or, Contains, List, None, Option, Some, [], arith, drop}
 use Rattle.kd_state.proofs.Prelude.{false, filter_map, get_or, length, map, nat_eq, refl, set, slice_get}
 use Rattle.kd_state.proofs.Prelude.{suc, true, zero, ℕ, ◌++◌, ◌+◌, ◌<◌, ◌↔◌, ◌∙◌, ◌∷◌, ◌≡◌, ◌≢◌, IsDistinct}
-use Rattle.kd_state.proofs.Prelude.{IsPermutation, TestsDetermineLetters, both_ways, sym, ◌&&◌}
+use Rattle.kd_state.proofs.Prelude.{IsPermutation, both_ways, sym, ◌&&◌}
 use Rattle.{kd_state.proofs.Slots.has_letter-Decides, std.proofs.Common.replicate}
 use Rattle.std.proofs.lemmas.List.{Folds.{Any-from_list_any, list_any_at}, Sorted.list_any-IsPermutation}
 use Rattle.kd_enigma.specs.Plugs as plugs
@@ -26,16 +26,6 @@ pub has_letter-AllByRecursion : (letters : List ℕ) (letter : ℕ)
 has_letter-AllByRecursion [] letter = (λ _. tt, λ _. refl)
 has_letter-AllByRecursion (other ∷ letters) letter = grind
     (arith, or_parts, or_from, eqb_flips, has_letter-AllByRecursion letters letter)
-
--- two lists have the same letters exactly if `has_letter` has the same value for both at each letter
-pub tests_determine_letters : TestsDetermineLetters
-tests_determine_letters xs ys = (
-  λ same letter. grind (arith, same letter, has_letter-Decides xs letter, has_letter-Decides ys letter, both_ways),
-  λ alike letter. (
-    λ c. (has_letter-Decides ys letter).0 (sym (alike letter) ∙ (has_letter-Decides xs letter).1 c),
-    λ c. (has_letter-Decides xs letter).0 (alike letter ∙ (has_letter-Decides ys letter).1 c),
-  ),
-)
 
 -- all of `letters` and `others` are different exactly if `others` are all different, and `are_new_and_distinct` is true
 -- for `letters` and `others`

@@ -7,4 +7,4 @@ pub mod CostTable
 pub mod Keys
 mod WheelsInSlots
 pub mod SortedAlike
-pub mod SettingEffects
+pub mod Carrying

@@ -1,8 +1,9 @@
 -- Lemmas on wheels and reflectors by their names, and on the slots and places that wheels have.
-use Rattle.kd_state.proofs.Prelude.{place_in_box, same_reflector, same_wheel, AllowedWheelsLieInTheBox}
-use Rattle.kd_state.proofs.Prelude.{DaysWheelsHaveTheirPlaces, PlacesDetermineWheels, IsSeatedAt, ShowsWindow, Day}
+use Rattle.kd_state.proofs.Prelude.{place_in_box, same_reflector, same_wheel, AreLegalSeats}
+use Rattle.kd_state.proofs.Prelude.{IsSeatedAt, ShowsWindow, Day}
 use Rattle.kd_state.proofs.Prelude.{OfPins, PinDay, AllByRecursion, All-from_recursion, recursion_from_All}
 use Rattle.kd_state.proofs.Prelude.{seats_of_wheels, Parts, Pin, PinParts, SheetWheel, box_of, reflector_text, slots_of}
+use Rattle.std.specs.Prelude.{AllPairs}
 use Rattle.kd_state.proofs.Prelude.{wheel_text, wheels_for, Model, Reflector, Wheel, I, cases_Bool, eqb-true}
 use Rattle.kd_state.proofs.Prelude.{false_from_ne_true, leb-true, Decides-like, Contains-append_left}
 use Rattle.kd_state.proofs.Prelude.{Contains-append_right, Contains-get_or, passes_at_first, position_or_len_is}
@@ -119,7 +120,8 @@ found_in_box model wheel place within before here =
 
 -- ---- each wheel of the box, and so of a day, has its own place
 
-pub allowed_in_box : AllowedWheelsLieInTheBox
+pub allowed_in_box : (model : Model) (slot : ℕ) (wheel : Wheel) → Contains (wheels_for model slot) wheel
+    → Contains (box_of model) wheel
 allowed_in_box model slot wheel h = (IsPlaced-from_wheels_for model slot wheel h).in_box
 
 -- at the place that `place_in_box` gives for a wheel of the box, the box has this wheel
@@ -127,7 +129,8 @@ at_its_place : (model : Model) (wheel : Wheel) → Contains (box_of model) wheel
     → wheel ≡ get_or (box_of model) (place_in_box model wheel) I
 at_its_place model wheel h = grind (arith, same_wheel-Decides, passes_at_first, place_within)
 
-pub places_determine_wheels : PlacesDetermineWheels
+pub places_determine_wheels : (model : Model) (wheel other : Wheel) → Contains (box_of model) wheel
+    → Contains (box_of model) other → place_in_box model wheel ≡ place_in_box model other → wheel ≡ other
 places_determine_wheels model wheel other h k e =
     at_its_place model wheel h ∙ ap (λ place. get_or (box_of model) place I) e ∙ sym (at_its_place model other k)
 
@@ -135,7 +138,8 @@ IsSeatedAt-seats : (wheels : List SheetWheel) (i : ℕ) (d : SheetWheel) → i <
     → IsSeatedAt (seats_of_wheels wheels) i (get_or wheels i d).wheel
 IsSeatedAt-seats wheels i d lt = grind (arith, slice_get-map, slice_get-get_or)
 
-pub days_wheels_have_their_places : DaysWheelsHaveTheirPlaces
+pub days_wheels_have_their_places : (model : Model) (wheels : List SheetWheel) → AreLegalSeats model (seats_of_wheels wheels)
+    → AllPairs (λ (w other : SheetWheel). place_in_box model w.wheel ≢ place_in_box model other.wheel) wheels
 days_wheels_have_their_places model wheels h i j d before within same =
     grind (arith, IsSeatedAt-seats, places_determine_wheels, allowed_in_box, h.allowed, h.apart)
 

@@ -68,20 +68,20 @@ costs_by cost rows columns = map (λ row. map (cost row) columns) rows
 
 -- the costs for a machine and a day of the same model: of each cable with each column, or of each bar with each row
 abbrev pub cost_table : Parts → Day → List (List ℕ)
-cost_table (Rotor m) (OfRotors s) = costs_by cable_cost m.cables (columns_of s.pairs)
-cost_table (Pin m) (OfPins s) = costs_by bar_cost m.bars s.rows
+cost_table (Rotor machine) (OfRotors day) = costs_by cable_cost machine.cables (columns_of day.pairs)
+cost_table (Pin machine) (OfPins day) = costs_by bar_cost machine.bars day.rows
 cost_table _ _ = []
 
 -- ---- Loose things: all things that differ from the day, except cables and bars.
 
 -- how many things, except cables and bars, differ from the day; rings and letters count for the day's wheels alone
 abbrev pub loose_count : Parts → Day → ℕ
-loose_count (Rotor m) (OfRotors s) =
-    count_by (λ slot. not (option_map_or (same_wheel slot.1.wheel) slot.0 false)) (zip m.slots s.wheels)
-    + one_unless (same_reflector m.reflector s.reflector)
-    + count_by (λ w. not (option_map_or (nat_eq w.ring) (ring_at m w.wheel) false)) s.wheels
-    + count_by (λ w. not (option_map_or (nat_eq w.letter) (letter_at m w.wheel) false)) s.wheels
-loose_count (Pin m) (OfPins s) =
-    sum (map (λ w. count_by (λ pin. exactly_one pin.0 pin.1) (zip w.0 w.1)) (zip (pins_of m.pins) (pins_of s.pins)))
-    + count_by (λ letter. not (nat_eq letter.0 letter.1)) (zip m.letters s.window)
+loose_count (Rotor machine) (OfRotors day) =
+    count_by (λ slot. not (option_map_or (same_wheel slot.1.wheel) slot.0 false)) (zip machine.slots day.wheels)
+    + one_unless (same_reflector machine.reflector day.reflector)
+    + count_by (λ w. not (option_map_or (nat_eq w.ring) (ring_at machine w.wheel) false)) day.wheels
+    + count_by (λ w. not (option_map_or (nat_eq w.letter) (letter_at machine w.wheel) false)) day.wheels
+loose_count (Pin machine) (OfPins day) =
+    sum (map (λ w. count_by (λ pin. exactly_one pin.0 pin.1) (zip w.0 w.1)) (zip (pins_of machine.pins) (pins_of day.pins)))
+    + count_by (λ letter. not (nat_eq letter.0 letter.1)) (zip machine.letters day.window)
 loose_count _ _ = 0

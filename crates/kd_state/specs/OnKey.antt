@@ -20,25 +20,25 @@ abbrev pub cables_of : List (ℕ × ℕ) → List (Option ℕ × Option ℕ)
 cables_of pairs = map cable_of_column (columns_of pairs)
 
 -- The model, each slot's wheel with its ring, and the reflector are the day's. So are the cables, in any order.
-pub record IsRotorOnKey (m : RotorParts) (s : RotorDay) : Type 0 where
-  pub model : m.model ≡ s.model
-  pub slots : m.slots ≡ seats_of_wheels s.wheels
-  pub rings : All (λ w. ring_at m w.wheel ≡ Some w.ring) s.wheels
-  pub reflector : m.reflector ≡ s.reflector
-  pub cables : IsPermutation m.cables (cables_of s.pairs)
+pub record IsRotorOnKey (machine : RotorParts) (day : RotorDay) : Type 0 where
+  pub model : machine.model ≡ day.model
+  pub slots : machine.slots ≡ seats_of_wheels day.wheels
+  pub rings : All (λ w. ring_at machine w.wheel ≡ Some w.ring) day.wheels
+  pub reflector : machine.reflector ≡ day.reflector
+  pub cables : IsPermutation machine.cables (cables_of day.pairs)
 
 -- The machine is set as the day says, whatever letters it shows. Its bars have the day's readings, in any order.
 abbrev pub OnKey : Parts → Day → Type 0
-OnKey (Rotor m) (OfRotors s) = IsRotorOnKey m s
-OnKey (Pin m) (OfPins s) = (m.pins ≡ s.pins) × IsPermutation (map reading_of m.bars) s.rows
+OnKey (Rotor machine) (OfRotors day) = IsRotorOnKey machine day
+OnKey (Pin machine) (OfPins day) = (machine.pins ≡ day.pins) × IsPermutation (map reading_of machine.bars) day.rows
 OnKey _ _ = ⊥
 
 abbrev pub ShowsWindow : Parts → Day → Type 0
-ShowsWindow (Rotor m) (OfRotors s) = All (λ w. letter_at m w.wheel ≡ Some w.letter) s.wheels
-ShowsWindow (Pin m) (OfPins s) = m.letters ≡ s.window
+ShowsWindow (Rotor machine) (OfRotors day) = All (λ w. letter_at machine w.wheel ≡ Some w.letter) day.wheels
+ShowsWindow (Pin machine) (OfPins day) = machine.letters ≡ day.window
 ShowsWindow _ _ = ⊥
 
 -- The machine is set as the day says, and shows the day's letters.
-pub record ReadsAs (m : Parts) (s : Day) : Type 0 where
-  pub key : OnKey m s
-  pub window : ShowsWindow m s
+pub record ReadsAs (machine : Parts) (day : Day) : Type 0 where
+  pub key : OnKey machine day
+  pub window : ShowsWindow machine day

@@ -82,14 +82,18 @@ bars_paired bars rows prices stand count h =
 
 pub model_of-list : (m n : Parts) (xs : List Setting) → Leads m xs n → model_of n ≡ model_of m
 model_of-list m n [] h = ap model_of h
-model_of-list m n (x ∷ xs) h = model_of-list h.0 n xs h.2 ∙ ap model_of h.1.made ∙ model_of-changed m x
+model_of-list m n (x ∷ xs) h = model_of-list h.0 n xs h.2 ∙ model_of-changed m x h.0 h.1
 
 module _ (columns : List (Option (ℕ × ℕ) × ℤ)) (rows : List ((ℕ × ℕ) × ℤ)) (s : Day) (legal : IsLegalDay s) where
   list_lowers : (m n : Parts) (xs : List Setting) → model_of m ≡ day_model s → Leads m xs n
       → left_to_do columns rows m s ≤ left_to_do columns rows n s + length xs
   list_lowers m n [] same h = grind (arith, common_steps)
   list_lowers m n (x ∷ xs) same h =
-      grind (arith, list_lowers h.0 n xs (ap model_of h.1.made ∙ model_of-changed m x ∙ same) h.2, left_to_do-lowered)
+      omega (
+        arith,
+        list_lowers h.0 n xs (model_of-changed m x h.0 h.1 ∙ same) h.2,
+        left_to_do-lowered columns rows m s x h.0 legal same h.1,
+      )
 
 -- ---- fitting prices, and an assignment that the settings pay for
 
@@ -210,20 +214,21 @@ fitting_prices_bound_lists m s prices settings machine legal are kind fits reach
 
 -- A needed setting lowers the number of loose things by one, unless it is priced. So a list of needed settings
 -- (`needed_all`) lowers it by the number of its settings that aren't priced.
-needed_one : (m : Parts) (s : Day) (x : Setting) (b : Bool) → is_priced_setting x ≡ b → IsSettingNeeded m s x
-    → loose_count m s + cond b 1 0 ≡ loose_count (machine_after m x) s + 1
-needed_one m s x b e d = grind (arith, loose_count-priced)
+pub needed_one : (m : Parts) (s : Day) (x : Setting) (b : Bool) (after : Parts) → is_priced_setting x ≡ b
+    → Carries m x after → IsSettingNeeded m s x → loose_count m s + cond b 1 0 ≡ loose_count after s + 1
+needed_one m s x true after e carries needed = omega (arith, loose_count-priced m s x after e carries)
+needed_one m s x false after e carries needed =
+    let one = if_carried (λ n. loose_count m s ≡ loose_count n s + 1) carries (needed e) in omega (arith, one)
 
 needed_all : (m n : Parts) (s : Day) (xs : List Setting) → Leads m xs n → AreSettingsNeeded m s xs
     → loose_count m s + priced_count xs ≡ loose_count n s + length xs
 needed_all m n s [] leads needed = subst (λ n. loose_count m s + 0 ≡ loose_count n s + 0) (sym leads) refl
 needed_all m n s (x ∷ xs) leads needed =
-    grind (
+    omega (
       arith,
-      common_steps,
-      needed_one,
-      count_by-cons,
-      needed_all (machine_after m x) n s xs (subst (λ between. Leads between xs n) leads.1.made leads.2) needed.1,
+      needed_one m s x (is_priced_setting x) leads.0 refl leads.1 needed.0,
+      count_by-cons is_priced_setting x xs,
+      needed_all leads.0 n s xs leads.2 (if_carried (λ after. AreSettingsNeeded after s xs) leads.1 needed.1),
     )
 
 -- Up to `loose_falls`: a setting that changes no cable and no bar lowers the number of loose things by at most one.
@@ -235,30 +240,36 @@ sum_by-zip_nil f [] = refl
 sum_by-zip_nil f (x ∷ xs) = refl
 
 module _ (s : Day) (legal : IsLegalDay s) where
-  loose_falls : (m : Parts) (x : Setting) → model_of m ≡ day_model s → why_refused m x ≡ None
-      → loose_count m s ≤ loose_count (machine_after m x) s + cond (is_priced_setting x) 0 1
-  loose_falls m x same allowed = grind
-      (arith, left_to_do-lowered [] [] m s x legal same allowed, loose_count-priced m s x, sum_by-zip_nil)
+  loose_falls : (m : Parts) (x : Setting) (after : Parts) → model_of m ≡ day_model s → Carries m x after
+      → loose_count m s ≤ loose_count after s + cond (is_priced_setting x) 0 1
+  loose_falls m x after same carries = grind
+      (arith, left_to_do-lowered [] [] m s x after legal same carries, loose_count-priced m s x after, sum_by-zip_nil)
 
   no_fewer : (m n : Parts) (xs : List Setting) → model_of m ≡ day_model s → Leads m xs n
       → loose_count m s + priced_count xs ≤ loose_count n s + length xs
   no_fewer m n [] same leads = subst (λ n. loose_count m s + 0 ≤ loose_count n s + 0) (sym leads) (omega arith)
   no_fewer m n (x ∷ xs) same leads =
-      let after = subst (λ between. Leads between xs n) leads.1.made leads.2 in
-      let rest = no_fewer (machine_after m x) n xs (model_of-changed m x ∙ same) after in
-      grind (arith, common_steps, loose_falls, count_by-cons, cond-one_or_other)
+      let rest = no_fewer leads.0 n xs (model_of-changed m x leads.0 leads.1 ∙ same) leads.2 in
+      omega (
+        arith,
+        rest,
+        loose_falls m x leads.0 same leads.1,
+        count_by-cons is_priced_setting x xs,
+        cond-one_or_other (is_priced_setting x),
+      )
 
   needed_in_turn : (m n : Parts) (xs : List Setting) → model_of m ≡ day_model s → Leads m xs n → loose_count n s ≡ 0
       → length xs ≤ loose_count m s + priced_count xs → AreSettingsNeeded m s xs
   needed_in_turn m n [] same leads none few = tt
   needed_in_turn m n (x ∷ xs) same leads none few =
-      let then_same = model_of-changed m x ∙ same in
-      let after = subst (λ between. Leads between xs n) leads.1.made leads.2 in
-      let rest = no_fewer (machine_after m x) n xs then_same after in
-      let one = loose_falls m x same leads.1.allowed in
+      let then_same = model_of-changed m x leads.0 leads.1 ∙ same in
+      let rest = no_fewer leads.0 n xs then_same leads.2 in
+      let one = loose_falls m x leads.0 same leads.1 in
       let head = count_by-cons is_priced_setting x xs in (
-        λ unpriced. grind (arith, cond-one_or_other),
-        needed_in_turn (machine_after m x) n xs then_same after none (grind (arith, loose_count-priced m s x)),
+        λ unpriced. when_carried (λ after. loose_count m s ≡ loose_count after s + 1) leads.1
+            (grind (arith, cond-one_or_other)),
+        when_carried (λ after. AreSettingsNeeded after s xs) leads.1
+            (needed_in_turn leads.0 n xs then_same leads.2 none (grind (arith, loose_count-priced m s x leads.0))),
       )
 
 pub as_few_are_needed : AsFewAreNeeded

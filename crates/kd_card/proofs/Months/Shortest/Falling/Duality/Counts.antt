@@ -32,12 +32,14 @@ pub use Rattle.kd_tables.specs.declared.{place.Place.{Place, TheVariants.One}, r
 pub use Rattle.kd_tables.specs.{Places.{IsBefore, reading_of}, Tables.{reflector_text, reflectors_of, wheel_text}}
 pub use Rattle.{kd_state.proofs.Wheels.days_wheels_have_their_places, kd_tables.specs.Permutation.alphabet}
 pub use Rattle.kd_state.proofs.{Cables.column_is, Slots.IsNumbered-not_none, SortedAlike.count_by-cons}
-pub use Rattle.kd_state.proofs.{CostTable.thirteen_columns, Slots.set_other, SettingEffects.Refusals.Changes.six_lists}
-pub use Rattle.kd_state.proofs.SettingEffects.Refusals.Changes.{bars_with_lug, letters_with, no_reason, still_before}
-pub use Rattle.kd_state.specs.{Changes.HasLugsInOrder, Costs.{bar_cost, cable_cost, columns_of, exactly_one}}
+pub use Rattle.kd_state.proofs.{CostTable.thirteen_columns, Slots.set_other, Slots.IsNumbered}
+pub use Rattle.kd_state.proofs.Carrying.{if_carried, lug_moved, pin_made, pulled, reflector_made, ring_made}
+pub use Rattle.kd_state.proofs.Carrying.{seat_made, six_lists, turn_made, was_put, wheel_turn_made, when_carried}
+pub use Rattle.std.specs.Prelude.{IfOk, IsFalse}
+pub use Rattle.kd_state.specs.{Machine.HasLugsInOrder, Costs.{bar_cost, cable_cost, columns_of, exactly_one}}
 pub use Rattle.kd_state.specs.Costs.{column_letters, cost_table, loose_count, lugs_moved, one_unless}
-pub use Rattle.kd_state.specs.Setting.{cable_at, cable_without, refusal_reasons, seat_without, wheel_in_slot, with_lug}
-pub use Rattle.kd_state.specs.{Pins.with_pin, Setting.{cable_with, has_letter, Leads, machine_after, why_refused}}
+pub use Rattle.kd_state.specs.Setting.{Carries, cable_without, outcome, seat_without, with_lug}
+pub use Rattle.kd_state.specs.{Pins.with_pin, Setting.{cable_with, has_letter, Leads}}
 pub use Rattle.kd_state.specs.{Pins.wheel_pins, SameParts.{numbered_item, place_in_box, same_reflector, same_wheel}}
 pub use Rattle.kd_state.specs.declared.{setting.Setting.TheVariants.LugTo, sheet_day.rotor_entry.SheetWheel.SheetWheel}
 pub use Rattle.kd_state.specs.declared.setting.Setting.TheVariants.{PinTo, Pull, Put, RingTo, Seat, SeatReflector, Turn}
