@@ -12,8 +12,8 @@ use Rattle.kd_state.proofs.Prelude.{IsPermutation-trans, All, AllByRecursion}
 use Rattle.kd_state.proofs.Prelude.{option_map_or, Contains, List, None, Option, Some, [], arith, drop}
 use Rattle.kd_state.proofs.Prelude.{false, filter_map, get_or, length, map, nat_eq, refl, set, slice_get}
 use Rattle.kd_state.proofs.Prelude.{suc, true, zero, ℕ, ◌++◌, ◌+◌, ◌<◌, ◌↔◌, ◌∙◌, ◌∷◌, ◌≡◌, ◌≢◌, IsDistinct}
-use Rattle.kd_state.proofs.Prelude.{IsPermutation, both_ways, sym, ◌&&◌}
-use Rattle.{kd_state.proofs.Slots.has_letter-Decides, std.proofs.Common.replicate}
+use Rattle.kd_state.proofs.Prelude.{IsPermutation, ◌&&◌}
+use Rattle.{std.proofs.Common.replicate}
 use Rattle.std.proofs.lemmas.List.{Folds.{Any-from_list_any, list_any_at}, Sorted.list_any-IsPermutation}
 use Rattle.kd_enigma.specs.Plugs as plugs
 

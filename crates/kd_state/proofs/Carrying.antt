@@ -19,7 +19,7 @@ use Rattle.kd_state.proofs.Prelude.{arith, false, inl, inr, length, map, nat_eq,
 use Rattle.kd_state.proofs.Prelude.{subst, sym, true, ℕ, ◌+◌, ◌-◌, ◌<◌, ◌∙◌, ◌∷◌, ◌≡◌, ◌≢◌}
 use Rattle.kd_state.proofs.Prelude.{◌⊎◌, common_steps, IsDistinct}
 use Rattle.kd_state.proofs.Slots.{numbered_here, numbered_other, has_letter-Decides, place_there}
-use Rattle.kd_state.proofs.{Prelude.IsPermutation, Slots.{only_place, IsNumbered-not_none, set_here, set_other}}
+use Rattle.kd_state.proofs.{Prelude.IsPermutation, Slots.{IsNumbered-not_none, set_here, set_other}}
 use Rattle.std.proofs.lemmas.Map.Keys.{IsDistinct-IsPermutation, IsDistinct-tail, IsDistinct-cons}
 use Rattle.kd_state.proofs.Cables.{all_ordered, all_ordered_move, all_ordered_again, ordered_again, without_ordered}
 use Rattle.kd_state.proofs.Cables.{without_moves, with_moves, set_moves, eqb_flips, has_letter-AllByRecursion}
@@ -27,14 +27,14 @@ use Rattle.kd_state.proofs.Wheels.{has_wheel-Decides, has_reflector-Decides}
 use Rattle.kd_state.proofs.Wheels.{same_wheel-Decides}
 use Rattle.kd_state.proofs.Wheels.{IsPlaced-from_wheels_for}
 unfoldable use Rattle.kd_state.proofs.Prelude.{ring_of}
-use Rattle.kd_state.proofs.Prelude.{◌>>=◌, ◌>>◌, demand, Carries, Leads, Refuses, outcome, ListsHaveOneResult}
+use Rattle.kd_state.proofs.Prelude.{◌>>=◌, ◌>>◌, demand, Carries, Leads, Refuses, ListsHaveOneResult}
 use Rattle.kd_state.proofs.Prelude.{ListsKeepMachines, ltb-true, not-true, All-head, take, get_or, ◌++◌, HasLugsInOrder}
 use Rattle.kd_state.proofs.Prelude.{NoSuchBar, SlotEmpty, with_lug, NoSuchCable, NotThere, NoLooseEnd, SocketTaken, PlaceTaken, WouldPass}
 use Rattle.kd_state.proofs.Prelude.{WheelNotAllowed, NotOnWheel, Reflector, Contains, list_any, same_wheel, same_reflector}
 use Rattle.kd_state.proofs.Prelude.{has_letter, cable_letters, has_loose_end, has_lugs_in_order, is_same_place, is_some, not, ◌&&◌, Lug, Place}
 use Rattle.kd_state.proofs.Slots.{is_numbered, IsNumbered}
 use Rattle.kd_state.specs.Setting.{IsFirstIllegal}
-use Rattle.std.specs.Prelude.{ok_or, Result, Ok, Err, IfOk}
+use Rattle.std.specs.Prelude.{ok_or, Result, Ok, IfOk}
 use Rattle.std.proofs.{Math.Seq.drop-cons, lemmas.List.{length-take-le, take-append-drop, take_more}}
 
 -- ---- steps of a `do`

@@ -1,13 +1,13 @@
 -- Lemmas on costs: counting letters, the columns of a day, and the standings of a row.
-use Rattle.kd_state.proofs.Prelude.{All, All-map, All-nil, AllByRecursion, AllPass-from_list_all, Bool}
+use Rattle.kd_state.proofs.Prelude.{All, AllByRecursion, AllPass-from_list_all, Bool}
 use Rattle.kd_state.proofs.Prelude.{IsBefore, IsDistinct, IsReading, List}
-use Rattle.kd_state.proofs.Prelude.{None, OfPins, OfRotors, Option, Pin, Place, Rotor, Some, []}
+use Rattle.kd_state.proofs.Prelude.{None, Option, Place, Some, []}
 use Rattle.kd_state.proofs.Prelude.{alphabet, ap, arith, bar_cost, cable_cost, cable_letters, cases_eq, column_letters}
 use Rattle.std.specs.Prelude.{slice_index_or}
 use Rattle.kd_state.proofs.Prelude.{columns_of, common_steps, count_by, exactly_one, find, get_or, has_letter, inl, inr}
 use Rattle.kd_state.proofs.Prelude.{le-leb, length, length-append, length-map, length-replicate, letters_in_pairs}
 use Rattle.kd_state.proofs.Prelude.{ltb-true, map, nat_eq, nat_tests, option_to_list, range_with_len}
-use Rattle.kd_state.proofs.Prelude.{recursion_from_All, refl, rules, slice_get, suc, sum_by-cons, sum_by_more, sym}
+use Rattle.kd_state.proofs.Prelude.{recursion_from_All, refl, rules, slice_get, suc, sum_by-cons, sum_by_more}
 use Rattle.kd_state.proofs.Prelude.{take, true, unwrap_or, zero, ℕ, ◌&&◌, reading_of}
 use Rattle.kd_state.proofs.{Cables.has_letter-AllByRecursion}
 use Rattle.kd_state.proofs.{Prelude.{◌++◌, ◌+◌, ◌-◌, ◌<◌, ◌||◌, ◌∙◌, ◌∷◌, ◌≡◌, ◌≢◌, ◌≤◌}}

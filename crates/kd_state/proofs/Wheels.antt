@@ -5,7 +5,7 @@ use Rattle.kd_state.proofs.Prelude.{OfPins, PinDay, AllByRecursion, All-from_rec
 use Rattle.kd_state.proofs.Prelude.{seats_of_wheels, Parts, Pin, PinParts, SheetWheel, box_of, reflector_text, slots_of}
 use Rattle.std.specs.Prelude.{AllPairs}
 use Rattle.kd_state.proofs.Prelude.{wheel_text, wheels_for, Model, Reflector, Wheel, I, cases_Bool, eqb-true}
-use Rattle.kd_state.proofs.Prelude.{false_from_ne_true, leb-true, Decides-like, Contains-append_left}
+use Rattle.kd_state.proofs.Prelude.{false_from_ne_true, leb-true, Contains-append_left}
 use Rattle.kd_state.proofs.Prelude.{Contains-append_right, Contains-get_or, passes_at_first, position_or_len_is}
 use Rattle.kd_state.proofs.Prelude.{is_member-Decides, same_Some, slice_get-get_or, slice_get-map, Decides}
 use Rattle.kd_state.proofs.Prelude.{pointwise_decides, All, list_any, position_or_len, option_eq, unwrap_or, Bool}
@@ -15,8 +15,9 @@ use Rattle.kd_state.proofs.Prelude.{◌-◌}
 use Rattle.std.proofs.lemmas.List.{take_all}
 use Rattle.std.specs.Prelude.{nat_le}
 use Rattle.{kd_tables.specs.contracts.wheel.Wheel.the_type, kd_tables.specs.declared.model.Model.TheVariants.M4}
-use Rattle.{std.proofs.Common.{cond, ◌==◌}, std.proofs.lemmas.Slice.Eq.bytes_eq-Decides, std.specs.Str.bytes_eq}
-use denote.Enum.Bare.{sameb, same_true, same_false}
+use Rattle.{std.proofs.Common.{cond, ◌==◌}, std.specs.Str.bytes_eq}
+use Rattle.kd_tables.specs.contracts.reflector.Reflector as reflector_type
+use denote.Enum.Bare.{sameb, same_true, same_false, true_same}
 
 -- the first element of `all` whose name is `text`, or `d` if there is none
 abbrev pub named_or : {T : Type 0} → (T → List ℕ) → List T → T → List ℕ → T
@@ -34,12 +35,13 @@ one_reflector x y e = grind arith
 
 -- `same_wheel` is true exactly if the two wheels are equal
 pub same_wheel-Decides : (wheel other : Wheel) → Decides (same_wheel wheel other) (wheel ≡ other)
-same_wheel-Decides wheel other = grind (arith, Decides-like, one_wheel, bytes_eq-Decides)
+same_wheel-Decides wheel other = (same_true the_type tt wheel other, true_same the_type wheel other)
 
 -- `same_reflector` is true exactly if the two reflectors are equal
 pub same_reflector-Decides : (reflector other : Reflector)
     → Decides (same_reflector reflector other) (reflector ≡ other)
-same_reflector-Decides reflector other = grind (arith, Decides-like, one_reflector, bytes_eq-Decides)
+same_reflector-Decides reflector other =
+    (same_true reflector_type.the_type tt reflector other, true_same reflector_type.the_type reflector other)
 
 pub same_wheel_self : (wheel : Wheel) → same_wheel wheel wheel ≡ true
 same_wheel_self wheel = grind (arith, same_wheel-Decides)

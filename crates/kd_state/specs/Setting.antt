@@ -12,7 +12,6 @@ use Rattle.kd_tables.specs.Tables.{wheels_for, box_of, reflectors_of}
 use Rattle.kd_tables.specs.Rings.{ring_of}
 use Rattle.kd_tables.specs.Places.{place_rank}
 use Rattle.kd_state.specs.Pins.{with_pin}
-use Rattle.kd_state.specs.declared.machine.rotor_parts.RotorParts.{RotorParts}
 use Rattle.kd_state.specs.declared.machine.parts.Parts.{Parts}
 use Rattle.kd_state.specs.declared.machine.parts.Parts.TheVariants.{Rotor, Pin}
 use Rattle.kd_state.specs.declared.setting.Setting.{Setting}

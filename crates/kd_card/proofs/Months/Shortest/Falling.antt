@@ -266,9 +266,6 @@ loose_count-priced (Pin m) s (LugTo bar lug move) after e d =
 loose_count-priced m s x after e d = absurd (cc)
 
 -- A machine that reads as the day has no loose things.
-bytes_eq-self : (name : List ℕ) → bytes_eq name name ≡ true
-bytes_eq-self name = (bytes_eq-Decides name name).1 refl
-
 zip_none : {X Y : Type 0} (f : Y × X → ℕ) (seen : X → Y) → ((x : X) → f (seen x, x) ≡ 0) → (xs : List X)
     → sum_by f (zip (map seen xs) xs) ≡ 0
 zip_none f seen h [] = refl
@@ -289,10 +286,10 @@ rotor_not_loose : (n : RotorParts) (s : RotorDay) → ReadsAs (Rotor n) (OfRotor
 rotor_not_loose n s h =
     let slots : loose_slots n.slots s ≡ 0 = ap (λ slots. count_by wrong_slot (zip slots s.wheels)) h.key.slots
     ∙ zip_none (λ slot. cond (wrong_slot slot) 1 0) (λ w. Some w.wheel)
-    (λ w. ap (λ b. cond (not b) 1 0) (bytes_eq-self (wheel_text w.wheel))) s.wheels in
+    (λ w. ap (λ b. cond (not b) 1 0) (same_wheel_self w.wheel)) s.wheels in
     let reflector : one_unless (same_reflector n.reflector s.reflector) ≡ 0 =
     ap (λ reflector. one_unless (same_reflector reflector s.reflector)) h.key.reflector
-    ∙ ap one_unless (bytes_eq-self (reflector_text s.reflector)) in
+    ∙ ap one_unless ((same_reflector-Decides s.reflector s.reflector).1 refl) in
     let rings = none_wrong (λ w. ring_at n w.wheel) (λ w. w.ring) s.wheels (recursion_from_All _ _ h.key.rings) in
     let letters = none_wrong (λ w. letter_at n w.wheel) (λ w. w.letter) s.wheels (recursion_from_All _ _ h.window) in
     omega (arith, slots, reflector, rings, letters)

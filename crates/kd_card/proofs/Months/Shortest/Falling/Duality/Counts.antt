@@ -30,7 +30,8 @@ pub use Rattle.{kd_card.specs.Prices.{cost_at, IsPriceTightAt, price_at, price_s
 pub use Rattle.kd_tables.specs.declared.{lug.Lug.Lug, model.Model.{Model, TheVariants.M209}, wheel.Wheel.Wheel}
 pub use Rattle.kd_tables.specs.declared.{place.Place.{Place, TheVariants.One}, reflector.Reflector.Reflector}
 pub use Rattle.kd_tables.specs.{Places.{IsBefore, reading_of}, Tables.{reflector_text, reflectors_of, wheel_text}}
-pub use Rattle.{kd_state.proofs.Wheels.days_wheels_have_their_places, kd_tables.specs.Permutation.alphabet}
+pub use Rattle.kd_state.proofs.Wheels.{days_wheels_have_their_places, same_reflector-Decides, same_wheel_self}
+pub use Rattle.{kd_tables.specs.Permutation.alphabet}
 pub use Rattle.kd_state.proofs.{Cables.column_is, Slots.IsNumbered-not_none, SortedAlike.count_by-cons}
 pub use Rattle.kd_state.proofs.{CostTable.thirteen_columns, Slots.set_other, Slots.IsNumbered}
 pub use Rattle.kd_state.proofs.Carrying.{if_carried, lug_moved, pin_made, pulled, reflector_made, ring_made}
