@@ -35,10 +35,11 @@ abbrev pub slot_turn_line : Parts → ℕ → SheetWheel → List Setting
 slot_turn_line machine slot w =
     setting_unless (option_map_or (nat_eq w.letter) (machine_letter machine w.wheel) false) (Turn slot w.letter)
 
--- the setting PIN, if a pin isn't as the day says; `wheel_pin_lines`: these settings for all pins of a wheel
+-- the setting PIN, if a pin isn't as the day says
 abbrev pub pin_line : ℕ → ℕ × (Bool × Bool) → List Setting
 pin_line wheel z = setting_unless (not (exactly_one z.1.0 z.1.1)) (PinTo wheel z.0 z.1.1)
 
+-- the settings PIN for all pins of a wheel that aren't as the day says
 abbrev pub wheel_pin_lines : ℕ → List Bool × List Bool → List Setting
 wheel_pin_lines wheel z = flat_map (pin_line wheel) (zip (ring_of wheel) (zip z.0 z.1))
 

@@ -9,7 +9,8 @@ use Rattle.kd_state.specs.{declared.machine.parts.Parts.TheVariants.{Rotor, Pin}
 use Rattle.kd_state.specs.{Costs.{columns_of, cost_table, loose_count}, SheetDay.{Day, OfRotors, OfPins, day_model}}
 use Rattle.kd_state.specs.{Setting.{Leads, outcome}, Machine.model_of, OnKey.ReadsAs}
 use Rattle.kd_tables.specs.Places.{smaller_first}
-use Rattle.std.specs.Prelude.{◌≡◌, ℕ, ◌+◌, ◌≤◌, Bool, true, false, List, [], ◌∷◌, length, map, option_map, pos, IfOk, IsFalse}
+use Rattle.std.specs.Prelude.{◌≡◌, ℕ, ◌+◌, ◌≤◌, Bool, true, false, List, [], ◌∷◌, length, map, option_map, pos, IfOk}
+use Rattle.std.specs.Prelude.{IsFalse}
 use Rattle.std.specs.Prelude.{count_by, Option}
 
 -- The prices are by number: one for each cable and each column (rotor machine), or each bar and each row (Converter).
@@ -25,6 +26,7 @@ is_priced_setting (Put cable letter) = true
 is_priced_setting (LugTo bar lug place) = true
 is_priced_setting _ = false
 
+-- how many of the settings change a cable or a bar
 abbrev pub priced_count : List Setting → ℕ
 priced_count settings = count_by is_priced_setting settings
 
@@ -45,10 +47,11 @@ LeadsToTheDay machine day settings = (reached : Parts) × Leads machine settings
 
 -- ---- prices by kind mean prices by number
 
--- a column with the letters of its pair in alphabetical order; `columns_in_order`: all 13 columns of a day in this form
+-- a column with the letters of its pair in alphabetical order
 abbrev pub pair_in_order : Option (ℕ × ℕ) → Option (ℕ × ℕ)
 pair_in_order column = option_map (λ pair. smaller_first pair.0 pair.1) column
 
+-- the 13 columns of a day, each with its letters in alphabetical order
 abbrev pub columns_in_order : List (ℕ × ℕ) → List (Option (ℕ × ℕ))
 columns_in_order pairs = map pair_in_order (columns_of pairs)
 
@@ -64,7 +67,8 @@ AreExpanded _ _ _ _ = ⊥
 -- If `prices` are by number, `numbered` equal them. If not, both are valid, and `AreExpanded` relates them.
 pub data Expands (machine : Parts) (day : Day) (prices numbered : PriceParts) : Type 0 where
   Same : version_of prices ≡ ByNumber → prices ≡ numbered → Expands machine day prices numbered
-  Expanded : ArePrices prices → ArePrices numbered → AreExpanded machine day prices numbered → Expands machine day prices numbered
+  Expanded : ArePrices prices → ArePrices numbered → AreExpanded machine day prices numbered
+      → Expands machine day prices numbered
 
 -- ---- the card proves itself
 
@@ -86,4 +90,5 @@ pub record Proves (machine : Parts) (day : Day) (settings : List Setting) (price
 
 -- No list that leads the machine to the day is shorter than `settings`.
 abbrev pub IsShortest : Parts → Day → List Setting → Type 0
-IsShortest machine day settings = (others : List Setting) → LeadsToTheDay machine day others → length settings ≤ length others
+IsShortest machine day settings =
+    (others : List Setting) → LeadsToTheDay machine day others → length settings ≤ length others

@@ -7,13 +7,13 @@ use Rattle.kd_plan.specs.Spares.{IsSpareCable, SparesStayFree}
 
 -- All cables with numbers above `number` are spare: they have no letter.
 abbrev pub UsesNoneAbove : ℕ → Parts → Type 0
-UsesNoneAbove number (Rotor m) = (cable : ℕ) → number < cable → IsSpareCable m.cables cable
-UsesNoneAbove number (Pin m) = Unit {0}
+UsesNoneAbove number (Rotor machine) = (cable : ℕ) → number < cable → IsSpareCable machine.cables cable
+UsesNoneAbove number (Pin machine) = Unit {0}
 
 -- The day has at most `number` pairs.
 abbrev pub HasPairsUpTo : ℕ → Day → Type 0
-HasPairsUpTo number (OfRotors s) = length s.pairs ≤ number
-HasPairsUpTo number (OfPins s) = Unit {0}
+HasPairsUpTo number (OfRotors day) = length day.pairs ≤ number
+HasPairsUpTo number (OfPins day) = Unit {0}
 
 -- The setting names no cable with a number above `number`.
 abbrev pub NamesNoneAbove : ℕ → Setting → Type 0
@@ -26,6 +26,7 @@ NamesNoneAbove number _ = Unit {0}
 -- the end only these cables are in use.
 abbrev pub FewCablesServe : Type 0
 FewCablesServe =
-    (number : ℕ) (m n : Parts) (s : Day) (settings : List Setting) → UsesNoneAbove number m → HasPairsUpTo number s
-    → SparesStayFree m s settings → Leads m settings n
-    → All (NamesNoneAbove number) settings × UsesNoneAbove number n
+    (number : ℕ) (machine after : Parts) (day : Day) (settings : List Setting) → UsesNoneAbove number machine
+    → HasPairsUpTo number day
+    → SparesStayFree machine day settings → Leads machine settings after
+    → All (NamesNoneAbove number) settings × UsesNoneAbove number after

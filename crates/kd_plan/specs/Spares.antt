@@ -18,7 +18,8 @@ IsSpareCable cables number = IfSome (numbered_item cables number) (λ cable. IsT
 abbrev pub SparesStayFree : Parts → Day → List Setting → Type 0
 SparesStayFree (Rotor machine) (OfRotors day) settings =
     (cable letter : ℕ) → Contains settings (Put cable letter) → IsSpareCable machine.cables cable
-    → count_by is_spare (take cable machine.cables) ≤ length day.pairs - count_by (λ cable. not (is_spare cable)) machine.cables
+    → count_by is_spare (take cable machine.cables)
+    ≤ length day.pairs - count_by (λ cable. not (is_spare cable)) machine.cables
 SparesStayFree (Pin machine) (OfPins day) settings = Unit {0}
 SparesStayFree _ _ settings = ⊥
 

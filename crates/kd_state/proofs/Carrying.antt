@@ -29,9 +29,12 @@ use Rattle.kd_state.proofs.Wheels.{IsPlaced-from_wheels_for}
 unfoldable use Rattle.kd_state.proofs.Prelude.{ring_of}
 use Rattle.kd_state.proofs.Prelude.{◌>>=◌, ◌>>◌, demand, Carries, Leads, Refuses, ListsHaveOneResult}
 use Rattle.kd_state.proofs.Prelude.{ListsKeepMachines, ltb-true, not-true, All-head, take, get_or, ◌++◌, HasLugsInOrder}
-use Rattle.kd_state.proofs.Prelude.{NoSuchBar, SlotEmpty, with_lug, NoSuchCable, NotThere, NoLooseEnd, SocketTaken, PlaceTaken, WouldPass}
-use Rattle.kd_state.proofs.Prelude.{WheelNotAllowed, NotOnWheel, Reflector, Contains, list_any, same_wheel, same_reflector}
-use Rattle.kd_state.proofs.Prelude.{has_letter, cable_letters, has_loose_end, has_lugs_in_order, is_same_place, is_some, not, ◌&&◌, Lug, Place}
+use Rattle.kd_state.proofs.Prelude.{NoSuchBar, SlotEmpty, with_lug, NoSuchCable, NotThere, NoLooseEnd, SocketTaken}
+use Rattle.kd_state.proofs.Prelude.{PlaceTaken, WouldPass}
+use Rattle.kd_state.proofs.Prelude.{WheelNotAllowed, NotOnWheel, Reflector, Contains, list_any, same_wheel}
+use Rattle.kd_state.proofs.Prelude.{same_reflector}
+use Rattle.kd_state.proofs.Prelude.{has_letter, cable_letters, has_loose_end, has_lugs_in_order, is_same_place, not}
+use Rattle.kd_state.proofs.Prelude.{is_some, ◌&&◌, Lug, Place}
 use Rattle.kd_state.proofs.Slots.{is_numbered, IsNumbered}
 use Rattle.kd_state.specs.Setting.{IsFirstIllegal}
 use Rattle.std.specs.Prelude.{ok_or, Result, Ok, IfOk}

@@ -8,3 +8,4 @@ pub mod Keys
 mod WheelsInSlots
 pub mod SortedAlike
 pub mod Carrying
+pub mod OneAnswer

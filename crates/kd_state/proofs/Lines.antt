@@ -11,7 +11,7 @@ use Rattle.kd_state.proofs.Prelude.{list_all, list_text, ltb-true, lug_text, map
 use Rattle.kd_state.proofs.Prelude.{on_off_text, place_text, places, recursion_from_All, refl, reflector_text, rules}
 use Rattle.kd_state.proofs.Prelude.{setting_line, setting_words, slice_split, sym, then_some, true, wheel_text, ℕ, ◌++◌}
 use Rattle.kd_state.proofs.Prelude.{◌+◌, ◌<◌, ◌∷◌, ◌≡◌, ◌≢◌}
-use Rattle.kd_state.specs.LineWords.{IsFirstPart, IsWithout, IsWord, line_of}
+use Rattle.kd_state.specs.LineWords.{IsFirstPart, IsWithout, line_of}
 use Rattle.kd_tables.specs.Text.{letters_text}
 use Rattle.std.proofs.lemmas.List.Splits.{join_with_byte-slice_split, length-slice_split, slice_split_at}
 use Rattle.kd_state.proofs.{Prelude.◌≤◌, Wheels.{named_or, one_reflector, one_wheel, name-injective}}
@@ -30,7 +30,8 @@ slice_split-first : (byte : ℕ) (part rest : List ℕ) → IsWithout byte part
     → slice_split (λ b. eqb b byte) (part ++ byte ∷ rest) ≡ part ∷ slice_split (λ b. eqb b byte) rest
 slice_split-first byte part rest h = grind (arith, slice_split_at, none_is, eq-eqb)
 
-pub texts_determine_first_parts : (byte : ℕ) (first other rest more : List ℕ) → IsWithout byte first → IsWithout byte other
+pub texts_determine_first_parts : (byte : ℕ) (first other rest more : List ℕ) → IsWithout byte first
+    → IsWithout byte other
     → first ++ byte ∷ rest ≡ other ++ byte ∷ more → (first ≡ other) × (rest ≡ more)
 texts_determine_first_parts byte first other rest more a b e =
     let one = slice_split-first byte first rest a in
@@ -38,6 +39,12 @@ texts_determine_first_parts byte first other rest more a b e =
     grind (arith, one, two, append_cancel_left other (byte ∷ rest) (byte ∷ more))
 
 -- ---- words
+
+-- The text is a word: it isn't empty, and has no space and no LF.
+pub record IsWord (word : List ℕ) : Type 0 where
+  pub filled : word ≢ []
+  pub spaceless : IsWithout 32 word
+  pub unbroken : IsWithout 10 word
 
 words_of-line_of : (word : List ℕ) (words : List (List ℕ)) → AllByRecursion IsWord (word ∷ words)
     → words_of (line_of (word ∷ words)) ≡ word ∷ words

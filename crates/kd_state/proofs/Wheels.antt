@@ -140,7 +140,8 @@ IsSeatedAt-seats : (wheels : List SheetWheel) (i : ℕ) (d : SheetWheel) → i <
     → IsSeatedAt (seats_of_wheels wheels) i (get_or wheels i d).wheel
 IsSeatedAt-seats wheels i d lt = grind (arith, slice_get-map, slice_get-get_or)
 
-pub days_wheels_have_their_places : (model : Model) (wheels : List SheetWheel) → AreLegalSeats model (seats_of_wheels wheels)
+pub days_wheels_have_their_places : (model : Model) (wheels : List SheetWheel)
+    → AreLegalSeats model (seats_of_wheels wheels)
     → AllPairs (λ (w other : SheetWheel). place_in_box model w.wheel ≢ place_in_box model other.wheel) wheels
 days_wheels_have_their_places model wheels h i j d before within same =
     grind (arith, IsSeatedAt-seats, places_determine_wheels, allowed_in_box, h.allowed, h.apart)

@@ -1,6 +1,6 @@
 -- Lines of words with single spaces between them, and texts split at a byte.
 -- Test: kd_trials/src/state/line.rt
-use Rattle.std.specs.Prelude.{◌≡◌, ◌≢◌, ◌==◌, ℕ, List, [], ◌∷◌, ◌++◌, All}
+use Rattle.std.specs.Prelude.{◌≡◌, ◌≢◌, ◌==◌, ℕ, List, ◌∷◌, ◌++◌, All}
 use Rattle.std.specs.List.{slice_split, join_with_byte}
 
 -- the parts of a line between its spaces
@@ -14,12 +14,6 @@ line_of words = join_with_byte 32 words
 -- The byte isn't in the text.
 abbrev pub IsWithout : ℕ → List ℕ → Type 0
 IsWithout byte text = All (λ other. other ≢ byte) text
-
--- The text is a word: it isn't empty, and has no space and no LF.
-pub record IsWord (word : List ℕ) : Type 0 where
-  pub filled : word ≢ []
-  pub spaceless : IsWithout 32 word
-  pub unbroken : IsWithout 10 word
 
 -- `text` has the byte `byte`. `part` is the text before the first such byte, and `rest` is the text after it.
 pub record IsFirstPart (byte : ℕ) (text part rest : List ℕ) : Type 0 where

@@ -20,9 +20,11 @@ use Rattle.kd_state.specs.declared.machine.parts.Parts.{Parts}
 use Rattle.kd_state.specs.declared.machine.parts.Parts.TheVariants.{Rotor, Pin}
 use Rattle.kd_state.specs.SameParts.{place_in_box, numbered_item}
 
+-- the letters at a cable's two ends
 abbrev pub cable_letters : Option ℕ × Option ℕ → List ℕ
 cable_letters cable = option_to_list cable.0 ++ option_to_list cable.1
 
+-- the letters of all cables, in the order of the cables
 abbrev pub letters_in_cables : List (Option ℕ × Option ℕ) → List ℕ
 letters_in_cables cables = flat_map cable_letters cables
 
@@ -36,6 +38,7 @@ pub record AreLegalSeats (model : Model) (slots : List (Option Wheel)) : Type 0 
   pub allowed : (place : ℕ) (w : Wheel) → IsSeatedAt slots place w → Contains (wheels_for model (place + 1)) w
   pub apart : (p q : ℕ) (wheel : Wheel) → IsSeatedAt slots p wheel → IsSeatedAt slots q wheel → p ≡ q
 
+-- There are `number` letters, all below 26.
 pub record AreLetters (number : ℕ) (letters : List ℕ) : Type 0 where
   pub count : length letters ≡ number
   pub within : All (λ letter. letter < 26) letters
@@ -64,6 +67,8 @@ HasLugsInOrder bar = IsBefore bar.0 bar.1
 -- own rule.
 -- Code: `Machine` has these rules as its invariant.
 
+-- The parts are those of a rotor machine of its model. The model takes the wheels and the reflector. Each wheel of the
+-- box has a ring and a window letter, and no letter is plugged twice.
 pub record IsLegalRotor (machine : RotorParts) : Type 0 where
   pub seats : AreLegalSeats machine.model machine.slots
   pub reflector : Contains (reflectors_of machine.model) machine.reflector
@@ -71,12 +76,15 @@ pub record IsLegalRotor (machine : RotorParts) : Type 0 where
   pub letters : AreLetters (length (box_of machine.model)) machine.letters
   pub cables : AreCables machine.cables
 
+-- The parts are those of a Converter: a pin for each letter of each wheel, a letter of each wheel in its window, and 27
+-- bars, on each of which the left lug is left of the right lug.
 pub record IsLegalPin (machine : PinParts) : Type 0 where
   pub pins : HasAllPins machine.pins
   pub letters : AreOnWheels machine.letters
   pub bars : length machine.bars ≡ 27
   pub apart : All HasLugsInOrder machine.bars
 
+-- The parts are those of a machine: of a rotor machine or a Converter.
 abbrev pub IsLegal : Parts → Type 0
 IsLegal (Rotor machine) = IsLegalRotor machine
 IsLegal (Pin machine) = IsLegalPin machine
@@ -89,7 +97,8 @@ cable_in_order one other = (option_or one other, None)
 
 -- the machine, with each cable's letters in alphabetical order; the two ends of a cable work alike
 abbrev pub with_cables_in_order : Parts → Parts
-with_cables_in_order (Rotor machine) = Rotor (record machine { cables = map (λ cable. cable_in_order cable.0 cable.1) machine.cables })
+with_cables_in_order (Rotor machine) =
+    Rotor (record machine { cables = map (λ cable. cable_in_order cable.0 cable.1) machine.cables })
 with_cables_in_order (Pin machine) = Pin machine
 
 -- The parts are legal, and the letters of each cable are in alphabetical order.
@@ -100,6 +109,7 @@ pub record IsMachine (machine : Parts) : Type 0 where
 -- ---- What the getters of a machine show; `None` for a thing that the machine lacks.
 -- Test: kd_trials/src/state/getters.rt
 
+-- the machine's model
 abbrev pub model_of : Parts → Model
 model_of (Rotor machine) = machine.model
 model_of (Pin machine) = M209
@@ -122,6 +132,7 @@ abbrev pub machine_reflector : Parts → Option Reflector
 machine_reflector (Rotor machine) = Some machine.reflector
 machine_reflector (Pin machine) = None
 
+-- the ring of a wheel, if the machine has this wheel; `machine_letter`: its window letter
 abbrev pub machine_ring : Parts → Wheel → Option ℕ
 machine_ring (Rotor machine) wheel = ring_at machine wheel
 machine_ring (Pin machine) wheel = None

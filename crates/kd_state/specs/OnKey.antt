@@ -33,6 +33,7 @@ OnKey (Rotor machine) (OfRotors day) = IsRotorOnKey machine day
 OnKey (Pin machine) (OfPins day) = (machine.pins ≡ day.pins) × IsPermutation (map reading_of machine.bars) day.rows
 OnKey _ _ = ⊥
 
+-- The machine shows the day's letters: each wheel of the day in its window, or the six pin wheels.
 abbrev pub ShowsWindow : Parts → Day → Type 0
 ShowsWindow (Rotor machine) (OfRotors day) = All (λ w. letter_at machine w.wheel ≡ Some w.letter) day.wheels
 ShowsWindow (Pin machine) (OfPins day) = machine.letters ≡ day.window

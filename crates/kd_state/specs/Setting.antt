@@ -1,6 +1,7 @@
 -- Single settings: what each makes of a machine, and why a machine refuses it.
 use Rattle.std.specs.Prelude.{◌≡◌, ℕ, ◌-◌, nat_eq, nat_lt, ◌+◌, Bool, true, false, not, ◌&&◌, List, [], ◌∷◌, ◌++◌}
-use Rattle.std.specs.Prelude.{map, slice_set, length, Option, Some, None, is_some, ok_or, Result, Ok, Err, MatchResult, ⊤}
+use Rattle.std.specs.Prelude.{map, slice_set, length, Option, Some, None, is_some, ok_or, Result, Ok, Err, ⊤}
+use Rattle.std.specs.Prelude.{MatchResult}
 use Rattle.std.specs.Prelude.{if◌then◌else◌}
 use Rattle.std.specs.List.{list_any}
 use Rattle.std.specs.Option.{option_map_or, option_or}
@@ -25,6 +26,7 @@ use Rattle.kd_state.specs.FirstFault.{◌>>=◌, ◌>>◌, demand}
 use Rattle.kd_state.specs.SameParts.{same_wheel, same_reflector, place_in_box, numbered_item}
 use Rattle.kd_state.specs.Machine.{cable_letters, letters_in_cables, cable_in_order}
 
+-- whether the letter is one of the letters
 abbrev pub has_letter : List ℕ → ℕ → Bool
 has_letter letters letter = list_any (λ other. nat_eq other letter) letters
 
@@ -33,6 +35,7 @@ abbrev pub are_new_and_distinct : List ℕ → List ℕ → Bool
 are_new_and_distinct [] others = true
 are_new_and_distinct (first ∷ rest) others = not (has_letter (rest ++ others) first) && are_new_and_distinct rest others
 
+-- whether two places on a bar are the same
 abbrev pub is_same_place : Place → Place → Bool
 is_same_place place other = nat_eq (place_rank place) (place_rank other)
 
@@ -66,9 +69,9 @@ seat_without wheel seated = if option_map_or (same_wheel wheel) seated false the
 -- Code: `carry` changes the machine in place.
 -- Test: kd_trials/src/state/carrying.rt
 
--- The machine after the setting; or, if the machine refuses the setting, the first reason to refuse it. The reasons are
--- tested in this order. A wheel that is put into a slot leaves its old slot, and the wheel that was in the new slot goes
--- to the box; both keep their rings and window letters.
+-- The machine after the setting; or, if the machine refuses the setting, the first reason to refuse it. The reasons
+-- are tested in this order. A wheel that is put into a slot leaves its old slot, and the wheel that was in the new slot
+-- goes to the box; both keep their rings and window letters.
 abbrev pub outcome : Parts → Setting → Result Parts Why
 outcome (Rotor machine) (Pull cable letter) = do
   held ← ok_or (numbered_item machine.cables cable) NoSuchCable

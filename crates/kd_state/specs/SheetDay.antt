@@ -32,7 +32,7 @@ pub record PinDay : Type 0 where
   pub window : List ℕ
   pub list : List ℕ
 
--- a rotor machine's day with these values; `pin_day_of`, below, makes a Converter's day
+-- a rotor machine's day with these values
 abbrev pub rotor_day_of : ℕ → Model → Reflector → List SheetWheel → List (ℕ × ℕ) → List (List ℕ) → RotorDay
 rotor_day_of day model reflector wheels pairs groups = record {
   day = day;
@@ -43,9 +43,11 @@ rotor_day_of day model reflector wheels pairs groups = record {
   groups = groups;
 }
 
+-- a Converter's day with these values
 abbrev pub pin_day_of : ℕ → List (ℕ × ℕ) → PinSet → List ℕ → List ℕ → PinDay
 pin_day_of day rows pins window list = record { day = day; rows = rows; pins = pins; window = window; list = list }
 
+-- The values of a day, of a rotor machine or of a Converter.
 pub data Day : Type 0 where
   OfRotors : RotorDay → Day
   OfPins : PinDay → Day
@@ -101,10 +103,12 @@ IsLegalDay (OfPins values) = IsLegalPinDay values
 -- ---- What the getters of a day show.
 -- Test: kd_trials/src/state/days.rt
 
+-- the day of the month
 abbrev pub day_number : Day → ℕ
 day_number (OfRotors values) = values.day
 day_number (OfPins values) = values.day
 
+-- the model for which the day is
 abbrev pub day_model : Day → Model
 day_model (OfRotors values) = values.model
 day_model (OfPins values) = M209

@@ -18,10 +18,12 @@ use Rattle.kd_state.specs.declared.machine.parts.Parts.TheVariants.{Rotor, Pin}
 use Rattle.kd_state.specs.Machine.{cable_letters, ring_at, letter_at, AreLetters, AreOnWheels}
 use Rattle.kd_state.specs.SheetDay.{Day, OfRotors, OfPins}
 
+-- The key of an engine: of wheels, reflector and plugboard, or of a Converter's drum.
 pub data EngineKey : Type 0 where
   OfWheels : RotorKey → EngineKey
   OfDrum : PinKey → EngineKey
 
+-- the ciphertext that an engine with this key makes of a text; the letters are below 26
 abbrev pub cipher : EngineKey → List ℕ → List ℕ
 cipher (OfWheels key) text = enigma_cipher key text
 cipher (OfDrum key) text = converter_cipher key text
@@ -46,9 +48,11 @@ IsWindow (OfDrum key) window = AreOnWheels window
 
 -- The machine is ready to encipher: no slot is empty, and no cable has exactly one letter. A Converter is always ready.
 abbrev pub IsReady : Parts → Type 0
-IsReady (Rotor machine) = All (λ seated. IsSome seated) machine.slots × All (λ cable. length (cable_letters cable) ≢ 1) machine.cables
+IsReady (Rotor machine) =
+    All (λ seated. IsSome seated) machine.slots × All (λ cable. length (cable_letters cable) ≢ 1) machine.cables
 IsReady (Pin machine) = Unit {0}
 
+-- the wheels in the slots, from the left
 abbrev pub seated_wheels : RotorParts → List Wheel
 seated_wheels machine = filter_map (λ seated. seated) machine.slots
 
@@ -70,7 +74,11 @@ physical_key (Rotor machine) = OfWheels (record {
   reflector = machine.reflector;
   plugs = exchange (filter_map (λ cable. option_zip cable.0 cable.1) machine.cables);
 })
-physical_key (Pin machine) = OfDrum (record { pins = pins_of machine.pins; letters = machine.letters; rows = map reading_of machine.bars })
+physical_key (Pin machine) = OfDrum (record {
+  pins = pins_of machine.pins;
+  letters = machine.letters;
+  rows = map reading_of machine.bars;
+})
 
 -- the key that a day asks for, with the day's letters in the windows or on the pin wheels
 abbrev pub sheet_key : Day → EngineKey
@@ -92,14 +100,17 @@ bars_moved machine count =
 -- the ciphertext that a ready machine makes: a rotor machine by its key, a Converter by its pins, letters and lugs
 abbrev pub physical_cipher : Parts → List ℕ → List ℕ
 physical_cipher (Rotor machine) text = cipher (physical_key (Rotor machine)) text
-physical_cipher (Pin machine) text = map (λ item. (25 + bars_moved machine item.0 - item.1) % 26) (enumerate_from 0 text)
+physical_cipher (Pin machine) text =
+    map (λ item. (25 + bars_moved machine item.0 - item.1) % 26) (enumerate_from 0 text)
 
+-- the ciphertext that a day asks for
 abbrev pub sheet_cipher : Day → List ℕ → List ℕ
 sheet_cipher day = cipher (sheet_key day)
 
 -- The second machine is the first, turned until it shows these letters. The window letters of wheels in the box
 -- may differ.
 abbrev pub IsTurnedTo : Parts → List ℕ → Parts → Type 0
-IsTurnedTo (Rotor machine) window (Rotor turned) = (turned ≡ record machine { letters = turned.letters }) × (window_of (Rotor turned) ≡ window)
+IsTurnedTo (Rotor machine) window (Rotor turned) =
+    (turned ≡ record machine { letters = turned.letters }) × (window_of (Rotor turned) ≡ window)
 IsTurnedTo (Pin machine) window (Pin turned) = turned ≡ record machine { letters = window }
 IsTurnedTo _ _ _ = ⊥
