@@ -21,7 +21,8 @@ pub use Rattle.std.proofs.lemmas.{Fmt.{IsAscii-signed, parse-signed_decimal}, St
 pub use Rattle.kd_card.specs.Kinds.{AreEnds, bar_format, cable_format, ComesAfter, HasText, IsOnlyKey, letters_text}
 pub use Rattle.kd_card.specs.Kinds.{IsGroup, IsKind, KeyComesBefore, KindFormat, pair_format, prices_of_kinds}
 pub use Rattle.kd_card.specs.Kinds.{AreKinds, HasKindWords, kind_words, kinds_text, row_format, total_count}
-pub use Rattle.kd_card.specs.CardFault.{first_text, CostTable, OfBars, OfCables}
+pub use Rattle.kd_card.specs.CardFault.{first_text}
+pub use Rattle.kd_card.specs.declared.prices.CostTable.{CostTable, TheVariants.{OfBars, OfCables}}
 pub use Rattle.kd_card.specs.CardFault.{AtNothing, BeginsWithWord, IsAllPricesAnswer, IsPricesAnswer, last_of}
 pub use Rattle.kd_card.specs.CardFault.{BeginsWithKinds, IsDigit, IsGroupsAnswer, IsPriceLineAnswer, IsRestAnswer}
 pub use Rattle.kd_card.specs.CardFault.{EndsGroup, HasLineWords, IsLineAnswer, IsNextKind, IsNumberText, IsValueAnswer}
