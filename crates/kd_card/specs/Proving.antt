@@ -6,12 +6,11 @@ use Rattle.kd_card.specs.{Prices.{version_of, price_sum, PricesFit, ArePrices}, 
 use Rattle.kd_card.specs.declared.prices.Version.TheVariants.{ByNumber}
 use Rattle.kd_state.specs.{declared.setting.Setting.TheVariants.{Pull, Put, LugTo}, declared.machine.parts.Parts.Parts}
 use Rattle.kd_state.specs.{declared.machine.parts.Parts.TheVariants.{Rotor, Pin}, declared.setting.Setting.Setting}
-use Rattle.kd_state.specs.{Costs.{columns_of, cost_table, loose_count}, SheetDay.{Day, OfRotors, OfPins, day_model}}
-use Rattle.kd_state.specs.{Setting.{Leads, outcome}, Machine.model_of, OnKey.ReadsAs}
-use Rattle.kd_tables.specs.Places.{smaller_first}
-use Rattle.std.specs.Prelude.{◌≡◌, ℕ, ◌+◌, ◌≤◌, Bool, true, false, List, [], ◌∷◌, length, map, option_map, pos, IfOk}
+use Rattle.kd_state.specs.{Costs.{cost_table, loose_count}, SheetDay.{Day, OfRotors, OfPins, day_model}}
+use Rattle.kd_state.specs.{Setting.{Leads, outcome}, Machine.model_of, OnKey.{ReadsAs, columns_in_order}}
+use Rattle.std.specs.Prelude.{◌≡◌, ℕ, ◌+◌, ◌≤◌, Bool, true, false, List, [], ◌∷◌, length, pos, IfOk}
 use Rattle.std.specs.Prelude.{IsFalse}
-use Rattle.std.specs.Prelude.{count_by, Option}
+use Rattle.std.specs.Prelude.{count_by}
 
 -- The prices are by number: one for each cable and each column (rotor machine), or each bar and each row (Converter).
 abbrev pub AreModelPrices : Parts → PriceParts → Type 0
@@ -46,14 +45,6 @@ abbrev pub LeadsToTheDay : Parts → Day → List Setting → Type 0
 LeadsToTheDay machine day settings = (reached : Parts) × Leads machine settings reached × ReadsAs reached day
 
 -- ---- prices by kind mean prices by number
-
--- a column with the letters of its pair in alphabetical order
-abbrev pub pair_in_order : Option (ℕ × ℕ) → Option (ℕ × ℕ)
-pair_in_order column = option_map (λ pair. smaller_first pair.0 pair.1) column
-
--- the 13 columns of a day, each with its letters in alphabetical order
-abbrev pub columns_in_order : List (ℕ × ℕ) → List (Option (ℕ × ℕ))
-columns_in_order pairs = map pair_in_order (columns_of pairs)
 
 -- The first prices' kinds count all cables and columns, or bars and rows. The second prices give each its kind's price.
 abbrev pub AreExpanded : Parts → Day → PriceParts → PriceParts → Type 0

@@ -1,11 +1,12 @@
 -- The definitions and lemmas that most proofs of this crate use.
 pub use Rattle.kd_card.proofs.Months.Shortest.{no_rotors, proving_cards_are_shortest, proving_prices_are_tight}
-pub use Rattle.kd_card.specs.{Kinds.IsGroup, Proving.{Expanded, Expands, Proves, Same, pair_in_order, priced_count}}
+pub use Rattle.kd_card.specs.{Kinds.IsGroup, Proving.{Expanded, Expands, Proves, Same, priced_count}}
 pub use Rattle.kd_card.specs.Kinds.{AreEnds, AreKinds, IsKind, expansion, row_format}
 pub use Rattle.kd_card.specs.Kinds.{AreKindsOf, IsPairInOrder, KindFormat, bar_format, cable_format, pair_format}
 pub use Rattle.kd_card.specs.Prices.{ArePrices, PricesFit, cost_at, price_sum, table_size, version_of}
 pub use Rattle.kd_card.specs.Prices.{ArePricesInRange, ArePricesTight, PricesFitAt, column_prices, price_at, row_prices}
-pub use Rattle.kd_card.specs.Proving.{AreExpanded, AreModelPrices, AreSettingsNeeded, IsSettingNeeded, columns_in_order}
+pub use Rattle.kd_card.specs.Proving.{AreExpanded, AreModelPrices, AreSettingsNeeded, IsSettingNeeded}
+pub use Rattle.kd_state.specs.OnKey.{columns_in_order, pair_in_order}
 pub use Rattle.kd_card.specs.declared.kinds.{BarKind.BarKind, CableKind.CableKind, PairKind.PairKind, RowKind.RowKind}
 pub use Rattle.kd_card.specs.declared.{kinds.KindOf.KindOf, prices.Version.TheVariants.{ByKind, ByNumber}}
 pub use Rattle.kd_card.specs.declared.prices.PriceParts.{PriceParts, TheVariants.{BarKinds, Bars, CableKinds, Cables}}

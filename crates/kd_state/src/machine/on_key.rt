@@ -9,7 +9,7 @@ ghost use Rattle.kd_state.specs.SameParts.{place_in_box};
 
 use crate::costs::tables::column_at;
 use crate::machine::Machine;
-use crate::machine::cable::{Cable, cable_in_order};
+use crate::machine::cable::{Cable, letters_in_order};
 use crate::machine::getters::letter_of_wheel;
 use crate::machine::parts::Parts;
 use crate::machine::per_wheel::PerWheel;
@@ -145,7 +145,10 @@ fn cable_of_column(column: Option<(Letter, Letter)>) -> Cable
     ensures { result ≡ cable_of_column column }
 {
     match column {
-        Some((one, other)) => cable_in_order(Some(one), Some(other)),
+        Some((one, other)) => {
+            let (first, second) = letters_in_order(one, other);
+            (Some(first), Some(second))
+        }
         None => (None, None),
     }
 }
