@@ -35,18 +35,18 @@ pub record Led (m : Parts) (xs : List Setting) (n : Parts) : Type 0 where
 pub led_none : {m n : Parts} → n ≡ m → Led m [] n
 led_none e = record { leads = e }
 
-pub led_cons : {m k n : Parts} {x : Setting} {xs : List Setting} → why_refused m x ≡ None → machine_after m x ≡ k
-    → Led k xs n → Led m (x ∷ xs) n
-led_cons {k = k} allowed made rest = record { leads = (k, record { allowed = allowed; made = sym made }, rest.leads) }
+pub led_cons : {m k n : Parts} {x : Setting} {xs : List Setting} → Carries m x k → Led k xs n
+    → Led m (x ∷ xs) n
+led_cons {k = k} carries rest = record { leads = (k, carries, rest.leads) }
 
 pub led_append : (xs ys : List Setting) {m k n : Parts} → Led m xs k → Led k ys n → Led m (xs ++ ys) n
 led_append xs ys first second = record { leads = leads_join _ _ _ xs ys first.leads second.leads }
 
 -- The setting for a thing leads from `m` to `n`; it is left out if the thing is right already (`so`).
-pub led_unless : (so : Bool) (m n : Parts) (x : Setting) → (so ≡ true → n ≡ m) → (so ≡ false → machine_after m x ≡ n)
-    → (so ≡ false → why_refused m x ≡ None) → Led m (setting_unless so x) n
-led_unless true m n x same made allowed = led_none (same refl)
-led_unless false m n x same made allowed = led_cons (allowed refl) (made refl) (led_none refl)
+pub led_unless : (so : Bool) (m n : Parts) (x : Setting) → (so ≡ true → n ≡ m) → (so ≡ false → Carries m x n)
+    → Led m (setting_unless so x) n
+led_unless true m n x same carries = led_none (same refl)
+led_unless false m n x same carries = led_cons (carries refl) (led_none refl)
 
 -- Things in turn, each with its settings. `state` gives the machine in which the things of the first list are set
 -- already, and those of the second list aren't yet.
@@ -272,7 +272,10 @@ module _ (m : RotorParts) (s : RotorDay) (machine : IsMachine (Rotor m)) (legal 
       rw fold_push (grind (arith, led_unless, here, left, set_same, eqb-true)))
 
   pub rotors_led : Led (Rotor m) (loose_lines (Rotor m) (OfRotors s)) (Rotor turned_all)
-  rotors_led = grind (arith, common_steps, reflector_led, led_append, seats_lead, rings_lead, turns_lead)
+  rotors_led =
+      let reflector = reflector_led m (seats_of_wheels s.wheels) s.reflector
+      (subst (λ model. Contains (reflectors_of model) s.reflector) (sym same) legal.reflector) in
+      led_append _ _ (led_append _ _ (led_append _ _ seats_lead reflector) rings_lead) turns_lead
 
   -- After all these settings, each of the day's wheels has the day's ring and the day's letter.
   pub shown : (k : ℕ) (d : SheetWheel) → k < length s.wheels → let w = get_or s.wheels k d in

@@ -64,32 +64,8 @@ module _ (place target : SheetWheel → ℕ) (ys : List ℕ) where
 
 -- ---- the cost of cables doesn't depend on their numbers
 
-abbrev count_differing : List ℕ → (ℕ → Bool) → (ℕ → Bool) → ℕ
-count_differing letters p q = count_by (λ letter. exactly_one (p letter) (q letter)) letters
-
-differing-triangle : (p q r : ℕ → Bool) (letters : List ℕ)
-    → (count_differing letters p r ≤ count_differing letters p q + count_differing letters q r)
-    × (count_differing letters q r ≤ count_differing letters p q + count_differing letters p r)
-differing-triangle p q r [] = (omega arith, omega arith)
-differing-triangle p q r (letter ∷ letters) =
-    let rest = differing-triangle p q r letters in simp count_by-cons (grind (arith, rest.0), grind (arith, rest.1))
-
--- The cost of cables `xs` at columns `us`: `f` tests whether a cable has a letter, and `g` whether a column has it.
-module _ {A W : Type 0} (letters : List ℕ) (f : A → ℕ → Bool) (g : W → ℕ → Bool) where
-  abbrev costs : List A → List W → ℕ
-  costs xs us = sum_by (λ z. count_differing letters (f z.0) (g z.1)) (zip xs us)
-
-  abbrev changes : List (W × W) → ℕ
-  changes zs = sum_by (λ z. count_differing letters (g z.0) (g z.1)) zs
-
-  costs-triangle : (xs : List A) (us vs : List W) → length us ≡ length xs → length vs ≡ length xs
-      → (costs xs vs ≤ costs xs us + changes (zip us vs)) × (changes (zip us vs) ≤ costs xs us + costs xs vs)
-  costs-triangle (x ∷ xs) (u ∷ us) (v ∷ vs) e d =
-      let here = differing-triangle (f x) (g u) (g v) letters in
-      let rest = costs-triangle xs us vs (omega arith) (omega arith) in
-      simp sum_by-cons (omega (arith, here.0, rest.0), omega (arith, here.1, rest.1))
-  costs-triangle [] [] vs e d = (omega arith, omega arith)
-  costs-triangle xs us vs e d = absurd (omega arith)
+abbrev Priced : Type 0
+Priced = Option (ℕ × ℕ) × ℤ
 
 zip-seconds : {A B : Type 0} (us : List A) (zs : List (A × B)) → AllZip (λ u z. u ≡ z.0) us zs
     → zip us (map (λ z. z.1) zs) ≡ zs
@@ -97,41 +73,20 @@ zip-seconds [] [] h = refl
 zip-seconds (u ∷ us) (z ∷ zs) h = grind (arith, zip-seconds us zs h.1)
 zip-seconds us zs h = absurd h
 
-abbrev Priced : Type 0
-Priced = Option (ℕ × ℕ) × ℤ
-
--- Whichever columns the cables `others` are assigned to, `cables` can be assigned to the same columns, in some order,
--- at no higher cost.
-abbrev CostNoMore : List (Option ℕ × Option ℕ) → List (Option ℕ × Option ℕ) → Type 0
-CostNoMore cables others = (ws : List Priced) → length ws ≡ length others
-    → (vs : List Priced) × IsPermutation ws vs × (pairing_cost cable_cost cables vs ≤ pairing_cost cable_cost others ws)
-
--- If two machines read as one day, the cables of the first can have any columns at no higher cost than those of the
--- second.
-reading_alike_costs_no_more : (g n : RotorParts) (s : RotorDay) → IsLegalRotorDay s → HasCables g.cables
-    → HasCables n.cables → ReadsAs (Rotor g) (OfRotors s) → ReadsAs (Rotor n) (OfRotors s)
-    → CostNoMore g.cables n.cables
-reading_alike_costs_no_more g n s legal has too reads also ws size =
-    let once = once_of_distinct (letters_in_pairs s.pairs) legal.pairs.apart in
-    let free = replicate 13 (pos 0) in
-    let us = cables_paired g.cables s.pairs free has once legal.pairs.few refl reads.key.cables in
-    let qs = cables_paired n.cables s.pairs free too once legal.pairs.few refl also.key.cables in
-    let order = IsPermutation-trans _ _ _ (IsPermutation-sym _ _ qs.order) us.order in
-    let same = with_prices (λ q u. q ≡ u) qs.beside qs.beside ws (qs.count ∙ sym size) (each_itself qs.beside) in
-    let there = reordered (λ q (z : Priced × Priced). q ≡ z.0) qs.beside us.beside (zip qs.beside ws) order same in
-    let second = λ (z : Priced × Priced). z.1 in
-    let many = length-map there.0 second ∙ AllZip-long _ us.beside there.0 there.2 ∙ us.count in
-    let of_cable = λ (cable : Option ℕ × Option ℕ). has_letter (cable_letters cable) in
-    let of_column = λ (w : Priced). has_letter (column_letters w.0) in
-    let vs = map second there.0 in
-    let costly = costs-triangle alphabet of_cable of_column g.cables us.beside vs us.count many in
-    let cheap = costs-triangle alphabet of_cable of_column n.cables qs.beside ws qs.count size in
-    let change = changes {A = Option ℕ × Option ℕ} alphabet of_cable of_column in
-    let back = ap change (zip-seconds us.beside there.0 there.2) in
-    let sums = sum_by-IsPermutation (λ z. count_differing alphabet (of_column z.0) (of_column z.1)) _ _ there.1 in
-    let moved = IsPermutation-map second _ _ there.1 in
-    let order = subst (λ ws. IsPermutation ws vs) (seconds-zip qs.beside ws (size ∙ sym qs.count)) moved in
-    (vs, order, omega (arith, us.free, qs.free, costly.0, cheap.1))
+-- If cables are numbered differently, their columns can be put in an order in which the cables cost as much as before.
+renumbered : (cables others : List (Option ℕ × Option ℕ)) (ws : List Priced) → IsPermutation others cables
+    → length ws ≡ length others
+    → (vs : List Priced) × IsPermutation ws vs × (pairing_cost cable_cost cables vs ≡ pairing_cost cable_cost others ws)
+renumbered cables others ws order size =
+    let there = reordered (λ cable (z : (Option ℕ × Option ℕ) × Priced). cable ≡ z.0) others cables (zip others ws)
+    order (rw map-id at (with_prices (λ cable. cable) others ws (sym size))) in
+    let second = λ (z : (Option ℕ × Option ℕ) × Priced). z.1 in
+    let cost = λ (z : (Option ℕ × Option ℕ) × Priced). cable_cost z.0 z.1.0 in (
+      map second there.0,
+      subst (λ ws. IsPermutation ws (map second there.0)) (seconds-zip others ws size)
+          (IsPermutation-map second _ _ there.1),
+      ap (sum_by cost) (zip-seconds cables there.0 there.2) ∙ sum_by-IsPermutation cost _ _ there.1,
+    )
 
 -- ---- how far a machine is from another one that reads as the day
 
@@ -152,83 +107,123 @@ module _ (s : RotorDay) (legal : IsLegalRotorDay s) (o : RotorParts) (reads : Re
   abbrev loose_letters : RotorParts → ℕ
   loose_letters m = count_by (λ w. not (option_map_or (nat_eq w.letter) (letter_at m w.wheel) false)) s.wheels
 
-  turned : (m : RotorParts) (seated : Option Wheel) (letter : ℕ) → m.model ≡ s.model
-      → loose_letters (record m { letters = letters_with m seated letter }) < loose_letters m
-      → gap_count (letters_with m seated letter) o.letters + 1 ≤ gap_count m.letters o.letters
-  turned m None letter same = λ fewer. omega arith
-  turned m (Some wheel) letter same =
-      gaps-fewer (λ w. place_in_box m.model w.wheel) (λ w. w.letter) o.letters m.letters
-      (place_in_box m.model wheel) letter s.wheels (rw (reads.key.model ∙ sym same) at reads.window)
+  -- machine `m` with other slots, another reflector and other cables
+  abbrev with_others : RotorParts → List (Option Wheel) → Reflector → List (Option ℕ × Option ℕ) → Parts
+  with_others m slots reflector cables = Rotor (record m { slots = slots; reflector = reflector; cables = cables })
 
-  left_for-changed : (ws : List Priced) (m : Parts) (x : Setting) → model_of m ≡ s.model → why_refused m x ≡ None
-      → left_for ws m ≤ left_for ws (machine_after m x) + 1
-  left_for-changed ws (Rotor m) (RingTo wheel letter) same e =
-      omega (arith, gaps-set m.rings o.rings (place_in_box m.model wheel) letter)
-  left_for-changed ws (Rotor m) (Turn slot letter) same e = grind (arith, gaps-set)
-  left_for-changed ws (Rotor m) x same e = omega (arith, left_to_do-lowered ws [] (Rotor m) (OfRotors s) x legal same e)
-  left_for-changed ws (Pin m) x same e = omega arith
+  -- `left_for` falls by at most one if the rings and the window letters stay.
+  falls_by_one : (ws : List Priced) (m : RotorParts) (slots : List (Option Wheel)) (reflector : Reflector)
+      (cables : List (Option ℕ × Option ℕ)) (x : Setting) (after : Parts) → m.model ≡ s.model
+      → Carries (Rotor m) x after → with_others m slots reflector cables ≡ after
+      → left_for ws (Rotor m) ≤ left_for ws after + 1
+  falls_by_one ws m slots reflector cables x after same carries made =
+      let falls = subst (λ k. left_to_do ws [] (Rotor m) (OfRotors s) ≤ left_to_do ws [] k (OfRotors s) + 1) (sym made)
+      (left_to_do-lowered ws [] (Rotor m) (OfRotors s) x after legal same carries) in
+      subst (λ k. left_for ws (Rotor m) ≤ left_for ws k + 1) made (omega (arith, falls))
+
+  left_for-changed : (ws : List Priced) (m : Parts) (x : Setting) (after : Parts) → model_of m ≡ s.model
+      → Carries m x after → left_for ws m ≤ left_for ws after + 1
+  left_for-changed ws (Rotor m) (RingTo wheel letter) after same e =
+      if_carried (λ n. left_for ws (Rotor m) ≤ left_for ws n + 1) e (grind (arith, gaps-set))
+  left_for-changed ws (Rotor m) (Turn slot letter) after same e =
+      if_carried (λ n. left_for ws (Rotor m) ≤ left_for ws n + 1) e (grind (arith, gaps-set))
+  left_for-changed ws (Rotor m) (Pull cable letter) after same e =
+      falls_by_one ws m m.slots m.reflector _ (Pull cable letter) after same e (pulled m cable letter after e).made
+  left_for-changed ws (Rotor m) (Put cable letter) after same e =
+      falls_by_one ws m m.slots m.reflector _ (Put cable letter) after same e (was_put m cable letter after e).made
+  left_for-changed ws (Rotor m) (Seat slot wheel) after same e =
+      falls_by_one ws m _ m.reflector m.cables (Seat slot wheel) after same e (seat_made m slot wheel after e).1
+  left_for-changed ws (Rotor m) (SeatReflector reflector) after same e =
+      falls_by_one ws m m.slots _ m.cables (SeatReflector reflector) after same e (reflector_made m reflector after e).1
+  left_for-changed ws (Rotor m) x after same e = absurd (cc)
+  left_for-changed ws (Pin m) x after same e = omega arith
 
   left_for-list : (ws : List Priced) (m n : Parts) (xs : List Setting) → model_of m ≡ s.model → Leads m xs n
       → left_for ws m ≤ left_for ws n + length xs
   left_for-list ws m n [] same leads = subst (λ n. left_for ws m ≤ left_for ws n + 0) (sym leads) (omega arith)
   left_for-list ws m n (x ∷ xs) same leads =
-      let rest = left_for-list ws leads.0 n xs (ap model_of leads.1.made ∙ model_of-changed m x ∙ same) leads.2 in
-      grind (arith, left_for-changed)
+      omega (
+        arith,
+        left_for-list ws leads.0 n xs (model_of-changed m x leads.0 leads.1 ∙ same) leads.2,
+        left_for-changed ws m x leads.0 same leads.1,
+      )
+
+  one_is_needed : (m : RotorParts) (slots : List (Option Wheel)) (reflector : Reflector)
+      (cables : List (Option ℕ × Option ℕ)) (x : Setting) (after : Parts) → Carries (Rotor m) x after
+      → with_others m slots reflector cables ≡ after → IsSettingNeeded (Rotor m) (OfRotors s) x
+      → loose_for after + 1 ≤ loose_for (Rotor m) + cond (is_priced_setting x) 1 0
+  one_is_needed m slots reflector cables x after carries made needed =
+      let one = subst
+      (λ k. loose_count (Rotor m) (OfRotors s) + cond (is_priced_setting x) 1 0 ≡ loose_count k (OfRotors s) + 1)
+      (sym made) (needed_one (Rotor m) (OfRotors s) x (is_priced_setting x) after refl carries needed) in
+      subst (λ k. loose_for k + 1 ≤ loose_for (Rotor m) + cond (is_priced_setting x) 1 0) made (omega (arith, one))
 
   -- A needed setting lowers `loose_for` by at least one, unless it changes a cable.
-  loose_for-needed : (m : Parts) (x : Setting) → model_of m ≡ s.model → IsSettingNeeded m (OfRotors s) x
-      → loose_for (machine_after m x) + 1 ≤ loose_for m + cond (is_priced_setting x) 1 0
-  loose_for-needed (Rotor m) (RingTo wheel letter) same needed =
+  loose_for-needed : (m : Parts) (x : Setting) (after : Parts) → model_of m ≡ s.model → Carries m x after
+      → IsSettingNeeded m (OfRotors s) x → loose_for after + 1 ≤ loose_for m + cond (is_priced_setting x) 1 0
+  loose_for-needed (Rotor m) (RingTo wheel letter) after same e needed =
       let fewer = gaps-fewer (λ w. place_in_box m.model w.wheel) (λ w. w.ring) o.rings m.rings
       (place_in_box m.model wheel) letter s.wheels (rw (reads.key.model ∙ sym same) at reads.key.rings) in
-      omega (arith, needed refl, fewer)
-  loose_for-needed (Rotor m) (Turn slot letter) same needed =
-      omega (arith, needed refl, turned m (wheel_in_slot m slot) letter same)
-  loose_for-needed m x same needed = grind arith
+      let made = ring_made m wheel letter after e in
+      let one = if_carried (λ n. loose_count (Rotor m) (OfRotors s) ≡ loose_count n (OfRotors s) + 1) e (needed refl) in
+      subst (λ n. loose_for n + 1 ≤ loose_for (Rotor m) + 0) made (omega (arith, rw (← made) at one, fewer))
+  loose_for-needed (Rotor m) (Turn slot letter) after same e needed =
+      let (wheel, made) = turn_made m slot letter after e in
+      let fewer = gaps-fewer (λ w. place_in_box m.model w.wheel) (λ w. w.letter) o.letters m.letters
+      (place_in_box m.model wheel) letter s.wheels (rw (reads.key.model ∙ sym same) at reads.window) in
+      let one = if_carried (λ n. loose_count (Rotor m) (OfRotors s) ≡ loose_count n (OfRotors s) + 1) e (needed refl) in
+      subst (λ n. loose_for n + 1 ≤ loose_for (Rotor m) + 0) made (omega (arith, rw (← made) at one, fewer))
+  loose_for-needed (Rotor m) (Pull cable letter) after same e needed =
+      one_is_needed m m.slots m.reflector _ (Pull cable letter) after e (pulled m cable letter after e).made needed
+  loose_for-needed (Rotor m) (Put cable letter) after same e needed =
+      one_is_needed m m.slots m.reflector _ (Put cable letter) after e (was_put m cable letter after e).made needed
+  loose_for-needed (Rotor m) (Seat slot wheel) after same e needed =
+      one_is_needed m _ m.reflector m.cables (Seat slot wheel) after e (seat_made m slot wheel after e).1 needed
+  loose_for-needed (Rotor m) (SeatReflector reflector) after same e needed =
+      one_is_needed m m.slots _ m.cables (SeatReflector reflector) after e (reflector_made m reflector after e).1 needed
+  loose_for-needed (Rotor m) x after same e needed = absurd (cc)
+  loose_for-needed (Pin m) x after same e needed = absurd (no_rotors s.model s.reflector (sym same) legal.reflector)
 
   loose_for-list : (m n : Parts) (xs : List Setting) → model_of m ≡ s.model → Leads m xs n
       → AreSettingsNeeded m (OfRotors s) xs → loose_for n + length xs ≤ loose_for m + priced_count xs
   loose_for-list m n [] same leads needed = subst (λ n. loose_for n + 0 ≤ loose_for m + 0) (sym leads) (omega arith)
   loose_for-list m n (x ∷ xs) same leads needed =
-      let after = subst (λ between. Leads between xs n) leads.1.made leads.2 in
-      let rest = loose_for-list (machine_after m x) n xs (model_of-changed m x ∙ same) after needed.1 in
-      omega (arith, rest, loose_for-needed m x same needed.0, count_by-cons is_priced_setting x xs)
+      let rest = loose_for-list leads.0 n xs (model_of-changed m x leads.0 leads.1 ∙ same) leads.2
+      (if_carried (λ after. AreSettingsNeeded after (OfRotors s) xs) leads.1 needed.1) in
+      omega (arith, rest, loose_for-needed m x leads.0 same leads.1 needed.0, count_by-cons is_priced_setting x xs)
 
 -- ---- one day, and day after day
 
 abbrev fixed_parts : RotorParts → Model × List (Option Wheel) × Reflector
 fixed_parts m = (m.model, m.slots, m.reflector)
 
--- Two machines, one reached by cards and one by other lists, agree in model, slots and reflector. They may differ in
--- rings and window letters, but the first one's cables cost no more at any columns than the second one's.
-record AgreeButForCables (g n : RotorParts) : Type 0 where
-  first : HasCables g.cables
-  second : HasCables n.cables
+-- Two machines, one reached by cards and one by other lists, agree in model, slots and reflector, and have the same 13
+-- cables, in any order. They may differ in rings and window letters.
+record AgreeButForLetters (g n : RotorParts) : Type 0 where
   same : fixed_parts g ≡ fixed_parts n
-  cables : CostNoMore g.cables n.cables
+  cables : IsPermutation n.cables g.cables
+  count : length n.cables ≡ 13
 
 module _ (g n h o : RotorParts) (s : RotorDay) (card list : List Setting) (legal : IsLegalRotorDay s)
-    (near : AgreeButForCables g n) (by_card : ReachesDay (Rotor g) (OfRotors s) card (Rotor h))
+    (near : AgreeButForLetters g n) (by_card : ReachesDay (Rotor g) (OfRotors s) card (Rotor h))
     (by_list : ReachesDay (Rotor n) (OfRotors s) list (Rotor o)) where
-  last : HasCables o.cables
-  last = list_keeps (Rotor n) (Rotor o) list by_list.leads near.second
-
   -- A card is longer than the other list by at most as much as the two machines come nearer to each other in rings
   -- and window letters.
   card-at_most : (prices : PriceParts) → ArePrices prices → ProvesByNumber (Rotor g) (OfRotors s) card prices
       → length card + machine_gap h o ≤ length list + machine_gap g n
   card-at_most (Cables row column) are proves =
-      let once = once_of_distinct (letters_in_pairs s.pairs) legal.pairs.apart in
-      let due = cables_paired o.cables s.pairs column last once legal.pairs.few are.1.count by_list.reads.key.cables in
+      let due = cables_paired o.cables s.pairs column legal.pairs.few are.1.count by_list.reads.key.cables in
       let model = ap (λ z. z.0) (sym near.same) ∙ proves.model in
       let falls = left_for-list s legal o by_list.reads due.beside (Rotor n) (Rotor o) list model by_list.leads in
-      let there = near.cables due.beside (omega (arith, due.count, last.count, near.second.count)) in
+      let last = thirteen_cables o.cables s.pairs legal.pairs.few by_list.reads.key.cables in
+      let there = renumbered g.cables n.cables due.beside near.cables (omega (arith, due.count, last, near.count)) in
       let order = IsPermutation-trans _ due.beside there.0 due.order there.1 in
       let none = nothing_loose (Rotor o) (OfRotors s) by_list.reads in
       let slots = ap (λ z. loose_slots z.1 s) near.same in
       let reflector = ap (λ z. one_unless (same_reflector z.2 s.reflector)) near.same in
+      let first = length_permutation n.cables g.cables near.cables ∙ near.count in
       let bound = bounded (None, None) None cable_cost g.cables (columns_of s.pairs) (Cables row column)
-      (loose_for s legal o by_list.reads (Rotor n)) (length list) near.first.count
+      (loose_for s legal o by_list.reads (Rotor n)) (length list) first
       (thirteen_columns s.pairs legal.pairs.few) are.0.count are.1.count proves.fits there.0 order
       (omega (arith, none, due.free, there.2, gaps-self o.rings, gaps-self o.letters)) in
       let paid = loose_for-list s legal o by_list.reads (Rotor g) (Rotor h) card proves.model by_card.leads
@@ -238,15 +233,16 @@ module _ (g n h o : RotorParts) (s : RotorDay) (card list : List Setting) (legal
       omega (arith, ints, bound.bound)
   card-at_most prices are proves = absurd proves.kind
 
-  agree-next : AgreeButForCables h o
-  agree-next =
-      let first = list_keeps (Rotor g) (Rotor h) card by_card.leads near.first in
-      let same : fixed_parts h ≡ fixed_parts o = cc in
-      let cables = reading_alike_costs_no_more h o s legal first last by_card.reads by_list.reads in
-      record { first = first; second = last; same = same; cables = cables }
+  agree-next : AgreeButForLetters h o
+  agree-next = record {
+    same = cc;
+    cables = IsPermutation-trans o.cables (cables_of s.pairs) h.cables by_list.reads.key.cables
+        (IsPermutation-sym h.cables (cables_of s.pairs) by_card.reads.key.cables);
+    count = thirteen_cables o.cables s.pairs legal.pairs.few by_list.reads.key.cables;
+  }
 
 sum_by-fewest : (days : List Day) (g n : RotorParts) (cards lists : List (List Setting)) → g.model ≢ M209
-    → All IsLegalDay days → AgreeButForCables g n → DayAfterDay IsProvedCard (Rotor g) days cards
+    → All IsLegalDay days → AgreeButForLetters g n → DayAfterDay IsProvedCard (Rotor g) days cards
     → DayAfterDay ReachesDay (Rotor n) days lists → sum_by length cards ≤ sum_by length lists + machine_gap g n
 sum_by-fewest [] g n [] [] rotor legal near are lead = omega arith
 sum_by-fewest (OfRotors s ∷ days) g n (card ∷ cards) (list ∷ lists) rotor legal near (Rotor h, to, rest)
@@ -265,8 +261,7 @@ sum_by-fewest days g n cards lists rotor legal near are lead = grind arith
 
 pub cards_are_fewest_in_all : CardsAreFewestInAll
 cards_are_fewest_in_all (Rotor m) days cards lists machine rotor legal are lead =
-    let has = machines_have_all (Rotor m) machine.legal in
-    let cables : CostNoMore m.cables m.cables = λ ws size. (ws, IsPermutation-refl ws, omega arith) in
-    let near : AgreeButForCables m m = record { first = has; second = has; same = refl; cables = cables } in
+    let near : AgreeButForLetters m m =
+    record { same = refl; cables = IsPermutation-refl m.cables; count = machine.legal.cables.count } in
     grind (arith, sum_by-fewest days m m cards lists rotor legal near are lead, sum-map, gaps-self)
 cards_are_fewest_in_all (Pin m) days cards lists machine rotor legal are lead = absurd (rotor refl)

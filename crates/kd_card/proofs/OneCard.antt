@@ -76,17 +76,6 @@ of_table ByKind OfBars line {bytes} x says =
     let said = groups_said bar_format row_format 27 line groups.found groups.says in
     rw (Yields-Ok groups.next) (record { version = refl; text = said.0; are = (said.1, said.2) })
 
-module _ (version : Version) {line : ℕ} {bytes first : List ℕ} {words : List (List ℕ)} {rest : List ℕ}
-    (has : IsLineAnswer line bytes (Ok (first, words, rest))) where
-  pub table_is : (table : CostTable) → first ≡ first_text version table
-      → {answer : Result (PriceParts × List ℕ) CardFault} → IsTablePricesAnswer version table line bytes answer
-      → IsAllPricesAnswer version line bytes answer
-  table_is table is says = GoesOn table (GoesOn _ has is) says
-
-  pub no_table : ((table : CostTable) → first ≢ first_text version table)
-      → IsAllPricesAnswer version line bytes (Err PriceMissing)
-  no_table none = HasFault PriceMissing (GoesOn _ has (none, refl)) refl
-
 pub up_to_settings : {bytes : List ℕ} {version : Version} {day : ℕ} {body : List ℕ} {xs : List Setting} {rest : List ℕ}
     {number : ℕ}
     {answer : Result (ℕ × List Setting × PriceParts) CardFault} → BeginsWithHead bytes version day body

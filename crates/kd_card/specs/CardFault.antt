@@ -1,4 +1,5 @@
 -- The result of reading bytes as a card: the card, or the first fault. Lines are counted from 1.
+use Rattle.kd_card.specs.declared.prices.CostTable.{CostTable, TheVariants.{OfBars, OfCables}}
 use Rattle.kd_card.specs.Kinds.{KindFormat, cable_format, pair_format, bar_format, row_format, kind_words, kinds_text}
 use Rattle.kd_card.specs.Kinds.{total_count, IsKind, AreKinds, ComesAfter}
 use Rattle.kd_card.specs.declared.fault.CardFault.TheVariants.{BadHead, BadLine, TooMany, PriceMissing, CountWrong}
@@ -80,11 +81,6 @@ IsSettingsAnswer bytes (Err fault) =
     × (fault ≡ TooMany)
 
 -- ---- prices by number: two lines
-
--- what a card's prices are for: the rows and columns of a table of costs of cables, or of bars
-pub data CostTable : Type 0 where
-  OfCables : CostTable
-  OfBars : CostTable
 
 -- the first word of a card's first price line: `CABLES` or `BARS` in version 1, `CABLE` or `BAR` in version 2
 abbrev pub first_text : Version → CostTable → List ℕ

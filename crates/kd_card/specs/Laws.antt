@@ -13,55 +13,57 @@ use Rattle.std.specs.Prelude.{◌≡◌, ℕ, ◌+◌, ◌≤◌, List, [], ◌+
 -- isn't as the day says. Cables and bars are never loose.
 abbrev pub LooseThingsAreCounted : Type 0
 LooseThingsAreCounted =
-    (m : Parts) (s : Day) → IsMachine m → IsLegalDay s → model_of m ≡ day_model s
-    → length (loose_lines m s) ≡ loose_count m s
+    (machine : Parts) (day : Day) → IsMachine machine → IsLegalDay day → model_of machine ≡ day_model day
+    → length (loose_lines machine day) ≡ loose_count machine day
 
 -- If prices fit, they bound the length of each list that reaches the day. The length is at least the number of loose
 -- things plus the sum of the prices.
 abbrev pub FittingPricesBoundLists : Type 0
 FittingPricesBoundLists =
-    (m : Parts) (s : Day) (prices : PriceParts) (settings : List Setting) → IsMachine m → IsLegalDay s
-    → ArePrices prices → AreModelPrices m prices
-    → PricesFit (cost_table m s) prices → LeadsToTheDay m s settings
-    → (pos (loose_count m s) +ℤ price_sum prices) ≤ℤ pos (length settings)
+    (machine : Parts) (day : Day) (prices : PriceParts) (settings : List Setting) → IsMachine machine → IsLegalDay day
+    → ArePrices prices → AreModelPrices machine prices
+    → PricesFit (cost_table machine day) prices → LeadsToTheDay machine day settings
+    → (pos (loose_count machine day) +ℤ price_sum prices) ≤ℤ pos (length settings)
 
 -- A setting is unpriced if it changes no cable and no bar. If a list that reaches the day has no more unpriced settings
 -- than there are loose things, then all its unpriced settings are needed.
 abbrev pub AsFewAreNeeded : Type 0
 AsFewAreNeeded =
-    (m : Parts) (s : Day) (settings : List Setting) → IsLegalDay s → model_of m ≡ day_model s
-    → LeadsToTheDay m s settings
-    → length settings ≤ loose_count m s + priced_count settings → AreSettingsNeeded m s settings
+    (machine : Parts) (day : Day) (settings : List Setting) → IsLegalDay day → model_of machine ≡ day_model day
+    → LeadsToTheDay machine day settings
+    → length settings ≤ loose_count machine day + priced_count settings → AreSettingsNeeded machine day settings
 
 -- If a card with prices by number proves itself, the number of its settings is the number of loose things plus the sum
 -- of its prices.
--- `ProvingCardsAreShortest`: no list that reaches the day is shorter than a card that proves itself.
 abbrev pub ProvingCardsAreAsLong : Type 0
 ProvingCardsAreAsLong =
-    (m : Parts) (s : Day) (settings : List Setting) (prices : PriceParts) → ProvesByNumber m s settings prices
-    → pos (length settings) ≡ (pos (loose_count m s) +ℤ price_sum prices)
+    (machine : Parts) (day : Day) (settings : List Setting) (prices : PriceParts)
+    → ProvesByNumber machine day settings prices
+    → pos (length settings) ≡ (pos (loose_count machine day) +ℤ price_sum prices)
 
+-- No list that reaches the day is shorter than a card that proves itself.
 abbrev pub ProvingCardsAreShortest : Type 0
 ProvingCardsAreShortest =
-    (m : Parts) (s : Day) (settings : List Setting) (prices : PriceParts) → IsMachine m → IsLegalDay s
-    → ArePrices prices → Proves m s settings prices
-    → IsShortest m s settings
+    (machine : Parts) (day : Day) (settings : List Setting) (prices : PriceParts) → IsMachine machine → IsLegalDay day
+    → ArePrices prices → Proves machine day settings prices
+    → IsShortest machine day settings
 
 -- If a card with prices by number proves itself, none of its prices can be raised alone. Each row and each column of
 -- the table of costs has a cell where the prices of row and column add up to the cost.
 abbrev pub ProvingPricesAreTight : Type 0
 ProvingPricesAreTight =
-    (m : Parts) (s : Day) (settings : List Setting) (prices : PriceParts) → IsMachine m → IsLegalDay s
-    → ArePrices prices → ProvesByNumber m s settings prices
-    → ArePricesTight (cost_table m s) prices
+    (machine : Parts) (day : Day) (settings : List Setting) (prices : PriceParts) → IsMachine machine → IsLegalDay day
+    → ArePrices prices → ProvesByNumber machine day settings prices
+    → ArePricesTight (cost_table machine day) prices
 
--- Different cards have different texts, and no card's text is a proper prefix of another's.
+-- Different cards have different texts.
 abbrev pub TextsDetermineCards : Type 0
 TextsDetermineCards =
     (bytes : List ℕ) (day other : ℕ) (xs ys : List Setting) (prices others : PriceParts) → IsCard bytes day xs prices
     → IsCard bytes other ys others
     → (day ≡ other) × (xs ≡ ys) × (prices ≡ others)
 
+-- No card's text is a proper prefix of another's.
 abbrev pub NoCardBeginsAnother : Type 0
 NoCardBeginsAnother =
     (text rest : List ℕ) (day other : ℕ) (xs ys : List Setting) (prices others : PriceParts) → IsCard text day xs prices
@@ -73,12 +75,13 @@ ReadingGivesCards =
     (bytes : List ℕ) (day : ℕ) (xs : List Setting) (prices : PriceParts)
     → IsCardAnswer bytes (Ok (day, xs, prices)) ↔ IsCard bytes day xs prices
 
--- The text of a card has no fault. `OneCardFault`: any bytes have at most one first fault.
+-- The text of a card has no fault.
 abbrev pub CardsHaveNoFault : Type 0
 CardsHaveNoFault =
     (bytes : List ℕ) (day : ℕ) (xs : List Setting) (prices : PriceParts) (fault : CardFault)
     → IsCard bytes day xs prices → ¬ (IsCardFault bytes fault)
 
+-- Any bytes have at most one first fault.
 abbrev pub OneCardFault : Type 0
 OneCardFault =
     (bytes : List ℕ) (fault other : CardFault) → IsCardFault bytes fault → IsCardFault bytes other → fault ≡ other

@@ -26,19 +26,20 @@ slot_seat_line slot z = setting_unless (option_map_or (same_wheel z.1.wheel) z.0
 
 -- the setting RING, if `wheel` is one of the day's wheels and its ring isn't at the day's letter
 abbrev pub wheel_ring_line : Parts → List SheetWheel → Wheel → List Setting
-wheel_ring_line m wheels wheel = option_map_or
-    (λ w. setting_unless (option_map_or (nat_eq w.ring) (machine_ring m w.wheel) false) (RingTo w.wheel w.ring))
+wheel_ring_line machine wheels wheel = option_map_or
+    (λ w. setting_unless (option_map_or (nat_eq w.ring) (machine_ring machine w.wheel) false) (RingTo w.wheel w.ring))
     (find (λ w. same_wheel wheel w.wheel) wheels) []
 
 -- the setting TURN, if a wheel of the day isn't turned to the day's letter
 abbrev pub slot_turn_line : Parts → ℕ → SheetWheel → List Setting
-slot_turn_line m slot w =
-    setting_unless (option_map_or (nat_eq w.letter) (machine_letter m w.wheel) false) (Turn slot w.letter)
+slot_turn_line machine slot w =
+    setting_unless (option_map_or (nat_eq w.letter) (machine_letter machine w.wheel) false) (Turn slot w.letter)
 
--- the setting PIN, if a pin isn't as the day says; `wheel_pin_lines`: these settings for all pins of a wheel
+-- the setting PIN, if a pin isn't as the day says
 abbrev pub pin_line : ℕ → ℕ × (Bool × Bool) → List Setting
 pin_line wheel z = setting_unless (not (exactly_one z.1.0 z.1.1)) (PinTo wheel z.0 z.1.1)
 
+-- the settings PIN for all pins of a wheel that aren't as the day says
 abbrev pub wheel_pin_lines : ℕ → List Bool × List Bool → List Setting
 wheel_pin_lines wheel z = flat_map (pin_line wheel) (zip (ring_of wheel) (zip z.0 z.1))
 
@@ -48,12 +49,12 @@ pin_wheel_turn_line wheel z = setting_unless (nat_eq z.0 z.1) (Turn wheel z.1)
 
 -- the settings for all loose things of a machine, in a fixed order; rings come in the order of the wheels in the box
 abbrev pub loose_lines : Parts → Day → List Setting
-loose_lines (Rotor m) (OfRotors s) =
-    lines_from slot_seat_line 1 (zip m.slots s.wheels)
-    ++ setting_unless (same_reflector m.reflector s.reflector) (SeatReflector s.reflector)
-    ++ flat_map (wheel_ring_line (Rotor m) s.wheels) (box_of m.model)
-    ++ lines_from (slot_turn_line (Rotor m)) 1 s.wheels
-loose_lines (Pin m) (OfPins s) =
-    lines_from wheel_pin_lines 1 (zip (pins_of m.pins) (pins_of s.pins))
-    ++ lines_from pin_wheel_turn_line 1 (zip m.letters s.window)
+loose_lines (Rotor machine) (OfRotors day) =
+    lines_from slot_seat_line 1 (zip machine.slots day.wheels)
+    ++ setting_unless (same_reflector machine.reflector day.reflector) (SeatReflector day.reflector)
+    ++ flat_map (wheel_ring_line (Rotor machine) day.wheels) (box_of machine.model)
+    ++ lines_from (slot_turn_line (Rotor machine)) 1 day.wheels
+loose_lines (Pin machine) (OfPins day) =
+    lines_from wheel_pin_lines 1 (zip (pins_of machine.pins) (pins_of day.pins))
+    ++ lines_from pin_wheel_turn_line 1 (zip machine.letters day.window)
 loose_lines _ _ = []

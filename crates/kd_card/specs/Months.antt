@@ -5,24 +5,25 @@ use Rattle.kd_state.specs.declared.{machine.parts.Parts.Parts, setting.Setting.S
 use Rattle.kd_state.specs.{Machine.{IsMachine, model_of}, OnKey.ReadsAs, Setting.Leads, SheetDay.{Day, IsLegalDay}}
 use Rattle.kd_card.specs.{declared.prices.PriceParts.PriceParts, Prices.ArePrices, Proving.Proves}
 
--- Carrying out the settings changes machine `m` into machine `n`, which reads as day `s`.
-pub record ReachesDay (m : Parts) (s : Day) (settings : List Setting) (n : Parts) : Type 0 where
-  pub leads : Leads m settings n
-  pub reads : ReadsAs n s
+-- Carrying out the settings changes `machine` into `after`, which reads as the day.
+pub record ReachesDay (machine : Parts) (day : Day) (settings : List Setting) (after : Parts) : Type 0 where
+  pub leads : Leads machine settings after
+  pub reads : ReadsAs after day
 
 -- The settings reach the day. With some valid prices, they make a card that proves itself.
-pub record IsProvedCard (m : Parts) (s : Day) (settings : List Setting) (n : Parts) : Type 0 where
-  pub reaches : ReachesDay m s settings n
+pub record IsProvedCard (machine : Parts) (day : Day) (settings : List Setting) (after : Parts) : Type 0 where
+  pub reaches : ReachesDay machine day settings after
   pub prices : PriceParts
   pub are_prices : ArePrices prices
-  pub proves : Proves m s settings prices
+  pub proves : Proves machine day settings prices
 
 -- Each day has one list of settings, and `Sets` holds for each day and its list. The first list is carried out on
--- machine `m`. Each later list is carried out on the machine that the previous list has reached.
+-- `machine`. Each later list is carried out on the machine that the previous list has reached.
 abbrev pub DayAfterDay : (Parts → Day → List Setting → Parts → Type 0) → Parts → List Day → List (List Setting) → Type 0
-DayAfterDay Sets m [] [] = Unit {0}
-DayAfterDay Sets m (s ∷ days) (settings ∷ lists) = (n : Parts) × Sets m s settings n × DayAfterDay Sets n days lists
-DayAfterDay Sets m days lists = ⊥
+DayAfterDay Sets machine [] [] = Unit {0}
+DayAfterDay Sets machine (day ∷ days) (settings ∷ lists) =
+    (after : Parts) × Sets machine day settings after × DayAfterDay Sets after days lists
+DayAfterDay Sets machine days lists = ⊥
 
 -- the number of settings in all lists
 abbrev pub total_length : List (List Setting) → ℕ
@@ -32,6 +33,7 @@ total_length lists = sum (map length lists)
 -- that reach the same days in turn, from the same first machine, have fewer.
 abbrev pub CardsAreFewestInAll : Type 0
 CardsAreFewestInAll =
-    (m : Parts) (days : List Day) (cards lists : List (List Setting)) → IsMachine m → model_of m ≢ M209
-    → All IsLegalDay days → DayAfterDay IsProvedCard m days cards → DayAfterDay ReachesDay m days lists
+    (machine : Parts) (days : List Day) (cards lists : List (List Setting)) → IsMachine machine
+    → model_of machine ≢ M209
+    → All IsLegalDay days → DayAfterDay IsProvedCard machine days cards → DayAfterDay ReachesDay machine days lists
     → total_length cards ≤ total_length lists

@@ -35,6 +35,7 @@ table_size (Cables row col) = 13
 table_size (CableKinds row col) = 13
 table_size _ = 27
 
+-- All prices are from -9999 to 9999.
 abbrev pub ArePricesInRange : List ℤ → Type 0
 ArePricesInRange prices = All (λ price. unsigned_abs price ≤ 9999) prices
 
@@ -50,6 +51,7 @@ ArePrices (Bars row col) = IsPriceList 27 row × IsPriceList 27 col
 ArePrices (CableKinds row col) = IsGroup cable_format 13 row.items × IsGroup pair_format 13 col.items
 ArePrices (BarKinds row col) = IsGroup bar_format 27 row.items × IsGroup row_format 27 col.items
 
+-- the cost in row `i` and column `j`
 abbrev pub cost_at : List (List ℕ) → ℕ → ℕ → ℕ
 cost_at costs i j = slice_index (slice_index_or costs i []) j
 
@@ -57,14 +59,16 @@ cost_at costs i j = slice_index (slice_index_or costs i []) j
 abbrev pub price_at : List ℤ → ℕ → ℤ
 price_at prices i = slice_index_or prices i (pos 0)
 
--- The prices of row `i` and column `j` add up to at most the cost in their cell. `PricesFit`: this holds in all cells.
+-- The prices of row `i` and column `j` add up to at most the cost in their cell.
 abbrev pub PricesFitAt : List (List ℕ) → PriceParts → ℕ → ℕ → Type 0
 PricesFitAt costs prices i j =
     (price_at (row_prices prices) i +ℤ price_at (column_prices prices) j) ≤ℤ pos (cost_at costs i j)
 
+-- In each cell of the table, the prices of its row and column add up to at most the cost.
 abbrev pub PricesFit : List (List ℕ) → PriceParts → Type 0
 PricesFit costs prices = (i j : ℕ) → i < table_size prices → j < table_size prices → PricesFitAt costs prices i j
 
+-- the sum of all prices, of rows and columns
 abbrev pub price_sum : PriceParts → ℤ
 price_sum prices = fold (λ sum price. sum +ℤ price) (pos 0) (row_prices prices ++ column_prices prices)
 

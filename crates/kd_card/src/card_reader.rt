@@ -1,6 +1,6 @@
 //! Reads the text of a card.
 ghost use Rattle.kd_card.specs.CardFault.{BeginsWithHead, HasLineWords, IsValueAnswer, IsGroupsAnswer};
-ghost use Rattle.kd_card.specs.CardFault.{IsListsAnswer, IsAllPricesAnswer, IsCardFault};
+ghost use Rattle.kd_card.specs.CardFault.{IsListsAnswer, IsAllPricesAnswer, IsTableAnswer, IsCardFault};
 ghost use Rattle.kd_card.specs.{CardText.IsCard, Reading.IsNoPriceLine};
 ghost use Rattle.kd_state.specs.LineWords.{words_of, IsWithout};
 ghost use Rattle.std.specs.Prelude.{◌≡◌, ◌≢◌, ℕ, ◌<◌, ◌≤◌, ◌∷◌, ◌++◌, List, MatchOption, MatchResult, Ok, Err};
@@ -10,7 +10,7 @@ use super::fault::CardFault;
 use super::kind_text::read_kinds;
 use super::kinds::Kind;
 use super::price_text::{is_numeral, prices_of_text, split_first_word};
-use super::prices::{PriceParts, Prices, Version};
+use super::prices::{CostTable, PriceParts, Prices, Version};
 use arrayvec::ArrayVec;
 use itoa::Buffer;
 use kd_state::{day_of_text, is_word, split_once, split_settings};
@@ -98,34 +98,46 @@ fn read_value<'a>(
 }
 
 /// Reads the prices of a card, from its line `line` on. Returns the prices, and the text after their lines.
-///
-/// The first word of line `line` shows whether the card has prices of cables or of bars.
 fn read_prices(text: &[u8], version: Version, line: usize) -> Result<(Prices, &[u8]), CardFault>
     requires { line < 200 }
     ensures { MatchResult result
         (λ found. IsAllPricesAnswer version line text.now (Ok (found.0, found.1.now)))
         (λ fault. IsAllPricesAnswer version line text.now (Err fault)) }
 {
-    let (first, _, _) = split_first_word(text, line)?;
-    match version {
-        Version::ByNumber if is_word(first, "CABLES") => {
+    let table = read_table(text, version, line)?;
+    match (version, table) {
+        (Version::ByNumber, CostTable::OfCables) => {
             let (cables, pairs, rest) = read_lists(text, "CABLES", "PAIRS", line)?;
             Ok((Prices::of_parts(PriceParts::Cables(cables, pairs)), rest))
         }
-        Version::ByNumber if is_word(first, "BARS") => {
+        (Version::ByNumber, CostTable::OfBars) => {
             let (bars, rows, rest) = read_lists(text, "BARS", "ROWS", line)?;
             Ok((Prices::of_parts(PriceParts::Bars(bars, rows)), rest))
         }
-        Version::ByKind if is_word(first, "CABLE") => {
+        (Version::ByKind, CostTable::OfCables) => {
             let (cables, pairs, rest) = read_groups(text, line)?;
             let parts = PriceParts::CableKinds(cables, pairs);
             Ok((Prices::of_parts(parts), rest))
         }
-        Version::ByKind if is_word(first, "BAR") => {
+        (Version::ByKind, CostTable::OfBars) => {
             let (bars, rows, rest) = read_groups(text, line)?;
             Ok((Prices::of_parts(PriceParts::BarKinds(bars, rows)), rest))
         }
-        _ => Err(CardFault::PriceMissing),
+    }
+}
+
+/// Reads the first word of line `line` of a card, which shows whether its prices are of cables or of bars.
+fn read_table(text: &[u8], version: Version, line: usize) -> Result<CostTable, CardFault>
+    ensures { let says = IsTableAnswer version line text.now in
+        MatchResult result (λ table. says (Ok table)) (λ fault. says (Err fault)) }
+{
+    let (first, _, _) = split_first_word(text, line)?;
+    if is_word(first, version.first_word(CostTable::OfCables)) {
+        Ok(CostTable::OfCables)
+    } else if is_word(first, version.first_word(CostTable::OfBars)) {
+        Ok(CostTable::OfBars)
+    } else {
+        Err(CardFault::PriceMissing)
     }
 }
 

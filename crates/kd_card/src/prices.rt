@@ -1,6 +1,6 @@
 //! The prices of a card: one for each cable, pair, bar or row (by number), or one for each kind of them (by kind).
 ghost use Rattle.kd_card.specs.Prices.{price_sum, version_of, ArePricesInRange, IsPriceList, ArePrices};
-ghost use Rattle.kd_card.specs.{CardText.price_lines, Kinds.IsGroup, Reading.head_prefix};
+ghost use Rattle.kd_card.specs.{CardFault.first_text, CardText.price_lines, Kinds.IsGroup, Reading.head_prefix};
 ghost use Rattle.std.specs.Prelude.{◌≡◌, ◌↔◌, ◌+◌, ◌*◌, ◌≤◌, ◌++◌, length, fold, pos, unsigned_abs, ◌+ℤ◌, IsTrue};
 ghost use Rattle.std.specs.Prelude.{MatchOption};
 
@@ -28,6 +28,25 @@ impl Version {
             Version::ByKind => "CARD 2 DAY ",
         }
     }
+
+    /// The first word of a card's first price line, if its prices are for `table`.
+    pub(crate) fn first_word(self, table: CostTable) -> &'static str
+        ensures { result.now ≡ first_text self table }
+    {
+        match (self, table) {
+            (Version::ByNumber, CostTable::OfCables) => "CABLES",
+            (Version::ByNumber, CostTable::OfBars) => "BARS",
+            (Version::ByKind, CostTable::OfCables) => "CABLE",
+            (Version::ByKind, CostTable::OfBars) => "BAR",
+        }
+    }
+}
+
+/// What a card's prices are for: the rows and columns of the table of costs of cables, or of bars.
+#[derive(Clone, Copy)]
+pub(crate) enum CostTable {
+    OfCables,
+    OfBars,
 }
 
 /// The prices of a card: a list for the rows of the table of costs, and a list for its columns.

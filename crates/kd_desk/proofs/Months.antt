@@ -14,7 +14,7 @@ use Rattle.kd_card.{proofs.Months.cards_are_fewest_in_all, specs.Months.{DayAfte
 use Rattle.kd_card.specs.declared.prices.PriceParts.TheVariants.{Cables}
 use Rattle.kd_sheet.proofs.ReadBack.Described.{machine_of-IsMachine, sheet_of-legal}
 use Rattle.{kd_prices.specs.KindCards.IsByKind}
-use Rattle.{kd_state.proofs.SettingEffects.Refusals.{leads_unique, lists_keep_machines}}
+use Rattle.{kd_state.proofs.Carrying.{leads_unique, lists_keep_machines}}
 use Rattle.kd_sheet.specs.{Laws.WrittenFilesAreReadBack, MachineText.machine_text, declared.fault.SheetFault.SheetFault}
 use Rattle.{kd_sheet.specs.{Sheet.day_of, SheetFile.sheet_of}, std.proofs.Common.All}
 use Rattle.std.proofs.lemmas.List.Elements.{All-cons, All-nil, All-tail}

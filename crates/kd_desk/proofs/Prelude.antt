@@ -25,7 +25,7 @@ pub use Rattle.kd_desk.specs.CallAnswers.{LacksMemory, is_device, is_refused_bef
 pub use Rattle.kd_desk.specs.Settings.{AreSettings, InCard, InList, IsSettingsFault, OfCard, OfList, begins_as_card}
 pub use Rattle.kd_desk.specs.declared.{fault.DeskFault.DeskFault, stop.Stop.Stop, stop.Stop.TheVariants.{Unread, Usage}}
 pub use Rattle.{kd_form.specs.declared.fault.FormFault.FormFault, kd_sheet.specs.MachineFile.machine_of}
-pub use Rattle.kd_state.specs.{Machine.IsMachine, Setting.{Leads, why_refused}}
+pub use Rattle.kd_state.specs.{Machine.IsMachine, Setting.{Leads, Refuses}}
 pub use Rattle.kd_state.specs.{SheetDay.{Day, IsDayNumber, IsLegalDay, day_number}, declared.machine.parts.Parts.Parts}
 pub use Rattle.kd_state.specs.declared.setting.Setting.{Setting}
 pub use Rattle.kd_tables.specs.{Ports.{FailureAgrees, KeepsFailureFlag, Port, port, read_limit}, Writing.TakesPrefix}

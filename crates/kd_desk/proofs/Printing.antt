@@ -3,7 +3,7 @@ use Rattle.kd_desk.proofs.Prelude.{Day, DeskFault, IsCard, IsLegalDay, IsMachine
 use Rattle.{kd_desk.proofs.Prelude.{arith, day_number, subst, sym, ℕ, ◌≡◌}, kd_prices.specs.KindCards.IsByKind}
 use Rattle.{kd_desk.specs.{Ports.WritesText, RunCard.{Card, Prints}}, kd_plan.specs.Planned.IsProvedPlannedCard}
 use Rattle.kd_state.proofs.{Keys.{equally_set, reading_cipher, reading_ready}}
-use Rattle.kd_state.proofs.{SettingEffects.Refusals.lists_keep_machines}
+use Rattle.kd_state.proofs.{Carrying.lists_keep_machines}
 use Rattle.kd_card.specs.declared.card.Card as declared
 use Rattle.kd_desk.specs.Headline as headline
 

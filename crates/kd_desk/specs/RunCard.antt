@@ -22,22 +22,22 @@ use Rattle.kd_desk.specs.Ports.{WritesText}
 
 -- A shortest card for day `number` was written, or a prefix of its text if the device failed. The settings lead to the
 -- day's machine, and leave spare cables free. The prices, one for each kind, prove that no list is shorter.
-pub record WritesCard (m : Parts) (s : Day) (number : ℕ) (sink : Port)
+pub record WritesCard (machine : Parts) (day : Day) (number : ℕ) (sink : Port)
     (answer : Result (Unit {0}) DeskFault) : Type 0 where
   pub settings : List Setting
   pub prices : PriceParts
   pub version : version_of prices ≡ ByKind
-  pub proves : Proves m s settings prices
-  pub planned : IsPlannedCard m s settings proves.numbered
-  pub shortest : IsShortest m s settings
-  pub spares : SparesStayFree m s settings
-  pub leaves : LeavesTheSheetsMachine m s settings
-  pub deciphers : EquallySetDecipherOn s
+  pub proves : Proves machine day settings prices
+  pub planned : IsPlannedCard machine day settings proves.numbered
+  pub shortest : IsShortest machine day settings
+  pub spares : SparesStayFree machine day settings
+  pub leaves : LeavesTheSheetsMachine machine day settings
+  pub deciphers : EquallySetDecipherOn day
   pub text : List ℕ
   pub card : IsCard text number settings prices
   pub written : WritesText text sink answer
 
 -- The machine and the day are of different models, or a card was written.
-pub data Prints (m : Parts) (s : Day) (number : ℕ) (sink : Port) (answer : Result (Unit {0}) DeskFault) : Type 0 where
-  Different : model_of m ≢ day_model s → answer ≡ Err OtherModel → Prints m s number sink answer
-  Card : WritesCard m s number sink answer → Prints m s number sink answer
+pub data Prints (machine : Parts) (day : Day) (number : ℕ) (sink : Port) (answer : Result (Unit {0}) DeskFault) : Type 0 where
+  Different : model_of machine ≢ day_model day → answer ≡ Err OtherModel → Prints machine day number sink answer
+  Card : WritesCard machine day number sink answer → Prints machine day number sink answer

@@ -12,7 +12,7 @@ use kd_card::write_card;
 use kd_plan::plan;
 use kd_sheet::Sheet;
 use kd_sheet::laws::written_files_are_read_back;
-use kd_state::{Entry, Machine, Parts, SheetDay, carry_all};
+use kd_state::{Machine, SheetDay, carry_all};
 use kd_tables::MemorySink;
 
 /// No bytes give two lists of settings, two faults, or a list and a fault.
@@ -68,9 +68,6 @@ fn machine_after_card(machine: &Machine, day: &SheetDay) -> Machine
     ensures model { model_of result ≡ model_of machine.now }
     ensures written { CanWriteDay machine.now day.now result }
 {
-    // The calls of `parts` and `entry` show the prover that the machine and the day are legal.
-    prove!(matches!(machine.parts(), Parts::Rotor(_) | Parts::Pin(_)));
-    prove!(matches!(day.entry(), Entry::Rotor(_) | Entry::Pin(_)));
     settings_lead_or_are_refused();
     written_files_are_read_back();
     let card = with_prices_by_kind(machine, day, &plan(machine, day).unwrap());

@@ -15,7 +15,7 @@ use crate::machine_and_day::find_day;
 use kd_card::{Card, Version, write_card};
 use kd_plan::plan;
 use kd_prices::by_kind;
-use kd_state::{Entry, Machine, Parts, SheetDay};
+use kd_state::{Machine, SheetDay};
 use kd_tables::Sink;
 use std::alloc::Global;
 
@@ -46,9 +46,6 @@ pub fn print_card<W: Sink>(machine: &Machine, day: &SheetDay, sink: &mut W) -> R
     ensures untouched { IsErr result → result ≢ Err Device → sink.new ≡ sink.old }
     ensures failed { W.has_failed sink.new ≡ (W.has_failed sink.old || is_device result) }
 {
-    // The calls of `parts` and `entry` show the prover that the machine and the day are legal.
-    prove!(matches!(machine.parts(), Parts::Rotor(_) | Parts::Pin(_)));
-    prove!(matches!(day.entry(), Entry::Rotor(_) | Entry::Pin(_)));
     let card = with_prices_by_kind(machine, day, &plan(machine, day)?);
     write_card(sink, day.day(), &card)?;
     Ok(())

@@ -13,7 +13,7 @@ use arrayvec::ArrayString;
 use itoa::Buffer;
 use kd_card::read_card;
 use kd_prices::check;
-use kd_state::{Entry, Machine, Parts, SheetDay};
+use kd_state::{Machine, SheetDay};
 use kd_tables::{Device, Sink, put_all};
 use std::alloc::Global;
 
@@ -53,9 +53,6 @@ pub fn check_card<W: Sink>(
     ensures untouched { IsErr result → result ≢ Err faults.Device → sink.new ≡ sink.old }
     ensures failed { W.has_failed sink.new ≡ (W.has_failed sink.old || is_device result) }
 {
-    // The calls of `parts` and `entry` show the prover that the machine and the day are legal.
-    prove!(matches!(machine.parts(), Parts::Rotor(_) | Parts::Pin(_)));
-    prove!(matches!(day.entry(), Entry::Rotor(_) | Entry::Pin(_)));
     let (dated, card) = read_card(card)?;
     if dated != number {
         return Err(DeskFault::OtherDay);

@@ -76,8 +76,9 @@ pub use Rattle.kd_state.proofs.Lines.{IsNumeralModel-digits, lines_split_into_wo
 pub use Rattle.kd_state.proofs.Lines.{parts_make_lines, texts_determine_first_parts, word_by_bytes}
 pub use Rattle.kd_state.proofs.Keys.{cipher_in_turn, engine_cipher, twice_on_key}
 pub use Rattle.kd_state.specs.declared.machine.parts.Parts.{Parts}
-pub use Rattle.kd_state.specs.AnswerRules.{GoesOn, HasFault, HasOneAnswer-Demands, HasOneAnswer-Finds}
-pub use Rattle.kd_state.specs.AnswerRules.{HasOneAnswer-ThenNext, HasOneAnswer-Yields}
+pub use Rattle.kd_state.specs.AnswerRules.{GoesOn, HasFault}
+pub use Rattle.kd_state.proofs.OneAnswer.{HasOneAnswer-Demands, HasOneAnswer-Finds, HasOneAnswer-ThenNext}
+pub use Rattle.kd_state.proofs.OneAnswer.{HasOneAnswer-Yields}
 pub use Rattle.kd_state.specs.SheetDay.{Day, IsLegalDay, OfPins, OfRotors, pin_day}
 pub use Rattle.kd_state.specs.TwoCiphers.{EngineKey, IsWindow, cipher, physical_cipher, sheet_key}
 pub use Rattle.kd_state.specs.LineWords.{IsFirstPart, IsWithout, line_of, words_of}

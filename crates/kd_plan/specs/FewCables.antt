@@ -1,19 +1,19 @@
 -- A day of at most `number` pairs needs only the first `number` cables, if no other cable is in use.
-use Rattle.std.specs.Prelude.{ℕ, ◌<◌, ◌≤◌, All, IsTrue, List, length}
+use Rattle.std.specs.Prelude.{ℕ, ◌<◌, ◌≤◌, All, List, length}
 use Rattle.kd_state.specs.declared.machine.parts.Parts.{Parts, TheVariants.{Pin, Rotor}}
-use Rattle.kd_state.specs.{Setting.{Leads, cable_at}, declared.setting.Setting.{Setting, TheVariants.{Pull, Put}}}
+use Rattle.kd_state.specs.{Setting.Leads, declared.setting.Setting.{Setting, TheVariants.{Pull, Put}}}
 use Rattle.kd_state.specs.SheetDay.{Day, OfPins, OfRotors}
-use Rattle.kd_plan.specs.Spares.{is_spare, SparesStayFree}
+use Rattle.kd_plan.specs.Spares.{IsSpareCable, SparesStayFree}
 
 -- All cables with numbers above `number` are spare: they have no letter.
 abbrev pub UsesNoneAbove : ℕ → Parts → Type 0
-UsesNoneAbove number (Rotor m) = (cable : ℕ) → number < cable → IsTrue (is_spare (cable_at m cable))
-UsesNoneAbove number (Pin m) = Unit {0}
+UsesNoneAbove number (Rotor machine) = (cable : ℕ) → number < cable → IsSpareCable machine.cables cable
+UsesNoneAbove number (Pin machine) = Unit {0}
 
 -- The day has at most `number` pairs.
 abbrev pub HasPairsUpTo : ℕ → Day → Type 0
-HasPairsUpTo number (OfRotors s) = length s.pairs ≤ number
-HasPairsUpTo number (OfPins s) = Unit {0}
+HasPairsUpTo number (OfRotors day) = length day.pairs ≤ number
+HasPairsUpTo number (OfPins day) = Unit {0}
 
 -- The setting names no cable with a number above `number`.
 abbrev pub NamesNoneAbove : ℕ → Setting → Type 0
@@ -26,6 +26,7 @@ NamesNoneAbove number _ = Unit {0}
 -- the end only these cables are in use.
 abbrev pub FewCablesServe : Type 0
 FewCablesServe =
-    (number : ℕ) (m n : Parts) (s : Day) (settings : List Setting) → UsesNoneAbove number m → HasPairsUpTo number s
-    → SparesStayFree m s settings → Leads m settings n
-    → All (NamesNoneAbove number) settings × UsesNoneAbove number n
+    (number : ℕ) (machine after : Parts) (day : Day) (settings : List Setting) → UsesNoneAbove number machine
+    → HasPairsUpTo number day
+    → SparesStayFree machine day settings → Leads machine settings after
+    → All (NamesNoneAbove number) settings × UsesNoneAbove number after

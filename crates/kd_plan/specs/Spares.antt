@@ -1,21 +1,26 @@
 -- Spare cables, and settings that leave them free.
 use Rattle.std.specs.Prelude.{ℕ, ◌-◌, ◌<◌, ◌≤◌, nat_lt, not, ◌&&◌, ◌||◌, Bool, IsTrue, List, length, count_by, take}
-use Rattle.std.specs.Prelude.{Contains, Option, None, is_none, slice_index, slice_index_or}
+use Rattle.std.specs.Prelude.{Contains, IfSome, Option, None, is_none, slice_index, slice_index_or}
 use Rattle.kd_state.specs.declared.machine.parts.Parts.{Parts, TheVariants.{Pin, Rotor}}
 use Rattle.kd_state.specs.{SheetDay.{Day, OfPins, OfRotors}, declared.setting.Setting.{Setting, TheVariants.Put}}
-use Rattle.kd_state.specs.Setting.{cable_at}
+use Rattle.kd_state.specs.SameParts.{numbered_item}
 
 -- whether the cable is spare, that is, has no letter; all other cables are in use
 abbrev pub is_spare : Option ℕ × Option ℕ → Bool
 is_spare cable = is_none cable.0 && is_none cable.1
 
+-- The cable with this number is spare. There may be no such cable.
+abbrev pub IsSpareCable : List (Option ℕ × Option ℕ) → ℕ → Type 0
+IsSpareCable cables number = IfSome (numbered_item cables number) (λ cable. IsTrue (is_spare cable))
+
 -- Letters are put only into cables in use, and into the first spare cables. If there are more pairs than cables in use,
 -- the difference is the number of spare cables that may get letters; otherwise none may.
 abbrev pub SparesStayFree : Parts → Day → List Setting → Type 0
-SparesStayFree (Rotor m) (OfRotors s) settings =
-    (cable letter : ℕ) → Contains settings (Put cable letter) → IsTrue (is_spare (cable_at m cable))
-    → count_by is_spare (take cable m.cables) ≤ length s.pairs - count_by (λ cable. not (is_spare cable)) m.cables
-SparesStayFree (Pin m) (OfPins s) settings = Unit {0}
+SparesStayFree (Rotor machine) (OfRotors day) settings =
+    (cable letter : ℕ) → Contains settings (Put cable letter) → IsSpareCable machine.cables cable
+    → count_by is_spare (take cable machine.cables)
+    ≤ length day.pairs - count_by (λ cable. not (is_spare cable)) machine.cables
+SparesStayFree (Pin machine) (OfPins day) settings = Unit {0}
 SparesStayFree _ _ settings = ⊥
 
 -- ---- Assignments that give pairs to cables in use first. No contract of a public function cites these definitions.

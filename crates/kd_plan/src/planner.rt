@@ -25,6 +25,8 @@ pub fn plan(machine: &Machine, day: &SheetDay) -> Result<Card, OtherModel>
     ensures refused { IsErr result ↔ (model_of machine.now ≢ day_model day.now) }
     ensures card { IfOk result (λ card.
         IsProvedPlannedCard machine.now day.now card.settings.items card.prices) }
+    ensures machine { IsMachine machine.now }
+    ensures day { IsLegalDay day.now }
 {
     match machine.of_one_model(day) {
         None => Err(OtherModel),

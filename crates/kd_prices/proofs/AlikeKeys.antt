@@ -1,16 +1,17 @@
--- Cables, bars and columns at two different places are equal exactly if `StandAlike` or `ReadAlike` holds for these
--- places. So equal keys have equal prices exactly if prices are equal wherever one of the two holds.
+-- Columns at two different places are equal exactly if `ReadAlike` holds for these places. For cables, bars and rows,
+-- `StandAlike` or `ReadAlike` itself says that they are equal. So equal keys have equal prices exactly if prices are
+-- equal wherever one of the two holds.
 use Rattle.kd_prices.proofs.AlikePrices.{nothing_at, same_at}
-use Rattle.kd_prices.proofs.Prelude.{All-from_recursion, AllByRecursion, columns_are_the_pairs, tests_determine_letters}
+use Rattle.kd_prices.proofs.Prelude.{All-from_recursion, AllByRecursion, columns_are_the_pairs}
 use Rattle.kd_prices.proofs.Prelude.{AreEnds, HaveOnePriceEach, letters_in_cables, recursion_from_All, slice_get-get_or}
-use Rattle.kd_prices.proofs.Prelude.{HaveSameLetters, IsPairInOrder, cable_in_order, columns_in_order, letters_in_pairs}
-use Rattle.kd_prices.proofs.Prelude.{NoLetterTwice, Option, cable_letters, get_or_default, pair_in_order, smaller_first}
-use Rattle.kd_prices.proofs.Prelude.{IsLegalDay, RotorParts, StandAlike, columns_of, get_or-map, get_or-zip, length-map}
+use Rattle.kd_prices.proofs.Prelude.{IsPairInOrder, cable_in_order, columns_in_order, letters_in_pairs}
+use Rattle.kd_prices.proofs.Prelude.{NoLetterTwice, Option, get_or_default, pair_in_order, smaller_first}
+use Rattle.kd_prices.proofs.Prelude.{IsLegalDay, RotorParts, columns_of, get_or-map, get_or-zip, length-map}
 use Rattle.kd_prices.proofs.Prelude.{IsMachine, ReadAlike, Some, eqb-false, length-zip, nat_tests, replicate, slice_get}
-use Rattle.kd_prices.proofs.Prelude.{Contains, OfRotors, RotorDay, arith, false, get_or, length, price_at, unwrap_or, ℕ}
+use Rattle.kd_prices.proofs.Prelude.{Contains, OfRotors, RotorDay, arith, false, get_or, length, price_at, ℕ}
 use Rattle.kd_prices.proofs.Prelude.{All, List, None, Parts, Pin, Rotor, eqb, inl, inr, map, refl, subst, zero, ℤ, ◌++◌}
 use Rattle.kd_prices.proofs.Prelude.{[], ap, pos, suc, sym, zip, ◌-◌, ◌<◌, ◌↔◌, ◌∙◌, ◌∷◌, ◌≡◌, ◌≤◌, ◌⊎◌}
-use Rattle.{kd_state.specs.Setting.has_letter, std.{proofs.lemmas.List.Elements.Contains-get_or, specs.List.IsDistinct}}
+use Rattle.std.{proofs.lemmas.List.Elements.Contains-get_or, specs.List.IsDistinct}
 
 -- ---- the letters of cables and columns are in order, as a card writes them
 
@@ -57,14 +58,6 @@ columns_are_in_form s legal =
     All-from_recursion IsPairInOrder (columns_in_order s.pairs) (pairs_in_form (13 - length s.pairs) s.pairs
     (recursion_from_All (λ letter. letter < 26) (letters_in_pairs s.pairs) pairs.within) pairs.apart)
 
--- ---- cables with the same letters
-
-ends_told : (cable other : Option ℕ × Option ℕ) → AreEnds cable.0 cable.1 → AreEnds other.0 other.1
-    → ((letter : ℕ) → has_letter (cable_letters cable) letter ≡ has_letter (cable_letters other) letter)
-    → cable ≡ other
-ends_told (a, b) (c, d) form form' same =
-    grind (arith, nat_tests, same (unwrap_or a 0), same (unwrap_or b 0), same (unwrap_or c 0), same (unwrap_or d 0))
-
 -- ---- equal pairs are at one place
 
 away : (p : ℕ × ℕ) (pairs : List (ℕ × ℕ)) (k : ℕ) → AllByRecursion (λ y. eqb p.0 y ≡ false) (letters_in_pairs pairs)
@@ -97,17 +90,6 @@ each_told keys d i k inside within = (
   λ same. inl (slice_get-get_or keys i d inside ∙ ap (λ x. Some x) same ∙ sym (slice_get-get_or keys k d within)),
   λ alike. same_at keys i k d alike,
 )
-
-pub cables_told : (m : RotorParts) → IsMachine (Rotor m) → AreTold m.cables (None, None) (StandAlike (Rotor m))
-cables_told m machine i k inside within =
-    let forms = cables_are_in_form m machine in
-    let cable = λ (place : ℕ). get_or m.cables place (None, None) in (
-      λ same.
-          inl (subst (λ ends. HaveSameLetters (cable_letters (cable i)) (cable_letters ends)) same
-          (λ letter. (λ h. h, λ h. h))),
-      λ alike. ends_told (cable i) (cable k) (forms i (None, None) inside) (forms k (None, None) within)
-          ((tests_determine_letters (cable_letters (cable i)) (cable_letters (cable k))).0 alike),
-    )
 
 pub columns_told : (s : RotorDay) → IsLegalDay (OfRotors s)
     → AreTold (columns_in_order s.pairs) None (ReadAlike (OfRotors s))

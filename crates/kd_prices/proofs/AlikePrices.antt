@@ -1,8 +1,8 @@
 -- In a card by number that proves itself, equal keys have equal prices. For equal rows have equal costs in each
 -- column, and each row has a column where the two prices add up to the cost; likewise for equal columns.
-use Rattle.kd_prices.proofs.Prelude.{OfRotors, columns_are_the_pairs, proving_prices_are_tight, tests_determine_letters}
+use Rattle.kd_prices.proofs.Prelude.{OfRotors, columns_are_the_pairs, proving_prices_are_tight}
 use Rattle.kd_prices.proofs.Prelude.{AlikePricesAreEqual, AreEqualWhereAlike, ap, thirteen_columns, unwrap_or-slice_get}
-use Rattle.kd_prices.proofs.Prelude.{ArePricesTight, PriceParts, StandAlike, cable_cost, cable_letters, slice_get_past}
+use Rattle.kd_prices.proofs.Prelude.{ArePricesTight, PriceParts, StandAlike, cable_cost, slice_get_past}
 use Rattle.kd_prices.proofs.Prelude.{PricesFit, ReadAlike, columns_of, get_or-map, no_rotors, slice_get, table_size, ℕ}
 use Rattle.kd_prices.proofs.Prelude.{Cables, OfPins, Parts, Rotor, arith, bar_cost, cost_at, get_or, length, unwrap_or}
 use Rattle.kd_prices.proofs.Prelude.{Bars, Day, List, None, One, Pin, ints, map, sym, ◌<◌, ◌∙◌, ◌≡◌, ◌≤◌}
@@ -49,8 +49,7 @@ alike_prices_are_equal (Rotor m) (OfRotors s) settings (Cables row column) machi
     equal_where_alike cable_cost m.cables (columns_of s.pairs) (None, None) None (Rotor m) (OfRotors s)
     (Cables row column) machine.legal.cables.count (thirteen_columns s.pairs legal.pairs.few) h.fits
     (proving_prices_are_tight (Rotor m) (OfRotors s) settings (Cables row column) machine legal are_prices h)
-    (λ i k alike column. simp ((tests_determine_letters (cable_letters (get_or m.cables i (None, None)))
-    (cable_letters (get_or m.cables k (None, None)))).0 alike))
+    (λ i k alike column. ap (λ cable. cable_cost cable column) (same_at m.cables i k (None, None) alike))
     (λ j k alike. nothing_at s.pairs j alike.0 ∙ sym (nothing_at s.pairs k alike.1))
 alike_prices_are_equal (Pin m) (OfPins s) settings (Bars row column) machine legal are_prices h =
     equal_where_alike bar_cost m.bars s.rows (One, One) (0, 0) (Pin m) (OfPins s)

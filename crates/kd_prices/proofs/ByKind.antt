@@ -1,6 +1,6 @@
 -- When prices by number, one for each key, can become prices by kind, one for equal keys; and which these are.
 use Rattle.kd_prices.proofs.{AlikeKeys.{AreTold, each_told}, Taking.size}
-use Rattle.kd_prices.proofs.AlikeKeys.{cables_are_in_form, cables_told, columns_are_in_form, columns_told, one_price_is}
+use Rattle.kd_prices.proofs.AlikeKeys.{cables_are_in_form, columns_are_in_form, columns_told, one_price_is}
 use Rattle.kd_prices.proofs.{Prelude.{All, Day, One, Pin, map, sym, zip, ◌<◌, ◌↔◌, ◌∙◌, ◌≡◌}, Runs.one_price}
 use Rattle.kd_prices.proofs.Prelude.{AreKinds, BarKinds, Expanded, OfRotors, PairKind, PinParts, RotorDay, model_of, ℤ}
 use Rattle.kd_prices.proofs.Prelude.{AreKindsOf, CanBeByKind, MatchOption, cable_format, pair_format, pair_in_order, ℕ}
@@ -104,7 +104,7 @@ cables_by_kind m s rows columns row col machine legal are same first second =
     made_by_kind cable_format pair_format (Rotor m) (OfRotors s) (Cables rows columns)
     (CableKinds (record { items = row }) (record { items = col })) m.cables (columns_in_order s.pairs) row col
     same tt refl
-    (are_kinds_for cable_format m.cables (None, None) (StandAlike (Rotor m)) (cables_told m machine)
+    (are_kinds_for cable_format m.cables (None, None) (StandAlike (Rotor m)) (each_told m.cables (None, None))
     (cables_are_in_form m machine) 13 machine.legal.cables.count rows are.0.count are.0.in_range row first)
     (are_kinds_for pair_format (columns_in_order s.pairs) None (ReadAlike (OfRotors s)) (columns_told s legal)
     (columns_are_in_form s legal) 13 thirteen columns are.1.count are.1.in_range col second)

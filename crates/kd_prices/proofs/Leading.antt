@@ -1,13 +1,14 @@
 -- Lists of settings that lead from one machine to another, split and joined.
 use Rattle.kd_card.{proofs.Months.Shortest.Falling.model_of-changed, specs.Proving.is_priced_setting}
 use Rattle.kd_prices.proofs.Prelude.{AreSettingsNeeded, IsSettingNeeded, proving_cards_are_shortest, take-append-drop}
-use Rattle.kd_prices.proofs.Prelude.{Day, Err, Ok, [], ap, drop, sym, take, ℕ, ◌++◌, ◌+◌, ◌<◌, ◌∙◌, ◌∷◌, ◌≡◌}
+use Rattle.kd_prices.proofs.Prelude.{Day, Err, Ok, [], drop, sym, take, ℕ, ◌++◌, ◌+◌, ◌<◌, ◌∙◌, ◌∷◌, ◌≡◌}
 use Rattle.kd_prices.proofs.Prelude.{Doubt, Leads, List, Parts, Setting, arith, get_or, length, subst, take_more}
-use Rattle.kd_prices.proofs.Prelude.{IsNeededAnswer, NeedlessLine, RestIsShortest, Result, length-append, machine_after}
+use Rattle.kd_prices.proofs.Prelude.{IsNeededAnswer, NeedlessLine, RestIsShortest, Result, if_carried, length-append}
+use Rattle.kd_prices.proofs.Prelude.{when_carried}
 use Rattle.kd_prices.proofs.Prelude.{day_model, leads_join, leads_next, length-drop, length-take, model_of}
 use Rattle.kd_state.specs.{Costs.loose_count, Setting.Carries}
 use Rattle.std.proofs.{Math.Seq.drop-cons, lemmas.List.length-take-le}
-use Rattle.std.specs.{Prelude.IsFalse, Result.{MatchResult, result_and}}
+use Rattle.std.specs.{Prelude.{IfOk, IsFalse}, Result.{MatchResult, result_and}}
 
 -- If `front` leads from `m` to `between`, and `front` with `rest` leads to `n`, then `rest` leads from `between`
 -- to `n`.
@@ -21,14 +22,22 @@ pub needed_at : (m between : Parts) (s : Day) (front rest : List Setting) (x : S
     → AreSettingsNeeded m s (front ++ x ∷ rest) → IsSettingNeeded between s x
 needed_at m between s [] rest x leads needed = subst (λ machine. IsSettingNeeded machine s x) (sym leads) needed.0
 needed_at m between s (y ∷ front) rest x leads needed =
-    grind (arith, needed_at (machine_after m y) between s front rest x)
+    needed_at leads.0 between s front rest x leads.2
+    (if_carried (λ after. AreSettingsNeeded after s (front ++ x ∷ rest)) leads.1 needed.1)
+
+IfOk-any : {X F : Type 0} (answer : Result X F) → IfOk answer (λ _. Unit {0})
+IfOk-any answer = grind arith
 
 -- If all settings of `front` are needed, and `x` is needed after them, then all settings of both are needed.
 needed_join : (m n : Parts) (s : Day) (front : List Setting) (x : Setting) → Leads m front n
     → AreSettingsNeeded m s front → IsSettingNeeded n s x → AreSettingsNeeded m s (front ++ x ∷ [])
-needed_join m n s [] x leads needed here = (subst (λ machine. IsSettingNeeded machine s x) leads here, tt)
-needed_join m n s (y ∷ front) x leads needed here =
-    grind (arith, needed_join (machine_after m y) n s front x)
+needed_join m n s [] x leads needed here = (subst (λ machine. IsSettingNeeded machine s x) leads here, IfOk-any _)
+needed_join m n s (y ∷ front) x leads needed here = (
+  needed.0,
+  when_carried (λ after. AreSettingsNeeded after s (front ++ x ∷ [])) leads.1
+      (needed_join leads.0 n s front x leads.2 (if_carried (λ after. AreSettingsNeeded after s front) leads.1 needed.1)
+      here),
+)
 
 -- The settings before `place` have been carried out. `needed` is `Ok` if all of them were needed, and otherwise has
 -- the first one that wasn't.
@@ -70,10 +79,13 @@ pub IsCarriedUpTo-next : {m n o : Parts} {s : Day} {xs : List Setting} {place lo
     → IsCarriedUpTo m o s xs (place + 1) left (result_and needed here)
 IsCarriedUpTo-next {m} {n} {o} {s} {xs} {place} {needed} x here inside is carried carries left tells = record {
   leads = leads_next m n o xs place x inside is carried.leads carries;
-  model = ap model_of carries.made ∙ model_of-changed n x ∙ carried.model;
+  model = model_of-changed n x o carries ∙ carried.model;
   loose_is = left;
   need_is = need_result-next m n s xs place x inside is carried.leads needed here carried.need_is
-      (rw (← carries.made, ← carried.loose_is, ← left) tells);
+      (subst (λ made. let is_needed = IsFalse (is_priced_setting x) →
+      IfOk made (λ after. loose_count n s ≡ loose_count after s + 1) in
+      MatchResult here (λ _. is_needed) (λ doubt. (doubt ≡ NeedlessLine (place + 1)) × ¬ is_needed)) (sym carries)
+      (rw (← carried.loose_is, ← left) tells));
 }
 
 -- After its first lines, the rest of a card that proves itself is a shortest list.

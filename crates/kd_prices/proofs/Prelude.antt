@@ -1,11 +1,12 @@
 -- The definitions and lemmas that most proofs of this crate use.
 pub use Rattle.kd_card.proofs.Months.Shortest.{no_rotors, proving_cards_are_shortest, proving_prices_are_tight}
-pub use Rattle.kd_card.specs.{Kinds.IsGroup, Proving.{Expanded, Expands, Proves, Same, pair_in_order, priced_count}}
+pub use Rattle.kd_card.specs.{Kinds.IsGroup, Proving.{Expanded, Expands, Proves, Same, priced_count}}
 pub use Rattle.kd_card.specs.Kinds.{AreEnds, AreKinds, IsKind, expansion, row_format}
 pub use Rattle.kd_card.specs.Kinds.{AreKindsOf, IsPairInOrder, KindFormat, bar_format, cable_format, pair_format}
 pub use Rattle.kd_card.specs.Prices.{ArePrices, PricesFit, cost_at, price_sum, table_size, version_of}
 pub use Rattle.kd_card.specs.Prices.{ArePricesInRange, ArePricesTight, PricesFitAt, column_prices, price_at, row_prices}
-pub use Rattle.kd_card.specs.Proving.{AreExpanded, AreModelPrices, AreSettingsNeeded, IsSettingNeeded, columns_in_order}
+pub use Rattle.kd_card.specs.Proving.{AreExpanded, AreModelPrices, AreSettingsNeeded, IsSettingNeeded}
+pub use Rattle.kd_state.specs.OnKey.{columns_in_order, pair_in_order}
 pub use Rattle.kd_card.specs.declared.kinds.{BarKind.BarKind, CableKind.CableKind, PairKind.PairKind, RowKind.RowKind}
 pub use Rattle.kd_card.specs.declared.{kinds.KindOf.KindOf, prices.Version.TheVariants.{ByKind, ByNumber}}
 pub use Rattle.kd_card.specs.declared.prices.PriceParts.{PriceParts, TheVariants.{BarKinds, Bars, CableKinds, Cables}}
@@ -17,15 +18,15 @@ pub use Rattle.kd_prices.specs.Grouping.{AppendsKinds, CanBeKinds, HaveOnePriceE
 pub use Rattle.kd_prices.specs.{KindCards.CanBeByKind, Laws.{AlikePricesAreEqual, AreEqualWhereAlike, RestIsShortest}}
 pub use Rattle.kd_prices.specs.declared.doubt.Doubt.{Doubt, TheVariants.{IllegalAt, OtherModel, SumDiffers}}
 pub use Rattle.kd_prices.specs.declared.doubt.Doubt.TheVariants.{NeedlessLine, NotTheSheet, PriceMissing, PriceTooHigh}
-pub use Rattle.kd_state.proofs.{Cables.tests_determine_letters}
-pub use Rattle.kd_state.proofs.{SettingEffects.Refusals.{leads_join, leads_next, leads_unique}}
+pub use Rattle.kd_state.proofs.{Carrying.{if_carried, leads_join, leads_next, leads_unique, when_carried}}
 pub use Rattle.kd_state.proofs.CostTable.{columns_are_the_pairs, thirteen_columns}
 pub use Rattle.kd_state.specs.{Costs.{bar_cost, cable_cost, columns_of, cost_table}, OneModel.IsOneModelOf}
-pub use Rattle.kd_state.specs.AnswerRules.{GoesOn, HasFault, HasOneAnswer}
-pub use Rattle.kd_state.specs.AnswerRules.{HasOneAnswer-Demands, HasOneAnswer-Finds, HasOneAnswer-ThenNext, ThenNext-Ok}
-pub use Rattle.kd_state.specs.Machine.{IsMachine, cable_in_order, cable_letters, letters_in_cables, model_of}
-pub use Rattle.kd_state.specs.{OnKey.HaveSameLetters, declared.setting.{Setting.Setting, why.Why.Why}}
-pub use Rattle.kd_state.specs.Setting.{Leads, machine_after, why_refused}
+pub use Rattle.kd_state.specs.AnswerRules.{GoesOn, HasFault}
+pub use Rattle.kd_state.proofs.OneAnswer.{HasOneAnswer, HasOneAnswer-Demands, HasOneAnswer-Finds}
+pub use Rattle.kd_state.proofs.OneAnswer.{HasOneAnswer-ThenNext, ThenNext-Ok}
+pub use Rattle.kd_state.specs.Machine.{IsMachine, cable_in_order, letters_in_cables, model_of}
+pub use Rattle.kd_state.specs.declared.setting.{Setting.Setting, why.Why.Why}
+pub use Rattle.kd_state.specs.Setting.{Leads, Refuses, outcome}
 pub use Rattle.kd_state.specs.SheetDay.{Day, IsLegalDay, OfPins, OfRotors, PinDay, RotorDay, day_model}
 pub use Rattle.kd_state.specs.declared.machine.parts.Parts.{Parts, TheVariants.{Pin, Rotor}}
 pub use Rattle.kd_state.specs.declared.machine.{pin_parts.PinParts.PinParts, rotor_parts.RotorParts.RotorParts}

@@ -13,10 +13,10 @@ use Rattle.kd_prices.specs.declared.doubt.Doubt.{Doubt, TheVariants.{IllegalAt, 
 -- The prices suit the machine: they are prices of cables and columns for a rotor machine, or of bars and rows for a
 -- Converter M-209.
 abbrev pub PricesSuitMachine : Parts → PriceParts → Type 0
-PricesSuitMachine (Rotor m) (Cables row col) = Unit {0}
-PricesSuitMachine (Rotor m) (CableKinds row col) = Unit {0}
-PricesSuitMachine (Pin m) (Bars row col) = Unit {0}
-PricesSuitMachine (Pin m) (BarKinds row col) = Unit {0}
+PricesSuitMachine (Rotor machine) (Cables row col) = Unit {0}
+PricesSuitMachine (Rotor machine) (CableKinds row col) = Unit {0}
+PricesSuitMachine (Pin machine) (Bars row col) = Unit {0}
+PricesSuitMachine (Pin machine) (BarKinds row col) = Unit {0}
 PricesSuitMachine _ _ = ⊥
 
 -- Row by row, the cell in row `i` and column `j` comes before the cell in row `row` and column `column`.
@@ -32,22 +32,22 @@ pub record IsFirstWithout (Holds : ℕ → ℕ → Type 0) (number row column : 
   pub before : (i j : ℕ) → j < number → CellComesBefore i j row column → Holds i j
 
 -- The setting on line `line`, counted from 1, is the first of `settings` that isn't needed.
-pub record IsFirstNeedless (m : Parts) (s : Day) (settings : List Setting) (line : ℕ) : Type 0 where
+pub record IsFirstNeedless (machine : Parts) (day : Day) (settings : List Setting) (line : ℕ) : Type 0 where
   pub front : List Setting
   pub setting : Setting
   pub rest : List Setting
   pub between : Parts
   pub split : settings ≡ front ++ setting ∷ rest
   pub number : line ≡ length front + 1
-  pub leads : Leads m front between
-  pub needed : AreSettingsNeeded m s front
-  pub needless : ¬ (IsSettingNeeded between s setting)
+  pub leads : Leads machine front between
+  pub needed : AreSettingsNeeded machine day front
+  pub needless : ¬ (IsSettingNeeded between day setting)
 
 -- The result of carrying out the settings: the machine after them, or the first refused line and the reason.
 abbrev pub IsCarriedAnswer : Parts → List Setting → AnswerRule Doubt Parts
-IsCarriedAnswer m settings (Ok n) = Leads m settings n
-IsCarriedAnswer m settings (Err (IllegalAt line why)) = IsFirstIllegal m settings line why
-IsCarriedAnswer m settings (Err doubt) = ⊥
+IsCarriedAnswer machine settings (Ok after) = Leads machine settings after
+IsCarriedAnswer machine settings (Err (IllegalAt line why)) = IsFirstIllegal machine settings line why
+IsCarriedAnswer machine settings (Err doubt) = ⊥
 
 -- The result of comparing the prices with the table of costs: success, or the first cell where they don't fit.
 abbrev pub IsFitsAnswer : List (List ℕ) → PriceParts → AnswerRule Doubt (Unit {0})
@@ -59,32 +59,32 @@ IsFitsAnswer costs prices (Err doubt) = ⊥
 
 -- The result of testing whether all settings are needed: success, or the first setting that isn't.
 abbrev pub IsNeededAnswer : Parts → Day → List Setting → AnswerRule Doubt (Unit {0})
-IsNeededAnswer m s settings (Ok all) = AreSettingsNeeded m s settings
-IsNeededAnswer m s settings (Err (NeedlessLine line)) = IsFirstNeedless m s settings line
-IsNeededAnswer m s settings (Err doubt) = ⊥
+IsNeededAnswer machine day settings (Ok all) = AreSettingsNeeded machine day settings
+IsNeededAnswer machine day settings (Err (NeedlessLine line)) = IsFirstNeedless machine day settings line
+IsNeededAnswer machine day settings (Err doubt) = ⊥
 
 -- The result of checking a card with prices by number: success, or the first doubt. Success means that its settings
 -- lead to the day, and that its prices prove that no shorter list does.
 abbrev pub IsByNumberAnswer : Parts → Day → List Setting → PriceParts → AnswerRule Doubt (Unit {0})
-IsByNumberAnswer m s settings prices = do
-  n ← IsCarriedAnswer m settings
-  _ ← Demands (ReadsAs n s) NotTheSheet
-  _ ← IsFitsAnswer (cost_table m s) prices
+IsByNumberAnswer machine day settings prices = do
+  n ← IsCarriedAnswer machine settings
+  _ ← Demands (ReadsAs n day) NotTheSheet
+  _ ← IsFitsAnswer (cost_table machine day) prices
   _ ← Demands (price_sum prices ≡ pos (priced_count settings)) SumDiffers
-  IsNeededAnswer m s settings
+  IsNeededAnswer machine day settings
 
 -- The result of checking a card: success if the card proves itself, otherwise the first doubt. If each kind has one
 -- price, the price of each cable, column, bar or row is found first.
 abbrev pub IsCheckedAnswer : Parts → Day → List Setting → PriceParts → AnswerRule Doubt (Unit {0})
-IsCheckedAnswer m s settings prices = do
-  _ ← Demands (model_of m ≡ day_model s) OtherModel
-  _ ← Demands (PricesSuitMachine m prices) OtherModel
-  numbered ← Finds (λ numbered. Expands m s prices numbered) PriceMissing
-  IsByNumberAnswer m s settings numbered
+IsCheckedAnswer machine day settings prices = do
+  _ ← Demands (model_of machine ≡ day_model day) OtherModel
+  _ ← Demands (PricesSuitMachine machine prices) OtherModel
+  numbered ← Finds (λ numbered. Expands machine day prices numbered) PriceMissing
+  IsByNumberAnswer machine day settings numbered
 
 -- `doubt` is the first doubt about the card that has these settings and these prices.
 abbrev pub IsDoubt : Parts → Day → List Setting → PriceParts → Doubt → Type 0
-IsDoubt m s settings prices doubt = IsCheckedAnswer m s settings prices (Err doubt)
+IsDoubt machine day settings prices doubt = IsCheckedAnswer machine day settings prices (Err doubt)
 
 -- ---- The steps of finding the first doubt. No public contract cites these definitions.
 
@@ -92,14 +92,14 @@ IsDoubt m s settings prices doubt = IsCheckedAnswer m s settings prices (Err dou
 -- `number` columns. The result is success if the settings lead to the day and are proved shortest; otherwise it is the
 -- first doubt.
 abbrev pub IsByPricesAnswer : Parts → Day → List Setting → ℕ → List ℤ → List ℤ → AnswerRule Doubt (Unit {0})
-IsByPricesAnswer m s settings number rows columns answer =
+IsByPricesAnswer machine day settings number rows columns answer =
     (prices : PriceParts) → row_prices prices ≡ rows → column_prices prices ≡ columns → table_size prices ≡ number
-    → IsByNumberAnswer m s settings prices answer
+    → IsByNumberAnswer machine day settings prices answer
 
 -- The result of finding a price for each row and each column of the table of costs: both lists of prices, or the first
 -- doubt. `make` makes the prices of a card from the two lists.
 abbrev pub ArePricesFound : Parts → Day → PriceParts → (List ℤ → List ℤ → PriceParts)
     → AnswerRule Doubt (List ℤ × List ℤ)
-ArePricesFound m s prices make = do
-  _ ← Demands (PricesSuitMachine m prices) OtherModel
-  Finds (λ (found : List ℤ × List ℤ). Expands m s prices (make found.0 found.1)) PriceMissing
+ArePricesFound machine day prices make = do
+  _ ← Demands (PricesSuitMachine machine prices) OtherModel
+  Finds (λ (found : List ℤ × List ℤ). Expands machine day prices (make found.0 found.1)) PriceMissing

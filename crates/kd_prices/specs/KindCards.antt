@@ -7,14 +7,14 @@ use Rattle.kd_prices.specs.Laws.{AreEqualWhereAlike}
 
 -- Machine and day are of one model. Each cable and column, or each bar and row, has its own price. Equal cables,
 -- columns, bars or rows have equal prices.
-pub record CanBeByKind (m : Parts) (s : Day) (prices : PriceParts) : Type 0 where
-  pub model : model_of m ≡ day_model s
-  pub kind : AreModelPrices m prices
-  pub equal : AreEqualWhereAlike m s prices
+pub record CanBeByKind (machine : Parts) (day : Day) (prices : PriceParts) : Type 0 where
+  pub model : model_of machine ≡ day_model day
+  pub kind : AreModelPrices machine prices
+  pub equal : AreEqualWhereAlike machine day prices
 
 -- `other` has the settings of `card`, and a price for each kind: the price that each cable, column, bar or row of
 -- this kind has on `card`.
-pub record IsByKind (m : Parts) (s : Day) (card other : Card) : Type 0 where
+pub record IsByKind (machine : Parts) (day : Day) (card other : Card) : Type 0 where
   pub settings : other.settings.items ≡ card.settings.items
   pub version : version_of other.prices ≡ ByKind
-  pub expands : Expands m s other.prices card.prices
+  pub expands : Expands machine day other.prices card.prices

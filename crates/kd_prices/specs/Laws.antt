@@ -12,43 +12,45 @@ use Rattle.kd_prices.specs.declared.doubt.Doubt.{Doubt}
 -- If a card proves itself, there is no doubt about it. `OneDoubt`: no card has two different first doubts.
 abbrev pub ProvingCardsAreInNoDoubt : Type 0
 ProvingCardsAreInNoDoubt =
-    (m : Parts) (s : Day) (settings : List Setting) (prices : PriceParts) (doubt : Doubt) → Proves m s settings prices
-    → ¬ (IsDoubt m s settings prices doubt)
+    (machine : Parts) (day : Day) (settings : List Setting) (prices : PriceParts) (doubt : Doubt)
+    → Proves machine day settings prices
+    → ¬ (IsDoubt machine day settings prices doubt)
 
 abbrev pub OneDoubt : Type 0
 OneDoubt =
-    (m : Parts) (s : Day) (settings : List Setting) (prices : PriceParts) (doubt other : Doubt)
-    → IsDoubt m s settings prices doubt → IsDoubt m s settings prices other
+    (machine : Parts) (day : Day) (settings : List Setting) (prices : PriceParts) (doubt other : Doubt)
+    → IsDoubt machine day settings prices doubt → IsDoubt machine day settings prices other
     → doubt ≡ other
 
 -- There are `number` settings, they lead the machine to the day, and no shorter list does.
-pub record AreShortest (m : Parts) (s : Day) (settings : List Setting) (number : ℕ) : Type 0 where
-  pub leads : LeadsToTheDay m s settings
-  pub shortest : IsShortest m s settings
+pub record AreShortest (machine : Parts) (day : Day) (settings : List Setting) (number : ℕ) : Type 0 where
+  pub leads : LeadsToTheDay machine day settings
+  pub shortest : IsShortest machine day settings
   pub count : length settings ≡ number
 
 -- If a card proves itself, then at any point of carrying it out, the remaining lines are a shortest list.
 abbrev pub RestIsShortest : Type 0
 RestIsShortest =
-    (m between : Parts) (s : Day) (settings : List Setting) (prices : PriceParts) (lines : ℕ) → IsMachine m
-    → IsLegalDay s → ArePrices prices
-    → Proves m s settings prices → lines ≤ length settings → Leads m (take lines settings) between
-    → AreShortest between s (drop lines settings) (length settings - lines)
+    (machine between : Parts) (day : Day) (settings : List Setting) (prices : PriceParts) (lines : ℕ)
+    → IsMachine machine
+    → IsLegalDay day → ArePrices prices
+    → Proves machine day settings prices → lines ≤ length settings → Leads machine (take lines settings) between
+    → AreShortest between day (drop lines settings) (length settings - lines)
 
 -- On a rotor machine, cables with the same letters have equal prices, and all columns without a pair have equal prices.
 -- On a Converter, bars with the same standing have equal prices, and rows with the same reading have equal prices.
-pub record AreEqualWhereAlike (m : Parts) (s : Day) (prices : PriceParts) : Type 0 where
+pub record AreEqualWhereAlike (machine : Parts) (day : Day) (prices : PriceParts) : Type 0 where
   pub rows :
-      (place other : ℕ) → place < table_size prices → other < table_size prices → StandAlike m place other
+      (place other : ℕ) → place < table_size prices → other < table_size prices → StandAlike machine place other
       → price_at (row_prices prices) place ≡ price_at (row_prices prices) other
   pub columns :
-      (place other : ℕ) → place < table_size prices → other < table_size prices → ReadAlike s place other
+      (place other : ℕ) → place < table_size prices → other < table_size prices → ReadAlike day place other
       → price_at (column_prices prices) place ≡ price_at (column_prices prices) other
 
 -- If a card with prices by number proves itself, equal cables, columns, bars or rows have equal prices. By number
 -- means that each cable and column, or each bar and row, has its own price.
 abbrev pub AlikePricesAreEqual : Type 0
 AlikePricesAreEqual =
-    (m : Parts) (s : Day) (settings : List Setting) (prices : PriceParts) → IsMachine m → IsLegalDay s
-    → ArePrices prices → ProvesByNumber m s settings prices
-    → AreEqualWhereAlike m s prices
+    (machine : Parts) (day : Day) (settings : List Setting) (prices : PriceParts) → IsMachine machine → IsLegalDay day
+    → ArePrices prices → ProvesByNumber machine day settings prices
+    → AreEqualWhereAlike machine day prices

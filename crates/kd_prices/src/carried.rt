@@ -19,7 +19,7 @@ pub(crate) struct Carried {
 ///
 /// A setting is needed if it changes a cable or a bar, or lowers the number of loose things by one. The error is the
 /// doubt about the first setting that the machine refuses.
-#[tactic(auto, using(kd_state::proofs::SettingEffects::Refusals::stops_at))]
+#[tactic(auto, using(kd_state::proofs::Carrying::stops_at))]
 pub(crate) fn carry_settings(
     machine: &Machine,
     day: &SheetDay,

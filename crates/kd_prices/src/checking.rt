@@ -1,7 +1,7 @@
 //! Checks whether a card proves itself, or finds the first doubt about the card.
 ghost use Rattle.std.specs.Prelude.{◌≡◌, ◌↔◌, ◌≤◌, length, IsOk, IfOk, IfErr};
 ghost use Rattle.kd_state.specs.{Costs.{cost_table}, Entry.{rotor_values, pin_values}};
-ghost use Rattle.kd_state.specs.{Machine.{model_of}, SheetDay.{day_model, OfRotors, OfPins}};
+ghost use Rattle.kd_state.specs.{Machine.{IsMachine, model_of}, SheetDay.{day_model, IsLegalDay, OfRotors, OfPins}};
 ghost use Rattle.kd_state.specs.declared.machine.parts.Parts.TheVariants.{Rotor, Pin};
 ghost use Rattle.kd_card.specs.{Proving.Proves, declared.prices.PriceParts.TheVariants.{Bars, Cables}};
 ghost use Rattle.kd_card.specs.Prices.{ArePrices, ArePricesInRange};
@@ -27,13 +27,17 @@ pub fn check(machine: &Machine, day: &SheetDay, card: &Card) -> Result<(), Doubt
         ↔ Proves machine.now day.now card.now.settings.items card.now.prices }
     ensures doubt { IfErr result
         (IsDoubt machine.now day.now card.now.settings.items card.now.prices) }
+    ensures machine { IsMachine machine.now }
+    ensures day { IsLegalDay day.now }
 {
     first_doubt(machine, day, card)
 }
 
 /// Compares the models, finds a price for each row and column of the table of costs, and checks the card by the prices.
 fn first_doubt(machine: &Machine, day: &SheetDay, card: &Card) -> Result<(), Doubt>
-    ensures { IsCheckedAnswer machine.now day.now card.now.settings.items card.now.prices result }
+    ensures answer { IsCheckedAnswer machine.now day.now card.now.settings.items card.now.prices result }
+    ensures machine { IsMachine machine.now }
+    ensures day { IsLegalDay day.now }
 {
     let settings = card.settings.as_slice();
     match machine.of_one_model(day) {

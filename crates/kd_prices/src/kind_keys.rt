@@ -1,6 +1,6 @@
 //! The keys of kinds: comparing keys, the keys of a day's columns, and keys with their prices.
 ghost use Rattle.std.specs.Prelude.{◌≡◌, ◌↔◌, ◌≤◌, length, zip, IsTrue};
-ghost use Rattle.kd_card.specs.Proving.{columns_in_order};
+ghost use Rattle.kd_state.specs.OnKey.{columns_in_order};
 
 use arrayvec::ArrayVec;
 use kd_card::Kind;

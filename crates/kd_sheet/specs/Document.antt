@@ -10,21 +10,11 @@ use Rattle.std.specs.Result.{result_map_both}
 use Rattle.std.specs.Str.{is_utf8}
 use Rattle.toml.specs.Data.{Data, Items, no_items, item, Members, get_member, as_str, as_array}
 use Rattle.toml.specs.Parse.{parse_document}
+pub use Rattle.kd_state.specs.FirstFault.{◌>>=◌, ◌>>◌, demand}
 use Rattle.kd_sheet.specs.Key.{key_name}
 use Rattle.kd_sheet.specs.declared.key.Key.{Key}
 use Rattle.kd_sheet.specs.declared.fault.SheetFault.{SheetFault}
 use Rattle.kd_sheet.specs.declared.fault.SheetFault.TheVariants.{NotToml, Missing, BadValue, NoMemory}
-
--- Applies `f` to the left operand if this is a value; a fault stays as it is.
-infixl 10 ◌>>=◌
-abbrev pub ◌>>=◌ : {A B E : Type 0} → Result A E → (A → Result B E) → Result B E
-(Ok x) >>= f = f x
-(Err fault) >>= f = Err fault
-
--- `next` if `test` is `Ok`; otherwise the fault of `test`.
-infixl 10 ◌>>◌
-abbrev pub ◌>>◌ : {B : Type 0} → Result (Unit {0}) SheetFault → Result B SheetFault → Result B SheetFault
-test >> next = test >>= (λ _. next)
 
 -- the values of the items, in order, or the first fault; `parse` reads an item, given the values of the items before it
 abbrev pub read_items : {A : Type 0} → (List A → Data → Result A SheetFault) → List Data → Result (List A) SheetFault
@@ -42,9 +32,6 @@ AgreesOrNoMemory answer meant = answer ≡ meant
 -- `answer` with `view` applied to its value; a fault stays as it is
 abbrev pub result_map : {A B : Type 0} → (A → B) → Result A SheetFault → Result B SheetFault
 result_map view answer = result_map_both view (λ fault. fault) answer
-
-abbrev pub demand : Bool → SheetFault → Result (Unit {0}) SheetFault
-demand test fault = if test then Ok tt else Err fault
 
 unfoldable pub document_of : List ℕ → Result Members SheetFault
 document_of bytes = if is_utf8 bytes then ok_or (parse_document bytes) NotToml else Err NotToml

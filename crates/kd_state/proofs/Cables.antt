@@ -1,19 +1,20 @@
--- Lemmas on the letters in cables, and on cables that join exactly a day's pairs.
+-- Lemmas on the letters in cables, and on cables that are a day's cables in any order.
 use Rattle.kd_state.proofs.Prelude.{option_zip}
-use Rattle.kd_state.proofs.Prelude.{common_steps, NoLetterTwice, letters_in_pairs, AreCables, cable_letters}
-use Rattle.kd_state.proofs.Prelude.{cable_in_order, letters_in_cables, AreLettersOfPair, AreThePairs}
-use Rattle.kd_state.proofs.Prelude.{HasPairLetters, HaveSameLetters, are_new_and_distinct, cable_with}
+use Rattle.kd_state.proofs.Prelude.{NoLetterTwice, letters_in_pairs, AreCables, cable_letters, letters_in_cables}
+use Rattle.kd_state.proofs.Prelude.{cable_in_order, cable_of_column, cables_of, column_letters, columns_of, cable_with}
+use Rattle.kd_state.proofs.Prelude.{All-map, All-permutation, Bool, IsPermutation-sym, are_new_and_distinct, list_any}
 use Rattle.kd_state.proofs.Prelude.{cable_without, has_letter, is_some, and_from, and_parts, cond_both, eq-eqb}
-use Rattle.kd_state.proofs.Prelude.{eqb-false, le-leb, leb-false, not-true, or_from, or_parts, true≢false, nat_tests}
-use Rattle.kd_state.proofs.Prelude.{append_assoc, drop_more, All-contains, All-from_recursion, Contains-append_right}
+use Rattle.kd_state.proofs.Prelude.{append_assoc, drop_more, le-leb, leb-false, not-true, or_from, or_parts}
+use Rattle.kd_state.proofs.Prelude.{true≢false, nat_tests, ◌||◌, ◌-◌}
 use Rattle.kd_state.proofs.Prelude.{recursion_from_All, IsPermutation-append, IsPermutation-append_comm}
 use Rattle.kd_state.proofs.Prelude.{IsPermutation-append_left, IsPermutation-append_right, IsPermutation-refl}
-use Rattle.kd_state.proofs.Prelude.{IsPermutation-trans, none-some, same_Some, slice_get-get_or, All, AllByRecursion}
-use Rattle.kd_state.proofs.Prelude.{option_map_or, Contains, List, None, Option, Some, [], ap, arith, drop}
-use Rattle.kd_state.proofs.Prelude.{false, filter_map, get_or, length, map, nat_eq, refl, rules, set, slice_get}
+use Rattle.kd_state.proofs.Prelude.{IsPermutation-trans, All, AllByRecursion}
+use Rattle.kd_state.proofs.Prelude.{option_map_or, Contains, List, None, Option, Some, [], arith, drop}
+use Rattle.kd_state.proofs.Prelude.{false, filter_map, get_or, length, map, nat_eq, refl, set, slice_get}
 use Rattle.kd_state.proofs.Prelude.{suc, true, zero, ℕ, ◌++◌, ◌+◌, ◌<◌, ◌↔◌, ◌∙◌, ◌∷◌, ◌≡◌, ◌≢◌, IsDistinct}
-use Rattle.kd_state.proofs.Prelude.{IsPermutation, TestsDetermineLetters, both_ways, sym, ◌&&◌}
-use Rattle.{kd_state.proofs.Slots.has_letter-Decides, std.proofs.Common.Any}
+use Rattle.kd_state.proofs.Prelude.{IsPermutation, ◌&&◌}
+use Rattle.{std.proofs.Common.replicate}
+use Rattle.std.proofs.lemmas.List.{Folds.{Any-from_list_any, list_any_at}, Sorted.list_any-IsPermutation}
 use Rattle.kd_enigma.specs.Plugs as plugs
 
 pub eqb_flips : (x y : ℕ) → nat_eq x y ≡ nat_eq y x
@@ -25,16 +26,6 @@ pub has_letter-AllByRecursion : (letters : List ℕ) (letter : ℕ)
 has_letter-AllByRecursion [] letter = (λ _. tt, λ _. refl)
 has_letter-AllByRecursion (other ∷ letters) letter = grind
     (arith, or_parts, or_from, eqb_flips, has_letter-AllByRecursion letters letter)
-
--- two lists have the same letters exactly if `has_letter` has the same value for both at each letter
-pub tests_determine_letters : TestsDetermineLetters
-tests_determine_letters xs ys = (
-  λ same letter. grind (arith, same letter, has_letter-Decides xs letter, has_letter-Decides ys letter, both_ways),
-  λ alike letter. (
-    λ c. (has_letter-Decides ys letter).0 (sym (alike letter) ∙ (has_letter-Decides xs letter).1 c),
-    λ c. (has_letter-Decides xs letter).0 (alike letter ∙ (has_letter-Decides ys letter).1 c),
-  ),
-)
 
 -- all of `letters` and `others` are different exactly if `others` are all different, and `are_new_and_distinct` is true
 -- for `letters` and `others`
@@ -155,108 +146,51 @@ no_letter_twice cables h whole = grind (arith, letters_of_pairs, recursion_from_
 pub of_one : (a x : ℕ) → Contains (a ∷ []) x → x ≡ a
 of_one a x e = grind arith
 
--- if two letters are exactly the letters of a pair, they are the pair in one order or the other
-pub same_two : (a b : ℕ) (pair : ℕ × ℕ) → HaveSameLetters (a ∷ b ∷ []) (pair.0 ∷ pair.1 ∷ [])
-    → AreLettersOfPair a b pair
-same_two a b pair same =
-    let tests = (tests_determine_letters (a ∷ b ∷ []) (pair.0 ∷ pair.1 ∷ [])).0 same in
-    grind (arith, nat_tests, tests a, tests b, tests pair.0, tests pair.1)
+-- ---- cables that are the day's cables, in any order
 
--- the letters of a day's pair differ
-apart_at : (pairs : List (ℕ × ℕ)) (k : ℕ) (d : ℕ × ℕ) → IsDistinct nat_eq (letters_in_pairs pairs) → k < length pairs
-    → (get_or pairs k d).0 ≢ (get_or pairs k d).1
-unfolding IsDistinct
-apart_at [] k d h below = absurd (omega arith)
-apart_at (pair ∷ pairs) k d h below = grind (arith, common_steps, eqb-false, apart_at pairs)
+pub column_is : (column : Option (ℕ × ℕ)) (letter : ℕ)
+    → has_letter (cable_letters (cable_of_column column)) letter ≡ has_letter (column_letters column) letter
+column_is column letter = grind (arith, nat_tests, cond_both)
 
-HasPairLetters-one_letter : (pairs : List (ℕ × ℕ)) (cable : Option ℕ × Option ℕ) (letter : ℕ) → NoLetterTwice pairs
-    → ((x : ℕ) → Contains (cable_letters cable) x → x ≡ letter) → Any (HasPairLetters cable) pairs → ⊥
-HasPairLetters-one_letter pairs cable letter apart only there =
-    let pair = there.1 in
-    let unequal = apart_at pairs there.0 pair apart there.2 in
-    grind (arith, only pair.0, only pair.1, there.4.letters pair.0, there.4.letters pair.1, unequal)
+whole_column : (column : Option (ℕ × ℕ)) → length (cable_letters (cable_of_column column)) ≢ 1
+whole_column column = grind (arith, cond_both)
 
-whole_cable : (pairs : List (ℕ × ℕ)) (cable : Option ℕ × Option ℕ) → NoLetterTwice pairs
-    → (cable_letters cable ≢ [] → Any (HasPairLetters cable) pairs)
-    → length (cable_letters cable) ≢ 1
-whole_cable pairs (Some a, None) apart paired one =
-    HasPairLetters-one_letter pairs (Some a, None) a apart (of_one a) (paired (λ none. cc))
-whole_cable pairs (None, Some a) apart paired one =
-    HasPairLetters-one_letter pairs (None, Some a) a apart (of_one a) (paired (λ none. cc))
-whole_cable pairs cable apart paired one = omega (arith, one)
+pub whole_cables : (cables : List (Option ℕ × Option ℕ)) (pairs : List (ℕ × ℕ)) → IsPermutation cables (cables_of pairs)
+    → All (λ cable. length (cable_letters cable) ≢ 1) cables
+whole_cables cables pairs order =
+    let whole = λ (cable : Option ℕ × Option ℕ). length (cable_letters cable) ≢ 1 in
+    All-permutation whole (cables_of pairs) cables (IsPermutation-sym cables (cables_of pairs) order)
+    (All-map whole cable_of_column (columns_of pairs) (λ k d below. whole_column (get_or (columns_of pairs) k d)))
 
-pub whole_cables : (cables : List (Option ℕ × Option ℕ)) (pairs : List (ℕ × ℕ)) → NoLetterTwice pairs
-    → AreThePairs cables pairs → All (λ cable. length (cable_letters cable) ≢ 1) cables
-whole_cables cables pairs apart h = λ k d below. whole_cable pairs (get_or cables k d) apart (h.pair k d below)
+-- whether `x` and `y` are the letters of the pair, in either order
+abbrev is_pair : ℕ → ℕ → ℕ × ℕ → Bool
+is_pair x y pair = (nat_eq pair.0 x && nat_eq pair.1 y) || (nat_eq pair.0 y && nat_eq pair.1 x)
 
--- ---- cables that are the pairs
+abbrev joins : ℕ → ℕ → Option ℕ × Option ℕ → Bool
+joins x y cable = option_map_or (is_pair x y) (option_zip cable.0 cable.1) false
 
-Contains-pairs_of : (cables : List (Option ℕ × Option ℕ)) (k a b : ℕ) → slice_get cables k ≡ Some (Some a, Some b)
-    → Contains (pairs_of cables) (a, b)
-Contains-pairs_of [] k a b e = absurd (none-some _ e)
-Contains-pairs_of (cable ∷ cables) zero a b e = grind (arith, same_Some)
-Contains-pairs_of ((Some one, Some other) ∷ cables) (suc k) a b e =
-    Contains-append_right ((one, other) ∷ []) (pairs_of cables) (a, b) (Contains-pairs_of cables k a b e)
-Contains-pairs_of (cable ∷ cables) (suc k) a b e = Contains-pairs_of cables k a b e
+pairs_test : (pairs : List (ℕ × ℕ)) (x y : ℕ)
+    → plugs.HavePairOf pairs x y ↔ (list_any (is_pair x y) pairs ≡ true)
+pairs_test pairs x y = grind (arith, nat_tests, list_any_at, Any-from_list_any)
 
-both_plugged : (cable : Option ℕ × Option ℕ) (letter : ℕ) → length (cable_letters cable) ≢ 1
-    → Contains (cable_letters cable) letter → (pair : ℕ × ℕ) × (cable ≡ (Some pair.0, Some pair.1))
-both_plugged (None, None) letter whole there = absurd (omega (arith, there.1))
-both_plugged (Some one, Some other) letter whole there = ((one, other), refl)
-both_plugged cable letter whole there = absurd (whole refl)
+pairs_of_test : (cables : List (Option ℕ × Option ℕ)) (x y : ℕ)
+    → list_any (is_pair x y) (pairs_of cables) ≡ list_any (joins x y) cables
+pairs_of_test [] x y = refl
+pairs_of_test (cable ∷ cables) x y = grind (arith, pairs_of_test cables x y)
 
-cable_pairs : (pairs : List (ℕ × ℕ)) (cables : List (Option ℕ × Option ℕ))
-    → AllByRecursion (λ cable. cable_letters cable ≢ [] → Any (HasPairLetters cable) pairs) cables
-    → AllByRecursion (λ pair. plugs.HavePairOf pairs pair.0 pair.1) (pairs_of cables)
-cable_pairs pairs [] h = tt
-cable_pairs pairs ((Some a, Some b) ∷ cables) h = search (rules, pairs, same_two, cable_pairs pairs cables h.1)
-cable_pairs pairs (cable ∷ cables) h = cable_pairs pairs cables h.1
+empty_join : (number x y : ℕ) → list_any (joins x y) (map cable_of_column (replicate number None)) ≡ false
+empty_join zero x y = refl
+empty_join (suc number) x y = empty_join number x y
 
-module _ (cables : List (Option ℕ × Option ℕ)) (pairs : List (ℕ × ℕ))
-    (whole : All (λ cable. length (cable_letters cable) ≢ 1) cables) (h : AreThePairs cables pairs) where
-  cable_pair : (x y : ℕ) → Contains (pairs_of cables) (x, y) → plugs.HavePairOf pairs x y
-  cable_pair x y there =
-      All-contains (λ (pair : ℕ × ℕ). plugs.HavePairOf pairs pair.0 pair.1) (pairs_of cables) (x, y)
-      (All-from_recursion (λ (pair : ℕ × ℕ). plugs.HavePairOf pairs pair.0 pair.1) (pairs_of cables)
-      (cable_pairs pairs cables
-      (recursion_from_All (λ (cable : Option ℕ × Option ℕ). cable_letters cable ≢ [] → Any (HasPairLetters cable) pairs)
-      cables h.pair))) there
+due_test : (pairs : List (ℕ × ℕ)) (number x y : ℕ)
+    → list_any (joins x y) (map cable_of_column (map Some pairs ++ replicate number None))
+    ≡ list_any (is_pair x y) pairs
+due_test [] number x y = empty_join number x y
+due_test (pair ∷ pairs) number x y = grind (arith, nat_tests, due_test pairs number x y)
 
-  day_pair : (x y : ℕ) → Contains pairs (x, y) → plugs.HavePairOf (pairs_of cables) x y
-  day_pair x y there =
-      let joined =
-      All-contains (λ (pair : ℕ × ℕ). Any (λ cable. HasPairLetters cable pair) cables) pairs (x, y) h.cable there in
-      let cable = joined.1 in
-      let at : slice_get cables joined.0 ≡ Some cable =
-      slice_get-get_or cables joined.0 cable joined.2 ∙ ap Some joined.3 in
-      let one =
-      All-contains (λ (cable : Option ℕ × Option ℕ). length (cable_letters cable) ≢ 1) cables cable whole
-      (joined.0, joined.2, joined.3) in
-      let ends = both_plugged cable x one ((joined.4.letters x).1 (0, omega arith, refl)) in
-      let pair = ends.0 in
-      let same = same_two x y pair (λ letter. let both = rw ends.1 at (joined.4.letters letter) in (both.1, both.0)) in
-      let into = Contains-pairs_of cables joined.0 pair.0 pair.1 (at ∙ ap Some ends.1) in
-      grind (arith, same, into)
-
-  pub pairs_joined : (x y : ℕ) → plugs.HavePairOf (pairs_of cables) x y ↔ plugs.HavePairOf pairs x y
-  pairs_joined x y = grind (arith, cable_pair x y, cable_pair y x, day_pair x y, day_pair y x)
-
--- ---- when a cable's letters are a pair's
-
-pub joined_by_tests : (cable : Option ℕ × Option ℕ) (pair : ℕ × ℕ) → has_letter (cable_letters cable) pair.0 ≡ true
-    → has_letter (cable_letters cable) pair.1 ≡ true
-    → option_map_or (has_letter (pair.0 ∷ pair.1 ∷ [])) cable.0 true ≡ true
-    → option_map_or (has_letter (pair.0 ∷ pair.1 ∷ [])) cable.1 true ≡ true → HasPairLetters cable pair
-joined_by_tests cable pair a b c d =
-    record {
-      letters = (tests_determine_letters (cable_letters cable) (pair.0 ∷ pair.1 ∷ [])).1
-          (λ letter. grind (arith, nat_tests, a, b, c, d));
-    }
-
-pub tests_of_joined : (cable : Option ℕ × Option ℕ) (pair : ℕ × ℕ) → HasPairLetters cable pair
-    → (has_letter (cable_letters cable) pair.0 ≡ true) × (has_letter (cable_letters cable) pair.1 ≡ true)
-    × (option_map_or (has_letter (pair.0 ∷ pair.1 ∷ [])) cable.0 true ≡ true)
-    × (option_map_or (has_letter (pair.0 ∷ pair.1 ∷ [])) cable.1 true ≡ true)
-tests_of_joined cable pair joined =
-    let same = (tests_determine_letters (cable_letters cable) (pair.0 ∷ pair.1 ∷ [])).0 joined.letters in
-    grind (arith, nat_tests, same)
+pub pairs_joined : (cables : List (Option ℕ × Option ℕ)) (pairs : List (ℕ × ℕ)) → IsPermutation cables (cables_of pairs)
+    → (x y : ℕ) → plugs.HavePairOf (pairs_of cables) x y ↔ plugs.HavePairOf pairs x y
+pairs_joined cables pairs order x y =
+    let same : list_any (is_pair x y) (pairs_of cables) ≡ list_any (is_pair x y) pairs = pairs_of_test cables x y
+    ∙ list_any-IsPermutation (joins x y) cables (cables_of pairs) order ∙ due_test pairs (13 - length pairs) x y in
+    grind (arith, pairs_test)

@@ -1,12 +1,13 @@
 -- Lemmas on costs: counting letters, the columns of a day, and the standings of a row.
-use Rattle.kd_state.proofs.Prelude.{All, All-map, All-nil, AllByRecursion, AllPass-from_list_all, Bool}
-use Rattle.kd_state.proofs.Prelude.{ColumnsAreThePairs, CostTablesAreSquare, IsBefore, IsDistinct, IsReading, List}
-use Rattle.kd_state.proofs.Prelude.{None, OfPins, OfRotors, Option, Pin, Place, Rotor, Some, ThirteenColumns, []}
+use Rattle.kd_state.proofs.Prelude.{All, AllByRecursion, AllPass-from_list_all, Bool}
+use Rattle.kd_state.proofs.Prelude.{IsBefore, IsDistinct, IsReading, List}
+use Rattle.kd_state.proofs.Prelude.{None, Option, Place, Some, []}
 use Rattle.kd_state.proofs.Prelude.{alphabet, ap, arith, bar_cost, cable_cost, cable_letters, cases_eq, column_letters}
+use Rattle.std.specs.Prelude.{slice_index_or}
 use Rattle.kd_state.proofs.Prelude.{columns_of, common_steps, count_by, exactly_one, find, get_or, has_letter, inl, inr}
 use Rattle.kd_state.proofs.Prelude.{le-leb, length, length-append, length-map, length-replicate, letters_in_pairs}
 use Rattle.kd_state.proofs.Prelude.{ltb-true, map, nat_eq, nat_tests, option_to_list, range_with_len}
-use Rattle.kd_state.proofs.Prelude.{recursion_from_All, refl, rules, slice_get, suc, sum_by-cons, sum_by_more, sym}
+use Rattle.kd_state.proofs.Prelude.{recursion_from_All, refl, rules, slice_get, suc, sum_by-cons, sum_by_more}
 use Rattle.kd_state.proofs.Prelude.{take, true, unwrap_or, zero, ℕ, ◌&&◌, reading_of}
 use Rattle.kd_state.proofs.{Cables.has_letter-AllByRecursion}
 use Rattle.kd_state.proofs.{Prelude.{◌++◌, ◌+◌, ◌-◌, ◌<◌, ◌||◌, ◌∙◌, ◌∷◌, ◌≡◌, ◌≢◌, ◌≤◌}}
@@ -108,30 +109,12 @@ get_or-columns : (pairs : List (ℕ × ℕ)) (number place : ℕ)
 get_or-columns [] number place = get_or-replicate_None number place
 get_or-columns (pair ∷ pairs) number place = grind (arith, get_or-columns pairs number)
 
-pub columns_are_the_pairs : ColumnsAreThePairs
+pub columns_are_the_pairs : (pairs : List (ℕ × ℕ)) (place : ℕ)
+    → slice_index_or (columns_of pairs) place None ≡ slice_get pairs place
 columns_are_the_pairs pairs place = get_or-columns pairs (13 - length pairs) place
 
-pub thirteen_columns : ThirteenColumns
+pub thirteen_columns : (pairs : List (ℕ × ℕ)) → length pairs ≤ 13 → length (columns_of pairs) ≡ 13
 thirteen_columns pairs few = simp (length-append, length-map, length-replicate) (omega arith)
-
--- ---- the cost tables are square
-
-length-cost_rows : {X Y : Type 0} (cost : X → Y → ℕ) (rows : List X) (columns : List Y) → length columns ≡ length rows
-    → All (λ row. length row ≡ length (map (λ other. map (cost other) columns) rows))
-    (map (λ row. map (cost row) columns) rows)
-length-cost_rows cost rows columns same =
-    All-map (λ row. length row ≡ length (map (λ other. map (cost other) columns) rows))
-    (λ row. map (cost row) columns) rows
-    (λ k d below. length-map columns (cost (get_or rows k d)) ∙ same
-    ∙ sym (length-map rows (λ other. map (cost other) columns)))
-
-pub cost_tables_are_square : CostTablesAreSquare
-cost_tables_are_square (Rotor m) (OfRotors s) machine day =
-    length-cost_rows cable_cost m.cables (columns_of s.pairs)
-    (thirteen_columns s.pairs day.pairs.few ∙ sym machine.legal.cables.count)
-cost_tables_are_square (Pin m) (OfPins s) machine day =
-    length-cost_rows bar_cost m.bars s.rows (day.count ∙ sym machine.legal.bars)
-cost_tables_are_square m s machine day = All-nil (λ row. length row ≡ 0)
 
 -- ---- the standings that read as each row
 

@@ -39,7 +39,10 @@ engine_cipher (Pin m) text =
 
 -- machines on the day's key are ready
 pub on_key_ready : OnKeyIsReady
-on_key_ready = grind (arith, all_seated, whole_cables)
+on_key_ready (Rotor m) (OfRotors s) machine legal h =
+    (all_seated m.slots s.wheels h.slots, whole_cables m.cables s.pairs h.cables)
+on_key_ready (Pin m) s machine legal h = tt
+on_key_ready (Rotor m) (OfPins s) machine legal h = absurd h
 
 pub reading_ready : ReadsAsDayIsReady
 reading_ready m s machine legal h = on_key_ready m s machine legal h.key
@@ -56,10 +59,10 @@ rotor_key m s window cables legal h =
     let rings =
     read_all (ring_at m) (λ w. w.ring) s.wheels
     (recursion_from_All (λ (w : SheetWheel). ring_at m w.wheel ≡ Some w.ring) s.wheels h.rings) in
-    let whole = whole_cables m.cables s.pairs legal.pairs.apart h.cables in
+    let whole = whole_cables m.cables s.pairs h.cables in
     let plugs =
     same_pairs_exchange_alike (pairs_of m.cables) s.pairs (no_letter_twice m.cables cables whole) legal.pairs.apart
-    (pairs_joined m.cables s.pairs whole h.cables) in
+    (pairs_joined m.cables s.pairs h.cables) in
     grind (arith, wheels, rings, h.reflector, plugs)
 
 -- the order of the rows doesn't matter to the ciphertext

@@ -7,4 +7,5 @@ pub mod CostTable
 pub mod Keys
 mod WheelsInSlots
 pub mod SortedAlike
-pub mod SettingEffects
+pub mod Carrying
+pub mod OneAnswer

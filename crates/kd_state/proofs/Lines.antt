@@ -11,9 +11,8 @@ use Rattle.kd_state.proofs.Prelude.{list_all, list_text, ltb-true, lug_text, map
 use Rattle.kd_state.proofs.Prelude.{on_off_text, place_text, places, recursion_from_All, refl, reflector_text, rules}
 use Rattle.kd_state.proofs.Prelude.{setting_line, setting_words, slice_split, sym, then_some, true, wheel_text, ℕ, ◌++◌}
 use Rattle.kd_state.proofs.Prelude.{◌+◌, ◌<◌, ◌∷◌, ◌≡◌, ◌≢◌}
-use Rattle.kd_state.specs.LineWords.{IsFirstPart, IsWithout, IsWord, LettersAreWords, LinesSplitIntoWords}
-use Rattle.kd_state.specs.LineWords.{LinesDetermineWords, NumbersAreWords, PartsMakeLines, TextsDetermineFirstParts}
-use Rattle.kd_state.specs.LineWords.{WordsMakeOneLine, line_of}
+use Rattle.kd_state.specs.LineWords.{IsFirstPart, IsWithout, line_of}
+use Rattle.kd_tables.specs.Text.{letters_text}
 use Rattle.std.proofs.lemmas.List.Splits.{join_with_byte-slice_split, length-slice_split, slice_split_at}
 use Rattle.kd_state.proofs.{Prelude.◌≤◌, Wheels.{named_or, one_reflector, one_wheel, name-injective}}
 use Rattle.kd_state.specs.{LineWords.words_of, declared.setting.list.ListFault.TheVariants.{BadLine, TooMany}}
@@ -31,7 +30,9 @@ slice_split-first : (byte : ℕ) (part rest : List ℕ) → IsWithout byte part
     → slice_split (λ b. eqb b byte) (part ++ byte ∷ rest) ≡ part ∷ slice_split (λ b. eqb b byte) rest
 slice_split-first byte part rest h = grind (arith, slice_split_at, none_is, eq-eqb)
 
-pub texts_determine_first_parts : TextsDetermineFirstParts
+pub texts_determine_first_parts : (byte : ℕ) (first other rest more : List ℕ) → IsWithout byte first
+    → IsWithout byte other
+    → first ++ byte ∷ rest ≡ other ++ byte ∷ more → (first ≡ other) × (rest ≡ more)
 texts_determine_first_parts byte first other rest more a b e =
     let one = slice_split-first byte first rest a in
     let two = slice_split-first byte other more b in
@@ -39,18 +40,24 @@ texts_determine_first_parts byte first other rest more a b e =
 
 -- ---- words
 
+-- The text is a word: it isn't empty, and has no space and no LF.
+pub record IsWord (word : List ℕ) : Type 0 where
+  pub filled : word ≢ []
+  pub spaceless : IsWithout 32 word
+  pub unbroken : IsWithout 10 word
+
 words_of-line_of : (word : List ℕ) (words : List (List ℕ)) → AllByRecursion IsWord (word ∷ words)
     → words_of (line_of (word ∷ words)) ≡ word ∷ words
 words_of-line_of word [] a = grind (arith, slice_split_none, none_is)
 words_of-line_of word (next ∷ words) a =
     grind (arith, slice_split-first 32 word (line_of (next ∷ words)), words_of-line_of next words a.1)
 
-pub lines_split_into_words : LinesSplitIntoWords
+pub lines_split_into_words : (words : List (List ℕ)) → words ≢ [] → All IsWord words → words_of (line_of words) ≡ words
 lines_split_into_words [] filled a = absurd (filled refl)
 lines_split_into_words (word ∷ words) filled a =
     words_of-line_of word words (recursion_from_All IsWord (word ∷ words) a)
 
-pub parts_make_lines : PartsMakeLines
+pub parts_make_lines : (line : List ℕ) → line_of (words_of line) ≡ line
 parts_make_lines line = join_with_byte-slice_split 32 line
 
 words-same_line : (words others : List (List ℕ)) → AllByRecursion IsWord words → AllByRecursion IsWord others
@@ -61,7 +68,8 @@ words-same_line (word ∷ words) [] a b e = grind (arith, words_of-line_of word 
 words-same_line (word ∷ words) (other ∷ others) a b e =
     grind (arith, words_of-line_of word words a, words_of-line_of other others b)
 
-pub lines_determine_words : LinesDetermineWords
+pub lines_determine_words : (words others : List (List ℕ)) → All IsWord words → All IsWord others
+    → line_of words ≡ line_of others → words ≡ others
 lines_determine_words words others a b e =
     words-same_line words others (recursion_from_All IsWord words a) (recursion_from_All IsWord others b) e
 
@@ -70,7 +78,7 @@ one_line [] a = All-nil (λ b. b ≢ 10)
 one_line (word ∷ []) a = a.0.unbroken
 one_line (word ∷ next ∷ words) a = grind (arith, common_steps, All-append, All-cons, one_line (next ∷ words) a.1)
 
-pub words_make_one_line : WordsMakeOneLine
+pub words_make_one_line : (words : List (List ℕ)) → All IsWord words → IsWithout 10 (line_of words)
 words_make_one_line words a = one_line words (recursion_from_All IsWord words a)
 
 -- ---- splitting a line word by word
@@ -112,14 +120,14 @@ pub IsNumeralModel-digits : IsNumeralModel (λ ds. (i : ℕ) → i < length ds �
 IsNumeralModel-digits = numerals_by_value (λ ds. (i : ℕ) → i < length ds → IsFigure 48 57 (get_or ds i 0))
     tells_by_index
 
-pub numbers_are_words : NumbersAreWords
+pub numbers_are_words : (number : ℕ) → number < 2 ^ 64 → IsWord (decimal number)
 numbers_are_words number small =
     let filled = decimal_nonempty number small in
     let digits = digits_decimal IsNumeralModel-digits number small in
     let above = All-from_get_or (λ b. 32 < b) (decimal number) 0 in
     grind (arith, word_by_bytes, filled, above, digits, ap (length {A = ℕ}))
 
-pub letters_are_words : LettersAreWords
+pub letters_are_words : (letter : ℕ) → IsWord (letters_text (letter ∷ []))
 letters_are_words letter = grind (arith, word_by_bytes, All-from_recursion)
 
 -- ---- numbers from their texts

@@ -3,32 +3,29 @@ pub use Rattle.kd_drum.specs.Converter.{IsEachOnItsWheel, PinKey, is_acting_afte
 pub use Rattle.kd_enigma.specs.Plugs.{NoLetterTwice, letters_in_pairs}
 pub use Rattle.kd_state.specs.SameParts.{numbered_item, place_in_box, same_reflector}
 pub use Rattle.kd_state.specs.SameParts.{same_wheel}
-pub use Rattle.kd_state.specs.Changes.{IsKept, IsSeatOf, ChangesTo, MovesLug, SeatsWheel, SetsOnly, TheBar, TheCable}
-pub use Rattle.kd_state.specs.Changes.{TheLetter, ThePin, TheReflector, TheRing, TheShown, TheSlot, Thing, TurnsWheel}
-pub use Rattle.kd_state.specs.Changes.{letters_at_cable, lug_place, other_lug, HasLugsInOrder}
 pub use Rattle.kd_state.specs.Costs.{bar_cost, cable_cost, column_letters, columns_of, costs_by, exactly_one}
-pub use Rattle.kd_state.specs.Laws.{AllowedWheelsLieInTheBox, CipherOfChunks, ColumnsAreThePairs, CostTablesAreSquare}
-pub use Rattle.kd_state.specs.Laws.{DaysWheelsHaveTheirPlaces, EngineEnciphersAsMachine, EquallySetDecipher}
+pub use Rattle.kd_state.specs.Laws.{CipherOfChunks}
+pub use Rattle.kd_state.specs.Laws.{EngineEnciphersAsMachine, EquallySetDecipher}
 pub use Rattle.kd_state.specs.Laws.{KeyAfterChunks, ListsHaveNoFault, MachinesCanBeTurned, OnKeyEnciphersByDaysKey}
-pub use Rattle.kd_state.specs.Laws.{OnKeyIsReady, OneListFault, PlacesDetermineWheels, ReadsAsDayEnciphersAsDay}
-pub use Rattle.kd_state.specs.Laws.{ReadsAsDayIsReady, AllowedIsCarriedOut, SettingsChangeOnlyTheirThing}
-pub use Rattle.kd_state.specs.Laws.{SettingsKeepMachines, ChangeDeterminesResult, TestsDetermineLetters}
-pub use Rattle.kd_state.specs.Laws.{TextsDetermineLists, DaysEngineDeciphersItself, ThirteenColumns}
+pub use Rattle.kd_state.specs.Laws.{OnKeyIsReady, OneListFault, ReadsAsDayEnciphersAsDay}
+pub use Rattle.kd_state.specs.Laws.{ReadsAsDayIsReady}
+pub use Rattle.kd_state.specs.Laws.{SettingsKeepMachines, ListsKeepMachines, ListsHaveOneResult}
+pub use Rattle.kd_state.specs.Laws.{TextsDetermineLists, DaysEngineDeciphersItself}
 pub use Rattle.kd_state.specs.Laws.{TurnedEngineEnciphersAsMachine, TurningChangesOnlyLetters, TurnedEnciphersByDaysKey}
 pub use Rattle.kd_state.specs.Laws.{TurnedStaysOnKey}
 pub use Rattle.kd_state.specs.Line.{BeginsWithSettingLines, BeginsWithSettingLine, BeginsWithNoSetting}
 pub use Rattle.kd_state.specs.Line.{IsSettingInRange, IsListText, IsSettingOfWords, list_text, on_off_text}
 pub use Rattle.kd_state.specs.Line.{setting_line, setting_words}
 pub use Rattle.kd_state.specs.Machine.{AreLegalSeats, AreCables, AreLetters, AreOnWheels, HasAllPins}
-pub use Rattle.kd_state.specs.Machine.{IsLegalPin, IsLegalRotor, IsMachine, IsSeatedAt, machine_cable, cable_letters}
+pub use Rattle.kd_state.specs.Machine.{HasLugsInOrder, IsLegalPin, IsLegalRotor, IsMachine, IsSeatedAt, cable_letters}
 pub use Rattle.kd_state.specs.Machine.{with_cables_in_order, letter_at, machine_letter, model_of, cable_in_order}
 pub use Rattle.kd_state.specs.Machine.{letters_in_cables, ring_at, machine_ring, machine_slot, machine_standing}
-pub use Rattle.kd_state.specs.OnKey.{AreLettersOfPair, AreThePairs}
-pub use Rattle.kd_state.specs.OnKey.{IsRotorOnKey, HasPairLetters, OnKey, HaveSameLetters, ShowsWindow}
+pub use Rattle.kd_state.specs.OnKey.{IsRotorOnKey, OnKey, ShowsWindow, cable_of_column, cables_of}
 pub use Rattle.kd_state.specs.Pins.{pin_at, pin_set, wheel_pins, with_pin}
-pub use Rattle.kd_state.specs.Setting.{Carries, Leads, are_new_and_distinct, cable_at, cable_with}
-pub use Rattle.kd_state.specs.Setting.{cable_without, machine_after, has_letter, is_same_place}
-pub use Rattle.kd_state.specs.Setting.{refusal_reasons, why_refused}
+pub use Rattle.kd_state.specs.FirstFault.{◌>>=◌, ◌>>◌, demand}
+pub use Rattle.kd_state.specs.Setting.{Carries, Leads, Refuses, outcome, are_new_and_distinct, cable_with}
+pub use Rattle.kd_state.specs.Setting.{has_loose_end, has_lugs_in_order}
+pub use Rattle.kd_state.specs.Setting.{cable_without, has_letter, is_same_place}
 pub use Rattle.kd_state.specs.Setting.{with_lug, seat_without}
 pub use Rattle.kd_state.specs.SheetDay.{Day, HasWheelLetters, IsLegalDay, IsLegalRotorDay, OfPins, OfRotors, PinDay}
 pub use Rattle.kd_state.specs.SheetDay.{RotorDay, seats_of_wheels}
@@ -76,7 +73,8 @@ pub use Rattle.std.proofs.lemmas.List.Sums.{sum_by-le, sum_by_more}
 pub use Rattle.std.proofs.lemmas.Map.Made.{Contains-tail, is_member-Decides}
 pub use Rattle.std.proofs.lemmas.Option.{get_or_from_slice_get, gets, none-some, same_Some, slice_get-get_or}
 pub use Rattle.std.proofs.lemmas.Option.{slice_get-map, slice_get_cases, slice_get_past, slice_get_within}
-pub use Rattle.std.specs.{Bool.Decides, Bool.then_some, Cmp.Lexicographic.pointwise_decides, Str.Parse.ParsesUnsigned}
+pub use Rattle.std.specs.{Bool.Decides, Bool.then_some, Str.Parse.ParsesUnsigned}
+pub use Rattle.std.specs.Cmp.Lexicographic.{options_total, pointwise_decides}
 pub use Rattle.std.specs.Cmp.{IsStrictWeakOrder, nat_cmp_total, on_total, then_total}
 pub use Rattle.std.specs.List.{All, AllByRecursion, AllWithin, cons_option, count_by, enumerate_from, list_all}
 pub use Rattle.std.specs.List.{list_any, position_or_len, range_with_len, slice_split}

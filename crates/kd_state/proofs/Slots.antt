@@ -5,6 +5,7 @@ use Rattle.kd_state.proofs.Prelude.{Decides-eqb, Decides-like, position-Some, is
 use Rattle.kd_state.proofs.Prelude.{gets, slice_get-get_or, slice_get_within, Decides, is_none, is_some, unwrap_or}
 use Rattle.kd_state.proofs.Prelude.{PinSet, ring_of, Contains, List, Option, Some, arith, false, length, nat_eq, refl}
 use Rattle.kd_state.proofs.Prelude.{set, slice_get, sym, ℕ, ◌+◌, ◌-◌, ◌<◌, ◌∙◌, ◌≡◌, ◌≢◌, ◌≤◌, common_steps}
+use Rattle.kd_state.proofs.Prelude.{map, range_with_len, suc, zero}
 use Rattle.{std.proofs.Common.add-one, kd_state.proofs.Wheels.{IsPlaced-from_wheels_for, first_within, first_nowhere}}
 
 -- `x` is element `number`, counted from 1: it is at place `number - 1`
@@ -58,6 +59,12 @@ has_letter-Decides letters letter =
 
 pub is_some-place_on : (letters : List ℕ) (letter : ℕ) → is_some (place_on letters letter) ≡ has_letter letters letter
 is_some-place_on letters letter = grind (arith, cases_Bool, lt-ltb, first_within, first_nowhere, le-ltb)
+
+pub letters_have_places : (wheel : ℕ)
+    → map (place_on (ring_of wheel)) (ring_of wheel) ≡ map Some (range_with_len 0 (length (ring_of wheel)))
+unfolding ring_of
+letters_have_places (suc (suc (suc (suc (suc (suc zero)))))) = refl
+letters_have_places wheel = refl
 
 pub place_there : (letters : List ℕ) (letter : ℕ) → Contains letters letter
     → place_on letters letter ≡ Some (unwrap_or (place_on letters letter) 0)

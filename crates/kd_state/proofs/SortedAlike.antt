@@ -4,6 +4,8 @@ use Rattle.kd_state.proofs.Prelude.{false_from_ne_true, IsPermutation-sym, IsPer
 use Rattle.kd_state.proofs.Prelude.{sum_by-IsPermutation, sum_by-cons, sum_by-le, Decides, IsStrictWeakOrder}
 use Rattle.kd_state.proofs.Prelude.{pointwise_decides, count_by, Bool, List, [], ap, arith, false, length, refl, subst}
 use Rattle.kd_state.proofs.Prelude.{suc, sym, true, ℕ, ◌+◌, ◌<◌, ◌↔◌, ◌∙◌, ◌∷◌, ◌≡◌, ◌≤◌, IsPermutation, pointwise}
+use Rattle.kd_state.proofs.Prelude.{Decides-and, Decides-like, is_lt, on_total, ranks_by, then_total, ◌&&◌}
+use Rattle.std.specs.{Cmp.IsTotalOrder, Ordering.ordering_then, declared.cmp.Ordering.Ordering}
 use Rattle.std.specs.Prelude.{if◌then◌else◌, slice_index_or, IsSortedBy}
 
 -- 1 for true, 0 for false
@@ -72,3 +74,25 @@ module _ {X : Type 0} (lt : X → X → Bool) (order : IsStrictWeakOrder lt)
             is ∙ decided.1 (sorted_alike up rising (sorted_far lt order up sorted) (sorted_far lt order rising rises)
             (λ p. sym (sum_by-IsPermutation (λ y. one_if (p y)) up rising across))),
       )
+
+-- The same for pairs that are ordered by their first parts, then by their second parts. Readings are such pairs, and so
+-- are cables.
+module _ {X : Type 0} {order : X → X → Ordering} (total : IsTotalOrder order) (eq : X → X → Bool)
+    (same : (x y : X) → is_lt (order x y) ≡ false → is_lt (order y x) ≡ false → x ≡ y)
+    (decides : (x y : X) → Decides (eq x y) (x ≡ y)) where
+  abbrev before : X × X → X × X → Bool
+  before one other = is_lt (ordering_then (order one.0 other.0) (order one.1 other.1))
+
+  neither_before : (one other : X × X) → before one other ≡ false → before other one ≡ false → one ≡ other
+  neither_before one other after earlier = grind (arith, same)
+
+  abbrev alike : X × X → X × X → Bool
+  alike one other = eq one.0 other.0 && eq one.1 other.1
+
+  pub pairs_tell : (xs ys up rising : List (X × X)) (tested : Bool) → IsPermutation xs up → IsPermutation ys rising
+      → IsSortedBy before up → IsSortedBy before rising → tested ≡ pointwise alike up rising
+      → (tested ≡ true) ↔ IsPermutation xs ys
+  pairs_tell =
+      sorted_tell before (ranks_by (then_total (on_total (λ (pair : X × X). pair.0) total)
+      (on_total (λ (pair : X × X). pair.1) total)) (λ (pair : X × X). pair))
+      neither_before alike (λ one other. grind (arith, Decides-like, Decides-and, decides))

@@ -1,10 +1,11 @@
 -- Lemmas on wheels and reflectors by their names, and on the slots and places that wheels have.
-use Rattle.kd_state.proofs.Prelude.{place_in_box, same_reflector, same_wheel, AllowedWheelsLieInTheBox}
-use Rattle.kd_state.proofs.Prelude.{DaysWheelsHaveTheirPlaces, PlacesDetermineWheels, IsSeatedAt, ShowsWindow, Day}
+use Rattle.kd_state.proofs.Prelude.{place_in_box, same_reflector, same_wheel, AreLegalSeats}
+use Rattle.kd_state.proofs.Prelude.{IsSeatedAt, ShowsWindow, Day}
 use Rattle.kd_state.proofs.Prelude.{OfPins, PinDay, AllByRecursion, All-from_recursion, recursion_from_All}
 use Rattle.kd_state.proofs.Prelude.{seats_of_wheels, Parts, Pin, PinParts, SheetWheel, box_of, reflector_text, slots_of}
+use Rattle.std.specs.Prelude.{AllPairs}
 use Rattle.kd_state.proofs.Prelude.{wheel_text, wheels_for, Model, Reflector, Wheel, I, cases_Bool, eqb-true}
-use Rattle.kd_state.proofs.Prelude.{false_from_ne_true, leb-true, Decides-like, Contains-append_left}
+use Rattle.kd_state.proofs.Prelude.{false_from_ne_true, leb-true, Contains-append_left}
 use Rattle.kd_state.proofs.Prelude.{Contains-append_right, Contains-get_or, passes_at_first, position_or_len_is}
 use Rattle.kd_state.proofs.Prelude.{is_member-Decides, same_Some, slice_get-get_or, slice_get-map, Decides}
 use Rattle.kd_state.proofs.Prelude.{pointwise_decides, All, list_any, position_or_len, option_eq, unwrap_or, Bool}
@@ -14,8 +15,9 @@ use Rattle.kd_state.proofs.Prelude.{◌-◌}
 use Rattle.std.proofs.lemmas.List.{take_all}
 use Rattle.std.specs.Prelude.{nat_le}
 use Rattle.{kd_tables.specs.contracts.wheel.Wheel.the_type, kd_tables.specs.declared.model.Model.TheVariants.M4}
-use Rattle.{std.proofs.Common.{cond, ◌==◌}, std.proofs.lemmas.Slice.Eq.bytes_eq-Decides, std.specs.Str.bytes_eq}
-use denote.Enum.Bare.{sameb, same_true, same_false}
+use Rattle.{std.proofs.Common.{cond, ◌==◌}, std.specs.Str.bytes_eq}
+use Rattle.kd_tables.specs.contracts.reflector.Reflector as reflector_type
+use denote.Enum.Bare.{sameb, same_true, same_false, true_same}
 
 -- the first element of `all` whose name is `text`, or `d` if there is none
 abbrev pub named_or : {T : Type 0} → (T → List ℕ) → List T → T → List ℕ → T
@@ -33,12 +35,13 @@ one_reflector x y e = grind arith
 
 -- `same_wheel` is true exactly if the two wheels are equal
 pub same_wheel-Decides : (wheel other : Wheel) → Decides (same_wheel wheel other) (wheel ≡ other)
-same_wheel-Decides wheel other = grind (arith, Decides-like, one_wheel, bytes_eq-Decides)
+same_wheel-Decides wheel other = (same_true the_type tt wheel other, true_same the_type wheel other)
 
 -- `same_reflector` is true exactly if the two reflectors are equal
 pub same_reflector-Decides : (reflector other : Reflector)
     → Decides (same_reflector reflector other) (reflector ≡ other)
-same_reflector-Decides reflector other = grind (arith, Decides-like, one_reflector, bytes_eq-Decides)
+same_reflector-Decides reflector other =
+    (same_true reflector_type.the_type tt reflector other, true_same reflector_type.the_type reflector other)
 
 pub same_wheel_self : (wheel : Wheel) → same_wheel wheel wheel ≡ true
 same_wheel_self wheel = grind (arith, same_wheel-Decides)
@@ -119,7 +122,8 @@ found_in_box model wheel place within before here =
 
 -- ---- each wheel of the box, and so of a day, has its own place
 
-pub allowed_in_box : AllowedWheelsLieInTheBox
+pub allowed_in_box : (model : Model) (slot : ℕ) (wheel : Wheel) → Contains (wheels_for model slot) wheel
+    → Contains (box_of model) wheel
 allowed_in_box model slot wheel h = (IsPlaced-from_wheels_for model slot wheel h).in_box
 
 -- at the place that `place_in_box` gives for a wheel of the box, the box has this wheel
@@ -127,7 +131,8 @@ at_its_place : (model : Model) (wheel : Wheel) → Contains (box_of model) wheel
     → wheel ≡ get_or (box_of model) (place_in_box model wheel) I
 at_its_place model wheel h = grind (arith, same_wheel-Decides, passes_at_first, place_within)
 
-pub places_determine_wheels : PlacesDetermineWheels
+pub places_determine_wheels : (model : Model) (wheel other : Wheel) → Contains (box_of model) wheel
+    → Contains (box_of model) other → place_in_box model wheel ≡ place_in_box model other → wheel ≡ other
 places_determine_wheels model wheel other h k e =
     at_its_place model wheel h ∙ ap (λ place. get_or (box_of model) place I) e ∙ sym (at_its_place model other k)
 
@@ -135,7 +140,9 @@ IsSeatedAt-seats : (wheels : List SheetWheel) (i : ℕ) (d : SheetWheel) → i <
     → IsSeatedAt (seats_of_wheels wheels) i (get_or wheels i d).wheel
 IsSeatedAt-seats wheels i d lt = grind (arith, slice_get-map, slice_get-get_or)
 
-pub days_wheels_have_their_places : DaysWheelsHaveTheirPlaces
+pub days_wheels_have_their_places : (model : Model) (wheels : List SheetWheel)
+    → AreLegalSeats model (seats_of_wheels wheels)
+    → AllPairs (λ (w other : SheetWheel). place_in_box model w.wheel ≢ place_in_box model other.wheel) wheels
 days_wheels_have_their_places model wheels h i j d before within same =
     grind (arith, IsSeatedAt-seats, places_determine_wheels, allowed_in_box, h.allowed, h.apart)
 

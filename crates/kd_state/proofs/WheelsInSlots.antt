@@ -7,7 +7,7 @@ use Rattle.kd_state.proofs.Prelude.{recursion_from_All, none-some, slice_get-get
 use Rattle.kd_state.proofs.Prelude.{IsSome, Contains, List, None, Option, Some, [], ap, arith, filter_map, get_or}
 use Rattle.kd_state.proofs.Prelude.{length, map, refl, set, slice_get, subst, suc, sym, zero, ℕ, ◌+◌, ◌<◌, ◌∙◌, ◌∷◌}
 use Rattle.kd_state.proofs.Prelude.{◌≡◌, ◌≢◌}
-use Rattle.kd_state.proofs.{SettingEffects.Refusals.Changes.{letters_set, with_letters}, Slots.set_here}
+use Rattle.kd_state.proofs.{Carrying.{letters_set, with_letters}, Slots.set_here}
 use Rattle.kd_state.proofs.{Slots.set_other}
 use Rattle.kd_state.proofs.Cables.{pairs_of}
 use Rattle.kd_state.proofs.Wheels.{place_within, IsPlaced-from_wheels_for, places_determine_wheels}

@@ -17,12 +17,15 @@ use Rattle.kd_state.specs.Machine.{cable_letters, ring_at, letter_at}
 use Rattle.kd_state.specs.Setting.{has_letter, is_same_place}
 use Rattle.kd_state.specs.SheetDay.{Day, OfRotors, OfPins}
 
+-- whether one of the two is true and the other false
 abbrev pub exactly_one : Bool → Bool → Bool
 exactly_one a b = if a then not b else b
 
+-- 0 if the test is true, else 1
 abbrev pub one_unless : Bool → ℕ
 one_unless same = if same then 0 else 1
 
+-- the letters of a column's pair; none without a pair
 abbrev pub column_letters : Option (ℕ × ℕ) → List ℕ
 column_letters column = option_map_or (λ pair. pair.0 ∷ pair.1 ∷ []) column []
 
@@ -31,6 +34,7 @@ abbrev pub cable_cost : Option ℕ × Option ℕ → Option (ℕ × ℕ) → ℕ
 cable_cost cable column =
     count_by (λ l. exactly_one (has_letter (cable_letters cable) l) (has_letter (column_letters column) l)) alphabet
 
+-- how many lugs have to be moved for the first standing to become the second
 abbrev pub lugs_moved : Place × Place → Place × Place → ℕ
 lugs_moved bar other = one_unless (is_same_place bar.0 other.0) + one_unless (is_same_place bar.1 other.1)
 
@@ -68,20 +72,21 @@ costs_by cost rows columns = map (λ row. map (cost row) columns) rows
 
 -- the costs for a machine and a day of the same model: of each cable with each column, or of each bar with each row
 abbrev pub cost_table : Parts → Day → List (List ℕ)
-cost_table (Rotor m) (OfRotors s) = costs_by cable_cost m.cables (columns_of s.pairs)
-cost_table (Pin m) (OfPins s) = costs_by bar_cost m.bars s.rows
+cost_table (Rotor machine) (OfRotors day) = costs_by cable_cost machine.cables (columns_of day.pairs)
+cost_table (Pin machine) (OfPins day) = costs_by bar_cost machine.bars day.rows
 cost_table _ _ = []
 
 -- ---- Loose things: all things that differ from the day, except cables and bars.
 
 -- how many things, except cables and bars, differ from the day; rings and letters count for the day's wheels alone
 abbrev pub loose_count : Parts → Day → ℕ
-loose_count (Rotor m) (OfRotors s) =
-    count_by (λ slot. not (option_map_or (same_wheel slot.1.wheel) slot.0 false)) (zip m.slots s.wheels)
-    + one_unless (same_reflector m.reflector s.reflector)
-    + count_by (λ w. not (option_map_or (nat_eq w.ring) (ring_at m w.wheel) false)) s.wheels
-    + count_by (λ w. not (option_map_or (nat_eq w.letter) (letter_at m w.wheel) false)) s.wheels
-loose_count (Pin m) (OfPins s) =
-    sum (map (λ w. count_by (λ pin. exactly_one pin.0 pin.1) (zip w.0 w.1)) (zip (pins_of m.pins) (pins_of s.pins)))
-    + count_by (λ letter. not (nat_eq letter.0 letter.1)) (zip m.letters s.window)
+loose_count (Rotor machine) (OfRotors day) =
+    count_by (λ slot. not (option_map_or (same_wheel slot.1.wheel) slot.0 false)) (zip machine.slots day.wheels)
+    + one_unless (same_reflector machine.reflector day.reflector)
+    + count_by (λ w. not (option_map_or (nat_eq w.ring) (ring_at machine w.wheel) false)) day.wheels
+    + count_by (λ w. not (option_map_or (nat_eq w.letter) (letter_at machine w.wheel) false)) day.wheels
+loose_count (Pin machine) (OfPins day) =
+    sum (map (λ w. count_by (λ pin. exactly_one pin.0 pin.1) (zip w.0 w.1))
+    (zip (pins_of machine.pins) (pins_of day.pins)))
+    + count_by (λ letter. not (nat_eq letter.0 letter.1)) (zip machine.letters day.window)
 loose_count _ _ = 0

@@ -5,7 +5,7 @@ pub mod Pins
 pub mod Machine
 pub mod Setting
 pub mod FaultText
-pub mod Changes
+pub mod FirstFault
 pub mod LineWords
 pub mod AnswerRules
 pub mod Line

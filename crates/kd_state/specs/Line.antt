@@ -13,9 +13,11 @@ use Rattle.kd_state.specs.declared.setting.Setting.TheVariants.{LugTo}
 use Rattle.kd_state.specs.declared.setting.list.ListFault.{ListFault}
 use Rattle.kd_state.specs.declared.setting.list.ListFault.TheVariants.{BadLine, TooMany}
 
+-- how a line names an effective and an ineffective pin
 abbrev pub on_off_text : Bool → List ℕ
 on_off_text effective = if effective then codes "ON" else codes "OFF"
 
+-- the words of a setting's line
 abbrev pub setting_words : Setting → List (List ℕ)
 setting_words (Pull cable letter) = codes "PULL" ∷ decimal cable ∷ letters_text (letter ∷ []) ∷ []
 setting_words (Put cable letter) = codes "PUT" ∷ decimal cable ∷ letters_text (letter ∷ []) ∷ []

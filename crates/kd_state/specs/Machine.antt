@@ -20,9 +20,11 @@ use Rattle.kd_state.specs.declared.machine.parts.Parts.{Parts}
 use Rattle.kd_state.specs.declared.machine.parts.Parts.TheVariants.{Rotor, Pin}
 use Rattle.kd_state.specs.SameParts.{place_in_box, numbered_item}
 
+-- the letters at a cable's two ends
 abbrev pub cable_letters : Option ℕ × Option ℕ → List ℕ
 cable_letters cable = option_to_list cable.0 ++ option_to_list cable.1
 
+-- the letters of all cables, in the order of the cables
 abbrev pub letters_in_cables : List (Option ℕ × Option ℕ) → List ℕ
 letters_in_cables cables = flat_map cable_letters cables
 
@@ -36,6 +38,7 @@ pub record AreLegalSeats (model : Model) (slots : List (Option Wheel)) : Type 0 
   pub allowed : (place : ℕ) (w : Wheel) → IsSeatedAt slots place w → Contains (wheels_for model (place + 1)) w
   pub apart : (p q : ℕ) (wheel : Wheel) → IsSeatedAt slots p wheel → IsSeatedAt slots q wheel → p ≡ q
 
+-- There are `number` letters, all below 26.
 pub record AreLetters (number : ℕ) (letters : List ℕ) : Type 0 where
   pub count : length letters ≡ number
   pub within : All (λ letter. letter < 26) letters
@@ -55,27 +58,36 @@ pub record AreOnWheels (letters : List ℕ) : Type 0 where
 abbrev pub HasAllPins : PinSet → Type 0
 HasAllPins pins = (wheel : ℕ) → length (wheel_pins pins wheel) ≡ length (ring_of wheel)
 
+-- The left lug is left of the right lug.
+abbrev pub HasLugsInOrder : Place × Place → Type 0
+HasLugsInOrder bar = IsBefore bar.0 bar.1
+
 -- ---- Which parts make a machine.
 -- Source: the published accounts of the models; War Department TM 11-380; how a bar may stand is this desk's
 -- own rule.
 -- Code: `Machine` has these rules as its invariant.
 
-pub record IsLegalRotor (m : RotorParts) : Type 0 where
-  pub seats : AreLegalSeats m.model m.slots
-  pub reflector : Contains (reflectors_of m.model) m.reflector
-  pub rings : AreLetters (length (box_of m.model)) m.rings
-  pub letters : AreLetters (length (box_of m.model)) m.letters
-  pub cables : AreCables m.cables
+-- The parts are those of a rotor machine of its model. The model takes the wheels and the reflector. Each wheel of the
+-- box has a ring and a window letter, and no letter is plugged twice.
+pub record IsLegalRotor (machine : RotorParts) : Type 0 where
+  pub seats : AreLegalSeats machine.model machine.slots
+  pub reflector : Contains (reflectors_of machine.model) machine.reflector
+  pub rings : AreLetters (length (box_of machine.model)) machine.rings
+  pub letters : AreLetters (length (box_of machine.model)) machine.letters
+  pub cables : AreCables machine.cables
 
-pub record IsLegalPin (m : PinParts) : Type 0 where
-  pub pins : HasAllPins m.pins
-  pub letters : AreOnWheels m.letters
-  pub bars : length m.bars ≡ 27
-  pub apart : All (λ bar. IsBefore bar.0 bar.1) m.bars
+-- The parts are those of a Converter: a pin for each letter of each wheel, a letter of each wheel in its window, and 27
+-- bars, on each of which the left lug is left of the right lug.
+pub record IsLegalPin (machine : PinParts) : Type 0 where
+  pub pins : HasAllPins machine.pins
+  pub letters : AreOnWheels machine.letters
+  pub bars : length machine.bars ≡ 27
+  pub apart : All HasLugsInOrder machine.bars
 
+-- The parts are those of a machine: of a rotor machine or a Converter.
 abbrev pub IsLegal : Parts → Type 0
-IsLegal (Rotor m) = IsLegalRotor m
-IsLegal (Pin m) = IsLegalPin m
+IsLegal (Rotor machine) = IsLegalRotor machine
+IsLegal (Pin machine) = IsLegalPin machine
 
 -- a cable with these letters in alphabetical order; a single letter is at the cable's first end
 abbrev pub cable_in_order : Option ℕ → Option ℕ → Option ℕ × Option ℕ
@@ -85,63 +97,66 @@ cable_in_order one other = (option_or one other, None)
 
 -- the machine, with each cable's letters in alphabetical order; the two ends of a cable work alike
 abbrev pub with_cables_in_order : Parts → Parts
-with_cables_in_order (Rotor m) = Rotor (record m { cables = map (λ cable. cable_in_order cable.0 cable.1) m.cables })
-with_cables_in_order (Pin m) = Pin m
+with_cables_in_order (Rotor machine) =
+    Rotor (record machine { cables = map (λ cable. cable_in_order cable.0 cable.1) machine.cables })
+with_cables_in_order (Pin machine) = Pin machine
 
 -- The parts are legal, and the letters of each cable are in alphabetical order.
-pub record IsMachine (m : Parts) : Type 0 where
-  pub legal : IsLegal m
-  pub cables : with_cables_in_order m ≡ m
+pub record IsMachine (machine : Parts) : Type 0 where
+  pub legal : IsLegal machine
+  pub cables : with_cables_in_order machine ≡ machine
 
 -- ---- What the getters of a machine show; `None` for a thing that the machine lacks.
 -- Test: kd_trials/src/state/getters.rt
 
+-- the machine's model
 abbrev pub model_of : Parts → Model
-model_of (Rotor m) = m.model
-model_of (Pin m) = M209
+model_of (Rotor machine) = machine.model
+model_of (Pin machine) = M209
 
 -- the ring of a wheel, whether the wheel is in a slot or not; `None` if the model lacks the wheel
 abbrev pub ring_at : RotorParts → Wheel → Option ℕ
-ring_at m wheel = slice_get m.rings (place_in_box m.model wheel)
+ring_at machine wheel = slice_get machine.rings (place_in_box machine.model wheel)
 
 -- the window letter of a wheel, whether the wheel is in a slot or not; `None` if the model lacks the wheel
 abbrev pub letter_at : RotorParts → Wheel → Option ℕ
-letter_at m wheel = slice_get m.letters (place_in_box m.model wheel)
+letter_at machine wheel = slice_get machine.letters (place_in_box machine.model wheel)
 
 -- what the slot holds, `Some None` if the slot is empty; `None` if the machine lacks the slot
 abbrev pub machine_slot : Parts → ℕ → Option (Option Wheel)
-machine_slot (Rotor m) slot = numbered_item m.slots slot
-machine_slot (Pin m) slot = None
+machine_slot (Rotor machine) slot = numbered_item machine.slots slot
+machine_slot (Pin machine) slot = None
 
 -- the reflector, if the machine has one
 abbrev pub machine_reflector : Parts → Option Reflector
-machine_reflector (Rotor m) = Some m.reflector
-machine_reflector (Pin m) = None
+machine_reflector (Rotor machine) = Some machine.reflector
+machine_reflector (Pin machine) = None
 
+-- the ring of a wheel, if the machine has this wheel; `machine_letter`: its window letter
 abbrev pub machine_ring : Parts → Wheel → Option ℕ
-machine_ring (Rotor m) wheel = ring_at m wheel
-machine_ring (Pin m) wheel = None
+machine_ring (Rotor machine) wheel = ring_at machine wheel
+machine_ring (Pin machine) wheel = None
 
 abbrev pub machine_letter : Parts → Wheel → Option ℕ
-machine_letter (Rotor m) wheel = letter_at m wheel
-machine_letter (Pin m) wheel = None
+machine_letter (Rotor machine) wheel = letter_at machine wheel
+machine_letter (Pin machine) wheel = None
 
 -- the letters in the cable, if the machine has the cable
 abbrev pub machine_cable : Parts → ℕ → Option (Option ℕ × Option ℕ)
-machine_cable (Rotor m) cable = numbered_item m.cables cable
-machine_cable (Pin m) cable = None
+machine_cable (Rotor machine) cable = numbered_item machine.cables cable
+machine_cable (Pin machine) cable = None
 
 -- whether the pin at a letter of a pin wheel is effective; `None` if the machine lacks this pin
 abbrev pub machine_pin : Parts → ℕ → ℕ → Option Bool
-machine_pin (Rotor m) wheel letter = None
-machine_pin (Pin m) wheel letter = pin_at m.pins wheel letter
+machine_pin (Rotor machine) wheel letter = None
+machine_pin (Pin machine) wheel letter = pin_at machine.pins wheel letter
 
 -- the letter that a pin wheel shows, if the machine has this wheel
 abbrev pub machine_pin_letter : Parts → ℕ → Option ℕ
-machine_pin_letter (Rotor m) wheel = None
-machine_pin_letter (Pin m) wheel = numbered_item m.letters wheel
+machine_pin_letter (Rotor machine) wheel = None
+machine_pin_letter (Pin machine) wheel = numbered_item machine.letters wheel
 
 -- the places of a bar's two lugs, if the machine has this bar
 abbrev pub machine_standing : Parts → ℕ → Option (Place × Place)
-machine_standing (Rotor m) bar = None
-machine_standing (Pin m) bar = numbered_item m.bars bar
+machine_standing (Rotor machine) bar = None
+machine_standing (Pin machine) bar = numbered_item machine.bars bar

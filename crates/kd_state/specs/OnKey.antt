@@ -1,51 +1,53 @@
 -- What it means that a machine is on a day's key (set as the day says), and that it also shows the day's letters.
--- Code: `on_key` looks for the pair of each cable, and for the cable of each pair. It sorts readings and rows, and
--- compares them.
+-- Code: `on_key` sorts the cables of machine and day, or readings and rows, and compares them.
 -- Test: kd_trials/src/state/days.rt
-use Rattle.std.specs.Prelude.{◌≡◌, ◌≢◌, ◌⊎◌, ◌↔◌, ℕ, List, [], ◌∷◌, map, All, Any, Contains, IsPermutation, Option}
-use Rattle.std.specs.Prelude.{Some}
-use Rattle.kd_tables.specs.Places.{reading_of}
+use Rattle.std.specs.Prelude.{◌≡◌, ℕ, List, map, All, IsPermutation, Option, Some, None}
+use Rattle.std.specs.Option.{option_map, option_map_or}
+use Rattle.kd_tables.specs.Places.{reading_of, smaller_first}
 use Rattle.kd_state.specs.declared.machine.rotor_parts.RotorParts.{RotorParts}
 use Rattle.kd_state.specs.declared.machine.parts.Parts.{Parts}
 use Rattle.kd_state.specs.declared.machine.parts.Parts.TheVariants.{Rotor, Pin}
-use Rattle.kd_state.specs.Machine.{cable_letters, ring_at, letter_at}
+use Rattle.kd_state.specs.Costs.{columns_of}
+use Rattle.kd_state.specs.Machine.{ring_at, letter_at}
 use Rattle.kd_state.specs.SheetDay.{RotorDay, Day, OfRotors, OfPins, seats_of_wheels}
 
-abbrev pub HaveSameLetters : List ℕ → List ℕ → Type 0
-HaveSameLetters xs ys = (letter : ℕ) → Contains xs letter ↔ Contains ys letter
+-- a column with the letters of its pair in alphabetical order
+abbrev pub pair_in_order : Option (ℕ × ℕ) → Option (ℕ × ℕ)
+pair_in_order column = option_map (λ pair. smaller_first pair.0 pair.1) column
 
--- The two letters are the letters of the pair, in either order.
-abbrev pub AreLettersOfPair : ℕ → ℕ → ℕ × ℕ → Type 0
-AreLettersOfPair one other pair = ((one ≡ pair.0) × (other ≡ pair.1)) ⊎ ((other ≡ pair.0) × (one ≡ pair.1))
+-- the 13 columns of a day, each with its letters in alphabetical order
+abbrev pub columns_in_order : List (ℕ × ℕ) → List (Option (ℕ × ℕ))
+columns_in_order pairs = map pair_in_order (columns_of pairs)
 
-pub record HasPairLetters (cable : Option ℕ × Option ℕ) (pair : ℕ × ℕ) : Type 0 where
-  pub letters : HaveSameLetters (cable_letters cable) (pair.0 ∷ pair.1 ∷ [])
+-- the cable for a column: it has the letters of the column's pair, in alphabetical order, or is empty without a pair
+abbrev pub cable_of_column : Option (ℕ × ℕ) → Option ℕ × Option ℕ
+cable_of_column column = option_map_or (λ pair. (Some pair.0, Some pair.1)) (pair_in_order column) (None, None)
 
--- Each cable is empty or has a pair's letters, and each pair's letters are in a cable, in whatever order.
-pub record AreThePairs (cables : List (Option ℕ × Option ℕ)) (pairs : List (ℕ × ℕ)) : Type 0 where
-  pub pair : All (λ cable. cable_letters cable ≢ [] → Any (HasPairLetters cable) pairs) cables
-  pub cable : All (λ pair. Any (λ cable. HasPairLetters cable pair) cables) pairs
+-- the 13 cables of a day: a cable for each of its pairs, and then empty cables
+abbrev pub cables_of : List (ℕ × ℕ) → List (Option ℕ × Option ℕ)
+cables_of pairs = map cable_of_column (columns_of pairs)
 
--- The model, each slot's wheel with its ring, the reflector, and the pairs in the cables are the day's.
-pub record IsRotorOnKey (m : RotorParts) (s : RotorDay) : Type 0 where
-  pub model : m.model ≡ s.model
-  pub slots : m.slots ≡ seats_of_wheels s.wheels
-  pub rings : All (λ w. ring_at m w.wheel ≡ Some w.ring) s.wheels
-  pub reflector : m.reflector ≡ s.reflector
-  pub cables : AreThePairs m.cables s.pairs
+-- The model, each slot's wheel with its ring, and the reflector are the day's. So are the cables, in any order.
+pub record IsRotorOnKey (machine : RotorParts) (day : RotorDay) : Type 0 where
+  pub model : machine.model ≡ day.model
+  pub slots : machine.slots ≡ seats_of_wheels day.wheels
+  pub rings : All (λ w. ring_at machine w.wheel ≡ Some w.ring) day.wheels
+  pub reflector : machine.reflector ≡ day.reflector
+  pub cables : IsPermutation machine.cables (cables_of day.pairs)
 
 -- The machine is set as the day says, whatever letters it shows. Its bars have the day's readings, in any order.
 abbrev pub OnKey : Parts → Day → Type 0
-OnKey (Rotor m) (OfRotors s) = IsRotorOnKey m s
-OnKey (Pin m) (OfPins s) = (m.pins ≡ s.pins) × IsPermutation (map reading_of m.bars) s.rows
+OnKey (Rotor machine) (OfRotors day) = IsRotorOnKey machine day
+OnKey (Pin machine) (OfPins day) = (machine.pins ≡ day.pins) × IsPermutation (map reading_of machine.bars) day.rows
 OnKey _ _ = ⊥
 
+-- The machine shows the day's letters: each wheel of the day in its window, or the six pin wheels.
 abbrev pub ShowsWindow : Parts → Day → Type 0
-ShowsWindow (Rotor m) (OfRotors s) = All (λ w. letter_at m w.wheel ≡ Some w.letter) s.wheels
-ShowsWindow (Pin m) (OfPins s) = m.letters ≡ s.window
+ShowsWindow (Rotor machine) (OfRotors day) = All (λ w. letter_at machine w.wheel ≡ Some w.letter) day.wheels
+ShowsWindow (Pin machine) (OfPins day) = machine.letters ≡ day.window
 ShowsWindow _ _ = ⊥
 
 -- The machine is set as the day says, and shows the day's letters.
-pub record ReadsAs (m : Parts) (s : Day) : Type 0 where
-  pub key : OnKey m s
-  pub window : ShowsWindow m s
+pub record ReadsAs (machine : Parts) (day : Day) : Type 0 where
+  pub key : OnKey machine day
+  pub window : ShowsWindow machine day

@@ -11,7 +11,7 @@ use Rattle.kd_state.specs.Entry.{rotor_values, pin_values}
 -- The `OneModel` has the parts of the machine and the entry of the day. Machine and day are of the same rotor
 -- model, or both of the Converter M-209.
 abbrev pub IsOneModelOf : Parts → Day → OneModel → Type 0
-IsOneModelOf m s (Rotor m_parts entry) =
-    (m ≡ parts.Rotor m_parts.now) × (s ≡ OfRotors (rotor_values entry.now))
+IsOneModelOf machine day (Rotor m_parts entry) =
+    (machine ≡ parts.Rotor m_parts.now) × (day ≡ OfRotors (rotor_values entry.now))
     × (m_parts.now.model ≡ entry.now.model)
-IsOneModelOf m s (Pin m_parts entry) = (m ≡ parts.Pin m_parts.now) × (s ≡ OfPins (pin_values entry.now))
+IsOneModelOf machine day (Pin m_parts entry) = (machine ≡ parts.Pin m_parts.now) × (day ≡ OfPins (pin_values entry.now))

@@ -14,8 +14,8 @@ wheel_with_letters wheel _ _ = None
 
 -- the wheel that a slot holds, with its ring and its window letter; `None` for an empty slot
 abbrev pub wheel_in_seat : RotorParts → Option Wheel → Option SheetWheel
-wheel_in_seat m None = None
-wheel_in_seat m (Some wheel) = wheel_with_letters wheel (ring_at m wheel) (letter_at m wheel)
+wheel_in_seat machine None = None
+wheel_in_seat machine (Some wheel) = wheel_with_letters wheel (ring_at machine wheel) (letter_at machine wheel)
 
 -- the key of a rotor machine with these wheels, this reflector and this plugboard
 abbrev pub key_of_wheels : List SheetWheel → Reflector → List ℕ → RotorKey

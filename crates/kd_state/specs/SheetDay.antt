@@ -32,7 +32,7 @@ pub record PinDay : Type 0 where
   pub window : List ℕ
   pub list : List ℕ
 
--- a rotor machine's day with these values; `pin_day_of`, below, makes a Converter's day
+-- a rotor machine's day with these values
 abbrev pub rotor_day_of : ℕ → Model → Reflector → List SheetWheel → List (ℕ × ℕ) → List (List ℕ) → RotorDay
 rotor_day_of day model reflector wheels pairs groups = record {
   day = day;
@@ -43,9 +43,11 @@ rotor_day_of day model reflector wheels pairs groups = record {
   groups = groups;
 }
 
+-- a Converter's day with these values
 abbrev pub pin_day_of : ℕ → List (ℕ × ℕ) → PinSet → List ℕ → List ℕ → PinDay
 pin_day_of day rows pins window list = record { day = day; rows = rows; pins = pins; window = window; list = list }
 
+-- The values of a day, of a rotor machine or of a Converter.
 pub data Day : Type 0 where
   OfRotors : RotorDay → Day
   OfPins : PinDay → Day
@@ -75,59 +77,61 @@ abbrev pub seats_of_wheels : List SheetWheel → List (Option Wheel)
 seats_of_wheels wheels = map (λ w. Some w.wheel) wheels
 
 -- The values of a rotor machine's day are legal: a key sheet can have them.
-pub record IsLegalRotorDay (s : RotorDay) : Type 0 where
-  pub day : IsDayNumber s.day
-  pub reflector : Contains (reflectors_of s.model) s.reflector
-  pub wheels : AreLegalSeats s.model (seats_of_wheels s.wheels)
-  pub letters : All HasWheelLetters s.wheels
-  pub pairs : ArePairs s.pairs
-  pub few_groups : length s.groups ≤ 4
-  pub groups : All (AreLetters 3) s.groups
+pub record IsLegalRotorDay (values : RotorDay) : Type 0 where
+  pub day : IsDayNumber values.day
+  pub reflector : Contains (reflectors_of values.model) values.reflector
+  pub wheels : AreLegalSeats values.model (seats_of_wheels values.wheels)
+  pub letters : All HasWheelLetters values.wheels
+  pub pairs : ArePairs values.pairs
+  pub few_groups : length values.groups ≤ 4
+  pub groups : All (AreLetters 3) values.groups
 
 -- The values of a Converter's day are legal: a key sheet can have them.
-pub record IsLegalPinDay (s : PinDay) : Type 0 where
-  pub day : IsDayNumber s.day
-  pub count : length s.rows ≡ 27
-  pub rows : All IsReading s.rows
-  pub pins : HasAllPins s.pins
-  pub window : AreOnWheels s.window
-  pub list : AreLetters 2 s.list
+pub record IsLegalPinDay (values : PinDay) : Type 0 where
+  pub day : IsDayNumber values.day
+  pub count : length values.rows ≡ 27
+  pub rows : All IsReading values.rows
+  pub pins : HasAllPins values.pins
+  pub window : AreOnWheels values.window
+  pub list : AreLetters 2 values.list
 
 -- The values of the day are legal: a key sheet can have them.
 abbrev pub IsLegalDay : Day → Type 0
-IsLegalDay (OfRotors s) = IsLegalRotorDay s
-IsLegalDay (OfPins s) = IsLegalPinDay s
+IsLegalDay (OfRotors values) = IsLegalRotorDay values
+IsLegalDay (OfPins values) = IsLegalPinDay values
 
 -- ---- What the getters of a day show.
 -- Test: kd_trials/src/state/days.rt
 
+-- the day of the month
 abbrev pub day_number : Day → ℕ
-day_number (OfRotors s) = s.day
-day_number (OfPins s) = s.day
+day_number (OfRotors values) = values.day
+day_number (OfPins values) = values.day
 
+-- the model for which the day is
 abbrev pub day_model : Day → Model
-day_model (OfRotors s) = s.model
-day_model (OfPins s) = M209
+day_model (OfRotors values) = values.model
+day_model (OfPins values) = M209
 
 -- the values of a rotor machine's day; `None` for a Converter's day
 abbrev pub rotor_day : Day → Option RotorDay
-rotor_day (OfRotors s) = Some s
-rotor_day (OfPins s) = None
+rotor_day (OfRotors values) = Some values
+rotor_day (OfPins values) = None
 
 -- the values of a Converter's day; `None` for a rotor machine's day
 abbrev pub pin_day : Day → Option PinDay
-pin_day (OfRotors s) = None
-pin_day (OfPins s) = Some s
+pin_day (OfRotors values) = None
+pin_day (OfPins values) = Some values
 
 -- the wheel for a slot, with its ring and its window letter; `None` if the day's model lacks the slot
 abbrev pub day_wheel : Day → ℕ → Option SheetWheel
-day_wheel (OfRotors s) slot = numbered_item s.wheels slot
-day_wheel (OfPins s) slot = None
+day_wheel (OfRotors values) slot = numbered_item values.wheels slot
+day_wheel (OfPins values) slot = None
 
 -- the day's letter for the window of a slot, or for a pin wheel; `None` if the model lacks the slot or wheel
 abbrev pub day_window_letter : Day → ℕ → Option ℕ
-day_window_letter (OfRotors s) slot = option_map (λ w. w.letter) (numbered_item s.wheels slot)
-day_window_letter (OfPins s) wheel = numbered_item s.window wheel
+day_window_letter (OfRotors values) slot = option_map (λ w. w.letter) (numbered_item values.wheels slot)
+day_window_letter (OfPins values) wheel = numbered_item values.window wheel
 
 -- The letters are the letters of one of the groups, in any order.
 abbrev pub AreOneOfGroups : List (List ℕ) → List ℕ → Type 0
@@ -135,5 +139,5 @@ AreOneOfGroups groups letters = Any (λ group. IsPermutation group letters) grou
 
 -- The letters are the letters of one of the day's groups, in any order. A Converter's day has no groups.
 abbrev pub AreADaysGroup : Day → List ℕ → Type 0
-AreADaysGroup (OfRotors s) letters = AreOneOfGroups s.groups letters
-AreADaysGroup (OfPins s) letters = ⊥
+AreADaysGroup (OfRotors values) letters = AreOneOfGroups values.groups letters
+AreADaysGroup (OfPins values) letters = ⊥

@@ -18,10 +18,12 @@ use Rattle.kd_state.specs.declared.machine.parts.Parts.TheVariants.{Rotor, Pin}
 use Rattle.kd_state.specs.Machine.{cable_letters, ring_at, letter_at, AreLetters, AreOnWheels}
 use Rattle.kd_state.specs.SheetDay.{Day, OfRotors, OfPins}
 
+-- The key of an engine: of wheels, reflector and plugboard, or of a Converter's drum.
 pub data EngineKey : Type 0 where
   OfWheels : RotorKey → EngineKey
   OfDrum : PinKey → EngineKey
 
+-- the ciphertext that an engine with this key makes of a text; the letters are below 26
 abbrev pub cipher : EngineKey → List ℕ → List ℕ
 cipher (OfWheels key) text = enigma_cipher key text
 cipher (OfDrum key) text = converter_cipher key text
@@ -46,16 +48,18 @@ IsWindow (OfDrum key) window = AreOnWheels window
 
 -- The machine is ready to encipher: no slot is empty, and no cable has exactly one letter. A Converter is always ready.
 abbrev pub IsReady : Parts → Type 0
-IsReady (Rotor m) = All (λ seated. IsSome seated) m.slots × All (λ cable. length (cable_letters cable) ≢ 1) m.cables
-IsReady (Pin m) = Unit {0}
+IsReady (Rotor machine) =
+    All (λ seated. IsSome seated) machine.slots × All (λ cable. length (cable_letters cable) ≢ 1) machine.cables
+IsReady (Pin machine) = Unit {0}
 
+-- the wheels in the slots, from the left
 abbrev pub seated_wheels : RotorParts → List Wheel
-seated_wheels m = filter_map (λ seated. seated) m.slots
+seated_wheels machine = filter_map (λ seated. seated) machine.slots
 
 -- the letters that a machine shows: in the windows of its slots, from the left, or on its pin wheels
 abbrev pub window_of : Parts → List ℕ
-window_of (Rotor m) = filter_map (letter_at m) (seated_wheels m)
-window_of (Pin m) = m.letters
+window_of (Rotor machine) = filter_map (letter_at machine) (seated_wheels machine)
+window_of (Pin machine) = machine.letters
 
 -- ---- The cipher of a machine, by its slots, cables and lugs, and of a day, by its wheels, pairs and rows.
 -- Source: the published accounts of the current's path; War Department TM 11-380.
@@ -63,43 +67,50 @@ window_of (Pin m) = m.letters
 
 -- the key to which a machine is set; only cables with two letters count
 abbrev pub physical_key : Parts → EngineKey
-physical_key (Rotor m) = OfWheels (record {
-  wheels = seated_wheels m;
-  rings = filter_map (ring_at m) (seated_wheels m);
-  window = window_of (Rotor m);
-  reflector = m.reflector;
-  plugs = exchange (filter_map (λ cable. option_zip cable.0 cable.1) m.cables);
+physical_key (Rotor machine) = OfWheels (record {
+  wheels = seated_wheels machine;
+  rings = filter_map (ring_at machine) (seated_wheels machine);
+  window = window_of (Rotor machine);
+  reflector = machine.reflector;
+  plugs = exchange (filter_map (λ cable. option_zip cable.0 cable.1) machine.cables);
 })
-physical_key (Pin m) = OfDrum (record { pins = pins_of m.pins; letters = m.letters; rows = map reading_of m.bars })
+physical_key (Pin machine) = OfDrum (record {
+  pins = pins_of machine.pins;
+  letters = machine.letters;
+  rows = map reading_of machine.bars;
+})
 
 -- the key that a day asks for, with the day's letters in the windows or on the pin wheels
 abbrev pub sheet_key : Day → EngineKey
-sheet_key (OfRotors s) = OfWheels (record {
-  wheels = map (λ w. w.wheel) s.wheels;
-  rings = map (λ w. w.ring) s.wheels;
-  window = map (λ w. w.letter) s.wheels;
-  reflector = s.reflector;
-  plugs = exchange s.pairs;
+sheet_key (OfRotors day) = OfWheels (record {
+  wheels = map (λ w. w.wheel) day.wheels;
+  rings = map (λ w. w.ring) day.wheels;
+  window = map (λ w. w.letter) day.wheels;
+  reflector = day.reflector;
+  plugs = exchange day.pairs;
 })
-sheet_key (OfPins s) = OfDrum (record { pins = pins_of s.pins; letters = s.window; rows = s.rows })
+sheet_key (OfPins day) = OfDrum (record { pins = pins_of day.pins; letters = day.window; rows = day.rows })
 
 -- how many bars are moved after `count` letters: all bars with a lug at which a wheel then acts
 abbrev pub bars_moved : PinParts → ℕ → ℕ
-bars_moved m count =
-    let acts = λ (place : Place). is_acting_after (pins_of m.pins) m.letters count (place_number place) in
-    count_by (λ bar. acts bar.0 || acts bar.1) m.bars
+bars_moved machine count =
+    let acts = λ (place : Place). is_acting_after (pins_of machine.pins) machine.letters count (place_number place) in
+    count_by (λ bar. acts bar.0 || acts bar.1) machine.bars
 
 -- the ciphertext that a ready machine makes: a rotor machine by its key, a Converter by its pins, letters and lugs
 abbrev pub physical_cipher : Parts → List ℕ → List ℕ
-physical_cipher (Rotor m) text = cipher (physical_key (Rotor m)) text
-physical_cipher (Pin m) text = map (λ item. (25 + bars_moved m item.0 - item.1) % 26) (enumerate_from 0 text)
+physical_cipher (Rotor machine) text = cipher (physical_key (Rotor machine)) text
+physical_cipher (Pin machine) text =
+    map (λ item. (25 + bars_moved machine item.0 - item.1) % 26) (enumerate_from 0 text)
 
+-- the ciphertext that a day asks for
 abbrev pub sheet_cipher : Day → List ℕ → List ℕ
-sheet_cipher s = cipher (sheet_key s)
+sheet_cipher day = cipher (sheet_key day)
 
 -- The second machine is the first, turned until it shows these letters. The window letters of wheels in the box
 -- may differ.
 abbrev pub IsTurnedTo : Parts → List ℕ → Parts → Type 0
-IsTurnedTo (Rotor m) window (Rotor n) = (n ≡ record m { letters = n.letters }) × (window_of (Rotor n) ≡ window)
-IsTurnedTo (Pin m) window (Pin n) = n ≡ record m { letters = window }
+IsTurnedTo (Rotor machine) window (Rotor turned) =
+    (turned ≡ record machine { letters = turned.letters }) × (window_of (Rotor turned) ≡ window)
+IsTurnedTo (Pin machine) window (Pin turned) = turned ≡ record machine { letters = window }
 IsTurnedTo _ _ _ = ⊥

@@ -39,9 +39,9 @@ impl std::marker::Model for Machine {
 }
 
 impl Machine {
-    ghost use Rattle.std.specs.Prelude.{◌≡◌, ◌↔◌, IsSome, IfSome, OnOk, OnErr, IfErr, Some};
+    ghost use Rattle.std.specs.Prelude.{◌≡◌, ◌↔◌, IsSome, IfSome, OnOk, OnErr, IfErr};
     ghost use Rattle.kd_state.specs.Machine.{IsLegalRotor, IsLegalPin, IsMachine, with_cables_in_order};
-    ghost use Rattle.kd_state.specs.Setting.{Carries, why_refused};
+    ghost use Rattle.kd_state.specs.Setting.{Carries, Refuses};
 
     /// Creates a rotor machine, or `None` if `parts` aren't legal.
     ///
@@ -78,8 +78,7 @@ impl Machine {
     /// If the machine refuses the setting, the machine stays as it was, and the error has the first reason to refuse.
     pub fn carry(&mut self, setting: Setting) -> Result<(), Illegal>
         ensures carried { OnOk result (Carries self.old setting self.new) }
-        ensures refused { IfErr result
-            (λ illegal. why_refused self.old setting ≡ Some illegal.why) }
+        ensures refused { IfErr result (λ illegal. Refuses self.old setting illegal.why) }
         ensures unchanged { OnErr result (self.new ≡ self.old) }
     {
         learn_setting_range(&setting);

@@ -14,7 +14,7 @@ pub use Rattle.std.proofs.lemmas.List.{get_or-map, FromFn.{fill_by_all, get_or-r
 pub use Rattle.std.proofs.lemmas.{Grind.common_steps, Simd.map-map, Slice.Zip.{firsts-zip, length-zip, seconds-zip}}
 pub use Rattle.std.specs.{List.{All, AllByRecursion, list_any, range_with_len, sum_by}, Option.option_map_or}
 pub use Rattle.kd_state.proofs.Slots.{has_letter-Decides, is_some-place_on, set_here, set_other}
-pub use Rattle.kd_state.proofs.{SortedAlike.count_by-cons, SettingEffects.{letters_have_places, Refusals.leads_join}}
+pub use Rattle.kd_state.proofs.{SortedAlike.count_by-cons, Slots.letters_have_places, Carrying.leads_join}
 pub use Rattle.kd_state.proofs.{CostTable.sums_add, Wheels.{days_wheels_have_their_places, same_wheel_self}}
 pub use Rattle.kd_state.proofs.Wheels.{has_reflector-Decides, place_within, same_reflector-Decides, same_wheel_differs}
 pub use Rattle.kd_state.{proofs.Wheels.{allowed_in_box, has_wheel-Decides, same_wheel-Decides}, specs.Pins.wheel_pins}
@@ -25,8 +25,8 @@ pub use Rattle.kd_state.specs.declared.machine.{parts.Parts.TheVariants.Rotor, r
 pub use Rattle.kd_state.specs.{Costs.{exactly_one, loose_count}, declared.sheet_day.rotor_entry.SheetWheel.SheetWheel}
 pub use Rattle.kd_state.specs.Machine.{AreLegalSeats, AreOnWheels, HasAllPins, IsMachine, IsSeatedAt, model_of, ring_at}
 pub use Rattle.kd_state.specs.SheetDay.{Day, day_model, IsLegalDay, IsLegalRotorDay, PinDay, seats_of_wheels}
-pub use Rattle.kd_state.specs.{Setting.why_refused, SheetDay.{IsLegalPinDay, OfPins, OfRotors, RotorDay}}
-pub use Rattle.kd_state.specs.Setting.{has_letter, Leads, machine_after, seat_without}
+pub use Rattle.kd_state.specs.{Setting.Carries, SheetDay.{IsLegalPinDay, OfPins, OfRotors, RotorDay}}
+pub use Rattle.kd_state.specs.Setting.{has_letter, Leads, seat_without}
 pub use Rattle.{kd_pins.specs.{declared.pin_set.PinSet.PinSet, PinWheels.pins_of}, kd_tables.specs.Rings.ring_of}
 pub use Rattle.kd_tables.specs.{declared.model.Model.Model, Rings.place_on, Tables.{box_of, reflectors_of, wheels_for}}
 pub use Rattle.kd_tables.specs.declared.{reflector.Reflector.Reflector, wheel.Wheel.Wheel}

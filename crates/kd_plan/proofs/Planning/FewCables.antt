@@ -23,7 +23,7 @@ put_within number m s none few (suc place) letter within h =
     elim (cases_lt number (suc place)) [
       | inl above ↦
           let bound = h (none (suc place) above) in
-          let spare = λ (k : ℕ) (low : place ≤ k). is_spare_at-cable_at m (suc k) k refl ∙ none (suc k) (omega arith) in
+          let spare = λ (k : ℕ) (low : place ≤ k). spare_at m (suc k) k refl (none (suc k) (omega arith)) in
           let fewer = all_first m.cables place (omega arith) spare in
           omega (arith, all_first m.cables (suc place) within (λ k low. spare k (omega arith)))
       | inr fits ↦ omega arith
@@ -31,10 +31,10 @@ put_within number m s none few (suc place) letter within h =
 
 -- A change of a cable whose number is at most `number` leaves the cables above `number` spare.
 set_within : (number : ℕ) (m : RotorParts) (cable : ℕ) (ends : Cable) → UsesNoneAbove number (Rotor m) → cable ≤ number
-    → is_none (numbered_item m.cables cable) ≡ false
-    → UsesNoneAbove number (Rotor (record m { cables = set m.cables (cable - 1) ends }))
-set_within number m cable ends none within there other above =
-    grind (arith, common_steps, numbered_other, IsNumbered-not_none)
+    → 1 ≤ cable → UsesNoneAbove number (Rotor (record m { cables = set m.cables (cable - 1) ends }))
+set_within number m cable ends none within first other above =
+    subst (λ found. IfSome found (λ cable. IsTrue (is_spare cable)))
+    (sym (numbered_other m.cables cable other ends first (λ e. omega (arith, within, above)))) (none other above)
 
 -- The machine has as many cables as `start`, none of which is in use above `number`; or both are Converters M-209.
 abbrev HasFewInUse : ℕ → Parts → Parts → Type 0
@@ -51,23 +51,29 @@ SparesStayFree-tail m s x settings free = absurd free
 
 one_step : (number : ℕ) (start : Parts) (s : Day) (m : Parts) (x : Setting) (settings : List Setting)
     → UsesNoneAbove number start → HasPairsUpTo number s → HasFewInUse number start m
-    → SparesStayFree start s (x ∷ settings) → why_refused m x ≡ None
-    → NamesNoneAbove number x × HasFewInUse number start (machine_after m x)
-one_step number (Rotor start) (OfRotors s) (Rotor m) (Put cable letter) settings none few now free allowed =
-    let there : is_none (numbered_item m.cables cable) ≡ false = grind arith in
-    let last = (IsNumbered-not_none m.cables cable (None, None) there).last in
-    let within = put_within number start s none few cable letter (omega (arith, last, now.0))
-    (free cable letter (0, omega arith, refl)) in
-    (within, (rw length-set now.0, set_within number m cable _ now.1 within there))
-one_step number (Rotor start) s (Rotor m) (Pull cable letter) settings none few now free allowed =
-    let there : is_none (numbered_item m.cables cable) ≡ false = grind arith in
-    let used : is_spare (cable_at m cable) ≡ false = grind arith in
+    → SparesStayFree start s (x ∷ settings) → (after : Parts) → Carries m x after
+    → NamesNoneAbove number x × HasFewInUse number start after
+one_step number (Rotor start) (OfRotors s) (Rotor m) (Put cable letter) settings none few now free after carries =
+    let p = was_put m cable letter after carries in
+    let within = put_within number start s none few cable letter (omega (arith, p.there.last, now.0))
+    (free cable letter (0, omega arith, refl)) in (
+      within,
+      subst (HasFewInUse number (Rotor start)) p.made
+          (rw length-set now.0, set_within number m cable _ now.1 within p.there.first),
+    )
+one_step number (Rotor start) s (Rotor m) (Pull cable letter) settings none few now free after carries =
+    let p = pulled m cable letter after carries in
+    let has = p.has in
+    let used : is_spare p.old ≡ false = grind (arith, has) in
     let within : cable ≤ number = elim (cases_lt number cable) [
-      | inl above ↦ let spare = now.1 cable above in absurd (cc)
+      | inl above ↦ let spare = rw p.there.is at (now.1 cable above) in absurd (cc)
       | inr fits ↦ omega arith
-    ] in
-    (within, (rw length-set now.0, set_within number m cable _ now.1 within there))
-one_step number start s m x settings none few now free allowed = grind arith
+    ] in (
+      within,
+      subst (HasFewInUse number (Rotor start)) p.made
+          (rw length-set now.0, set_within number m cable _ now.1 within p.there.first),
+    )
+one_step number start s m x settings none few now free after carries = grind arith
 
 module _ (number : ℕ) (start : Parts) (s : Day) (none : UsesNoneAbove number start) (few : HasPairsUpTo number s) where
   serve : (settings : List Setting) (m n : Parts) → HasFewInUse number start m → SparesStayFree start s settings
@@ -75,8 +81,8 @@ module _ (number : ℕ) (start : Parts) (s : Day) (none : UsesNoneAbove number s
   serve [] m n now free leads =
       let unused : UsesNoneAbove number m = grind arith in (All-nil (NamesNoneAbove number), rw leads unused)
   serve (x ∷ settings) m n now free (between, carries, leads) =
-      let one = one_step number start s m x settings none few now free carries.allowed in
-      let rest = serve settings between n (rw carries.made one.1) (SparesStayFree-tail start s x settings free) leads in
+      let one = one_step number start s m x settings none few now free between carries in
+      let rest = serve settings between n one.1 (SparesStayFree-tail start s x settings free) leads in
       (All-cons (NamesNoneAbove number) x settings one.0 rest.0, rest.1)
 
 pub few_cables_serve : FewCablesServe

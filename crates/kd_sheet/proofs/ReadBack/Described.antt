@@ -3,7 +3,7 @@
 pub mod KeyValues
 unfoldable pub use KeyValues.*
 use Rattle.kd_sheet.specs.{Document.document_of, MachineFile.machine_of, SheetFile.sheet_of}
-use Rattle.kd_state.{proofs.SettingEffects.Refusals.Changes.ordered_parts, specs.Machine.IsMachine}
+use Rattle.kd_state.{proofs.Carrying.ordered_parts, specs.Machine.IsMachine}
 
 -- ---- reflectors
 

@@ -1,16 +1,15 @@
 //! Compares a machine with a day: is the machine set as the day says, and does it show the day's letters?
-ghost use Rattle.std.specs.Prelude.{◌≡◌, ◌≢◌, ◌↔◌, Any, IsTrue, IsPermutation, Some, true, [], ◌∷◌, length, slice_get};
+ghost use Rattle.std.specs.Prelude.{◌≡◌, ◌≤◌, ◌↔◌, IsTrue, IsPermutation, Some, length, slice_get};
 ghost use Rattle.std.specs.List.{AllByRecursion};
-ghost use Rattle.std.specs.Option.{option_map_or};
 ghost use Rattle.kd_state.specs.Entry.{rotor_values};
 ghost use Rattle.kd_tables.specs.Tables.{box_of};
-ghost use Rattle.kd_state.specs.Machine.{IsLegalRotor, cable_letters};
-ghost use Rattle.kd_state.specs.OnKey.{IsRotorOnKey, AreThePairs, HasPairLetters};
-ghost use Rattle.kd_state.specs.Setting.{has_letter};
+ghost use Rattle.kd_state.specs.Machine.{IsLegalRotor};
+ghost use Rattle.kd_state.specs.OnKey.{IsRotorOnKey, cable_of_column, cables_of};
 ghost use Rattle.kd_state.specs.SameParts.{place_in_box};
 
+use crate::costs::tables::column_at;
 use crate::machine::Machine;
-use crate::machine::cable::{Cable, lies_in};
+use crate::machine::cable::{Cable, letters_in_order};
 use crate::machine::getters::letter_of_wheel;
 use crate::machine::parts::Parts;
 use crate::machine::per_wheel::PerWheel;
@@ -59,7 +58,7 @@ impl Machine {
     }
 }
 
-/// Whether a rotor machine has the day's model, wheels, rings and reflector, and exactly the day's pairs in its cables.
+/// Whether a rotor machine has the day's model, wheels, rings and reflector, and the day's cables in any order.
 fn is_rotor_on_key(parts: &RotorParts, entry: &RotorEntry) -> bool
     requires { IsLegalRotor parts.now }
     ensures { IsTrue result ↔ IsRotorOnKey parts.now (rotor_values entry.now) }
@@ -74,7 +73,7 @@ fn is_rotor_on_key(parts: &RotorParts, entry: &RotorEntry) -> bool
     if !have_rings(parts.model, &parts.rings, entry.wheels.as_slice()) {
         return false;
     }
-    are_the_pairs(&parts.cables, entry.pairs.as_slice())
+    has_cables(parts, cables_of(entry.pairs.as_slice()))
 }
 
 /// Whether each of the day's `wheels` has the day's ring. `rings` are the machine's rings, in box order.
@@ -119,67 +118,37 @@ fn are_same_readings(readings: [Reading; 27], rows: [Reading; 27]) -> bool
     readings == rows
 }
 
-/// Whether the cables that aren't empty are exactly `pairs`. The order of cables, pairs and letters doesn't matter.
-fn are_the_pairs(cables: &[Cable], pairs: &[(Letter, Letter)]) -> bool
-    ensures { IsTrue result ↔ AreThePairs cables.now pairs.now }
+/// Whether the cables of `parts` are `cables`, in any order.
+fn has_cables(parts: &RotorParts, cables: [Cable; 13]) -> bool
+    ensures { IsTrue result ↔ IsPermutation parts.now.cables cables }
 {
-    are_paired(cables, pairs) && are_joined(pairs, cables)
+    let (mut parts, mut cables) = (*parts, cables);
+    parts.cables.sort_unstable();
+    cables.sort_unstable();
+    parts.cables == cables
 }
 
-/// Whether each cable is empty or has the letters of one of `pairs`.
-fn are_paired(cables: &[Cable], pairs: &[(Letter, Letter)]) -> bool
-    ensures { IsTrue result
-        ↔ AllByRecursion (λ cable. cable_letters cable ≢ [] → Any (HasPairLetters cable) pairs.now)
-        cables.now }
+/// The 13 cables of a day: a cable for each of `pairs`, and then empty cables.
+fn cables_of(pairs: &[(Letter, Letter)]) -> [Cable; 13]
+    requires { length pairs.now ≤ 13 }
+    ensures { result ≡ cables_of pairs.now }
 {
-    match cables {
-        [] => true,
-        [first, rest @ ..] => is_cable_paired(*first, pairs) && are_paired(rest, pairs),
+    let mut cables = [(None, None); 13];
+    for place in 0..13 {
+        cables[place] = cable_of_column(column_at(pairs, place));
     }
+    cables
 }
 
-/// Whether each of `pairs` has its letters in one of `cables`.
-fn are_joined(pairs: &[(Letter, Letter)], cables: &[Cable]) -> bool
-    ensures { IsTrue result
-        ↔ AllByRecursion (λ pair. Any (λ cable. HasPairLetters cable pair) cables.now) pairs.now }
+/// The cable with the letters of `column` in alphabetical order. Without a pair, the cable is empty.
+fn cable_of_column(column: Option<(Letter, Letter)>) -> Cable
+    ensures { result ≡ cable_of_column column }
 {
-    match pairs {
-        [] => true,
-        [first, rest @ ..] => is_pair_joined(cables, *first) && are_joined(rest, cables),
-    }
-}
-
-/// Whether `cable` is empty or has the letters of one of `pairs`.
-fn is_cable_paired(cable: Cable, pairs: &[(Letter, Letter)]) -> bool
-    ensures { IsTrue result ↔ (cable_letters cable ≢ [] → Any (HasPairLetters cable) pairs.now) }
-{
-    cable == (None, None) || pairs.iter().any(|pair| has_letters_of_pair(cable, *pair))
-}
-
-/// Whether one of `cables` has the letters of `pair`.
-fn is_pair_joined(cables: &[Cable], pair: (Letter, Letter)) -> bool
-    ensures { IsTrue result ↔ Any (λ cable. HasPairLetters cable pair) cables.now }
-{
-    cables.iter().any(|cable| has_letters_of_pair(*cable, pair))
-}
-
-/// Whether `cable` has exactly the letters of `pair`, in either order.
-#[tactic(auto, using(crate::proofs::Cables::joined_by_tests, crate::proofs::Cables::tests_of_joined))]
-fn has_letters_of_pair(cable: Cable, pair: (Letter, Letter)) -> bool
-    ensures { IsTrue result ↔ HasPairLetters cable pair }
-{
-    lies_in(&cable, pair.0)
-        && lies_in(&cable, pair.1)
-        && is_empty_or_of(cable.0, &pair)
-        && is_empty_or_of(cable.1, &pair)
-}
-
-/// Whether `end`, one end of a cable, is empty or has a letter of `pair`.
-fn is_empty_or_of(end: Option<Letter>, pair: &(Letter, Letter)) -> bool
-    ensures { result ≡ option_map_or (has_letter (pair.now.0 ∷ pair.now.1 ∷ [])) end true }
-{
-    match end {
-        None => true,
-        Some(letter) => letter == pair.0 || letter == pair.1,
+    match column {
+        Some((one, other)) => {
+            let (first, second) = letters_in_order(one, other);
+            (Some(first), Some(second))
+        }
+        None => (None, None),
     }
 }

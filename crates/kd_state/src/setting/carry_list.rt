@@ -7,7 +7,7 @@ use crate::setting::Setting;
 use crate::setting::why::IllegalAt;
 
 /// Carries `settings` out one after another; returns the new machine, or the first refusal.
-#[tactic(auto, using(crate::proofs::SettingEffects::Refusals::leads_next, crate::proofs::SettingEffects::Refusals::stops_at))]
+#[tactic(auto, using(crate::proofs::Carrying::leads_next, crate::proofs::Carrying::stops_at))]
 pub fn carry_all(machine: &Machine, settings: &[Setting]) -> Result<Machine, IllegalAt>
     ensures carried { IfOk result (λ n. Leads machine.now settings.now n) }
     ensures refused { IfErr result

@@ -1,7 +1,7 @@
 //! Carries settings out on a Converter M-209.
 //!
 //! A setting that is refused changes nothing. The error is the first reason to refuse it.
-ghost use Rattle.kd_state.specs.Changes.{HasLugsInOrder};
+ghost use Rattle.kd_state.specs.Machine.{HasLugsInOrder};
 ghost use Rattle.kd_state.specs.Setting.{IsCarryAnswer, is_same_place, with_lug};
 ghost use Rattle.std.specs.Prelude.{◌≡◌, ◌↔◌, IsSome, IfSome};
 

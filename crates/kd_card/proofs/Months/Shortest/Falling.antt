@@ -9,15 +9,6 @@ not_differing b = grind arith
 pub one_less : (place : ℕ) → suc place - 1 ≡ place
 one_less place = omega arith
 
--- What holds of the cables or bars of a machine, and still holds after each legal setting.
-pub record HasCables (cables : List (Option ℕ × Option ℕ)) : Type 0 where
-  pub count : length cables ≡ 13
-  pub apart : IsDistinct nat_eq (letters_in_cables cables)
-
-pub record HasBars (bars : List (Place × Place)) : Type 0 where
-  pub count : length bars ≡ 27
-  pub stand : All HasLugsInOrder bars
-
 -- ---- a letter is pulled out of a cable, or put into one
 
 -- The two lists have the same letters, except perhaps for letter `x`.
@@ -25,53 +16,13 @@ abbrev pub SameBut : ℕ → List ℕ → List ℕ → Type 0
 SameBut x letters others =
     (letter : ℕ) → (has_letter letters letter ≡ has_letter others letter) ⊎ (nat_eq x letter ≡ true)
 
-one_apart : (x : ℕ) (fewer letters : List ℕ) → IsPermutation letters (x ∷ fewer) → SameBut x letters fewer
-one_apart x fewer letters order letter =
-    let there = λ (l : ℕ). Contains-permutation letters (x ∷ fewer) l order in
-    let back = λ (l : ℕ). Contains-permutation (x ∷ fewer) letters l (IsPermutation-sym letters (x ∷ fewer) order) in
-    let same = (tests_determine_letters letters (x ∷ fewer)).0 (λ l. (there l, back l)) in
-    grind (arith, same letter)
+pulled_same : (letter : ℕ) (one other : Option ℕ) → has_letter (cable_letters (one, other)) letter ≡ true
+    → SameBut letter (cable_letters (one, other)) (cable_letters (cable_without letter (one, other)))
+pulled_same x one other there letter = grind (arith, nat_tests)
 
--- If the cable with number `cable` becomes `new`, its letters stay the same except perhaps `letter`, and `HasCables`
--- still holds. This is so if the letter is pulled out or put in.
-pub record ChangesCable (m : RotorParts) (cable letter : ℕ) (new : Option ℕ × Option ℕ) : Type 0 where
-  pub here : get_or m.cables (cable - 1) (cable_at m cable) ≡ cable_at m cable
-  pub same : SameBut letter (cable_letters (cable_at m cable)) (cable_letters new)
-  pub keeps : HasCables m.cables → HasCables (set m.cables (cable - 1) new)
-
-ChangesCable-letters : (m : RotorParts) (cable letter : ℕ) (new : Option ℕ × Option ℕ)
-    → is_none (numbered_item m.cables cable) ≡ false
-    → SameBut letter (cable_letters (cable_at m cable)) (cable_letters new)
-    → (slice_get m.cables (cable - 1) ≡ Some (cable_at m cable) → IsDistinct nat_eq (letters_in_cables m.cables)
-    → IsDistinct nat_eq (letters_in_cables (set m.cables (cable - 1) new))) → ChangesCable m cable letter new
-ChangesCable-letters m cable letter new some same keeps =
-    search (rules, IsNumbered-not_none, get_or_from_slice_get, length-set)
-
-pub ChangesCable-pull : (m : RotorParts) (cable letter : ℕ) → why_refused (Rotor m) (Pull cable letter) ≡ None
-    → ChangesCable m cable letter (cable_without letter (cable_at m cable))
-ChangesCable-pull m cable letter e =
-    let allowed = no_reason (refusal_reasons (Rotor m) (Pull cable letter)) e in
-    let old = cable_at m cable in
-    let new = cable_without letter old in
-    let moved = without_moves letter old.0 old.1 (not-false _ allowed.1.0) in
-    let one = one_apart letter (cable_letters new) (cable_letters old) moved in
-    ChangesCable-letters m cable letter new allowed.0 one (λ there apart.
-    let moves = set_moves [] (letter ∷ []) m.cables (cable - 1) old new there moved in
-    IsDistinct-tail nat_eq letter _ (IsDistinct-IsPermutation nat_eq eqb_flips _ _ moves apart))
-
-pub ChangesCable-put : (m : RotorParts) (cable letter : ℕ) → why_refused (Rotor m) (Put cable letter) ≡ None
-    → ChangesCable m cable letter (cable_with letter (cable_at m cable))
-ChangesCable-put m cable letter e =
-    let allowed = no_reason (refusal_reasons (Rotor m) (Put cable letter)) e in
-    let old = cable_at m cable in
-    let new = cable_with letter old in
-    let moved = with_moves letter old.0 old.1 allowed.1.0 in
-    let one = one_apart letter (cable_letters old) (cable_letters new) (IsPermutation-sym _ _ moved) in
-    let free = (has_letter-AllByRecursion (letters_in_cables m.cables) letter).0 allowed.1.1.0 in
-    ChangesCable-letters m cable letter new allowed.0 (λ l. elim (one l) [ inl e ↦ inl (sym e) | inr e ↦ inr e ])
-    (λ there apart.
-    let moves = set_moves (letter ∷ []) [] m.cables (cable - 1) old new there moved in
-    IsDistinct-IsPermutation nat_eq eqb_flips _ _ moves (IsDistinct-cons nat_eq letter _ free apart))
+put_same : (letter : ℕ) (one other : Option ℕ) → (is_some one && is_some other) ≡ false
+    → SameBut letter (cable_letters (one, other)) (cable_letters (cable_with letter (one, other)))
+put_same x one other loose letter = grind (arith, nat_tests, cond_both)
 
 counted_apart : (letters others wanted : List ℕ) (x : ℕ) → SameBut x letters others → (alphabet : List ℕ)
     → count_by (λ letter. exactly_one (has_letter letters letter) (has_letter wanted letter)) alphabet
@@ -81,14 +32,15 @@ counted_apart letters others wanted x same [] = omega arith
 counted_apart letters others wanted x same (letter ∷ alphabet) =
     grind (arith, common_steps, count_by-cons, counted_apart letters others wanted x same alphabet, same, at_most_one)
 
-pub cables_fall : (m : RotorParts) (cable letter : ℕ) (new : Option ℕ × Option ℕ) (ws : List (Option (ℕ × ℕ) × ℤ))
-    → ChangesCable m cable letter new
+pub cables_fall : (m : RotorParts) (cable letter : ℕ) (old new : Option ℕ × Option ℕ)
+    (ws : List (Option (ℕ × ℕ) × ℤ)) → IsNumbered m.cables cable old
+    → SameBut letter (cable_letters old) (cable_letters new)
     → pairing_cost cable_cost m.cables ws ≤ pairing_cost cable_cost (set m.cables (cable - 1) new) ws + 1
-cables_fall m cable letter new ws c =
-    let old = cable_at m cable in
+cables_fall m cable letter old new ws there same =
+    let here = get_or_from_slice_get m.cables (cable - 1) old old there.here in
     zip_set (λ pair. cable_cost pair.0 pair.1.0) m.cables ws (cable - 1) new old (λ w.
-    let fewer = counted_apart (cable_letters old) (cable_letters new) (column_letters w.0) letter c.same alphabet in
-    subst (λ was. cable_cost was w.0 ≤ cable_cost new w.0 + 1) (sym c.here) (omega (arith, once_in_alphabet letter)))
+    let fewer = counted_apart (cable_letters old) (cable_letters new) (column_letters w.0) letter same alphabet in
+    subst (λ was. cable_cost was w.0 ≤ cable_cost new w.0 + 1) (sym here) (omega (arith, once_in_alphabet letter)))
 
 -- ---- one lug of a bar is moved
 
@@ -104,46 +56,34 @@ least_falls : {X : Type 0} (f g : X → ℕ) → ((x : X) → f x ≤ g x + 1) �
 least_falls f g h [] a b start = start
 least_falls f g h (x ∷ xs) a b start = least_falls f g h xs (min a (f x)) (min b (g x)) (omega (arith, h x))
 
-pub lug_moves : (m : PinParts) (ws : List ((ℕ × ℕ) × ℤ)) (bar : ℕ) (lug : Lug) (place : Place)
-    → why_refused (Pin m) (LugTo bar lug place) ≡ None
-    → (pairing_cost bar_cost m.bars ws ≤ pairing_cost bar_cost (bars_with_lug m bar lug place) ws + 1)
-    × (HasBars m.bars → HasBars (bars_with_lug m bar lug place))
-lug_moves m ws bar lug place e =
-    let allowed = no_reason (refusal_reasons (Pin m) (LugTo bar lug place)) e in
-    let there = IsNumbered-not_none m.bars bar (place, place) allowed.0 in
-    let old = unwrap_or (numbered_item m.bars bar) (place, place) in
+pub bars_fall : (m : PinParts) (ws : List ((ℕ × ℕ) × ℤ)) (bar : ℕ) (lug : Lug) (place : Place)
+    (old : Place × Place) → IsNumbered m.bars bar old
+    → pairing_cost bar_cost m.bars ws ≤ pairing_cost bar_cost (set m.bars (bar - 1) (with_lug lug place old)) ws + 1
+bars_fall m ws bar lug place old there =
     let new = with_lug lug place old in
     let here = get_or_from_slice_get m.bars (bar - 1) old old there.here in
-    let before = still_before new (rw there.is at allowed.1.0) (rw there.is at allowed.1.1.0) in
-    let all : bars_with_lug m bar lug place ≡ set m.bars (bar - 1) new = rw there.is refl in
-    rw all (
-      zip_set (λ pair. bar_cost pair.0 pair.1.0) m.bars ws (bar - 1) new old (λ w.
-          let step = lugs_moved_step lug place old in
-          subst (λ was. bar_cost was w.0 ≤ bar_cost new w.0 + 1) (sym here)
-          (least_falls (lugs_moved old) (lugs_moved new) step (standings_as w.0) 2 2 (omega arith))),
-      λ h. record { count = length-set m.bars _ new ∙ h.count; stand = All-set HasLugsInOrder _ _ new before h.stand },
-    )
+    zip_set (λ pair. bar_cost pair.0 pair.1.0) m.bars ws (bar - 1) new old (λ w.
+    let step = lugs_moved_step lug place old in
+    subst (λ was. bar_cost was w.0 ≤ bar_cost new w.0 + 1) (sym here)
+    (least_falls (lugs_moved old) (lugs_moved new) step (standings_as w.0) 2 2 (omega arith)))
 
--- ---- what settings keep
+-- ---- settings keep the lugs of each bar in order
 
-abbrev pub HasAllParts : Parts → Type 0
-HasAllParts (Rotor m) = HasCables m.cables
-HasAllParts (Pin m) = HasBars m.bars
+abbrev pub HaveLugsInOrder : Parts → Type 0
+HaveLugsInOrder (Rotor m) = Unit {0}
+HaveLugsInOrder (Pin m) = All HasLugsInOrder m.bars
 
-pub machines_have_all : (m : Parts) → IsLegal m → HasAllParts m
-machines_have_all (Rotor m) h = record { count = h.cables.count; apart = h.cables.apart }
-machines_have_all (Pin m) h = record { count = h.bars; stand = h.apart }
+setting_keeps : (m : Parts) (x : Setting) (after : Parts) → Carries m x after → HaveLugsInOrder m
+    → HaveLugsInOrder after
+setting_keeps (Pin m) (LugTo bar lug place) after e h =
+    let moved = lug_moved m bar lug place after e in
+    subst HaveLugsInOrder moved.made (All-set HasLugsInOrder _ _ (with_lug lug place moved.old) moved.before h)
+setting_keeps m x after e h = grind arith
 
-setting_keeps : (m : Parts) (x : Setting) → why_refused m x ≡ None → HasAllParts m → HasAllParts (machine_after m x)
-setting_keeps (Rotor m) (Pull cable letter) e h = (ChangesCable-pull m cable letter e).keeps h
-setting_keeps (Rotor m) (Put cable letter) e h = (ChangesCable-put m cable letter e).keeps h
-setting_keeps (Pin m) (LugTo bar lug place) e h = (lug_moves m [] bar lug place e).1 h
-setting_keeps m x e h = h
-
-pub list_keeps : (m n : Parts) (xs : List Setting) → Leads m xs n → HasAllParts m → HasAllParts n
-list_keeps m n [] leads h = subst HasAllParts (sym leads) h
+pub list_keeps : (m n : Parts) (xs : List Setting) → Leads m xs n → HaveLugsInOrder m → HaveLugsInOrder n
+list_keeps m n [] leads h = subst HaveLugsInOrder (sym leads) h
 list_keeps m n (x ∷ xs) leads h =
-    list_keeps leads.0 n xs leads.2 (subst HasAllParts (sym leads.1.made) (setting_keeps m x leads.1.allowed h))
+    list_keeps leads.0 n xs leads.2 (setting_keeps m x leads.0 leads.1 h)
 
 -- ---- loose things
 
@@ -218,22 +158,32 @@ module _ (columns : List (Option (ℕ × ℕ) × ℤ)) (rows : List ((ℕ × ℕ
   abbrev place : SheetWheel → ℕ
   place w = place_in_box m.model w.wheel
 
-  turned_lowers : (seated : Option Wheel) (letter : ℕ) → loose_count (Rotor m) (OfRotors s)
-      ≤ loose_count (Rotor (record m { letters = letters_with m seated letter })) (OfRotors s) + 1
-  turned_lowers None letter = omega arith
-  turned_lowers (Some wheel) letter =
-      omega (arith, set_lowers place (λ w. w.letter) m.letters (place_in_box m.model wheel) letter s.wheels apart)
+  abbrev LowersByOne : Parts → Type 0
+  LowersByOne after = left_to_do columns rows (Rotor m) (OfRotors s) ≤ left_to_do columns rows after (OfRotors s) + 1
 
-  rotor_lowers : (x : Setting) → why_refused (Rotor m) x ≡ None → left_to_do columns rows (Rotor m) (OfRotors s)
-      ≤ left_to_do columns rows (machine_after (Rotor m) x) (OfRotors s) + 1
-  rotor_lowers (Pull cable letter) e = omega (arith, cables_fall m cable letter _ columns (ChangesCable-pull _ _ _ e))
-  rotor_lowers (Put cable letter) e = omega (arith, cables_fall m cable letter _ columns (ChangesCable-put _ _ _ e))
-  rotor_lowers (Seat slot wheel) e = grind (arith, common_steps, without_raises, zip_set_lowers)
-  rotor_lowers (SeatReflector reflector) e = omega (arith, unless_same_at_most (same_reflector m.reflector s.reflector))
-  rotor_lowers (RingTo wheel letter) e =
-      omega (arith, set_lowers place (λ w. w.ring) m.rings (place_in_box m.model wheel) letter s.wheels apart)
-  rotor_lowers (Turn slot letter) e = omega (arith, turned_lowers (wheel_in_slot m slot) letter)
-  rotor_lowers x e = omega arith
+  rotor_lowers : (x : Setting) (after : Parts) → Carries (Rotor m) x after → LowersByOne after
+  rotor_lowers (Pull cable letter) after e =
+      let p = pulled m cable letter after e in
+      let same = pulled_same letter p.old.0 p.old.1 p.has in
+      subst LowersByOne p.made (omega (arith, cables_fall m cable letter p.old _ columns p.there same))
+  rotor_lowers (Put cable letter) after e =
+      let p = was_put m cable letter after e in
+      let same = put_same letter p.old.0 p.old.1 p.loose in
+      subst LowersByOne p.made (omega (arith, cables_fall m cable letter p.old _ columns p.there same))
+  rotor_lowers (Seat slot wheel) after e =
+      subst LowersByOne (seat_made m slot wheel after e).1
+      (grind (arith, common_steps, without_raises, zip_set_lowers))
+  rotor_lowers (SeatReflector reflector) after e =
+      subst LowersByOne (reflector_made m reflector after e).1
+      (omega (arith, unless_same_at_most (same_reflector m.reflector s.reflector)))
+  rotor_lowers (RingTo wheel letter) after e =
+      subst LowersByOne (ring_made m wheel letter after e)
+      (omega (arith, set_lowers place (λ w. w.ring) m.rings (place_in_box m.model wheel) letter s.wheels apart))
+  rotor_lowers (Turn slot letter) after e =
+      let (wheel, made) = turn_made m slot letter after e in
+      subst LowersByOne made
+      (omega (arith, set_lowers place (λ w. w.letter) m.letters (place_in_box m.model wheel) letter s.wheels apart))
+  rotor_lowers x after e = absurd (cc)
 
 -- PIN changes one pin, so that at most one pin less differs from the day's.
 abbrev differing_pins : List Bool × List Bool → ℕ
@@ -248,7 +198,7 @@ abbrev loose_pins : PinSet → PinSet → ℕ
 loose_pins pins wanted = sum (map differing_pins (zip (pins_of pins) (pins_of wanted)))
 
 pin_lowers : (m : PinParts) (s : PinDay) (wheel letter : ℕ) (effective : Bool)
-    → why_refused (Pin m) (PinTo wheel letter effective) ≡ None
+    → has_letter (ring_of wheel) letter ≡ true
     → loose_pins m.pins s.pins ≤ loose_pins (with_pin m.pins wheel letter effective) s.pins + 1
 unfolding ring_of
 pin_lowers m s zero letter effective e = cc
@@ -264,33 +214,58 @@ pin_lowers m s (suc wheel) letter effective e =
     (wheel_set_lowers (pins_of m.pins) (pins_of s.pins) wheel place effective)
 
 pin_machine_lowers : (columns : List (Option (ℕ × ℕ) × ℤ)) (rows : List ((ℕ × ℕ) × ℤ)) (m : PinParts) (s : PinDay)
-    (x : Setting) → why_refused (Pin m) x ≡ None
-    → left_to_do columns rows (Pin m) (OfPins s) ≤ left_to_do columns rows (machine_after (Pin m) x) (OfPins s) + 1
-pin_machine_lowers columns rows m s (LugTo bar lug place) e = omega (arith, (lug_moves m rows bar lug place e).0)
-pin_machine_lowers columns rows m s x e = grind (arith, zip_set_lowers, pin_lowers)
+    (x : Setting) (after : Parts) → Carries (Pin m) x after
+    → left_to_do columns rows (Pin m) (OfPins s) ≤ left_to_do columns rows after (OfPins s) + 1
+pin_machine_lowers columns rows m s (LugTo bar lug place) after e =
+    let moved = lug_moved m bar lug place after e in
+    subst (λ n. left_to_do columns rows (Pin m) (OfPins s) ≤ left_to_do columns rows n (OfPins s) + 1) moved.made
+    (omega (arith, bars_fall m rows bar lug place moved.old moved.there))
+pin_machine_lowers columns rows m s (PinTo wheel letter effective) after e =
+    let (has, made) = pin_made m wheel letter effective after e in
+    subst (λ n. left_to_do columns rows (Pin m) (OfPins s) ≤ left_to_do columns rows n (OfPins s) + 1) made
+    (omega (arith, pin_lowers m s wheel letter effective has))
+pin_machine_lowers columns rows m s (Turn wheel letter) after e =
+    let (was, there, has, made) = wheel_turn_made m wheel letter after e in
+    subst (λ n. left_to_do columns rows (Pin m) (OfPins s) ≤ left_to_do columns rows n (OfPins s) + 1) made
+    (grind (arith, zip_set_lowers))
+pin_machine_lowers columns rows m s x after e = absurd (cc)
 
 -- Each setting of any machine lowers what is left to do by at most one.
 pub left_to_do-lowered : (columns : List (Option (ℕ × ℕ) × ℤ)) (rows : List ((ℕ × ℕ) × ℤ)) (m : Parts) (s : Day)
-    (x : Setting) → IsLegalDay s → model_of m ≡ day_model s → why_refused m x ≡ None
-    → left_to_do columns rows m s ≤ left_to_do columns rows (machine_after m x) s + 1
-left_to_do-lowered columns rows (Rotor m) (OfRotors s) x h same e =
+    (x : Setting) (after : Parts) → IsLegalDay s → model_of m ≡ day_model s → Carries m x after
+    → left_to_do columns rows m s ≤ left_to_do columns rows after s + 1
+left_to_do-lowered columns rows (Rotor m) (OfRotors s) x after h same e =
     rotor_lowers columns rows m s (subst (λ model. HaveTheirPlaces model s.wheels) (sym same)
-    (days_wheels_have_their_places s.model s.wheels h.wheels)) x e
-left_to_do-lowered columns rows (Pin m) (OfPins s) x h same e = pin_machine_lowers columns rows m s x e
-left_to_do-lowered columns rows m s x h same e = omega arith
+    (days_wheels_have_their_places s.model s.wheels h.wheels)) x after e
+left_to_do-lowered columns rows (Pin m) (OfPins s) x after h same e = pin_machine_lowers columns rows m s x after e
+left_to_do-lowered columns rows m s x after h same e = omega arith
 
 -- No setting changes the model. A setting that changes a cable or a bar doesn't change the number of loose things.
-pub model_of-changed : (m : Parts) (x : Setting) → model_of (machine_after m x) ≡ model_of m
-model_of-changed m x = grind arith
+pub model_of-changed : (m : Parts) (x : Setting) (after : Parts) → Carries m x after → model_of after ≡ model_of m
+model_of-changed m x after e = grind arith
 
-pub loose_count-priced : (m : Parts) (s : Day) (x : Setting) → is_priced_setting x ≡ true
-    → loose_count (machine_after m x) s ≡ loose_count m s
-loose_count-priced m s x e = grind arith
+other_cables : (m : RotorParts) (cables : List (Option ℕ × Option ℕ)) (s : Day)
+    → loose_count (Rotor (record m { cables = cables })) s ≡ loose_count (Rotor m) s
+other_cables m cables s = grind arith
+
+other_bars : (m : PinParts) (bars : List (Place × Place)) (s : Day)
+    → loose_count (Pin (record m { bars = bars })) s ≡ loose_count (Pin m) s
+other_bars m bars s = grind arith
+
+pub loose_count-priced : (m : Parts) (s : Day) (x : Setting) (after : Parts) → is_priced_setting x ≡ true
+    → Carries m x after → loose_count after s ≡ loose_count m s
+loose_count-priced (Rotor m) s (Pull cable letter) after e d =
+    let p = pulled m cable letter after d in
+    ap (λ n. loose_count n s) (sym p.made) ∙ other_cables m (set m.cables (cable - 1) (cable_without letter p.old)) s
+loose_count-priced (Rotor m) s (Put cable letter) after e d =
+    let p = was_put m cable letter after d in
+    ap (λ n. loose_count n s) (sym p.made) ∙ other_cables m (set m.cables (cable - 1) (cable_with letter p.old)) s
+loose_count-priced (Pin m) s (LugTo bar lug move) after e d =
+    let p = lug_moved m bar lug move after d in
+    ap (λ n. loose_count n s) (sym p.made) ∙ other_bars m (set m.bars (bar - 1) (with_lug lug move p.old)) s
+loose_count-priced m s x after e d = absurd (cc)
 
 -- A machine that reads as the day has no loose things.
-bytes_eq-self : (name : List ℕ) → bytes_eq name name ≡ true
-bytes_eq-self name = (bytes_eq-Decides name name).1 refl
-
 zip_none : {X Y : Type 0} (f : Y × X → ℕ) (seen : X → Y) → ((x : X) → f (seen x, x) ≡ 0) → (xs : List X)
     → sum_by f (zip (map seen xs) xs) ≡ 0
 zip_none f seen h [] = refl
@@ -311,10 +286,10 @@ rotor_not_loose : (n : RotorParts) (s : RotorDay) → ReadsAs (Rotor n) (OfRotor
 rotor_not_loose n s h =
     let slots : loose_slots n.slots s ≡ 0 = ap (λ slots. count_by wrong_slot (zip slots s.wheels)) h.key.slots
     ∙ zip_none (λ slot. cond (wrong_slot slot) 1 0) (λ w. Some w.wheel)
-    (λ w. ap (λ b. cond (not b) 1 0) (bytes_eq-self (wheel_text w.wheel))) s.wheels in
+    (λ w. ap (λ b. cond (not b) 1 0) (same_wheel_self w.wheel)) s.wheels in
     let reflector : one_unless (same_reflector n.reflector s.reflector) ≡ 0 =
     ap (λ reflector. one_unless (same_reflector reflector s.reflector)) h.key.reflector
-    ∙ ap one_unless (bytes_eq-self (reflector_text s.reflector)) in
+    ∙ ap one_unless ((same_reflector-Decides s.reflector s.reflector).1 refl) in
     let rings = none_wrong (λ w. ring_at n w.wheel) (λ w. w.ring) s.wheels (recursion_from_All _ _ h.key.rings) in
     let letters = none_wrong (λ w. letter_at n w.wheel) (λ w. w.letter) s.wheels (recursion_from_All _ _ h.window) in
     omega (arith, slots, reflector, rings, letters)

@@ -4,17 +4,17 @@ unfoldable pub use Moving.*
 pub use Rattle.kd_assign.specs.{Assignment.{IsOneToOne, assignment_cost}, Prices.cost_at}
 pub use Rattle.kd_card.specs.{Loose.loose_lines, Proving.priced_count}
 pub use Rattle.kd_plan.specs.FewCables.{FewCablesServe, HasPairsUpTo, NamesNoneAbove, UsesNoneAbove}
-pub use Rattle.kd_plan.specs.Spares.{SparesComeLast, SparesStayFree, comes_before, is_spare, is_spare_at}
-pub use Rattle.kd_state.{proofs.Slots.{IsNumbered-not_none, numbered_other}, specs.Machine.model_of}
+pub use Rattle.kd_plan.specs.Spares.{IsSpareCable, SparesComeLast, SparesStayFree, comes_before, is_spare, is_spare_at}
+pub use Rattle.kd_state.{proofs.Slots.numbered_other, proofs.Carrying.{pulled, was_put}, specs.Machine.model_of}
 pub use Rattle.kd_state.specs.{Costs.costs_by, SameParts.numbered_item, SheetDay.{Day, IsLegalDay, day_model}}
-pub use Rattle.kd_state.specs.{Setting.{Leads, cable_at, machine_after}, declared.setting.Setting.TheVariants.Pull}
+pub use Rattle.kd_state.specs.Setting.{Leads}
 pub use Rattle.std.proofs.{Common.{inl, inr}, lemmas.Option.{slice_get_past, unwrap_or-slice_get}}
 pub use Rattle.std.proofs.lemmas.{Bool.{cases_eq, cases_lt, Decides.Decides-eqb}, List.{length-append, length-set}}
 pub use Rattle.std.proofs.lemmas.List.{Elements.{All-append, All-cons, All-nil, filter_passes}, Folds.Any-from_list_any}
 pub use Rattle.std.proofs.lemmas.List.{get_or-set_other, length-replicate, Kept.AllPairs-filter, Sorted.All-permutation}
 pub use Rattle.std.proofs.lemmas.Map.{Keys.IsDistinct-IsPermutation, Steps.length-le_from_distinct_below}
 pub use Rattle.std.proofs.lemmas.Map.Made.{AllPairs-from_IsDistinct, IsDistinct-from_AllPairs}
-pub use Rattle.std.specs.{List.SwappedAt, Prelude.{IsTrue, is_none, take}}
+pub use Rattle.std.specs.{List.SwappedAt, Prelude.{IfSome, IsTrue, is_none, slice_get, take}}
 
 -- ---- a spare cable exchanges its pair for another cable's column, which has no pair
 
@@ -162,13 +162,19 @@ All-unpriced P h (x ∷ xs) none =
 -- what each setting satisfies if the settings leave spare cables free
 abbrev pub LeavesSpares : RotorParts → RotorDay → Setting → Type 0
 LeavesSpares m s (Put cable letter) =
-    IsTrue (is_spare (cable_at m cable))
+    IsSpareCable m.cables cable
     → count_by is_spare (take cable m.cables) ≤ length s.pairs - count_by (λ cable. not (is_spare cable)) m.cables
 LeavesSpares m s _ = Unit {0}
 
-pub is_spare_at-cable_at : (m : RotorParts) (number place : ℕ) → number ≡ suc place
-    → is_spare_at m.cables place ≡ is_spare (cable_at m number)
-is_spare_at-cable_at m number place e = rw e (ap is_spare (sym (unwrap_or-slice_get m.cables place (None, None))))
+spare_found : (found : Option Cable) → IfSome found (λ cable. IsTrue (is_spare cable))
+    → is_spare (unwrap_or found (None, None)) ≡ true
+spare_found found spare = grind arith
+
+pub spare_at : (m : RotorParts) (number place : ℕ) → number ≡ suc place → IsSpareCable m.cables number
+    → is_spare_at m.cables place ≡ true
+spare_at m number place e spare =
+    ap is_spare (sym (unwrap_or-slice_get m.cables place (None, None)))
+    ∙ spare_found (slice_get m.cables place) (rw e at spare)
 
 pub SparesStayFree-planned : (m : RotorParts) (s : RotorDay) (to : List ℕ) → IsMachine (Rotor m)
     → IsLegalDay (OfRotors s) → m.model ≡ s.model → length to ≡ 13 → IsOneToOne to
@@ -183,6 +189,6 @@ SparesStayFree-planned m s to machine legal same size once last cable letter (k,
     put_lines (LeavesSpares m s) n cable (column_at s.pairs (get_or to k 0)) (λ pair is letter spare.
     few_spares m.cables s.pairs to machine.legal.cables.count size once last n k (omega arith) (omega arith)
     (slice_get_within s.pairs _ pair (sym (columns_are_the_pairs s.pairs _) ∙ is))
-    (is_spare_at-cable_at m n k (omega arith) ∙ spare))) in
+    (spare_at m n k (omega arith) spare))) in
     let all = All-append (LeavesSpares m s) _ _ (All-append (LeavesSpares m s) _ _ loose pulls) puts in
     subst (LeavesSpares m s) e (all k (Put cable letter) lt)

@@ -1,4 +1,4 @@
-use Rattle.kd_state.proofs.SettingEffects.Refusals.{settings_keep_machines, lists_keep_machines}
+use Rattle.kd_state.proofs.Carrying.{settings_keep_machines, lists_keep_machines}
 use Rattle.kd_state.proofs.laws.settings_keep_machines.Goals as goal
 
 pub returns : goal.returns

@@ -21,7 +21,8 @@ pub use Rattle.std.proofs.lemmas.{Fmt.{IsAscii-signed, parse-signed_decimal}, St
 pub use Rattle.kd_card.specs.Kinds.{AreEnds, bar_format, cable_format, ComesAfter, HasText, IsOnlyKey, letters_text}
 pub use Rattle.kd_card.specs.Kinds.{IsGroup, IsKind, KeyComesBefore, KindFormat, pair_format, prices_of_kinds}
 pub use Rattle.kd_card.specs.Kinds.{AreKinds, HasKindWords, kind_words, kinds_text, row_format, total_count}
-pub use Rattle.kd_card.specs.CardFault.{first_text, CostTable, OfBars, OfCables}
+pub use Rattle.kd_card.specs.CardFault.{first_text}
+pub use Rattle.kd_card.specs.declared.prices.CostTable.{CostTable, TheVariants.{OfBars, OfCables}}
 pub use Rattle.kd_card.specs.CardFault.{AtNothing, BeginsWithWord, IsAllPricesAnswer, IsPricesAnswer, last_of}
 pub use Rattle.kd_card.specs.CardFault.{BeginsWithKinds, IsDigit, IsGroupsAnswer, IsPriceLineAnswer, IsRestAnswer}
 pub use Rattle.kd_card.specs.CardFault.{EndsGroup, HasLineWords, IsLineAnswer, IsNextKind, IsNumberText, IsValueAnswer}
@@ -36,10 +37,11 @@ pub use Rattle.kd_card.specs.{Laws.TextsDetermineCards, Reading.{EndsKindsAt, he
 pub use Rattle.kd_card.specs.Reading.{IsKindOfWords, IsPriceText}
 pub use Rattle.kd_card.specs.Prices.{ArePrices, column_prices, IsPriceList, price_sum, table_size, version_of}
 pub use Rattle.{kd_card.specs.Prices.{ArePricesInRange, row_prices}, kd_state.specs.SheetDay.IsDayNumber}
-pub use Rattle.kd_state.specs.AnswerRules.{HasOneAnswer, HasOneAnswer-Demands, ThenNext, ThenNext-Ok, Yields, Yields-Ok}
-pub use Rattle.kd_state.specs.AnswerRules.{Demands, HasOneAnswer-Finds, HasOneAnswer-FindsAlways, HasOneAnswer-ThenNext}
-pub use Rattle.kd_state.specs.{Costs.column_letters, AnswerRules.{GoesOn, HasFault, HasOneAnswer-Yields}}
-pub use Rattle.kd_state.specs.{declared.setting.Setting.Setting, LineWords.{IsWithout, IsWord, line_of, words_of}}
+pub use Rattle.kd_state.proofs.OneAnswer.{HasOneAnswer, HasOneAnswer-Demands, HasOneAnswer-Finds, HasOneAnswer-Yields}
+pub use Rattle.kd_state.proofs.OneAnswer.{HasOneAnswer-FindsAlways, HasOneAnswer-ThenNext, ThenNext-Ok, Yields-Ok}
+pub use Rattle.kd_state.specs.AnswerRules.{Demands, GoesOn, HasFault, ThenNext, Yields}
+pub use Rattle.kd_state.specs.{Costs.column_letters, declared.setting.Setting.Setting}
+pub use Rattle.kd_state.{proofs.Lines.IsWord, specs.LineWords.{IsWithout, line_of, words_of}}
 pub use Rattle.kd_state.specs.{Line.{BeginsWithAllSettings, BeginsWithSettingLines, setting_line}}
 pub use Rattle.kd_state.specs.{LineWords.IsFirstPart, Line.{BeginsWithNoSetting, list_text, setting_words}}
 pub use Rattle.kd_state.specs.{Machine.cable_letters}

@@ -1,4 +1,4 @@
-use Rattle.kd_state.proofs.SettingEffects.Refusals.Changes.{settings_keep_machines}
+use Rattle.kd_state.proofs.Carrying.{settings_keep_machines}
 use Rattle.kd_state.proofs.machine.Machine.carry.Goals as goal
 use Rattle.kd_state.proofs.machine.Machine.carry.Goals.{in-Ok, in-Err}
 

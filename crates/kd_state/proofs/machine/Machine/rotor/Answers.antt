@@ -1,4 +1,4 @@
-use Rattle.kd_state.proofs.{SettingEffects.Refusals.Changes.ordered_parts, Prelude.IsMachine, Prelude.subst}
+use Rattle.kd_state.proofs.{Carrying.ordered_parts, Prelude.IsMachine, Prelude.subst}
 use Rattle.kd_state.proofs.{Prelude.sym}
 use Rattle.kd_state.proofs.machine.Machine.rotor.Goals as goal
 

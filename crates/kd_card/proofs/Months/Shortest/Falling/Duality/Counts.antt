@@ -1,25 +1,24 @@
 -- How often a letter occurs in a list.
 unfoldable pub use Rattle.{kd_state.specs.Costs.standings_as, kd_tables.specs.Rings.ring_of}
-pub use Rattle.std.proofs.lemmas.Map.{Keys.IsDistinct-cons, Made.{Contains-tail, IsDistinct-from_count}}
-pub use Rattle.std.proofs.lemmas.Map.Keys.{IsDistinct-head, IsDistinct-IsPermutation, IsDistinct-tail}
+pub use Rattle.std.proofs.lemmas.Map.{Keys.{IsDistinct-head, IsDistinct-tail}, Made.IsDistinct-from_count}
 pub use Rattle.std.proofs.lemmas.{Cmp.nat_eq_equiv, Int.ints, Slice.{Eq.bytes_eq-Decides, Zip.AllZip-long}}
 pub use Rattle.std.proofs.lemmas.{Option.get_or_from_slice_get, Slice.Zip.{get_or-zip, length-zip, seconds-zip}}
 pub use Rattle.std.proofs.lemmas.{Bool.{eq-eqb, not-false, Decides.{eqb_tells, nat_tests}}, Option.unwrap_or-slice_get}
-pub use Rattle.std.proofs.lemmas.{Bool.cases_eq, Grind.common_steps, List.Sorted.IsPermutation-swap}
-pub use Rattle.std.proofs.lemmas.List.Sorted.{Contains-permutation, IsPermutation-remove, sum_by-IsPermutation}
-pub use Rattle.std.proofs.lemmas.List.Sorted.{All-permutation, IsPermutation-keeps, IsPermutation-map}
-pub use Rattle.std.proofs.lemmas.List.Sorted.{IsPermutation-sym, IsPermutation-trans, length_permutation}
-pub use Rattle.std.proofs.lemmas.List.{Elements.All-tail, Sorted.{IsPermutation-cons, IsPermutation-refl}}
-pub use Rattle.std.proofs.lemmas.List.Elements.{All-contains, All-head, All-set, Contains-get_or, recursion_from_All}
-pub use Rattle.std.proofs.lemmas.List.{map-id, Elements.{All-from_get_or, Contains-append_right}, Sums.get_or-le-sum_by}
-pub use Rattle.std.proofs.lemmas.List.{get_or_default, Sums.{fold-append, sum-map, sum_by-append, sum_by-cons}}
-pub use Rattle.std.proofs.{Common.pos, lemmas.List.{get_or-map, length-map, length-set, Edits.length-remove}}
+pub use Rattle.std.proofs.lemmas.{Bool.{cases_eq, cond_both}, Grind.common_steps, List.Sorted.IsPermutation-swap}
+pub use Rattle.std.proofs.lemmas.List.Sorted.{All-permutation, Contains-permutation, IsPermutation-keeps}
+pub use Rattle.std.proofs.lemmas.List.Sorted.{IsPermutation-map, IsPermutation-refl, IsPermutation-sym}
+pub use Rattle.std.proofs.lemmas.List.Sorted.{IsPermutation-trans, length_permutation, sum_by-IsPermutation}
+pub use Rattle.std.proofs.lemmas.List.Elements.{All-from_get_or, All-head, All-set, All-tail, Contains-get_or}
+pub use Rattle.std.proofs.lemmas.List.{map-id, Elements.recursion_from_All}
+pub use Rattle.std.proofs.lemmas.List.{get_or_default, Sums.{fold-append, sum-map, sum_by-cons}}
+pub use Rattle.std.proofs.{Common.pos, lemmas.List.{get_or-map, length-map, length-set}}
 pub use Rattle.std.proofs.Common.{Bool, Contains, inr, is_none, length, List, None, refl, Some, unwrap_or, ℕ, ◌++◌}
-pub use Rattle.std.proofs.Common.{[], AllPairs, Any, ap, false, nat_eq, remove, set, slice_get, subst, true, ◌≢◌, ◌≤ℤ◌}
+pub use Rattle.std.proofs.Common.{[], AllPairs, Any, ap, false, nat_eq, set, slice_get, subst, true, ◌≢◌, ◌≤ℤ◌}
 pub use Rattle.std.proofs.Common.{arith, cond, fold, get_or, inl, map, suc, zero, zip, ◌+ℤ◌, ◌+◌, ◌-◌, ◌≡◌, ◌≤◌}
-pub use Rattle.std.proofs.Common.{count_by, IsPermutation, min, not, replicate, rules, sum, sym, ℤ, ◌<◌, ◌∙◌, ◌∷◌, ◌⊎◌}
-pub use Rattle.std.{proofs.Common.Option, specs.List.{All, AllByRecursion, AllZip, flat_map, IsDistinct, sum_by}}
-pub use Rattle.{kd_enigma.specs.Plugs.letters_in_pairs, std.specs.{Option.option_map_or, Str.bytes_eq}}
+pub use Rattle.std.proofs.Common.{count_by, is_some, IsPermutation, min, not, rules, sum, sym, ℤ, ◌&&◌, ◌<◌, ◌∙◌}
+pub use Rattle.std.proofs.Common.{◌∷◌, ◌⊎◌}
+pub use Rattle.std.{proofs.Common.Option, specs.List.{All, AllByRecursion, AllZip, IsDistinct, sum_by}}
+pub use Rattle.std.specs.{Option.option_map_or, Str.bytes_eq}
 pub use Rattle.kd_pins.specs.{declared.pin_set.PinSet.PinSet, PinWheels.pins_of}
 pub use Rattle.kd_card.specs.Proving.{AreModelPrices, AreSettingsNeeded, Expanded, IsSettingNeeded, priced_count, Same}
 pub use Rattle.kd_card.specs.{Months.{CardsAreFewestInAll, ReachesDay}, Proving.{is_priced_setting, ProvesByNumber}}
@@ -31,22 +30,24 @@ pub use Rattle.{kd_card.specs.Prices.{cost_at, IsPriceTightAt, price_at, price_s
 pub use Rattle.kd_tables.specs.declared.{lug.Lug.Lug, model.Model.{Model, TheVariants.M209}, wheel.Wheel.Wheel}
 pub use Rattle.kd_tables.specs.declared.{place.Place.{Place, TheVariants.One}, reflector.Reflector.Reflector}
 pub use Rattle.kd_tables.specs.{Places.{IsBefore, reading_of}, Tables.{reflector_text, reflectors_of, wheel_text}}
-pub use Rattle.{kd_state.proofs.Wheels.days_wheels_have_their_places, kd_tables.specs.Permutation.alphabet}
-pub use Rattle.kd_state.proofs.{Cables.{eqb_flips, has_letter-AllByRecursion, without_moves}, SortedAlike.count_by-cons}
-pub use Rattle.kd_state.proofs.{Cables.{set_moves, tests_determine_letters, with_moves}, Slots.IsNumbered-not_none}
-pub use Rattle.kd_state.proofs.{CostTable.thirteen_columns, Slots.set_other, SettingEffects.Refusals.Changes.six_lists}
-pub use Rattle.kd_state.proofs.SettingEffects.Refusals.Changes.{bars_with_lug, letters_with, no_reason, still_before}
-pub use Rattle.kd_state.specs.{Changes.HasLugsInOrder, Costs.{bar_cost, cable_cost, columns_of, exactly_one}}
+pub use Rattle.kd_state.proofs.Wheels.{days_wheels_have_their_places, same_reflector-Decides, same_wheel_self}
+pub use Rattle.{kd_tables.specs.Permutation.alphabet}
+pub use Rattle.kd_state.proofs.{Cables.column_is, Slots.IsNumbered-not_none, SortedAlike.count_by-cons}
+pub use Rattle.kd_state.proofs.{CostTable.thirteen_columns, Slots.set_other, Slots.IsNumbered}
+pub use Rattle.kd_state.proofs.Carrying.{if_carried, lug_moved, pin_made, pulled, reflector_made, ring_made}
+pub use Rattle.kd_state.proofs.Carrying.{seat_made, six_lists, turn_made, was_put, wheel_turn_made, when_carried}
+pub use Rattle.std.specs.Prelude.{IfOk, IsFalse}
+pub use Rattle.kd_state.specs.{Machine.HasLugsInOrder, Costs.{bar_cost, cable_cost, columns_of, exactly_one}}
 pub use Rattle.kd_state.specs.Costs.{column_letters, cost_table, loose_count, lugs_moved, one_unless}
-pub use Rattle.kd_state.specs.Setting.{cable_at, cable_without, refusal_reasons, seat_without, wheel_in_slot, with_lug}
-pub use Rattle.kd_state.specs.{Pins.with_pin, Setting.{cable_with, has_letter, Leads, machine_after, why_refused}}
+pub use Rattle.kd_state.specs.Setting.{Carries, cable_without, outcome, seat_without, with_lug}
+pub use Rattle.kd_state.specs.{Pins.with_pin, Setting.{cable_with, has_letter, Leads}}
 pub use Rattle.kd_state.specs.{Pins.wheel_pins, SameParts.{numbered_item, place_in_box, same_reflector, same_wheel}}
 pub use Rattle.kd_state.specs.declared.{setting.Setting.TheVariants.LugTo, sheet_day.rotor_entry.SheetWheel.SheetWheel}
 pub use Rattle.kd_state.specs.declared.setting.Setting.TheVariants.{PinTo, Pull, Put, RingTo, Seat, SeatReflector, Turn}
 pub use Rattle.kd_state.specs.declared.{machine.parts.Parts.{Parts, TheVariants.{Pin, Rotor}}, setting.Setting.Setting}
 pub use Rattle.kd_state.specs.declared.machine.{pin_parts.PinParts.PinParts, rotor_parts.RotorParts.RotorParts}
-pub use Rattle.kd_state.specs.Machine.{IsLegal, IsMachine, letter_at, letters_in_cables, model_of, ring_at}
-pub use Rattle.kd_state.specs.{Machine.cable_letters, OnKey.{AreThePairs, HasPairLetters, HaveSameLetters, ReadsAs}}
+pub use Rattle.kd_state.specs.Machine.{IsMachine, letter_at, model_of, ring_at}
+pub use Rattle.kd_state.specs.{Machine.cable_letters, OnKey.{ReadsAs, cable_of_column, cables_of}}
 pub use Rattle.kd_state.specs.SheetDay.{Day, day_model, IsLegalDay, IsLegalRotorDay, OfPins, OfRotors, PinDay, RotorDay}
 pub use borrow.Author.Differences.{up, down}
 
@@ -63,9 +64,6 @@ zip_set f xs ys i v d h = omega arith
 -- how often the letter occurs
 abbrev pub times : ℕ → List ℕ → ℕ
 times letter letters = count_by (nat_eq letter) letters
-
-pub times-append : (letter : ℕ) (xs ys : List ℕ) → times letter (xs ++ ys) ≡ times letter xs + times letter ys
-times-append letter xs ys = sum_by-append (λ other. cond (nat_eq letter other) 1 0) xs ys
 
 -- No letter occurs twice.
 abbrev pub AreOnce : List ℕ → Type 0
