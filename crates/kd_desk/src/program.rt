@@ -4,7 +4,7 @@ ghost use Rattle.kd_desk.specs.CommandLine.{unborrowed_command, unborrowed_actio
 ghost use Rattle.kd_desk.specs.CommandLine.{action_files, task_files, with_command_stream, with_action_stream};
 ghost use Rattle.kd_desk.specs.CommandLine.{with_task_stream, command_stream, action_stream, task_stream};
 ghost use Rattle.kd_desk.specs.CommandLine.{IsCommandLineOf, IsNoCommandLine};
-ghost use Rattle.kd_desk.specs.Program.{known_command, known_action, known_task, AsksFor, CarriesOut, CarriesOutKnown};
+ghost use Rattle.kd_desk.specs.Program.{known_command, known_action, known_task, AsksFor, CanFail, CarriesOutKnown};
 ghost use Rattle.kd_desk.specs.Program.{DoesTask, IsCommandDone, HasEnded, IsRun, IsTaskDone, StopsForMemory};
 ghost use Rattle.kd_desk.specs.Program.{HasNoFailedRead, is_stopped_before_message, is_stopped_by_port};
 ghost use Rattle.kd_desk.specs.Files.{AreAskedFor, AgreesOrNoMemory, IsReadAnswer, known_file};
@@ -42,7 +42,8 @@ pub fn run_desk<'n, S: AsStr, F: Files<'n>, R: Source, W: Sink, E: Sink>(
     errors: &mut E,
 ) -> u8
     requires { F.asked files.old ≡ [] }
-    ensures { HasEnded (IsRun (map S.text words.entry.now) (F.known files.old) (F.asked files.new)
+    ensures { HasEnded (IsRun (map S.text words.entry.now) (F.known files.old)
+        (CanFail F.Opened.has_failed) (F.asked files.new)
         (port R.remaining R.has_failed source.old source.new)
         (port W.taken W.has_failed sink.old sink.new)
         ((source.new ≡ source.old) × (sink.new ≡ sink.old)))
@@ -61,7 +62,7 @@ fn carry_words<'n, S: AsStr, F: Files<'n>, R: Source, W: Sink>(
 ) -> Result<(), Stop>
     requires { F.asked files.old ≡ [] }
     ensures carried { (command : _) → IsCommandLineOf (map S.text words.entry.now) command
-        → CarriesOutKnown (F.known files.old) command
+        → CarriesOutKnown (CanFail F.Opened.has_failed) (F.known files.old) command
         (port R.remaining R.has_failed source.old source.new)
         (port W.taken W.has_failed sink.old sink.new) result }
     ensures asked { (command : _) → IsCommandLineOf (map S.text words.entry.now) command
@@ -166,7 +167,8 @@ fn carry_out<O: Source + Drop, R: Source, W: Sink>(
     sink: &mut W,
 ) -> Result<(), Stop>
     requires { HasNoFailedRead O.has_failed (command_stream command) }
-    ensures does { IsCommandDone (with_command_stream (known_file O.remaining O.has_failed) command)
+    ensures does { IsCommandDone (CanFail O.has_failed)
+        (with_command_stream (known_file O.remaining O.has_failed) command)
         (port R.remaining R.has_failed source.old source.new)
         (port W.taken W.has_failed sink.old sink.new) result }
     ensures untouched { IsTrue (is_stopped_before_message result)
@@ -195,7 +197,7 @@ fn carry_task<O: Source + Drop, W: Sink>(
     sink: &mut W,
 ) -> Result<(), Stop>
     requires { HasNoFailedRead O.has_failed (task_stream task) }
-    ensures does { IsTaskDone machine.now sheet.now number
+    ensures does { IsTaskDone (CanFail O.has_failed) machine.now sheet.now number
         (with_task_stream (known_file O.remaining O.has_failed) task)
         (port W.taken W.has_failed sink.old sink.new) result }
     ensures untouched { IsTrue (is_stopped_before_message result) → sink.new ≡ sink.old }
