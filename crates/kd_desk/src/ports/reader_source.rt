@@ -1,56 +1,68 @@
 //! A source that reads from any reader, such as standard input.
-ghost use Rattle.std.specs.Prelude.{◌≡◌, ◌||◌, false, is_err};
+ghost use Rattle.std.specs.Prelude.{◌≡◌, ◌↔◌, ◌||◌, None, Some, Ok, IfOk, IfErr, IsErr, OnOk, is_some, is_err};
+ghost use Rattle.std.specs.IoError.{error_kind};
 ghost use Rattle.kd_tables.specs.Ports.{Gets};
+ghost use Rattle.kd_desk.specs.Stops.{fault_of_kind};
 
+use crate::files::FileFault;
 use kd_tables::{Failed, Source};
-use std::io::{ErrorKind, Read};
+use std::io::{self, Read};
 
 /// A source that reads from a reader. An interrupted read counts as a failure.
 #[derive(Drop)]
 pub struct ReaderSource<R: Read + Drop> {
     reader: R,
-    failed: bool,
-    lacks_memory: bool,
+    fault: Option<FileFault>,
 }
 
 impl<R: Read + Drop> ReaderSource<R> {
     /// Creates a source of the bytes that `reader` reads.
     pub fn new(reader: R) -> Self
         ensures reader { result.reader ≡ reader }
-        ensures failed { result.failed ≡ false }
+        ensures fault { result.fault ≡ None }
     {
         ReaderSource {
             reader,
-            failed: false,
-            lacks_memory: false,
+            fault: None,
         }
     }
 
-    /// Whether the last failed read failed because memory ran out.
-    pub fn lacks_memory(&self) -> bool
-        ensures { result ≡ self.now.lacks_memory }
+    /// Why the last failed read failed; `None` if no read has failed.
+    pub fn fault(&self) -> Option<FileFault>
+        ensures { result ≡ self.now.fault }
     {
-        self.lacks_memory
+        self.fault
+    }
+
+    /// Records `answer`, which the reader gave to a read, and returns how many bytes the reader gave.
+    fn note(&mut self, answer: io::Result<usize>) -> Result<usize, Failed>
+        ensures count { IfOk result (λ count. answer ≡ Ok count) }
+        ensures refused { IsErr result ↔ IsErr answer }
+        ensures fault { IfErr answer (λ error. self.new.fault ≡ Some (fault_of_kind (error_kind error))) }
+        ensures no_fault { OnOk answer (self.new.fault ≡ self.old.fault) }
+        ensures reader { self.new.reader ≡ self.old.reader }
+    {
+        match answer {
+            Ok(count) => Ok(count),
+            Err(error) => {
+                self.fault = Some(FileFault::from(error));
+                Err(Failed)
+            }
+        }
     }
 }
 
 impl<R: Read + Drop> Source for ReaderSource<R> {
     ghost remaining = { λ s. R.remaining s.reader };
 
-    ghost has_failed = { λ s. s.failed };
+    ghost has_failed = { λ s. is_some s.fault };
 
     fn get(&mut self, buffer: &mut [u8]) -> Result<usize, Failed> {
-        match self.reader.read(buffer) {
-            Ok(count) => Ok(count),
-            Err(error) => {
-                self.failed = true;
-                self.lacks_memory = matches!(error.kind(), ErrorKind::OutOfMemory);
-                Err(Failed)
-            }
-        }
+        let answer = self.reader.read(buffer);
+        self.note(answer)
     }
 
     fn failed(&self) -> bool {
-        self.failed
+        self.fault.is_some()
     }
 }
