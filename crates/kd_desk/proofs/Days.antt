@@ -2,7 +2,7 @@
 use Rattle.kd_desk.proofs.Prelude.{◌≡◌, ◌⊎◌, ℕ, List, Option, Some, Result, Ok, Err, IsErrAnd, MatchResult}
 use Rattle.kd_desk.proofs.Prelude.{inl, inr, refl, subst, ok_or, arith, Parts, Day, machine_of, DeskFault}
 use Rattle.kd_desk.proofs.Prelude.{LacksMemory, IsAnswerOnDay, machine_and_day}
-use Rattle.{kd_desk.proofs.Failing.err_is, kd_sheet.specs.Document.AgreesOrNoMemory, kd_sheet.specs.Sheet.day_of}
+use Rattle.{kd_host.proofs.Failing.err_is, kd_sheet.specs.Document.AgreesOrNoMemory, kd_sheet.specs.Sheet.day_of}
 use Rattle.kd_sheet.specs.{SheetFile.sheet_of, Document.◌>>=◌, declared.fault.SheetFault.SheetFault}
 use Rattle.kd_sheet.specs.declared.fault.SheetFault.TheVariants as files
 use Rattle.kd_desk.specs.declared.fault.DeskFault.TheVariants.{NoSuchDay}

@@ -1,9 +1,7 @@
 pub mod CommandLine
 pub mod Program
-pub mod Files
 pub mod Laws
 pub mod Messages
-pub mod Ports
 pub mod RunApply
 pub mod CallAnswers
 pub mod Settings

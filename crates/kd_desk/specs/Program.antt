@@ -17,11 +17,11 @@ use Rattle.kd_desk.specs.declared.command.Task.TheVariants as tasks
 use Rattle.kd_desk.specs.declared.command.Direction.TheVariants.{Send, Receive}
 use Rattle.kd_desk.specs.declared.fault.DeskFault.{DeskFault}
 use Rattle.kd_desk.specs.declared.fault.DeskFault.TheVariants.{File}
-use Rattle.kd_desk.specs.declared.files.fault.FileFault.{FileFault}
-use Rattle.kd_desk.specs.declared.files.fault.FileFault.TheVariants as files
+use Rattle.kd_host.specs.declared.file_fault.FileFault.{FileFault}
+use Rattle.kd_host.specs.declared.file_fault.FileFault.TheVariants as files
 use Rattle.kd_desk.specs.declared.stop.Stop.{Stop}
 use Rattle.kd_desk.specs.declared.stop.Stop.TheVariants.{Usage, Unread, ReadFailed, Refused}
-use Rattle.kd_desk.specs.Files.{AskedName, AreAskedFor, KnownFile, content_of, opening_of}
+use Rattle.kd_host.specs.Files.{AskedName, AreAskedFor, KnownFile, content_of, opening_of}
 use Rattle.kd_desk.specs.Stops.{stop_after}
 use Rattle.kd_tables.specs.Ports.{Port, FailureAgrees}
 use Rattle.kd_desk.specs.Ending.{EndsAs}
@@ -111,12 +111,6 @@ has_file_failed (Some file) left = left.failed
 -- There is no opened file, or no read of the opened file has failed yet.
 abbrev pub HasNoFailedRead : {O : Type 0} → (O → Bool) → Option O → Type 0
 HasNoFailedRead failed file = IfSome file (λ f. failed f ≡ false)
-
--- A read of a file of this type can fail: it has failed for some file of the type. A type whose `has_failed` is false
--- for every file, such as a file in memory, can't fail.
-pub record CanFail {O : Type 0} (has_failed : O → Bool) : Type 0 where
-  pub file : O
-  pub failed : IsTrue (has_failed file)
 
 -- Memory ran out while the command line or a file was read.
 abbrev pub StopsForMemory : Result (Unit {0}) Stop → Type 0

@@ -4,17 +4,16 @@ ghost use Rattle.kd_desk.specs.CommandLine.{unborrowed_command, unborrowed_actio
 ghost use Rattle.kd_desk.specs.CommandLine.{action_files, task_files, with_command_stream, with_action_stream};
 ghost use Rattle.kd_desk.specs.CommandLine.{with_task_stream, command_stream, action_stream, task_stream};
 ghost use Rattle.kd_desk.specs.CommandLine.{IsCommandLineOf, IsNoCommandLine};
-ghost use Rattle.kd_desk.specs.Program.{known_command, known_action, known_task, AsksFor, CanFail, CarriesOutKnown};
+ghost use Rattle.kd_desk.specs.Program.{known_command, known_action, known_task, AsksFor, CarriesOutKnown};
 ghost use Rattle.kd_desk.specs.Program.{DoesTask, IsCommandDone, HasEnded, IsRun, IsTaskDone, StopsForMemory};
 ghost use Rattle.kd_desk.specs.Program.{HasNoFailedRead, is_stopped_before_message, is_stopped_by_port};
-ghost use Rattle.kd_desk.specs.Files.{AreAskedFor, AgreesOrNoMemory, IsReadAnswer, known_file};
+ghost use Rattle.kd_host.specs.Files.{AreAskedFor, AgreesOrNoMemory, CanFail, IsReadAnswer, known_file};
 ghost use Rattle.kd_desk.specs.OnDay.{IsAnswerOnDay};
 ghost use Rattle.kd_tables.specs.Ports.{FailureAgrees, port};
 ghost use Rattle.kd_desk.specs.CallAnswers.{is_device, is_refused_before_message};
 
 use crate::command::{Action, Command, Direction, NamedAction, NamedCommand, Task, parse_words};
 use crate::fault::DeskFault;
-use crate::files::{Content, FileFault, Files};
 use crate::run_apply::run_apply;
 use crate::run_card::run_card;
 use crate::run_check::run_check;
@@ -22,6 +21,7 @@ use crate::run_receive::run_receive;
 use crate::run_send::run_send;
 use crate::run_type::run_type;
 use crate::stop::{Stop, end_program};
+use kd_host::{Content, FileFault, Files};
 use kd_tables::{Sink, Source};
 use std::alloc::Global;
 use std::convert::AsStr;

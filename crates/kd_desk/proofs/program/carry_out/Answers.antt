@@ -1,4 +1,5 @@
-use Rattle.kd_desk.proofs.{Failing.FailureAgrees-sink, Prelude.refl, Runs.{none_failed, nothing_left}}
+use Rattle.kd_desk.proofs.{Prelude.refl, Runs.{none_failed, nothing_left}}
+use Rattle.kd_host.proofs.Failing.{FailureAgrees-sink}
 use Rattle.kd_desk.proofs.program.carry_out.Goals as goal
 
 pub returns-in-Type-clause-does : goal.returns-in-Type-clause-does

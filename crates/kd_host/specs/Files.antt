@@ -7,8 +7,8 @@ use Rattle.std.specs.Result.{result_map_both}
 use Rattle.std.specs.Borrow.{Bor}
 use Rattle.std.specs.Io.KnownBytes.{Consumes, IsAtEnd}
 use Rattle.kd_tables.specs.Ports.{read_limit, Port, KeepsFailureFlag}
-use Rattle.kd_desk.specs.declared.files.fault.FileFault.{FileFault}
-use Rattle.kd_desk.specs.declared.files.fault.FileFault.TheVariants.{NoMemory, Device, ReadTooLong}
+use Rattle.kd_host.specs.declared.file_fault.FileFault.{FileFault}
+use Rattle.kd_host.specs.declared.file_fault.FileFault.TheVariants.{NoMemory, Device, ReadTooLong}
 
 -- the bytes of a file, or the fault: there is no file, or the file is too long
 abbrev pub content_of : Option (List ℕ) → Result (List ℕ) FileFault
@@ -22,6 +22,12 @@ pub record KnownFile : Type 0 where
 
 abbrev pub known_file : {O : Type 0} → (O → Option (List ℕ)) → (O → Bool) → O → KnownFile
 known_file bytes failed file = record { bytes = bytes file; failed = failed file }
+
+-- A read of a file of this type can fail: it has failed for some file of the type. A type whose `has_failed` is false
+-- for every file, such as a file in memory, can't fail.
+pub record CanFail {O : Type 0} (has_failed : O → Bool) : Type 0 where
+  pub file : O
+  pub failed : IsTrue (has_failed file)
 
 -- an opened file with all of its bytes still to be read; or the fault `Device` if there is no file
 abbrev pub opening_of : Option (List ℕ) → Result KnownFile FileFault

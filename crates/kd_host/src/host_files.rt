@@ -1,9 +1,11 @@
 //! The files of the host system.
 ghost use Rattle.std.specs.Prelude.{◌≡◌, [], None, IfOk, is_some};
 
-use super::asked_names::AskedNames;
-use super::{Content, FileFault, Files, read_whole};
-use crate::ports::ReaderSource;
+use crate::asked_names::AskedNames;
+use crate::content::{Content, read_whole};
+use crate::file_fault::FileFault;
+use crate::files::Files;
+use crate::reader_source::ReaderSource;
 use kd_tables::{Failed, Source};
 use std::alloc::Global;
 use std::fs::File;

@@ -2,9 +2,9 @@
 ghost use Rattle.std.specs.Prelude.{◌≡◌, ◌↔◌, ◌||◌, None, Some, Ok, IfOk, IfErr, IsErr, OnOk, is_some, is_err};
 ghost use Rattle.std.specs.IoError.{error_kind};
 ghost use Rattle.kd_tables.specs.Ports.{Gets};
-ghost use Rattle.kd_desk.specs.Stops.{fault_of_kind};
+ghost use Rattle.kd_host.specs.FileFault.{fault_of_kind};
 
-use crate::files::FileFault;
+use crate::file_fault::FileFault;
 use kd_tables::{Failed, Source};
 use std::io::{self, Read};
 

@@ -1,6 +1,7 @@
-use Rattle.kd_desk.proofs.{Failing.err-holds, Failing.has_failed-same, Prelude.IsReadWhole, Prelude.port}
+use Rattle.kd_host.proofs.Failing.{err-holds, has_failed-same}
+use Rattle.{kd_host.specs.Files.IsReadWhole, kd_tables.specs.Ports.port}
 use Rattle.std.proofs.KnownBytes.{Consumes-trans}
-use Rattle.kd_desk.proofs.files.content.read_whole.Goals as goal
+use Rattle.kd_host.proofs.content.read_whole.Goals as goal
 
 pub returns-in_err-extend_from_slice-in-Ok : goal.returns-in_err-extend_from_slice-in-Ok
 returns-in_err-extend_from_slice-in-Ok g c =

@@ -1,16 +1,9 @@
 //! `Files`: a trait for reading and opening the files that the command line names.
 ghost use Rattle.std.specs.Prelude.{◌≡◌, ◌<◌, [], ◌∷◌, ◌++◌, ℕ, false, List, Option, None, IfSome, IfOk, is_ok, length};
-ghost use Rattle.kd_desk.specs.Files.{content_of, opening_of, known_file, AskedName, AgreesOrNoMemory, IsOpenAnswer};
+ghost use Rattle.kd_host.specs.Files.{content_of, opening_of, known_file, AskedName, AgreesOrNoMemory, IsOpenAnswer};
 
-mod asked_names;
-mod content;
-mod fault;
-mod host;
-
-pub use asked_names::AskedNames;
-pub use content::{Content, read_whole};
-pub use fault::FileFault;
-pub use host::{HostFile, HostFiles};
+use crate::content::Content;
+use crate::file_fault::FileFault;
 use kd_tables::Source;
 use std::alloc::Global;
 
