@@ -51,13 +51,14 @@ abbrev pub IsReadAnswer : {X Y : Type 0} → Result Y FileFault → (X → Y) �
 IsReadAnswer meant known answer = AgreesOrNoMemory meant (result_map_both known (λ fault. fault) answer)
 
 -- What was read from a source. `Ok`: all bytes that the source had. `ReadTooLong`: one byte more than a file may have.
--- `Device`, `NoMemory`: all bytes that came before the failed read, or before memory ran out.
+-- `Device`, `NoMemory`: all bytes that came before the failed read, or before memory ran out; at most one byte more
+-- than a file may have, and after a failed read at most as many bytes as a file may have.
 abbrev pub IsReadWholeAs : Port → List ℕ → Result (List ℕ) FileFault → Type 0
 IsReadWholeAs source read (Ok bytes) = (bytes ≡ read) × (length read ≤ read_limit) × IsAtEnd source.has
     × KeepsFailureFlag source
 IsReadWholeAs source read (Err ReadTooLong) = (length read ≡ read_limit + 1) × KeepsFailureFlag source
-IsReadWholeAs source read (Err Device) = IsTrue source.has_failed
-IsReadWholeAs source read (Err NoMemory) = KeepsFailureFlag source
+IsReadWholeAs source read (Err Device) = (length read ≤ read_limit) × IsTrue source.has_failed
+IsReadWholeAs source read (Err NoMemory) = (length read ≤ read_limit + 1) × KeepsFailureFlag source
 
 pub record IsReadWhole (source : Port) (answer : Result (List ℕ) FileFault) : Type 0 where
   pub read : List ℕ
