@@ -11,7 +11,8 @@ use Rattle.kd_desk.specs.declared.fault.DeskFault.TheVariants.{Device}
 use Rattle.{kd_desk.proofs.Prelude.◌⊎◌, kd_plan.specs.Planned.IsProvedPlannedCard}
 use Rattle.{kd_tables.specs.declared.model.Model.Model}
 use Rattle.kd_desk.specs.{Laws.{MonthsAreFewest, MonthsSetTheMachine}, RunCard.{Prints, WritesCard}}
-use Rattle.kd_desk.specs.Month.{AreWritten, HasDayOf, CanWriteDay, CanWriteDays, CardAndFile, SetTheMachine, sink_with}
+use Rattle.kd_desk.specs.Month.{AreWritten, HasDayOf, CanWriteDays, CardAndFile, SetTheMachine, sink_with}
+use Rattle.kd_desk.specs.Inner.{CanWriteDay}
 use Rattle.kd_desk.specs.Month.{success, AreCardsOf, AreDaysOf, SetTheMachineInTurn}
 use Rattle.kd_card.{proofs.Months.cards_are_fewest_in_all, specs.Months.{DayAfterDay, IsProvedCard}}
 use Rattle.kd_card.specs.declared.prices.PriceParts.TheVariants.{Cables}

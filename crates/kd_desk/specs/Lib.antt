@@ -14,3 +14,4 @@ pub mod RunCard
 pub mod RunCheck
 pub mod Month
 pub mod FewCables
+pub mod Inner

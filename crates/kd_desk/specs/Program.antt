@@ -8,7 +8,7 @@ use Rattle.kd_sheet.specs.MachineFile.{machine_of}
 use Rattle.kd_state.specs.declared.machine.parts.Parts.{Parts}
 use Rattle.kd_state.specs.SheetDay.{Day}
 use Rattle.kd_desk.specs.CommandLine.{IsCommandLineOf, IsNoCommandLine, files_of, NamedCommand, NamedAction, NamedTask}
-use Rattle.kd_desk.specs.CommandLine.{with_command_stream, with_task_stream, command_stream, task_stream}
+use Rattle.kd_desk.specs.CommandLine.{with_command_stream, command_stream}
 use Rattle.kd_desk.specs.declared.command.Command.{Command}
 use Rattle.kd_desk.specs.declared.command.Action.{Action}
 use Rattle.kd_desk.specs.declared.command.Action.TheVariants as actions
@@ -108,10 +108,6 @@ abbrev pub has_file_failed : Option KnownFile → KnownFile → Bool
 has_file_failed None left = false
 has_file_failed (Some file) left = left.failed
 
--- There is no opened file, or no read of the opened file has failed yet.
-abbrev pub HasNoFailedRead : {O : Type 0} → (O → Bool) → Option O → Type 0
-HasNoFailedRead failed file = IfSome file (λ f. failed f ≡ false)
-
 -- Memory ran out while the command line or a file was read.
 abbrev pub StopsForMemory : Result (Unit {0}) Stop → Type 0
 StopsForMemory answer = (answer ≡ Err (Refused (File NoMemory))) ⊎ (answer ≡ Err (Unread files.NoMemory))
@@ -126,16 +122,6 @@ pub record IsCommandDone (MayFail : Type 0) (command : KnownCommand) (source sin
   pub told : Result (Unit {0}) DeskFault
   pub does : DoesCommand (with_command_stream (file_port left) command) source sink told
   pub answers : answer ≡ stop_after (has_file_failed (command_stream command) left) told
-
--- `IsCommandDone` for a task, with the machine of the file `machine` and day `number` of the key sheet `sheet`.
-pub record IsTaskDone (MayFail : Type 0) (machine sheet : List ℕ) (number : ℕ) (task : KnownTask) (sink : Port)
-    (answer : Result (Unit {0}) Stop) : Type 0 where
-  pub left : KnownFile
-  pub may : IsTrue left.failed → MayFail
-  pub told : Result (Unit {0}) DeskFault
-  pub does : IsAnswerOnDay machine sheet number (DoesTask (with_task_stream (file_port left) task) number sink told)
-      told
-  pub answers : answer ≡ stop_after (has_file_failed (task_stream task) left) told
 
 -- A command was carried out; or a file of the command couldn't be read or opened; or memory ran out.
 abbrev pub CarriesOut : Type 0 → Result KnownCommand FileFault → Port → Port → Result (Unit {0}) Stop → Type 0

@@ -23,5 +23,5 @@ pub use kd_host::{
     AskedNames, Content, FileFault, Files, HostFile, HostFiles, ReaderSource, WriterSink,
     read_whole,
 };
-pub use program::run_desk;
+pub use program::{run_desk, run_words};
 pub use stop::{Stop, end_program};

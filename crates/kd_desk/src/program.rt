@@ -1,12 +1,14 @@
 //! The program: reads the command line and the files, and carries the command out.
 ghost use Rattle.std.specs.Prelude.{◌≡◌, ◌≤◌, ◌⊎◌, ◌||◌, [], false, map, length, Err, IfSome, IfOk, IsTrue, is_ok};
-ghost use Rattle.kd_desk.specs.CommandLine.{unborrowed_command, unborrowed_action, unborrowed_task, files_of};
-ghost use Rattle.kd_desk.specs.CommandLine.{action_files, task_files, with_command_stream, with_action_stream};
-ghost use Rattle.kd_desk.specs.CommandLine.{with_task_stream, command_stream, action_stream, task_stream};
+ghost use Rattle.kd_desk.specs.CommandLine.{unborrowed_command, files_of};
+ghost use Rattle.kd_desk.specs.CommandLine.{action_files, task_files, with_command_stream};
+ghost use Rattle.kd_desk.specs.CommandLine.{command_stream, action_stream, task_stream};
 ghost use Rattle.kd_desk.specs.CommandLine.{IsCommandLineOf, IsNoCommandLine};
 ghost use Rattle.kd_desk.specs.Program.{known_command, known_action, known_task, AsksFor, CarriesOutKnown};
-ghost use Rattle.kd_desk.specs.Program.{DoesTask, IsCommandDone, HasEnded, IsRun, IsTaskDone, StopsForMemory};
-ghost use Rattle.kd_desk.specs.Program.{HasNoFailedRead, is_stopped_before_message, is_stopped_by_port};
+ghost use Rattle.kd_desk.specs.Program.{DoesTask, IsCommandDone, HasEnded, IsRun, StopsForMemory};
+ghost use Rattle.kd_desk.specs.Program.{is_stopped_before_message, is_stopped_by_port};
+ghost use Rattle.kd_desk.specs.Inner.{unborrowed_action, unborrowed_task, with_action_stream, with_task_stream};
+ghost use Rattle.kd_desk.specs.Inner.{HasNoFailedRead, IsTaskDone};
 ghost use Rattle.kd_host.specs.Files.{AreAskedFor, AgreesOrNoMemory, CanFail, IsReadAnswer, known_file};
 ghost use Rattle.kd_desk.specs.OnDay.{IsAnswerOnDay};
 ghost use Rattle.kd_tables.specs.Ports.{FailureAgrees, port};
@@ -49,11 +51,11 @@ pub fn run_desk<'n, S: AsStr, F: Files<'n>, R: Source, W: Sink, E: Sink>(
         ((source.new ≡ source.old) × (sink.new ≡ sink.old)))
         (port E.taken E.has_failed errors.old errors.new) result }
 {
-    end_program(carry_words(alloc, words, files, source, sink), errors)
+    end_program(run_words(alloc, words, files, source, sink), errors)
 }
 
-/// Parses the command line, reads or opens the files that it names, and carries out the command.
-fn carry_words<'n, S: AsStr, F: Files<'n>, R: Source, W: Sink>(
+/// Carries out the command line `words` as `run_desk` does, but returns why the program stops, and writes no line.
+pub fn run_words<'n, S: AsStr, F: Files<'n>, R: Source, W: Sink>(
     alloc: Global,
     words: &'n [S],
     files: &mut F,

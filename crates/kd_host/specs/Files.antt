@@ -47,9 +47,6 @@ AgreesOrNoMemory meant answer = (answer ≡ meant) ⊎ (answer ≡ Err NoMemory)
 abbrev pub IsOpenAnswer : {O : Type 0} → Result KnownFile FileFault → (O → KnownFile) → Result O FileFault → Type 0
 IsOpenAnswer meant known answer = result_map_both known (λ fault. fault) answer ≡ meant
 
-abbrev pub IsReadAnswer : {X Y : Type 0} → Result Y FileFault → (X → Y) → Result X FileFault → Type 0
-IsReadAnswer meant known answer = AgreesOrNoMemory meant (result_map_both known (λ fault. fault) answer)
-
 -- What was read from a source. `Ok`: all bytes that the source had. `ReadTooLong`: one byte more than a file may have.
 -- `Device`, `NoMemory`: all bytes that came before the failed read, or before memory ran out; at most one byte more
 -- than a file may have, and after a failed read at most as many bytes as a file may have.
@@ -91,3 +88,9 @@ pub record MissesOne (names : List (List ℕ)) (old new : List AskedName) : Type
 abbrev pub AreAskedFor : List (List ℕ) → List AskedName → List AskedName → Bool → Type 0
 AreAskedFor names old new true = new ≡ old ++ map asked_and_had names
 AreAskedFor names old new false = MissesOne names old new
+
+-- ---- What an inner function answers that reads or opens several files. No public contract cites this definition.
+
+-- `answer` and `meant` are the same fault, or the function `known` maps `answer` to `meant`; or `answer` is `NoMemory`.
+abbrev pub IsReadAnswer : {X Y : Type 0} → Result Y FileFault → (X → Y) → Result X FileFault → Type 0
+IsReadAnswer meant known answer = AgreesOrNoMemory meant (result_map_both known (λ fault. fault) answer)
