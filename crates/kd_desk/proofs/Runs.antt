@@ -4,7 +4,7 @@ use Rattle.kd_desk.specs.declared.{fault.DeskFault.DeskFault, fault.DeskFault.Th
 use Rattle.kd_desk.specs.declared.stop.Stop.TheVariants.{ReadFailed, Refused}
 use Rattle.kd_sheet.specs.declared.fault.SheetFault.TheVariants.{NoMemory}
 use Rattle.kd_desk.{proofs.SaidCommands.same_command, specs.CommandLine.desk_grammar}
-use Rattle.kd_host.proofs.{Failing.err_is}
+use Rattle.kd_host.{proofs.Failing.err_is, specs.declared.file_fault.FileFault.TheVariants as files}
 use Rattle.{kd_host.specs.declared.file_fault.FileFault.FileFault, std.proofs.Common.arith}
 use Rattle.kd_desk.proofs.Prelude.{◌≡◌, ℕ, Bool, true, false, List, [], ◌∷◌, ◌++◌, Option, Some, None, IfSome}
 use Rattle.kd_desk.proofs.Prelude.{IsErr, IsSomeAnd, Result, Ok, Err, IsErrAnd, IsTrue, refl, sym, ap, ◌∙◌, subst}
@@ -81,11 +81,11 @@ module _ (May : Type 0) (source sink : Port) (answer : Result (Unit {0}) Stop) w
       answers ∙ subst (λ (r : Result KnownCommand FileFault). IsErrAnd r
       (λ f. unread_answer fault ≡ unread_answer f)) is refl
 
-  file_refused : (meant : Result KnownCommand FileFault) (fault : FileFault) → AgreesOrNoMemory meant (Err fault)
+  file_refused : (meant : Result KnownCommand FileFault) (fault : FileFault) → AgreesOrNoMemory files.NoMemory meant (Err fault)
       → answer ≡ Err (Unread fault) → CarriesOut May meant source sink answer
   file_refused meant fault e d = grind (arith, unread_by)
 
-  carried_out : (meant : Result KnownCommand FileFault) (command : KnownCommand) → AgreesOrNoMemory meant (Ok command)
+  carried_out : (meant : Result KnownCommand FileFault) (command : KnownCommand) → AgreesOrNoMemory files.NoMemory meant (Ok command)
       → IsCommandDone May command source sink answer → CarriesOut May meant source sink answer
   carried_out meant command (inl is) done = subst (λ r. CarriesOut May r source sink answer) is (inl done)
   carried_out meant command (inr lacks) done = cc
@@ -96,16 +96,16 @@ module _ (May : Type 0) (source sink : Port) (answer : Result (Unit {0}) Stop) w
     Meant held = CarriesOut May (known_command held command) source sink answer
 
     pub unread : (fault : FileFault) → IsErrAnd answer (λ made. made ≡ Unread fault)
-        → IfSome known (λ held. AgreesOrNoMemory (known_command held said) (Err fault)) → IfSome known Meant
+        → IfSome known (λ held. AgreesOrNoMemory files.NoMemory (known_command held said) (Err fault)) → IfSome known Meant
     unread fault made gives = grind (arith, err_is, file_refused, same)
 
     done_of : (of_files : KnownCommand) → IsCommandDone May of_files source sink answer → (k : KnownFiles)
-        → IfSome k (λ held. AgreesOrNoMemory (known_command held said) (Ok of_files)) → IfSome k Meant
+        → IfSome k (λ held. AgreesOrNoMemory files.NoMemory (known_command held said) (Ok of_files)) → IfSome k Meant
     done_of of_files done None gives = tt
     done_of of_files done (Some held) gives = grind (arith, carried_out, same, done)
 
     pub done : (of_files : KnownCommand) → IsCommandDone May of_files source sink answer
-        → IfSome known (λ held. AgreesOrNoMemory (known_command held said) (Ok of_files)) → IfSome known Meant
+        → IfSome known (λ held. AgreesOrNoMemory files.NoMemory (known_command held said) (Ok of_files)) → IfSome known Meant
     done of_files is gives = done_of of_files is known gives
 
 -- what holds after each error but `Device` holds if the command was refused before anything was written

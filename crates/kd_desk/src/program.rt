@@ -9,7 +9,7 @@ ghost use Rattle.kd_desk.specs.Program.{DoesTask, IsCommandDone, HasEnded, IsRun
 ghost use Rattle.kd_desk.specs.Program.{is_stopped_before_message, is_stopped_by_port};
 ghost use Rattle.kd_desk.specs.Inner.{unborrowed_action, unborrowed_task, with_action_stream, with_task_stream};
 ghost use Rattle.kd_desk.specs.Inner.{HasNoFailedRead, IsTaskDone};
-ghost use Rattle.kd_host.specs.Files.{AreAskedFor, AgreesOrNoMemory, CanFail, IsReadAnswer, known_file};
+ghost use Rattle.kd_host.specs.Files.{AreAskedFor, CanFail, IsReadAnswer, known_file};
 ghost use Rattle.kd_desk.specs.OnDay.{IsAnswerOnDay};
 ghost use Rattle.kd_tables.specs.Ports.{FailureAgrees, port};
 ghost use Rattle.kd_desk.specs.CallAnswers.{is_device, is_refused_before_message};

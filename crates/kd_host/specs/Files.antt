@@ -1,11 +1,12 @@
 -- What is known of the bytes of a file, which is either read whole, or opened and then streamed.
 -- Code: `read_whole` reads a file chunk by chunk, into a vector that grows.
 -- Test: reads_to_the_limit, a_file_that_is_not_there_is_a_failed_device, stops_where_an_order_is_too_long
-use Rattle.std.specs.Prelude.{◌≡◌, ◌⊎◌, ℕ, ◌+◌, ◌≤◌, nat_le, Bool, true, false, IsTrue, List, [], ◌∷◌, ◌++◌, map}
+use Rattle.std.specs.Prelude.{◌≡◌, ℕ, ◌+◌, ◌≤◌, nat_le, Bool, true, false, IsTrue, List, [], ◌∷◌, ◌++◌, map}
 use Rattle.std.specs.Prelude.{length, Option, Some, None, Result, Ok, Err, find, bytes_eq, option_map, if◌then◌else◌}
 use Rattle.std.specs.Result.{result_map_both}
 use Rattle.std.specs.Borrow.{Bor}
 use Rattle.std.specs.Io.KnownBytes.{Consumes, IsAtEnd}
+use Rattle.kd_tables.specs.Answers.{AgreesOrNoMemory}
 use Rattle.kd_tables.specs.Ports.{read_limit, Port, KeepsFailureFlag}
 use Rattle.kd_host.specs.declared.file_fault.FileFault.{FileFault}
 use Rattle.kd_host.specs.declared.file_fault.FileFault.TheVariants.{NoMemory, Device, ReadTooLong}
@@ -37,10 +38,6 @@ opening_of (Some bytes) = Ok (record { bytes = Some bytes; failed = false })
 -- the bytes of the first of `files` with the name `name`; `files` are pairs of a name and bytes
 abbrev pub bytes_in_files : List (Bor (List ℕ) × Bor (List ℕ)) → List ℕ → Option (List ℕ)
 bytes_in_files files name = option_map (λ file. file.1.now) (find (λ file. bytes_eq file.0.now name) files)
-
--- `answer` is `meant`, or it is `NoMemory`.
-abbrev pub AgreesOrNoMemory : {X : Type 0} → Result X FileFault → Result X FileFault → Type 0
-AgreesOrNoMemory meant answer = (answer ≡ meant) ⊎ (answer ≡ Err NoMemory)
 
 -- `answer` and `meant` are the same fault. Or `answer` is an opened file, and the function `known` maps this file to
 -- `meant`.
@@ -93,4 +90,4 @@ AreAskedFor names old new false = MissesOne names old new
 
 -- `answer` and `meant` are the same fault, or the function `known` maps `answer` to `meant`; or `answer` is `NoMemory`.
 abbrev pub IsReadAnswer : {X Y : Type 0} → Result Y FileFault → (X → Y) → Result X FileFault → Type 0
-IsReadAnswer meant known answer = AgreesOrNoMemory meant (result_map_both known (λ fault. fault) answer)
+IsReadAnswer meant known answer = AgreesOrNoMemory NoMemory meant (result_map_both known (λ fault. fault) answer)

@@ -1,6 +1,7 @@
 //! Files in memory, for tests of programs.
 ghost use Rattle.std.specs.Prelude.{◌≡◌, ◌||◌, [], option_map, is_err};
-ghost use Rattle.kd_host.specs.Files.{content_of, bytes_in_files, AgreesOrNoMemory};
+ghost use Rattle.kd_host.specs.Files.{content_of, bytes_in_files};
+ghost use Rattle.kd_tables.specs.Answers.{AgreesOrNoMemory};
 ghost use Rattle.kd_tables.specs.Ports.{Gets};
 
 use crate::asked_names::AskedNames;
@@ -39,7 +40,8 @@ impl<'n> MemoryFiles<'n> {
 
     /// The content of the first file with this name.
     fn content(&self, alloc: Global, name: &str) -> Result<Content, FileFault>
-        ensures { AgreesOrNoMemory (content_of (bytes_in_files self.now.files.now name.now)) result }
+        ensures { AgreesOrNoMemory FileFault.NoMemory
+            (content_of (bytes_in_files self.now.files.now name.now)) result }
     {
         let bytes = self.find(name).ok_or(FileFault::Device)?;
         Content::new(Vec::from_slice(alloc, bytes)?)

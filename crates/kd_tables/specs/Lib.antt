@@ -8,3 +8,4 @@ pub mod Ports
 pub mod Laws
 pub mod Writing
 pub mod Refusals
+pub mod Answers
