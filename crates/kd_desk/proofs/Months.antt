@@ -6,6 +6,7 @@ use Rattle.kd_desk.proofs.Prelude.{begins_as_card, day_number, inl, inr, machine
 use Rattle.kd_desk.proofs.{Applying.of_read, Days.{found_in_files, found_on, found_once, in_files, on_day}}
 use Rattle.kd_desk.proofs.{Exclusions.one_list, Printing.printed}
 use Rattle.kd_host.proofs.Failing.{in_whole}
+use Rattle.kd_sheet.specs.declared.fault.SheetFault.TheVariants.{NoMemory}
 use Rattle.kd_host.specs.Writing.{WritesText}
 use Rattle.kd_desk.specs.declared.fault.DeskFault.TheVariants.{Device}
 use Rattle.{kd_desk.proofs.Prelude.◌⊎◌, kd_plan.specs.Planned.IsProvedPlannedCard}
@@ -143,8 +144,8 @@ papers_for read_back m n s machine legal planned card plans kinds text day numbe
       record { card = text; file = machine_text n },
       record {
         printed = on_day file sheet (day_number s) _ success m s (inl (sym found)) prints;
-        applied = of_read (machine_of file) m (λ m. Applies m text (sink_with (machine_text n)) success)
-            (LacksMemory success) (sym (in_files file sheet (day_number s) m s found).0) applies;
+        applied = of_read {no_memory = NoMemory} (machine_of file) m (λ m. Applies m text (sink_with (machine_text n)) success)
+            (LacksMemory success) (inl (sym (in_files file sheet (day_number s) m s found).0)) applies;
       },
       back,
     )

@@ -4,7 +4,8 @@ use Rattle.kd_desk.specs.declared.{fault.DeskFault.DeskFault, fault.DeskFault.Th
 use Rattle.kd_desk.specs.declared.stop.Stop.TheVariants.{ReadFailed, Refused}
 use Rattle.kd_sheet.specs.declared.fault.SheetFault.TheVariants.{NoMemory}
 use Rattle.kd_desk.{proofs.SaidCommands.same_command, specs.CommandLine.desk_grammar}
-use Rattle.kd_host.{proofs.Failing.err_is, specs.declared.file_fault.FileFault.TheVariants as files}
+use Rattle.kd_host.proofs.Failing.{err_is}
+use Rattle.kd_host.specs.declared.file_fault.FileFault.TheVariants as files
 use Rattle.{kd_host.specs.declared.file_fault.FileFault.FileFault, std.proofs.Common.arith}
 use Rattle.kd_desk.proofs.Prelude.{◌≡◌, ℕ, Bool, true, false, List, [], ◌∷◌, ◌++◌, Option, Some, None, IfSome}
 use Rattle.kd_desk.proofs.Prelude.{IsErr, IsSomeAnd, Result, Ok, Err, IsErrAnd, IsTrue, refl, sym, ap, ◌∙◌, subst}
