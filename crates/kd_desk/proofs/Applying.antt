@@ -1,14 +1,16 @@
 -- The answer of `run_apply`, once the machine file and the settings are read.
-use Rattle.kd_desk.proofs.Prelude.{◌≡◌, ◌⊎◌, ℕ, List, Result, Ok, Err, IfOk, IsErrAnd, IsFalse, MatchResult, inl, subst}
+use Rattle.kd_desk.proofs.Prelude.{◌≡◌, ◌⊎◌, ℕ, List, Result, Ok, Err, IfOk, IsErrAnd, IsFalse, MatchResult, inl, inr, subst}
+use Rattle.kd_desk.proofs.Prelude.{AgreesOrNoMemory}
 use Rattle.kd_desk.proofs.Prelude.{sym, Parts, Setting, DeskFault, begins_as_card, AreSettings, OfList, IsSettingsFault}
 use Rattle.{kd_desk.proofs.Prelude.InList, kd_state.specs.Line.IsListText, kd_state.specs.Line.IsListFault}
 use Rattle.kd_state.specs.declared.setting.list.ListFault.{ListFault}
 use Rattle.kd_desk.specs.declared.fault.DeskFault.TheVariants as faults
 
 -- what holds of the machine that was read holds of the machine of the file
-pub of_read : {F : Type 0} (meant : Result Parts F) (m : Parts) (P : Parts → Type 0) (Q : Type 0) → Ok m ≡ meant → P m
-    → IfOk meant (λ n. P n ⊎ Q)
-of_read meant m P Q is p = subst (λ (r : Result _ _). IfOk r (λ n. P n ⊎ Q)) is (inl p)
+pub of_read : {F : Type 0} {no_memory : F} (meant : Result Parts F) (m : Parts) (P : Parts → Type 0) (Q : Type 0)
+    → AgreesOrNoMemory no_memory meant (Ok m) → P m → IfOk meant (λ n. P n ⊎ Q)
+of_read meant m P Q (inl is) p = subst (λ (r : Result _ _). IfOk r (λ n. P n ⊎ Q)) is (inl p)
+of_read meant m P Q (inr lacks) p = absurd (cc)
 
 -- bytes that don't begin as a card are read as a list
 pub list_read : {T : Type 0} (items : T → List Setting) (bytes : List ℕ) (read : Result T ListFault)

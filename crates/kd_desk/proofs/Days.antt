@@ -2,14 +2,14 @@
 use Rattle.kd_desk.proofs.Prelude.{◌≡◌, ◌⊎◌, ℕ, List, Option, Some, Result, Ok, Err, IsErrAnd, MatchResult}
 use Rattle.kd_desk.proofs.Prelude.{inl, inr, refl, subst, ok_or, arith, Parts, Day, machine_of, DeskFault}
 use Rattle.kd_desk.proofs.Prelude.{LacksMemory, IsAnswerOnDay, machine_and_day}
-use Rattle.{kd_desk.proofs.Failing.err_is, kd_sheet.specs.Document.AgreesOrNoMemory, kd_sheet.specs.Sheet.day_of}
+use Rattle.{kd_host.proofs.Failing.err_is, kd_tables.specs.Answers.AgreesOrNoMemory, kd_sheet.specs.Sheet.day_of}
 use Rattle.kd_sheet.specs.{SheetFile.sheet_of, Document.◌>>=◌, declared.fault.SheetFault.SheetFault}
 use Rattle.kd_sheet.specs.declared.fault.SheetFault.TheVariants as files
 use Rattle.kd_desk.specs.declared.fault.DeskFault.TheVariants.{NoSuchDay}
 use Rattle.kd_desk.specs.{Month.success, OnDay.or_file_fault}
 
 -- the fault that reading a file returned is the fault of the file's bytes, or no memory
-pub is_meant : {A : Type 0} (fault : SheetFault) (meant : Result A SheetFault) → AgreesOrNoMemory (Err fault) meant
+pub is_meant : {A : Type 0} (fault : SheetFault) (meant : Result A SheetFault) → AgreesOrNoMemory files.NoMemory meant (Err fault)
     → (fault ≡ files.NoMemory) ⊎ (meant ≡ Err fault)
 is_meant fault meant is = grind (arith)
 

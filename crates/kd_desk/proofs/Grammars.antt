@@ -3,7 +3,7 @@ use Rattle.kd_desk.proofs.Prelude.{arith, ◌≡◌, ◌∙◌, [], ◌∷◌, �
 use Rattle.kd_desk.proofs.Prelude.{app_of, rule_of, new_rule, app_of_fields, Arg, Bor}
 use Rattle.clap.specs.{Built.AddsArg, Built.AddsSubcommand, Simple.new_app, Simple.with_subcommand}
 use Rattle.clap.specs.declared.builder.command.Command.{Command, TheOpen.Command-F, TheViews.out-Command}
-use Rattle.{kd_desk.specs.CommandLine.{IsMadeOf, borrowed_shape}, std.proofs.lemmas.List.map-append}
+use Rattle.{kd_desk.specs.Inner.{IsMadeOf, borrowed_shape}, std.proofs.lemmas.List.map-append}
 
 abbrev pub without_help : App → App
 without_help a = record a { top = record a.top { disable_help_flag = true } }

@@ -2,7 +2,6 @@ pub mod Prelude
 pub mod Applying
 pub mod CommandLines
 pub mod Exclusions
-pub mod Failing
 pub mod Grammars
 pub mod Runs
 pub mod SaidCommands
@@ -11,6 +10,5 @@ mod Printing
 mod Checking
 mod Receiving
 mod Streaming
-mod Ending
 mod Months
 mod FewCables

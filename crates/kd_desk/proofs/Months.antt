@@ -4,11 +4,16 @@ use Rattle.kd_desk.proofs.Prelude.{IsLegalDay, IsMachine, IsTrue, LacksMemory, L
 use Rattle.kd_desk.proofs.Prelude.{Option, Parts, Port, PriceParts, Result, Setting, Some, [], ap, arith}
 use Rattle.kd_desk.proofs.Prelude.{begins_as_card, day_number, inl, inr, machine_of, refl, subst, sym, ℕ, ◌∙◌, ◌∷◌, ◌≡◌}
 use Rattle.kd_desk.proofs.{Applying.of_read, Days.{found_in_files, found_on, found_once, in_files, on_day}}
-use Rattle.kd_desk.proofs.{Exclusions.one_list, Failing.in_whole, Printing.printed}
+use Rattle.kd_desk.proofs.{Exclusions.one_list, Printing.printed}
+use Rattle.kd_host.proofs.Failing.{in_whole}
+use Rattle.kd_sheet.specs.declared.fault.SheetFault.TheVariants.{NoMemory}
+use Rattle.kd_host.specs.Writing.{WritesText}
+use Rattle.kd_desk.specs.declared.fault.DeskFault.TheVariants.{Device}
 use Rattle.{kd_desk.proofs.Prelude.◌⊎◌, kd_plan.specs.Planned.IsProvedPlannedCard}
 use Rattle.{kd_tables.specs.declared.model.Model.Model}
-use Rattle.kd_desk.specs.{Laws.{MonthsAreFewest, MonthsSetTheMachine}, Ports.WritesText, RunCard.{Prints, WritesCard}}
-use Rattle.kd_desk.specs.Month.{AreWritten, HasDayOf, CanWriteDay, CanWriteDays, CardAndFile, SetTheMachine, sink_with}
+use Rattle.kd_desk.specs.{Laws.{MonthsAreFewest, MonthsSetTheMachine}, RunCard.{Prints, WritesCard}}
+use Rattle.kd_desk.specs.Month.{AreWritten, HasDayOf, CanWriteDays, CardAndFile, SetTheMachine, sink_with}
+use Rattle.kd_desk.specs.Inner.{CanWriteDay}
 use Rattle.kd_desk.specs.Month.{success, AreCardsOf, AreDaysOf, SetTheMachineInTurn}
 use Rattle.kd_card.{proofs.Months.cards_are_fewest_in_all, specs.Months.{DayAfterDay, IsProvedCard}}
 use Rattle.kd_card.specs.declared.prices.PriceParts.TheVariants.{Cables}
@@ -32,7 +37,7 @@ record IsCarried (m : Parts) (bytes : List ℕ) (sink : Port) : Type 0 where
   of_card : AreSettings bytes settings
   leads : Leads m settings n
   back : machine_of (machine_text n) ≡ Ok n
-  written : WritesText (machine_text n) sink success
+  written : WritesText Device (machine_text n) sink success
 
 IsCarried-applied : (m : Parts) (bytes : List ℕ) (sink : Port) → Applies m bytes sink success → IsCarried m bytes sink
 IsCarried-applied m bytes sink applies = grind (arith)
@@ -132,15 +137,15 @@ papers_for read_back m n s machine legal planned card plans kinds text day numbe
     file sheet found =
     let back = read_back n (lists_keep_machines m n card.settings.items machine is_card.in_range leads) in
     let prints = printed m s machine legal planned card plans kinds
-    text day (sink_with text) success number is_card (in_whole text (sink_with text) refl) in
+    text day (sink_with text) success number is_card (in_whole Device text (sink_with text) refl) in
     let applies : Applies m text (sink_with (machine_text n)) success =
     Carried card.settings.items n (settings_of text day card.settings.items card.prices is_card) leads back
-    (in_whole (machine_text n) (sink_with (machine_text n)) refl) in (
+    (in_whole Device (machine_text n) (sink_with (machine_text n)) refl) in (
       record { card = text; file = machine_text n },
       record {
         printed = on_day file sheet (day_number s) _ success m s (inl (sym found)) prints;
-        applied = of_read (machine_of file) m (λ m. Applies m text (sink_with (machine_text n)) success)
-            (LacksMemory success) (sym (in_files file sheet (day_number s) m s found).0) applies;
+        applied = of_read {no_memory = NoMemory} (machine_of file) m (λ m. Applies m text (sink_with (machine_text n)) success)
+            (LacksMemory success) (inl (sym (in_files file sheet (day_number s) m s found).0)) applies;
       },
       back,
     )

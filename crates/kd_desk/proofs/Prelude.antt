@@ -13,8 +13,9 @@ pub use Rattle.{clap.specs.declared.builder.arg.Arg.Arg, kd_card.specs.CardText.
 pub use Rattle.kd_card.specs.declared.prices.PriceParts.{PriceParts}
 pub use Rattle.kd_desk.specs.CommandLine.{IsActionOf, IsCommandOf, NamedCommand, NamedAction, IsCommandLineOf}
 pub use Rattle.kd_desk.specs.CommandLine.{unborrowed_command}
-pub use Rattle.kd_desk.specs.Files.{AreAskedFor, AskedName, MissesOne, AgreesOrNoMemory, IsReadWhole, KnownFile}
-pub use Rattle.kd_desk.specs.Files.{asked_and_had, asked_and_missed, known_file}
+pub use Rattle.kd_host.specs.Files.{AreAskedFor, AskedName, MissesOne, IsReadWhole, KnownFile}
+pub use Rattle.kd_tables.specs.Answers.{AgreesOrNoMemory}
+pub use Rattle.kd_host.specs.Files.{asked_and_had, asked_and_missed, known_file}
 pub use Rattle.kd_desk.specs.Messages.{FormsAgreeWithOrders, TypesText, answer_to_message}
 pub use Rattle.kd_desk.specs.OnDay.{IsAnswerOnDay}
 unfoldable pub use Rattle.kd_desk.specs.OnDay.{machine_and_day}

@@ -1,7 +1,8 @@
 -- What the contracts promise of a card that was planned and written.
 use Rattle.kd_desk.proofs.Prelude.{Day, DeskFault, IsCard, IsLegalDay, IsMachine, List, Parts, Port, PriceParts, Result}
 use Rattle.{kd_desk.proofs.Prelude.{arith, day_number, subst, sym, ℕ, ◌≡◌}, kd_prices.specs.KindCards.IsByKind}
-use Rattle.{kd_desk.specs.{Ports.WritesText, RunCard.{Card, Prints}}, kd_plan.specs.Planned.IsProvedPlannedCard}
+use Rattle.{kd_desk.specs.RunCard.{Card, Prints}, kd_plan.specs.Planned.IsProvedPlannedCard}
+use Rattle.{kd_host.specs.Writing.WritesText, kd_desk.specs.declared.fault.DeskFault.TheVariants.Device}
 use Rattle.kd_state.proofs.{Keys.{equally_set, reading_cipher, reading_ready}}
 use Rattle.kd_state.proofs.{Carrying.lists_keep_machines}
 use Rattle.kd_card.specs.declared.card.Card as declared
@@ -23,7 +24,7 @@ module _ (m : Parts) (s : Day) (is_machine : IsMachine m) (legal : IsLegalDay s)
     same = subst (λ settings. IsProvedPlannedCard m s settings planned.prices) (sym kinds.settings) plans
 
     pub printed : (text : List ℕ) (day : ℕ) (sink : Port) (answer : Result (Unit {0}) DeskFault) → day ≡ day_number s
-        → IsCard text day card.settings.items card.prices → WritesText text sink answer
+        → IsCard text day card.settings.items card.prices → WritesText Device text sink answer
         → Prints m s (day_number s) sink answer
     printed text day sink answer number is_card takes =
         let dated = subst (λ d. IsCard text d card.settings.items card.prices) number is_card in

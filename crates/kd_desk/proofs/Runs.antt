@@ -3,8 +3,10 @@ use Rattle.kd_desk.specs.{Program.is_stopped_before_message, CallAnswers.is_refu
 use Rattle.kd_desk.specs.declared.{fault.DeskFault.DeskFault, fault.DeskFault.TheVariants.{Device, File}}
 use Rattle.kd_desk.specs.declared.stop.Stop.TheVariants.{ReadFailed, Refused}
 use Rattle.kd_sheet.specs.declared.fault.SheetFault.TheVariants.{NoMemory}
-use Rattle.kd_desk.{proofs.Failing.err_is, proofs.SaidCommands.same_command, specs.CommandLine.desk_grammar}
-use Rattle.{kd_desk.specs.declared.files.fault.FileFault.FileFault, std.proofs.Common.arith}
+use Rattle.kd_desk.{proofs.SaidCommands.same_command, specs.CommandLine.desk_grammar}
+use Rattle.kd_host.proofs.Failing.{err_is}
+use Rattle.kd_host.specs.declared.file_fault.FileFault.TheVariants as files
+use Rattle.{kd_host.specs.declared.file_fault.FileFault.FileFault, std.proofs.Common.arith}
 use Rattle.kd_desk.proofs.Prelude.{◌≡◌, ℕ, Bool, true, false, List, [], ◌∷◌, ◌++◌, Option, Some, None, IfSome}
 use Rattle.kd_desk.proofs.Prelude.{IsErr, IsSomeAnd, Result, Ok, Err, IsErrAnd, IsTrue, refl, sym, ap, ◌∙◌, subst}
 use Rattle.kd_desk.proofs.Prelude.{inl, inr, append_assoc, Row, subcommand_of, Stop, Unread, NamedCommand, IsCommandOf}
@@ -15,43 +17,6 @@ use Rattle.kd_desk.proofs.Prelude.{AgreesOrNoMemory, KnownFile, Port, map, ◌�
 -- the bytes of each file by its name, or `None` if they aren't known
 abbrev KnownFiles : Type 0
 KnownFiles = Option (List ℕ → Option (List ℕ))
-
--- ---- the names that are asked for
-
-asked-joined : (one : AskedName) (old new rest : List AskedName) → new ≡ old ++ one ∷ []
-    → new ++ rest ≡ old ++ one ∷ rest
-asked-joined one old new rest is = ap (λ l. l ++ rest) is ∙ append_assoc old (one ∷ []) rest
-
--- if one file was read or opened, and then all others, all of them were
-pub all_on : (name : List ℕ) (names : List (List ℕ)) (old new newer : List AskedName)
-    → new ≡ old ++ asked_and_had name ∷ [] → newer ≡ new ++ map asked_and_had names
-    → newer ≡ old ++ map asked_and_had (name ∷ names)
-all_on name names old new newer is more = more ∙ asked-joined (asked_and_had name) old new (map asked_and_had names) is
-
--- if one file was read or opened, and a later one wasn't, one of them wasn't
-pub misses_on : (name : List ℕ) (names : List (List ℕ)) (old new newer : List AskedName)
-    → new ≡ old ++ asked_and_had name ∷ [] → MissesOne names new newer → MissesOne (name ∷ names) old newer
-misses_on name names old new newer is more = record {
-  before = name ∷ more.before;
-  name = more.name;
-  after = more.after;
-  names_are = ap (λ l. name ∷ l) more.names_are;
-  asked = more.asked ∙ asked-joined (asked_and_had name) old new
-      (map asked_and_had more.before ++ asked_and_missed more.name ∷ []) is;
-}
-
--- if the first file couldn't be read or opened, no other was asked for
-pub misses_first : (name : List ℕ) (names : List (List ℕ)) (old new : List AskedName)
-    → new ≡ old ++ asked_and_missed name ∷ []
-    → MissesOne (name ∷ names) old new
-misses_first name names old new is = record { before = []; name = name; after = names; names_are = refl; asked = is }
-
--- if one file couldn't be read or opened, and the answer is its fault, as `?` returns it, `AreAskedFor` holds
-pub misses_so : {T : Type 0} (names : List (List ℕ)) (old new : List AskedName) (answer : Result T FileFault)
-    (fault : FileFault) → IsErrAnd answer (λ made. made ≡ fault) → MissesOne names old new
-    → AreAskedFor names old new (is_ok answer)
-misses_so names old new answer fault made misses =
-    subst (λ a. AreAskedFor names old new (is_ok a)) (sym (err_is answer fault made)) misses
 
 -- ---- what the program asks for
 
@@ -77,9 +42,9 @@ module _ (names : List (List ℕ)) (asked : List AskedName) where
   asks_after true (Err Device) asks = asks
   asks_after file_failed (Err fault) asks = inl asks
 
-  pub asked_all : (command : KnownCommand) (source sink : Port) (answer : Result (Unit {0}) Stop)
-      → IsCommandDone command source sink answer → AreAskedFor names [] asked true → Asks answer
-  asked_all command source sink answer done asks = subst Asks (sym done.answers) (asks_after _ done.told asks)
+  pub asked_all : (May : Type 0) (command : KnownCommand) (source sink : Port) (answer : Result (Unit {0}) Stop)
+      → IsCommandDone May command source sink answer → AreAskedFor names [] asked true → Asks answer
+  asked_all May command source sink answer done asks = subst Asks (sym done.answers) (asks_after _ done.told asks)
 
 -- ---- what the command line means
 
@@ -95,8 +60,12 @@ said_command words one other says same = said_by (subcommand_of desk_grammar wor
 -- ---- how a command was carried out
 
 -- nothing is known of a file that wasn't opened
-pub nothing_left : KnownFile
+abbrev pub nothing_left : KnownFile
 nothing_left = record { bytes = None; failed = false }
+
+-- no read of a file failed that wasn't opened
+pub none_failed : {X : Type 0} → IsTrue nothing_left.failed → X
+none_failed failed = absurd (cc)
 
 -- ---- the program's answer
 
@@ -106,38 +75,38 @@ failed_command fault = Err fault
 abbrev unread_answer : FileFault → Result (Unit {0}) Stop
 unread_answer fault = Err (Unread fault)
 
-module _ (source sink : Port) (answer : Result (Unit {0}) Stop) where
+module _ (May : Type 0) (source sink : Port) (answer : Result (Unit {0}) Stop) where
   unread_by : (fault other : FileFault) → failed_command fault ≡ failed_command other → answer ≡ Err (Unread fault)
       → answer ≡ Err (Unread other)
   unread_by fault other is answers =
       answers ∙ subst (λ (r : Result KnownCommand FileFault). IsErrAnd r
       (λ f. unread_answer fault ≡ unread_answer f)) is refl
 
-  file_refused : (meant : Result KnownCommand FileFault) (fault : FileFault) → AgreesOrNoMemory meant (Err fault)
-      → answer ≡ Err (Unread fault) → CarriesOut meant source sink answer
+  file_refused : (meant : Result KnownCommand FileFault) (fault : FileFault) → AgreesOrNoMemory files.NoMemory meant (Err fault)
+      → answer ≡ Err (Unread fault) → CarriesOut May meant source sink answer
   file_refused meant fault e d = grind (arith, unread_by)
 
-  carried_out : (meant : Result KnownCommand FileFault) (command : KnownCommand) → AgreesOrNoMemory meant (Ok command)
-      → IsCommandDone command source sink answer → CarriesOut meant source sink answer
-  carried_out meant command (inl is) done = subst (λ r. CarriesOut r source sink answer) is (inl done)
+  carried_out : (meant : Result KnownCommand FileFault) (command : KnownCommand) → AgreesOrNoMemory files.NoMemory meant (Ok command)
+      → IsCommandDone May command source sink answer → CarriesOut May meant source sink answer
+  carried_out meant command (inl is) done = subst (λ r. CarriesOut May r source sink answer) is (inl done)
   carried_out meant command (inr lacks) done = cc
 
   -- each command that the command line means is the parsed command, whatever is known of the files
   module _ (known : KnownFiles) (said command : NamedCommand) (same : said ≡ command) where
     abbrev Meant : (List ℕ → Option (List ℕ)) → Type 0
-    Meant held = CarriesOut (known_command held command) source sink answer
+    Meant held = CarriesOut May (known_command held command) source sink answer
 
     pub unread : (fault : FileFault) → IsErrAnd answer (λ made. made ≡ Unread fault)
-        → IfSome known (λ held. AgreesOrNoMemory (known_command held said) (Err fault)) → IfSome known Meant
+        → IfSome known (λ held. AgreesOrNoMemory files.NoMemory (known_command held said) (Err fault)) → IfSome known Meant
     unread fault made gives = grind (arith, err_is, file_refused, same)
 
-    done_of : (of_files : KnownCommand) → IsCommandDone of_files source sink answer → (k : KnownFiles)
-        → IfSome k (λ held. AgreesOrNoMemory (known_command held said) (Ok of_files)) → IfSome k Meant
+    done_of : (of_files : KnownCommand) → IsCommandDone May of_files source sink answer → (k : KnownFiles)
+        → IfSome k (λ held. AgreesOrNoMemory files.NoMemory (known_command held said) (Ok of_files)) → IfSome k Meant
     done_of of_files done None gives = tt
     done_of of_files done (Some held) gives = grind (arith, carried_out, same, done)
 
-    pub done : (of_files : KnownCommand) → IsCommandDone of_files source sink answer
-        → IfSome known (λ held. AgreesOrNoMemory (known_command held said) (Ok of_files)) → IfSome known Meant
+    pub done : (of_files : KnownCommand) → IsCommandDone May of_files source sink answer
+        → IfSome known (λ held. AgreesOrNoMemory files.NoMemory (known_command held said) (Ok of_files)) → IfSome known Meant
     done of_files is gives = done_of of_files is known gives
 
 -- what holds after each error but `Device` holds if the command was refused before anything was written

@@ -1,7 +1,7 @@
 -- The desk's answer for a message, made from the answer of typing, sending or receiving it.
 use Rattle.kd_desk.proofs.Prelude.{arith, ◌≡◌, Result, Ok, Err, IsErrAnd, MatchResult, IsTrue, FormFault, Port}
 use Rattle.kd_desk.proofs.Prelude.{FailureAgrees, DeskFault, answer_to_message, is_refused_before_message, is_device}
-use Rattle.kd_desk.{proofs.Failing.err_is, specs.Messages.fault_of_message}
+use Rattle.{kd_host.proofs.Failing.err_is, kd_desk.specs.Messages.fault_of_message}
 use Rattle.kd_form.specs.Streams as streams
 use Rattle.kd_form.specs.Streams.{is_off_key}
 

@@ -23,24 +23,6 @@ command_shape name words = record (new_shape name) {
   rules = map new_rule words;
 }
 
--- a grammar whose only command is `shape`; this command has no subcommands
-abbrev pub app_without_subcommands : Shape → App
-app_without_subcommands shape = record { top = shape; subs = [] }
-
--- `command_shape`, but the names of the arguments are borrowed
-abbrev pub borrowed_shape : List ℕ → List (Bor (List ℕ)) → Shape
-borrowed_shape name words = command_shape name (map (λ word. word.now) words)
-
--- the grammar `app` with `commands` added as subcommands, each with the names of its arguments
-abbrev pub with_commands : App → List (Bor (List ℕ) × Bor (List (Bor (List ℕ)))) → App
-with_commands app commands = fold (λ a command. with_subcommand a (borrowed_shape command.0.now command.1.now)) app
-    commands
-
--- `grammar` is the command `name` with an argument for each of `words`, and no argument is global.
-pub record IsMadeOf (grammar : Grammar) (name : List ℕ) (words : List (Bor (List ℕ))) : Type 0 where
-  pub shape : app_of grammar ≡ app_without_subcommands (borrowed_shape name words)
-  pub local : (out-Command grammar).has_globals ≡ false
-
 -- the names of three arguments: a machine file, a sheet and a day
 abbrev pub day_words : List (List ℕ)
 day_words = codes "MACHINE" ∷ codes "SHEET" ∷ codes "DAY" ∷ []
@@ -104,23 +86,11 @@ with_action_files f g (actions.OnDay sheet day task) = actions.OnDay (f sheet) d
 abbrev pub with_files : {F G O P : Type 0} → (F → G) → (O → P) → Command F O → Command G P
 with_files f g command = record { machine = f command.machine; action = with_action_files f g command.action }
 
--- the task, with its borrowed file names replaced by the names themselves
-abbrev pub unborrowed_task : Task (Bor (List ℕ)) (Bor (List ℕ)) → Task (List ℕ) (List ℕ)
-unborrowed_task task = with_task_files (λ name. name.now) (λ name. name.now) task
-
-abbrev pub unborrowed_action : Action (Bor (List ℕ)) (Bor (List ℕ)) → Action (List ℕ) (List ℕ)
-unborrowed_action action = with_action_files (λ name. name.now) (λ name. name.now) action
-
+-- the command, with its borrowed file names replaced by the names themselves
 abbrev pub unborrowed_command : Command (Bor (List ℕ)) (Bor (List ℕ)) → Command (List ℕ) (List ℕ)
 unborrowed_command command = with_files (λ name. name.now) (λ name. name.now) command
 
--- the task, with `g` applied to the file that is streamed
-abbrev pub with_task_stream : {F O P : Type 0} → (O → P) → Task F O → Task F P
-with_task_stream g task = with_task_files (λ file. file) g task
-
-abbrev pub with_action_stream : {F O P : Type 0} → (O → P) → Action F O → Action F P
-with_action_stream g action = with_action_files (λ file. file) g action
-
+-- the command, with `g` applied to the file that is streamed
 abbrev pub with_command_stream : {F O P : Type 0} → (O → P) → Command F O → Command F P
 with_command_stream g command = with_files (λ file. file) g command
 
@@ -189,9 +159,6 @@ pub record IsActionOf (said : List ℕ × List Row) (action : NamedAction) : Typ
 pub record IsCommandOf (said : List ℕ × List Row) (command : NamedCommand) : Type 0 where
   pub machine : first_of (codes "MACHINE") said.1 ≡ Some command.machine
   pub action : IsActionOf said command.action
-
-abbrev pub IsNoCommand : List ℕ × List Row → Type 0
-IsNoCommand said = (command : NamedCommand) → ¬ (IsCommandOf said command)
 
 -- The command line `words` fits the grammar and means `command`. Its first word is the program's own name.
 pub record IsCommandLineOf (words : List (List ℕ)) (command : NamedCommand) : Type 0 where

@@ -1,27 +1,21 @@
 -- How the program ends: the line that it writes to standard error, and its exit status.
 -- Source: the table of the command line in docs/FORMATS.md.
 -- Test: ends_with_a_status_and_a_line
-use Rattle.std.specs.Prelude.{codes, ◌≡◌, ℕ, ◌||◌, List, [], ◌∷◌, ◌++◌, Result, Ok, Err, is_err}
-use Rattle.kd_tables.specs.declared.ports.writing.Device.{Device}
+use Rattle.std.specs.Prelude.{codes, ℕ, List, [], ◌∷◌, ◌++◌, Result, Ok, Err}
 use Rattle.kd_tables.specs.Ports.{Port}
-use Rattle.kd_tables.specs.Writing.{Writes}
-use Rattle.kd_desk.specs.declared.fault.DeskFault.{DeskFault}
+use Rattle.kd_host.specs.Ending.{refused_line, EndsWithLine}
+use Rattle.kd_host.specs.FileFault.{file_fault_text}
 use Rattle.kd_desk.specs.declared.fault.DeskFault.TheVariants as faults
 use Rattle.kd_desk.specs.declared.stop.Stop.{Stop}
 use Rattle.kd_desk.specs.declared.stop.Stop.TheVariants.{Usage, Unread, ReadFailed, Refused}
 use Rattle.kd_desk.specs.FaultText.{desk_fault_text}
-use Rattle.kd_desk.specs.Stops.{fault_of_file}
-
--- the line on standard error for a refusal
-abbrev pub refused_line : DeskFault → List ℕ
-refused_line fault = codes "refused " ++ desk_fault_text fault ++ 10 ∷ []
 
 -- the line on standard error for a `Stop`
 abbrev pub stop_line : Stop → List ℕ
 stop_line Usage = codes "usage: desk COMMAND WORDS" ++ 10 ∷ []
-stop_line (Unread fault) = refused_line (fault_of_file fault)
-stop_line ReadFailed = refused_line faults.Device
-stop_line (Refused fault) = refused_line fault
+stop_line (Unread fault) = refused_line (file_fault_text fault)
+stop_line ReadFailed = refused_line (desk_fault_text faults.Device)
+stop_line (Refused fault) = refused_line (desk_fault_text fault)
 
 -- what is written to standard error: a line for a `Stop`, or no bytes if all went well
 abbrev pub error_text : Result (Unit {0}) Stop → List ℕ
@@ -36,10 +30,6 @@ status_of (Err (Unread fault)) = 1
 status_of (Err ReadFailed) = 1
 status_of (Err (Refused fault)) = 1
 
--- The program ends with the exit status for `answer`. The line for `answer` was written to standard error, or only
--- a prefix of the line if standard error failed.
-pub record EndsAs (answer : Result (Unit {0}) Stop) (errors : Port) (status : ℕ) : Type 0 where
-  pub ends : status ≡ status_of answer
-  pub written : Result (Unit {0}) Device
-  pub told : Writes errors.had errors.has (error_text answer) written
-  pub failed : errors.has_failed ≡ (errors.had_failed || is_err written)
+-- The program ends with the line and the exit status for `answer`, or with a prefix of the line if standard error failed.
+abbrev pub EndsAs : Result (Unit {0}) Stop → Port → ℕ → Type 0
+EndsAs answer errors status = EndsWithLine (error_text answer) (status_of answer) errors status

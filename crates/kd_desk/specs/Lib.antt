@@ -1,9 +1,7 @@
 pub mod CommandLine
 pub mod Program
-pub mod Files
 pub mod Laws
 pub mod Messages
-pub mod Ports
 pub mod RunApply
 pub mod CallAnswers
 pub mod Settings
@@ -16,3 +14,4 @@ pub mod RunCard
 pub mod RunCheck
 pub mod Month
 pub mod FewCables
+pub mod Inner

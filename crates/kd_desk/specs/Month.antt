@@ -85,12 +85,6 @@ pub record HasDayOf (model : Model) (month : List (Option Day)) (number : ℕ) :
   pub of_month : day_of month number ≡ Some s
   pub of_model : day_model s ≡ model
 
--- Given a machine file of `m` and a key sheet with the day `s`, the desk can write a card for this day, and then a
--- machine file of `n`.
-abbrev pub CanWriteDay : Parts → Day → Parts → Type 0
-CanWriteDay m s n = (file sheet : List ℕ) → machine_and_day file sheet (day_number s) ≡ Ok (m, s)
-    → (papers : CardAndFile) × AreWritten file sheet (day_number s) papers × (machine_of papers.file ≡ Ok n)
-
 -- Cards and machine files for the days `numbers` can be written, one day after another.
 abbrev pub CanWriteDays : Parts → List (Option Day) → List ℕ → Type 0
 CanWriteDays m month numbers = (file sheet : List ℕ) → machine_of file ≡ Ok m → sheet_of sheet ≡ Ok month

@@ -8,7 +8,7 @@ use Rattle.kd_sheet.specs.MachineFile.{machine_of}
 use Rattle.kd_state.specs.declared.machine.parts.Parts.{Parts}
 use Rattle.kd_state.specs.SheetDay.{Day}
 use Rattle.kd_desk.specs.CommandLine.{IsCommandLineOf, IsNoCommandLine, files_of, NamedCommand, NamedAction, NamedTask}
-use Rattle.kd_desk.specs.CommandLine.{with_command_stream, with_task_stream, command_stream, task_stream}
+use Rattle.kd_desk.specs.CommandLine.{with_command_stream, command_stream}
 use Rattle.kd_desk.specs.declared.command.Command.{Command}
 use Rattle.kd_desk.specs.declared.command.Action.{Action}
 use Rattle.kd_desk.specs.declared.command.Action.TheVariants as actions
@@ -17,11 +17,11 @@ use Rattle.kd_desk.specs.declared.command.Task.TheVariants as tasks
 use Rattle.kd_desk.specs.declared.command.Direction.TheVariants.{Send, Receive}
 use Rattle.kd_desk.specs.declared.fault.DeskFault.{DeskFault}
 use Rattle.kd_desk.specs.declared.fault.DeskFault.TheVariants.{File}
-use Rattle.kd_desk.specs.declared.files.fault.FileFault.{FileFault}
-use Rattle.kd_desk.specs.declared.files.fault.FileFault.TheVariants as files
+use Rattle.kd_host.specs.declared.file_fault.FileFault.{FileFault}
+use Rattle.kd_host.specs.declared.file_fault.FileFault.TheVariants as files
 use Rattle.kd_desk.specs.declared.stop.Stop.{Stop}
 use Rattle.kd_desk.specs.declared.stop.Stop.TheVariants.{Usage, Unread, ReadFailed, Refused}
-use Rattle.kd_desk.specs.Files.{AskedName, AreAskedFor, KnownFile, content_of, opening_of}
+use Rattle.kd_host.specs.Files.{AskedName, AreAskedFor, KnownFile, content_of, opening_of}
 use Rattle.kd_desk.specs.Stops.{stop_after}
 use Rattle.kd_tables.specs.Ports.{Port, FailureAgrees}
 use Rattle.kd_desk.specs.Ending.{EndsAs}
@@ -108,35 +108,26 @@ abbrev pub has_file_failed : Option KnownFile → KnownFile → Bool
 has_file_failed None left = false
 has_file_failed (Some file) left = left.failed
 
--- There is no opened file, or no read of the opened file has failed yet.
-abbrev pub HasNoFailedRead : {O : Type 0} → (O → Bool) → Option O → Type 0
-HasNoFailedRead failed file = IfSome file (λ f. failed f ≡ false)
-
 -- Memory ran out while the command line or a file was read.
 abbrev pub StopsForMemory : Result (Unit {0}) Stop → Type 0
 StopsForMemory answer = (answer ≡ Err (Refused (File NoMemory))) ⊎ (answer ≡ Err (Unread files.NoMemory))
 
 -- A command was carried out. `told` is the answer of the command's call, such as `run_card`, and `answer` is the
--- program's answer. `left` is what is known of the opened file after the call.
-pub record IsCommandDone (command : KnownCommand) (source sink : Port) (answer : Result (Unit {0}) Stop) : Type 0 where
+-- program's answer. `left` is what is known of the opened file after the call: only if `MayFail` holds, a read of the
+-- file may have failed.
+pub record IsCommandDone (MayFail : Type 0) (command : KnownCommand) (source sink : Port)
+    (answer : Result (Unit {0}) Stop) : Type 0 where
   pub left : KnownFile
+  pub may : IsTrue left.failed → MayFail
   pub told : Result (Unit {0}) DeskFault
   pub does : DoesCommand (with_command_stream (file_port left) command) source sink told
   pub answers : answer ≡ stop_after (has_file_failed (command_stream command) left) told
 
--- `IsCommandDone` for a task, with the machine of the file `machine` and day `number` of the key sheet `sheet`.
-pub record IsTaskDone (machine sheet : List ℕ) (number : ℕ) (task : KnownTask) (sink : Port)
-    (answer : Result (Unit {0}) Stop) : Type 0 where
-  pub left : KnownFile
-  pub told : Result (Unit {0}) DeskFault
-  pub does : IsAnswerOnDay machine sheet number (DoesTask (with_task_stream (file_port left) task) number sink told)
-      told
-  pub answers : answer ≡ stop_after (has_file_failed (task_stream task) left) told
-
 -- A command was carried out; or a file of the command couldn't be read or opened; or memory ran out.
-abbrev pub CarriesOut : Result KnownCommand FileFault → Port → Port → Result (Unit {0}) Stop → Type 0
-CarriesOut (Ok command) source sink answer = IsCommandDone command source sink answer ⊎ StopsForMemory answer
-CarriesOut (Err fault) source sink answer = (answer ≡ Err (Unread fault)) ⊎ StopsForMemory answer
+abbrev pub CarriesOut : Type 0 → Result KnownCommand FileFault → Port → Port → Result (Unit {0}) Stop → Type 0
+CarriesOut MayFail (Ok command) source sink answer =
+    IsCommandDone MayFail command source sink answer ⊎ StopsForMemory answer
+CarriesOut MayFail (Err fault) source sink answer = (answer ≡ Err (Unread fault)) ⊎ StopsForMemory answer
 
 -- ---- What holds of the program's answer: the command's answer, the files asked for, and the ports.
 
@@ -163,18 +154,18 @@ AsksFor names asked (Err (Refused fault)) = AreAskedFor names [] asked true ⊎ 
 AsksFor names asked answer = AreAskedFor names [] asked true
 
 -- If `known` says which bytes the files have, `CarriesOut` holds for these bytes.
-abbrev pub CarriesOutKnown : Option (List ℕ → Option (List ℕ)) → NamedCommand → Port → Port → Result (Unit {0}) Stop
-    → Type 0
-CarriesOutKnown known command source sink answer =
-    IfSome known (λ held. CarriesOut (known_command held command) source sink answer)
+abbrev pub CarriesOutKnown : Type 0 → Option (List ℕ → Option (List ℕ)) → NamedCommand → Port → Port
+    → Result (Unit {0}) Stop → Type 0
+CarriesOutKnown MayFail known command source sink answer =
+    IfSome known (λ held. CarriesOut MayFail (known_command held command) source sink answer)
 
--- What holds of the program's answer to a command line. `carried`: what is done, if the files' bytes are known. `asks`,
--- `none_asked`: which files are asked for. `usage`, `other_words`: when the answer is `Usage`. `untouched`, `failed`:
--- what happens to the ports.
-pub record IsRun (words : List (List ℕ)) (known : Option (List ℕ → Option (List ℕ))) (asked : List AskedName)
-    (source sink : Port) (Untouched : Type 0) (answer : Result (Unit {0}) Stop) : Type 0 where
+-- What holds of the program's answer to a command line. `carried`: what is done, if the files' bytes are known; only if
+-- `MayFail` holds, a read of an opened file may fail. `asks`, `none_asked`: which files are asked for. `usage`,
+-- `other_words`: when the answer is `Usage`. `untouched`, `failed`: what happens to the ports.
+pub record IsRun (words : List (List ℕ)) (known : Option (List ℕ → Option (List ℕ))) (MayFail : Type 0)
+    (asked : List AskedName) (source sink : Port) (Untouched : Type 0) (answer : Result (Unit {0}) Stop) : Type 0 where
   pub carried : (command : NamedCommand) → IsCommandLineOf words command
-      → CarriesOutKnown known command source sink answer
+      → CarriesOutKnown MayFail known command source sink answer
   pub asks : (command : NamedCommand) → IsCommandLineOf words command → AsksFor (files_of command) asked answer
   pub usage : answer ≡ Err Usage → IsNoCommandLine words
   pub other_words : IsNoCommandLine words → (answer ≡ Err Usage) ⊎ StopsForMemory answer

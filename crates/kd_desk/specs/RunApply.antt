@@ -8,9 +8,9 @@ use Rattle.kd_state.specs.declared.setting.why.IllegalAt.{IllegalAt}
 use Rattle.kd_sheet.specs.MachineFile.{machine_of}
 use Rattle.kd_sheet.specs.MachineText.{machine_text}
 use Rattle.kd_desk.specs.declared.fault.DeskFault.{DeskFault}
-use Rattle.kd_desk.specs.declared.fault.DeskFault.TheVariants.{Illegal}
+use Rattle.kd_desk.specs.declared.fault.DeskFault.TheVariants.{Device, Illegal}
 use Rattle.kd_tables.specs.Ports.{Port}
-use Rattle.kd_desk.specs.Ports.{WritesText}
+use Rattle.kd_host.specs.Writing.{WritesText}
 use Rattle.kd_desk.specs.Settings.{AreSettings, IsSettingsFault}
 
 -- The bytes aren't settings, and the answer is the fault of the bytes. Or the machine refuses a setting, and the answer
@@ -21,4 +21,5 @@ pub data Applies (m : Parts) (bytes : List ℕ) (sink : Port) (answer : Result (
   RefusedLine : (settings : List Setting) (fault : IllegalAt) → AreSettings bytes settings
       → IsFirstIllegal m settings fault.line fault.why → answer ≡ Err (Illegal fault) → Applies m bytes sink answer
   Carried : (settings : List Setting) (n : Parts) → AreSettings bytes settings → Leads m settings n
-      → machine_of (machine_text n) ≡ Ok n → WritesText (machine_text n) sink answer → Applies m bytes sink answer
+      → machine_of (machine_text n) ≡ Ok n → WritesText Device (machine_text n) sink answer
+      → Applies m bytes sink answer

@@ -15,10 +15,10 @@ use Rattle.kd_card.specs.Proving.{Proves, IsShortest}
 use Rattle.kd_plan.specs.Planned.{IsPlannedCard}
 use Rattle.kd_plan.specs.Spares.{SparesStayFree}
 use Rattle.kd_desk.specs.declared.fault.DeskFault.{DeskFault}
-use Rattle.kd_desk.specs.declared.fault.DeskFault.TheVariants.{OtherModel}
+use Rattle.kd_desk.specs.declared.fault.DeskFault.TheVariants.{Device, OtherModel}
 use Rattle.kd_desk.specs.Headline.{LeavesTheSheetsMachine, EquallySetDecipherOn}
 use Rattle.kd_tables.specs.Ports.{Port}
-use Rattle.kd_desk.specs.Ports.{WritesText}
+use Rattle.kd_host.specs.Writing.{WritesText}
 
 -- A shortest card for day `number` was written, or a prefix of its text if the device failed. The settings lead to the
 -- day's machine, and leave spare cables free. The prices, one for each kind, prove that no list is shorter.
@@ -35,7 +35,7 @@ pub record WritesCard (machine : Parts) (day : Day) (number : ℕ) (sink : Port)
   pub deciphers : EquallySetDecipherOn day
   pub text : List ℕ
   pub card : IsCard text number settings prices
-  pub written : WritesText text sink answer
+  pub written : WritesText Device text sink answer
 
 -- The machine and the day are of different models, or a card was written.
 pub data Prints (machine : Parts) (day : Day) (number : ℕ) (sink : Port) (answer : Result (Unit {0}) DeskFault) : Type 0 where

@@ -14,7 +14,7 @@ use Rattle.kd_prices.specs.Doubt.{IsDoubt}
 use Rattle.kd_desk.specs.declared.fault.DeskFault.{DeskFault}
 use Rattle.kd_desk.specs.declared.fault.DeskFault.TheVariants as faults
 use Rattle.kd_tables.specs.Ports.{Port}
-use Rattle.kd_desk.specs.Ports.{WritesText}
+use Rattle.kd_host.specs.Writing.{WritesText}
 
 -- the line for a shortest card, which has `number` settings
 abbrev pub verdict_text : ℕ → List ℕ
@@ -27,7 +27,7 @@ pub record IsVerdictWritten (m : Parts) (s : Day) (settings : List Setting) (pri
     : Type 0 where
   pub proves : Proves m s settings prices
   pub shortest : IsShortest m s settings
-  pub written : WritesText (verdict_text (length settings)) sink answer
+  pub written : WritesText faults.Device (verdict_text (length settings)) sink answer
 
 -- The checker answers with the first of these faults that applies: the fault of the card's bytes, `OtherDay`, and the
 -- first reason why the card doesn't prove itself. If none applies, it writes the line that says SHORTEST.

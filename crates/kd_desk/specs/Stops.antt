@@ -4,23 +4,10 @@ use Rattle.std.specs.Prelude.{Bool, true, Result, Ok, Err}
 use Rattle.std.specs.declared.io.ErrorKind.{ErrorKind}
 use Rattle.std.specs.declared.io.ErrorKind.TheVariants.{OutOfMemory}
 use Rattle.kd_desk.specs.declared.fault.DeskFault.{DeskFault}
-use Rattle.kd_desk.specs.declared.fault.DeskFault.TheVariants.{File, Device, ReadTooLong}
-use Rattle.kd_desk.specs.declared.files.fault.FileFault.{FileFault}
-use Rattle.kd_desk.specs.declared.files.fault.FileFault.TheVariants as files
+use Rattle.kd_desk.specs.declared.fault.DeskFault.TheVariants.{File, Device}
 use Rattle.kd_sheet.specs.declared.fault.SheetFault.TheVariants.{NoMemory}
 use Rattle.kd_desk.specs.declared.stop.Stop.{Stop}
 use Rattle.kd_desk.specs.declared.stop.Stop.TheVariants.{Usage, ReadFailed, Refused}
-
--- why a file can't be read, by the kind of the system's error: no memory, or a failed device
-abbrev pub fault_of_kind : ErrorKind → FileFault
-fault_of_kind OutOfMemory = files.NoMemory
-fault_of_kind _ = files.Device
-
--- the desk's fault for a file's fault
-abbrev pub fault_of_file : FileFault → DeskFault
-fault_of_file files.NoMemory = File NoMemory
-fault_of_file files.Device = Device
-fault_of_file files.ReadTooLong = ReadTooLong
 
 -- why the command line can't be read, by the kind of the error: no memory, or an argument that isn't UTF-8
 abbrev pub stop_of_kind : ErrorKind → Stop

@@ -1,9 +1,10 @@
 //! The desk's commands, and the parser of the desk's command line.
 ghost use Rattle.std.specs.Prelude.{◌≡◌, ◌≢◌, [], ◌∷◌, ℕ, List, false, codes, map, Err, IfSome, IfOk, IfErr};
 ghost use Rattle.clap.specs.Words.{App, app_of, found_of, kind_of, rows_of};
-ghost use Rattle.kd_desk.specs.CommandLine.{IsMadeOf, direction_name, direction_word, desk_grammar, with_commands};
-ghost use Rattle.kd_desk.specs.CommandLine.{unborrowed_command, unborrowed_action, HaveSheetAndDay, IsActionOf};
-ghost use Rattle.kd_desk.specs.CommandLine.{IsCommandOf, IsNoCommand, IsCommandLineOf, IsNoCommandLine};
+ghost use Rattle.kd_desk.specs.CommandLine.{direction_name, direction_word, desk_grammar};
+ghost use Rattle.kd_desk.specs.Inner.{IsMadeOf, IsNoCommand, unborrowed_action, with_commands};
+ghost use Rattle.kd_desk.specs.CommandLine.{unborrowed_command, HaveSheetAndDay, IsActionOf};
+ghost use Rattle.kd_desk.specs.CommandLine.{IsCommandOf, IsCommandLineOf, IsNoCommandLine};
 
 use crate::fault::DeskFault;
 use crate::stop::Stop;

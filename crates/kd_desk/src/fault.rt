@@ -2,7 +2,6 @@
 ghost use Rattle.std.specs.Prelude.{◌≡◌, Some};
 ghost use Rattle.kd_desk.specs.FaultText.{desk_fault_text};
 
-use crate::files::FileFault;
 use kd_card::CardFault;
 use kd_form::FormFault;
 use kd_plan::OtherModel;
@@ -159,21 +158,6 @@ impl From<FormFault> for DeskFault {
             FormFault::Device => DeskFault::Device,
             FormFault::ReadTooLong => DeskFault::ReadTooLong,
             fault => DeskFault::Message(fault),
-        }
-    }
-}
-
-impl From<FileFault> for DeskFault {
-    ghost use Rattle.std.specs.Prelude.{◌≡◌};
-    ghost use Rattle.kd_desk.specs.Stops.{fault_of_file};
-
-    ghost from_gives = { λ fault desk. desk ≡ fault_of_file fault };
-
-    fn from(fault: FileFault) -> DeskFault {
-        match fault {
-            FileFault::NoMemory => DeskFault::from(AllocError),
-            FileFault::Device => DeskFault::Device,
-            FileFault::ReadTooLong => DeskFault::ReadTooLong,
         }
     }
 }

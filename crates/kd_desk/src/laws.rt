@@ -5,7 +5,7 @@ ghost use Rattle.kd_state.specs.SheetDay.{day_model};
 ghost use Rattle.kd_desk.specs.Laws.{BytesGiveOneList, SettingsHaveNoFault, SettingsHaveOneFault, LeadsOrRefuses};
 ghost use Rattle.kd_desk.specs.Laws.{MonthsSetTheMachine, MonthsAreFewest};
 ghost use Rattle.kd_desk.specs.FewCables.{FewCablesServeAMonth};
-ghost use Rattle.kd_desk.specs.Month.{HasDayOf, CanWriteDay, CanWriteDays};
+ghost use Rattle.kd_desk.specs.{Inner.{CanWriteDay}, Month.{HasDayOf, CanWriteDays}};
 
 use crate::run_card::with_prices_by_kind;
 use kd_card::write_card;

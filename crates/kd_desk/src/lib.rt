@@ -5,11 +5,9 @@
 
 mod command;
 mod fault;
-mod files;
 pub mod laws;
 mod list_or_card;
 mod machine_and_day;
-mod ports;
 mod program;
 pub mod run_apply;
 pub mod run_card;
@@ -21,7 +19,9 @@ mod stop;
 
 pub use command::{Action, Command, Direction, NamedAction, NamedCommand, Task, parse_words};
 pub use fault::DeskFault;
-pub use files::{AskedNames, Content, FileFault, Files, HostFile, HostFiles, read_whole};
-pub use ports::{ReaderSource, WriterSink};
-pub use program::run_desk;
+pub use kd_host::{
+    AskedNames, Content, FileFault, Files, HostFile, HostFiles, ReaderSource, WriterSink,
+    read_whole,
+};
+pub use program::{run_desk, run_words};
 pub use stop::{Stop, end_program};

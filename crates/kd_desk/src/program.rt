@@ -1,20 +1,21 @@
 //! The program: reads the command line and the files, and carries the command out.
 ghost use Rattle.std.specs.Prelude.{◌≡◌, ◌≤◌, ◌⊎◌, ◌||◌, [], false, map, length, Err, IfSome, IfOk, IsTrue, is_ok};
-ghost use Rattle.kd_desk.specs.CommandLine.{unborrowed_command, unborrowed_action, unborrowed_task, files_of};
-ghost use Rattle.kd_desk.specs.CommandLine.{action_files, task_files, with_command_stream, with_action_stream};
-ghost use Rattle.kd_desk.specs.CommandLine.{with_task_stream, command_stream, action_stream, task_stream};
+ghost use Rattle.kd_desk.specs.CommandLine.{unborrowed_command, files_of};
+ghost use Rattle.kd_desk.specs.CommandLine.{action_files, task_files, with_command_stream};
+ghost use Rattle.kd_desk.specs.CommandLine.{command_stream, action_stream, task_stream};
 ghost use Rattle.kd_desk.specs.CommandLine.{IsCommandLineOf, IsNoCommandLine};
-ghost use Rattle.kd_desk.specs.Program.{known_command, known_action, known_task, AsksFor, CarriesOut, CarriesOutKnown};
-ghost use Rattle.kd_desk.specs.Program.{DoesTask, IsCommandDone, HasEnded, IsRun, IsTaskDone, StopsForMemory};
-ghost use Rattle.kd_desk.specs.Program.{HasNoFailedRead, is_stopped_before_message, is_stopped_by_port};
-ghost use Rattle.kd_desk.specs.Files.{AreAskedFor, AgreesOrNoMemory, IsReadAnswer, known_file};
+ghost use Rattle.kd_desk.specs.Program.{known_command, known_action, known_task, AsksFor, CarriesOutKnown};
+ghost use Rattle.kd_desk.specs.Program.{DoesTask, IsCommandDone, HasEnded, IsRun, StopsForMemory};
+ghost use Rattle.kd_desk.specs.Program.{is_stopped_before_message, is_stopped_by_port};
+ghost use Rattle.kd_desk.specs.Inner.{unborrowed_action, unborrowed_task, with_action_stream, with_task_stream};
+ghost use Rattle.kd_desk.specs.Inner.{HasNoFailedRead, IsTaskDone};
+ghost use Rattle.kd_host.specs.Files.{AreAskedFor, CanFail, IsReadAnswer, known_file};
 ghost use Rattle.kd_desk.specs.OnDay.{IsAnswerOnDay};
 ghost use Rattle.kd_tables.specs.Ports.{FailureAgrees, port};
 ghost use Rattle.kd_desk.specs.CallAnswers.{is_device, is_refused_before_message};
 
 use crate::command::{Action, Command, Direction, NamedAction, NamedCommand, Task, parse_words};
 use crate::fault::DeskFault;
-use crate::files::{Content, FileFault, Files};
 use crate::run_apply::run_apply;
 use crate::run_card::run_card;
 use crate::run_check::run_check;
@@ -22,6 +23,7 @@ use crate::run_receive::run_receive;
 use crate::run_send::run_send;
 use crate::run_type::run_type;
 use crate::stop::{Stop, end_program};
+use kd_host::{Content, FileFault, Files};
 use kd_tables::{Sink, Source};
 use std::alloc::Global;
 use std::convert::AsStr;
@@ -42,17 +44,18 @@ pub fn run_desk<'n, S: AsStr, F: Files<'n>, R: Source, W: Sink, E: Sink>(
     errors: &mut E,
 ) -> u8
     requires { F.asked files.old ≡ [] }
-    ensures { HasEnded (IsRun (map S.text words.entry.now) (F.known files.old) (F.asked files.new)
+    ensures { HasEnded (IsRun (map S.text words.entry.now) (F.known files.old)
+        (CanFail F.Opened.has_failed) (F.asked files.new)
         (port R.remaining R.has_failed source.old source.new)
         (port W.taken W.has_failed sink.old sink.new)
         ((source.new ≡ source.old) × (sink.new ≡ sink.old)))
         (port E.taken E.has_failed errors.old errors.new) result }
 {
-    end_program(carry_words(alloc, words, files, source, sink), errors)
+    end_program(run_words(alloc, words, files, source, sink), errors)
 }
 
-/// Parses the command line, reads or opens the files that it names, and carries out the command.
-fn carry_words<'n, S: AsStr, F: Files<'n>, R: Source, W: Sink>(
+/// Carries out the command line `words` as `run_desk` does, but returns why the program stops, and writes no line.
+pub fn run_words<'n, S: AsStr, F: Files<'n>, R: Source, W: Sink>(
     alloc: Global,
     words: &'n [S],
     files: &mut F,
@@ -61,7 +64,7 @@ fn carry_words<'n, S: AsStr, F: Files<'n>, R: Source, W: Sink>(
 ) -> Result<(), Stop>
     requires { F.asked files.old ≡ [] }
     ensures carried { (command : _) → IsCommandLineOf (map S.text words.entry.now) command
-        → CarriesOutKnown (F.known files.old) command
+        → CarriesOutKnown (CanFail F.Opened.has_failed) (F.known files.old) command
         (port R.remaining R.has_failed source.old source.new)
         (port W.taken W.has_failed sink.old sink.new) result }
     ensures asked { (command : _) → IsCommandLineOf (map S.text words.entry.now) command
@@ -166,7 +169,8 @@ fn carry_out<O: Source + Drop, R: Source, W: Sink>(
     sink: &mut W,
 ) -> Result<(), Stop>
     requires { HasNoFailedRead O.has_failed (command_stream command) }
-    ensures does { IsCommandDone (with_command_stream (known_file O.remaining O.has_failed) command)
+    ensures does { IsCommandDone (CanFail O.has_failed)
+        (with_command_stream (known_file O.remaining O.has_failed) command)
         (port R.remaining R.has_failed source.old source.new)
         (port W.taken W.has_failed sink.old sink.new) result }
     ensures untouched { IsTrue (is_stopped_before_message result)
@@ -195,7 +199,7 @@ fn carry_task<O: Source + Drop, W: Sink>(
     sink: &mut W,
 ) -> Result<(), Stop>
     requires { HasNoFailedRead O.has_failed (task_stream task) }
-    ensures does { IsTaskDone machine.now sheet.now number
+    ensures does { IsTaskDone (CanFail O.has_failed) machine.now sheet.now number
         (with_task_stream (known_file O.remaining O.has_failed) task)
         (port W.taken W.has_failed sink.old sink.new) result }
     ensures untouched { IsTrue (is_stopped_before_message result) → sink.new ≡ sink.old }

@@ -1,18 +1,14 @@
 //! `Stop`: why the program stops without success, with its exit status and its line on standard error.
 ghost use Rattle.std.specs.Prelude.{◌≡◌, false, Err};
 ghost use Rattle.kd_tables.specs.Ports.{port};
-ghost use Rattle.kd_desk.specs.Ending.{refused_line, status_of, stop_line, EndsAs};
+ghost use Rattle.kd_desk.specs.Ending.{status_of, stop_line, EndsAs};
 ghost use Rattle.kd_desk.specs.Stops.{stop_after};
 
 use crate::fault::DeskFault;
-use crate::files::FileFault;
-use arrayvec::ArrayString;
-use kd_tables::{Sink, put_all};
+use kd_host::{FileFault, Line, end_with_line, refused_line};
+use kd_tables::Sink;
 use std::alloc::AllocError;
 use std::io;
-
-/// A line on standard error.
-type Line = ArrayString<80>;
 
 /// Why the program stops without success.
 #[derive(Clone, Copy, Debug, PartialEq, Eq)]
@@ -60,9 +56,9 @@ impl Stop {
                 line.push_str("usage: desk COMMAND WORDS\n");
                 line
             }
-            Stop::Unread(fault) => refused_line(DeskFault::from(*fault)),
-            Stop::ReadFailed => refused_line(DeskFault::Device),
-            Stop::Refused(fault) => refused_line(*fault),
+            Stop::Unread(fault) => refused_line(fault.text()),
+            Stop::ReadFailed => refused_line(DeskFault::Device.text()),
+            Stop::Refused(fault) => refused_line(fault.text()),
         }
     }
 
@@ -77,17 +73,6 @@ impl Stop {
     }
 }
 
-/// The line on standard error for the fault `fault`.
-fn refused_line(fault: DeskFault) -> Line
-    ensures { result.bytes ≡ refused_line fault }
-{
-    let mut line = Line::new();
-    line.push_str("refused ");
-    line.push_str(fault.text().as_str());
-    line.push_str("\n");
-    line
-}
-
 /// Writes to `errors` the line for the `Stop` in `answer`, if there is one; returns the exit status.
 ///
 /// The exit status is the same even if the line can't be written.
@@ -97,8 +82,7 @@ pub fn end_program<E: Sink>(answer: Result<(), Stop>, errors: &mut E) -> u8
     let Err(stop) = answer else {
         return 0;
     };
-    let _ = put_all(errors, stop.line().as_str().as_bytes());
-    stop.status()
+    end_with_line(stop.line().as_str(), stop.status(), errors)
 }
 
 impl From<FileFault> for Stop {

@@ -12,8 +12,6 @@ mod files;
 #[cfg(test)]
 mod large;
 #[cfg(test)]
-mod memory_files;
-#[cfg(test)]
 mod ports;
 #[cfg(test)]
 mod program;

@@ -1,5 +1,5 @@
 //! Tests of the sources that read from readers, and of the sinks that write to writers.
-use kd_desk::{ReaderSource, WriterSink};
+use kd_desk::{FileFault, ReaderSource, WriterSink};
 use kd_tables::{Failed, Sink, Source};
 use std::io::{self, ErrorKind, Read, Write};
 use std::process::Abort;
@@ -93,14 +93,14 @@ fn an_interrupted_read_fails(rt: HostRuntime) {
     let reader = Interrupted { was: false };
     let mut source = ReaderSource::new(reader);
     are_got(&rt, &mut source, &GETS_OF_INTERRUPTED);
-    assert!(rt; !source.lacks_memory());
+    assert_eq!(rt; source.fault(), Some(FileFault::Device));
 }
 
 #[test]
 fn a_read_that_finds_no_memory_says_so(rt: HostRuntime) {
     let mut source = ReaderSource::new(OutOfMemory);
     assert_eq!(rt; source.get(&mut [0; 2]), Err(Failed));
-    assert!(rt; source.lacks_memory());
+    assert_eq!(rt; source.fault(), Some(FileFault::NoMemory));
 }
 
 /// Puts into a writer with room for 1,103 bytes: the size, the answer, and whether a put has failed.

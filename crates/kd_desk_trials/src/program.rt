@@ -1,9 +1,9 @@
 //! Tests of the whole program, on files in memory.
 ghost use Rattle.std.specs.Prelude.{◌≡◌, []};
 
-use crate::memory_files::MemoryFiles;
 use crate::samples::{DAYS, FORM, MACHINE, ORDER, TEXT};
 use kd_desk::{Content, DeskFault, FileFault, Files, Stop, end_program, run_desk};
+use kd_host::MemoryFiles;
 use kd_tables::{MemorySink, MemorySource, Sink};
 use kd_trials::texts::{EMPTY_KINDS, M1, M1_WRITTEN, M209, NO_SETTINGS, SHEET, UNREADY};
 use std::alloc::{AllocError, Global};

@@ -3,7 +3,7 @@
 -- Source: TOML 1.1, toml.io.
 -- Code: the library `toml` parses the document, and `?` returns the first fault.
 -- Test: kd_trials/src/sheet/files.rt, kd_trials/src/sheet/faults.rt
-use Rattle.std.specs.Prelude.{◌≡◌, ℕ, Bool, List, [], ◌∷◌, length, Option, Result, Ok, Err, ok_or, option_map, ⊤}
+use Rattle.std.specs.Prelude.{ℕ, Bool, List, [], ◌∷◌, length, Option, Result, Ok, Err, ok_or, option_map}
 use Rattle.std.specs.Prelude.{if◌then◌else◌}
 use Rattle.std.specs.Option.{option_and_then}
 use Rattle.std.specs.Result.{result_map_both}
@@ -14,7 +14,7 @@ pub use Rattle.kd_state.specs.FirstFault.{◌>>=◌, ◌>>◌, demand}
 use Rattle.kd_sheet.specs.Key.{key_name}
 use Rattle.kd_sheet.specs.declared.key.Key.{Key}
 use Rattle.kd_sheet.specs.declared.fault.SheetFault.{SheetFault}
-use Rattle.kd_sheet.specs.declared.fault.SheetFault.TheVariants.{NotToml, Missing, BadValue, NoMemory}
+use Rattle.kd_sheet.specs.declared.fault.SheetFault.TheVariants.{NotToml, Missing, BadValue}
 
 -- the values of the items, in order, or the first fault; `parse` reads an item, given the values of the items before it
 abbrev pub read_items : {A : Type 0} → (List A → Data → Result A SheetFault) → List Data → Result (List A) SheetFault
@@ -23,11 +23,6 @@ read_items parse (first ∷ rest) = do
   value ← parse [] first
   values ← read_items (λ earlier. parse (value ∷ earlier)) rest
   Ok (value ∷ values)
-
--- `answer` equals `meant`, or `answer` is the fault `NoMemory`.
-abbrev pub AgreesOrNoMemory : {A : Type 0} → Result A SheetFault → Result A SheetFault → Type 0
-AgreesOrNoMemory (Err NoMemory) meant = ⊤
-AgreesOrNoMemory answer meant = answer ≡ meant
 
 -- `answer` with `view` applied to its value; a fault stays as it is
 abbrev pub result_map : {A B : Type 0} → (A → B) → Result A SheetFault → Result B SheetFault

@@ -34,9 +34,12 @@ pins_of_text ring text =
 abbrev pub pins_for : List (List Bool) → Data → Result (List Bool) SheetFault
 pins_for earlier item = ok_or (from_text (pins_of_text (ring_of (length earlier + 1))) item) (BadValue keys.Pins)
 
+-- the pins of the six wheels, which the array at the key `pins` describes
+unfoldable pub pins_in : Members → Result PinSet SheetFault
+pins_in table = value_at keys.Pins table >>= read_array keys.Pins (nat_eq 6) pins_for >>= (λ pins. Ok (pin_set pins))
+
+-- ---- Reading items one by one. No public contract cites this definition.
+
 -- the pins of the wheels, which `items` describe one by one from wheel 1 on
 abbrev pub pins_of_items : List Data → Result PinSet SheetFault
 pins_of_items items = read_items pins_for items >>= (λ pins. Ok (pin_set pins))
-
-unfoldable pub pins_in : Members → Result PinSet SheetFault
-pins_in table = value_at keys.Pins table >>= read_array keys.Pins (nat_eq 6) pins_for >>= (λ pins. Ok (pin_set pins))

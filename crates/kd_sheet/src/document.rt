@@ -1,7 +1,8 @@
 //! Parses a TOML document, and finds values, texts and arrays in the document's table.
+ghost use Rattle.kd_tables.specs.Answers.{AgreesOrNoMemory};
 ghost use Rattle.std.specs.Prelude.{◌≡◌, map, ok_or, option_map};
 ghost use Rattle.toml.specs.{Data.{get_member, as_str}, View.{view, table_view}};
-ghost use Rattle.kd_sheet.specs.Document.{AgreesOrNoMemory, result_map, document_of, value_at, read_at, as_items};
+ghost use Rattle.kd_sheet.specs.Document.{result_map, document_of, value_at, read_at, as_items};
 ghost use Rattle.kd_sheet.specs.Key.{key_name};
 ghost use Rattle.kd_sheet.specs.declared.fault.SheetFault.TheVariants as faults;
 
@@ -13,7 +14,7 @@ use toml::{Table, Value};
 /// Parses `bytes` as a TOML document.
 #[tactic(auto, using(crate::proofs::ReadBack::Described::KeyValues::Steps::document_parsed, crate::proofs::ReadBack::Described::KeyValues::Steps::document_refused))]
 pub fn parse_table(alloc: Global, bytes: &[u8]) -> Result<Table, SheetFault>
-    ensures { AgreesOrNoMemory (result_map table_view result) (document_of bytes.now) }
+    ensures { AgreesOrNoMemory SheetFault.NoMemory (document_of bytes.now) (result_map table_view result) }
 {
     match toml::table_from_slice(alloc, bytes) {
         Ok(table) => Ok(table),

@@ -1,8 +1,9 @@
 //! Reads machine files: their versions, models and parts.
+ghost use Rattle.kd_tables.specs.Answers.{AgreesOrNoMemory};
 ghost use Rattle.std.specs.Prelude.{◌≡◌, ◌<◌, length};
 ghost use Rattle.toml.specs.View.{table_view};
 ghost use Rattle.kd_tables.specs.Tables.{box_of, slots_of};
-ghost use Rattle.kd_sheet.specs.{Document.{AgreesOrNoMemory}, Letters.{letters_at}};
+ghost use Rattle.kd_sheet.specs.Letters.{letters_at};
 ghost use Rattle.kd_sheet.specs.MachineFile.{rotor_parts_in, pin_parts_in, parts_in, machine_of};
 
 use crate::document::{parse_table, value_at};
@@ -79,7 +80,7 @@ fn parts_in(table: &Table, model: Model) -> Result<Machine, SheetFault>
 ///
 /// `NoMemory` may replace any other result: the contract doesn't say when memory runs out.
 pub fn read_machine(alloc: Global, bytes: &[u8]) -> Result<Machine, SheetFault>
-    ensures { AgreesOrNoMemory result (machine_of bytes.now) }
+    ensures { AgreesOrNoMemory SheetFault.NoMemory (machine_of bytes.now) result }
 {
     let table = parse_table(alloc, bytes)?;
     let version = number_at(&table, Key::Version, VERSION)?;

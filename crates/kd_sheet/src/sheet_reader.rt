@@ -1,8 +1,9 @@
 //! Reads a key sheet: a TOML document with an array of days.
+ghost use Rattle.kd_tables.specs.Answers.{AgreesOrNoMemory};
 ghost use Rattle.std.specs.Prelude.{◌≡◌, map, List};
 ghost use Rattle.toml.specs.View.{view};
 ghost use Rattle.kd_state.specs.SheetDay.{Day};
-ghost use Rattle.kd_sheet.specs.{Document.{AgreesOrNoMemory, read_items, result_map}, Sheet.{month_of}};
+ghost use Rattle.kd_sheet.specs.{Document.{read_items, result_map}, Sheet.{month_of}};
 ghost use Rattle.kd_sheet.specs.SheetFile.{day_for, sheet_of};
 
 mod day_entry;
@@ -47,7 +48,7 @@ fn sheet_of_items(items: &[Value]) -> Result<Sheet, SheetFault>
 ///
 /// `NoMemory` may replace any other result, as in `read_machine`.
 pub fn read_sheet(alloc: Global, bytes: &[u8]) -> Result<Sheet, SheetFault>
-    ensures { AgreesOrNoMemory result (sheet_of bytes.now) }
+    ensures { AgreesOrNoMemory SheetFault.NoMemory (sheet_of bytes.now) result }
 {
     let table = parse_table(alloc, bytes)?;
     sheet_of_items(items_at(&table, Key::Day)?)

@@ -9,3 +9,4 @@ pub mod Ports
 pub mod Laws
 pub mod Writing
 pub mod Refusals
+pub mod Answers

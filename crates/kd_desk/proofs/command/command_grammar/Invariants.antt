@@ -1,4 +1,4 @@
-use Rattle.kd_desk.{proofs.Prelude.take, specs.CommandLine.IsMadeOf}
+use Rattle.kd_desk.{proofs.Prelude.take, specs.Inner.IsMadeOf}
 use Rattle.kd_desk.proofs.command.command_grammar.Given as goal
 
 abbrev pub invariant-loop-word_name : goal.invariant-loop-word_name

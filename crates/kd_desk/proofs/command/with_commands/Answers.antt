@@ -1,5 +1,5 @@
 use Rattle.kd_desk.{proofs.Grammars.one_command_more, proofs.Prelude.{Bor, List, [], ℕ, ap, sym, ◌∙◌}}
-use Rattle.kd_desk.specs.CommandLine.{with_commands}
+use Rattle.kd_desk.specs.Inner.{with_commands}
 use Rattle.std.proofs.lemmas.{List.Sums.fold_more, List.take_all}
 use Rattle.kd_desk.proofs.command.with_commands.Goals as goal
 

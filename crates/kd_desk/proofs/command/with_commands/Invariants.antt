@@ -1,4 +1,4 @@
-use Rattle.kd_desk.{proofs.Prelude.{◌≡◌, app_of, take}, specs.CommandLine.with_commands}
+use Rattle.kd_desk.{proofs.Prelude.{◌≡◌, app_of, take}, specs.Inner.with_commands}
 use Rattle.kd_desk.proofs.command.with_commands.Given as goal
 
 abbrev pub invariant-loop-name : goal.invariant-loop-name

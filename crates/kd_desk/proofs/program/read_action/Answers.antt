@@ -1,4 +1,4 @@
-use Rattle.kd_desk.proofs.Runs.{all_on, misses_first, misses_on, misses_so}
+use Rattle.kd_host.proofs.FileNames.{all_on, misses_first, misses_on, misses_so}
 use Rattle.kd_desk.proofs.program.read_action.Goals as goal
 
 pub returns-in_err-list-in-Apply-clause-asked : goal.returns-in_err-list-in-Apply-clause-asked

@@ -1,4 +1,4 @@
-use Rattle.kd_desk.proofs.Runs.{misses_first, misses_so}
+use Rattle.kd_host.proofs.FileNames.{misses_first, misses_so}
 use Rattle.kd_desk.proofs.program.read_task.Goals as goal
 
 pub returns-in_err-card-in-Check-clause-asked : goal.returns-in_err-card-in-Check-clause-asked

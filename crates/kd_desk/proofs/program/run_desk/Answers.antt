@@ -2,9 +2,9 @@ use Rattle.kd_desk.proofs.program.run_desk.Goals as goal
 
 pub returns : goal.returns
 returns g c =
-    let run = c.carry_words.ensures in
+    let run = c.run_words.ensures in
     record {
-      answer = c.carry_words.result;
+      answer = c.run_words.result;
       is_so = record {
         carried = run.carried;
         asks = run.asked;

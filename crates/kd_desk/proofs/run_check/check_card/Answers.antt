@@ -1,5 +1,6 @@
 use Rattle.kd_desk.proofs.Prelude.{refl, rules, NoCard, ForOtherDay, Doubtful, ◌≡◌}
-use Rattle.kd_desk.proofs.{Checking.IsVerdictWritten-proved, Failing.err_is, Failing.in_part, Failing.in_whole}
+use Rattle.kd_desk.proofs.{Checking.IsVerdictWritten-proved}
+use Rattle.kd_host.proofs.Failing.{err_is, in_part, in_whole}
 use Rattle.kd_desk.proofs.run_check.check_card.Goals as goal
 
 pub returns-in_err-dated-clause-checks : goal.returns-in_err-dated-clause-checks
@@ -20,10 +21,10 @@ pub returns-in_err-write_verdict-clause-checks : goal.returns-in_err-write_verdi
 returns-in_err-write_verdict-clause-checks g c =
     IsVerdictWritten-proved _ _ _ _ _ _ (search rules) (search rules)
     _ _ _ c.len.result c.in_ok-dated.ensures (search rules) (c.in_ok-check.ensures.proves.0 refl) (search rules)
-    (in_part _ _ _ c.in_err-write_verdict.ensures.text.front c.from_residual-in_err-write_verdict.ensures.1)
+    (in_part _ _ _ _ c.in_err-write_verdict.ensures.text.front c.from_residual-in_err-write_verdict.ensures.1)
 
 pub returns-clause-checks : goal.returns-clause-checks
 returns-clause-checks g c =
     IsVerdictWritten-proved _ _ _ _ _ _ (search rules) (search rules)
     _ _ _ c.len.result c.in_ok-dated.ensures (search rules) (c.in_ok-check.ensures.proves.0 refl) (search rules)
-    (in_whole _ _ c.in_ok-write_verdict.ensures.text.whole)
+    (in_whole _ _ _ c.in_ok-write_verdict.ensures.text.whole)

@@ -1,6 +1,8 @@
-use Rattle.kd_desk.proofs.{Failing.err-holds, Failing.has_failed-same, Prelude.IsReadWhole, Prelude.port}
+use Rattle.kd_host.proofs.Failing.{err-holds, has_failed-same}
+use Rattle.{kd_host.specs.Files.IsReadWhole, kd_tables.specs.Ports.port}
+use Rattle.std.proofs.Common.{arith, length-append, length-take, ℕ}
 use Rattle.std.proofs.KnownBytes.{Consumes-trans}
-use Rattle.kd_desk.proofs.files.content.read_whole.Goals as goal
+use Rattle.kd_host.proofs.content.read_whole.Goals as goal
 
 pub returns-in_err-extend_from_slice-in-Ok : goal.returns-in_err-extend_from_slice-in-Ok
 returns-in_err-extend_from_slice-in-Ok g c =
@@ -8,5 +10,5 @@ returns-in_err-extend_from_slice-in-Ok g c =
     err-holds c.from_residual.result _ (λ answer. IsReadWhole source answer) c.from_residual.ensures.1 (record {
       read = _;
       given = Consumes-trans _ _ _ _ _ c.loop-buffer.invariant.given c.in-Ok.ensures.bytes.given;
-      is = cc (has_failed-same _ _ c.in-Ok.ensures.failed);
+      is = (simp length-append (omega (arith, length-take {A = ℕ}, c.in-Ok.ensures.bytes.within)), cc (has_failed-same _ _ c.in-Ok.ensures.failed));
     })

@@ -1,4 +1,8 @@
 //! `FileFault`: why a file can't be read or opened.
+ghost use Rattle.std.specs.Prelude.{◌≡◌};
+ghost use Rattle.kd_host.specs.FileFault.{file_fault_text};
+
+use kd_tables::{Refusal, Text};
 use std::alloc::AllocError;
 use std::io;
 
@@ -13,9 +17,22 @@ pub enum FileFault {
     ReadTooLong,
 }
 
+impl FileFault {
+    /// The refusal's number and name.
+    pub fn text(&self) -> Text
+        ensures { result.bytes ≡ file_fault_text self.now }
+    {
+        match self {
+            FileFault::NoMemory => Refusal::NoMemory.text(),
+            FileFault::Device => Refusal::Device.text(),
+            FileFault::ReadTooLong => Refusal::ReadTooLong.text(),
+        }
+    }
+}
+
 impl From<AllocError> for FileFault {
     ghost use Rattle.std.specs.Prelude.{◌≡◌};
-    ghost use Rattle.kd_desk.specs.declared.files.fault.FileFault.TheVariants as files;
+    ghost use Rattle.kd_host.specs.declared.file_fault.FileFault.TheVariants as files;
 
     ghost from_gives = { λ _ fault. fault ≡ files.NoMemory };
 
@@ -27,7 +44,7 @@ impl From<AllocError> for FileFault {
 impl From<io::Error> for FileFault {
     ghost use Rattle.std.specs.Prelude.{◌≡◌};
     ghost use Rattle.std.specs.IoError.{error_kind};
-    ghost use Rattle.kd_desk.specs.Stops.{fault_of_kind};
+    ghost use Rattle.kd_host.specs.FileFault.{fault_of_kind};
 
     ghost from_gives = { λ error fault. fault ≡ fault_of_kind (error_kind error) };
 

@@ -1,5 +1,6 @@
-use Rattle.kd_desk.proofs.Prelude.{◌≡◌, ◌+◌, ◌-◌, ◌≤◌, length, Consumes, read_limit}
-use Rattle.kd_desk.proofs.files.content.read_whole.Given as goal
+use Rattle.std.proofs.Common.{◌≡◌, ◌+◌, ◌-◌, ◌≤◌, length}
+use Rattle.{std.specs.Io.KnownBytes.Consumes, kd_tables.specs.Ports.read_limit}
+use Rattle.kd_host.proofs.content.read_whole.Given as goal
 
 -- the bytes kept are what was read so far, and no get failed
 abbrev pub invariant-loop-buffer : goal.invariant-loop-buffer

@@ -14,7 +14,7 @@ pub struct AskedNames<'n> {
 
 impl<'n> Model for AskedNames<'n> {
     ghost use Rattle.std.specs.Prelude.{List, map};
-    ghost use Rattle.kd_desk.specs.Files.{AskedName};
+    ghost use Rattle.kd_host.specs.Files.{AskedName};
 
     ghost Value = { List AskedName };
 

@@ -1,9 +1,11 @@
 //! The files of the host system.
-ghost use Rattle.std.specs.Prelude.{◌≡◌, [], false, IfOk};
+ghost use Rattle.std.specs.Prelude.{◌≡◌, [], None, IfOk, is_some};
 
-use super::asked_names::AskedNames;
-use super::{Content, FileFault, Files, read_whole};
-use crate::ports::ReaderSource;
+use crate::asked_names::AskedNames;
+use crate::content::{Content, read_whole};
+use crate::file_fault::FileFault;
+use crate::files::Files;
+use crate::reader_source::ReaderSource;
 use kd_tables::{Failed, Source};
 use std::alloc::Global;
 use std::fs::File;
@@ -49,14 +51,14 @@ impl<'n> Files<'n> for HostFiles<'n> {
 fn read_file(rt: &HostRuntime, alloc: Global, name: &str) -> Result<Content, FileFault> {
     let mut file = open_file(rt, name)?;
     match read_whole(alloc, &mut file) {
-        Err(FileFault::Device) if file.source.lacks_memory() => Err(FileFault::NoMemory),
+        Err(FileFault::Device) => Err(file.source.fault().unwrap_or(FileFault::Device)),
         content => content,
     }
 }
 
 /// Opens the file `name`.
 fn open_file(rt: &HostRuntime, name: &str) -> Result<HostFile, FileFault>
-    ensures { IfOk result (λ file. file.source.failed ≡ false) }
+    ensures { IfOk result (λ file. file.source.fault ≡ None) }
 {
     let file = File::open(rt, name)?;
     Ok(HostFile::new(file))
@@ -71,7 +73,7 @@ pub struct HostFile {
 impl HostFile {
     /// Wraps an opened `file`.
     fn new(file: File) -> Self
-        ensures { result.source.failed ≡ false }
+        ensures { result.source.fault ≡ None }
     {
         HostFile {
             source: ReaderSource::new(file),
@@ -80,7 +82,7 @@ impl HostFile {
 }
 
 impl Source for HostFile {
-    ghost has_failed = { λ s. s.source.failed };
+    ghost has_failed = { λ s. is_some s.source.fault };
 
     fn get(&mut self, buffer: &mut [u8]) -> Result<usize, Failed> {
         self.source.get(buffer)

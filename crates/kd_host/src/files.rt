@@ -1,16 +1,10 @@
 //! `Files`: a trait for reading and opening the files that the command line names.
 ghost use Rattle.std.specs.Prelude.{◌≡◌, ◌<◌, [], ◌∷◌, ◌++◌, ℕ, false, List, Option, None, IfSome, IfOk, is_ok, length};
-ghost use Rattle.kd_desk.specs.Files.{content_of, opening_of, known_file, AskedName, AgreesOrNoMemory, IsOpenAnswer};
+ghost use Rattle.kd_host.specs.Files.{content_of, opening_of, known_file, AskedName, IsOpenAnswer};
+ghost use Rattle.kd_tables.specs.Answers.{AgreesOrNoMemory};
 
-mod asked_names;
-mod content;
-mod fault;
-mod host;
-
-pub use asked_names::AskedNames;
-pub use content::{Content, read_whole};
-pub use fault::FileFault;
-pub use host::{HostFile, HostFiles};
+use crate::content::Content;
+use crate::file_fault::FileFault;
 use kd_tables::Source;
 use std::alloc::Global;
 
@@ -34,7 +28,7 @@ pub trait Files<'n> {
     fn read_content(&mut self, alloc: Global, name: &'n str) -> Result<Content, FileFault>
         requires { length (asked self.old) < 3 }
         ensures content { IfSome (known self.old)
-            (λ held. AgreesOrNoMemory (content_of (held name.now)) result) }
+            (λ held. AgreesOrNoMemory FileFault.NoMemory (content_of (held name.now)) result) }
         ensures asked { asked self.new ≡ asked self.old ++ (name.now, is_ok result) ∷ [] }
         ensures same { known self.new ≡ known self.old };
 

@@ -1,9 +1,14 @@
-//! Files in memory, for tests of the program.
-ghost use Rattle.std.specs.Prelude.{◌≡◌, [], option_map};
-ghost use Rattle.kd_desk.specs.Files.{content_of, bytes_in_files, AgreesOrNoMemory};
+//! Files in memory, for tests of programs.
+ghost use Rattle.std.specs.Prelude.{◌≡◌, ◌||◌, [], option_map, is_err};
+ghost use Rattle.kd_host.specs.Files.{content_of, bytes_in_files};
+ghost use Rattle.kd_tables.specs.Answers.{AgreesOrNoMemory};
+ghost use Rattle.kd_tables.specs.Ports.{Gets};
 
-use kd_desk::{AskedNames, Content, FileFault, Files};
-use kd_tables::MemorySource;
+use crate::asked_names::AskedNames;
+use crate::content::Content;
+use crate::file_fault::FileFault;
+use crate::files::Files;
+use kd_tables::{Failed, Source};
 use std::alloc::Global;
 
 /// Files in memory: the name and the bytes of each.
@@ -35,7 +40,8 @@ impl<'n> MemoryFiles<'n> {
 
     /// The content of the first file with this name.
     fn content(&self, alloc: Global, name: &str) -> Result<Content, FileFault>
-        ensures { AgreesOrNoMemory (content_of (bytes_in_files self.now.files.now name.now)) result }
+        ensures { AgreesOrNoMemory FileFault.NoMemory
+            (content_of (bytes_in_files self.now.files.now name.now)) result }
     {
         let bytes = self.find(name).ok_or(FileFault::Device)?;
         Content::new(Vec::from_slice(alloc, bytes)?)
@@ -44,9 +50,9 @@ impl<'n> MemoryFiles<'n> {
 
 impl<'n> Files<'n> for MemoryFiles<'n> {
     ghost use Rattle.std.specs.Prelude.{Some};
-    ghost use Rattle.kd_desk.specs.Files.{bytes_in_files};
+    ghost use Rattle.kd_host.specs.Files.{bytes_in_files};
 
-    type Opened = MemorySource<'n>;
+    type Opened = MemoryFile<'n>;
 
     ghost known = { λ s. Some (bytes_in_files s.files.now) };
 
@@ -58,10 +64,36 @@ impl<'n> Files<'n> for MemoryFiles<'n> {
         content
     }
 
-    fn open(&mut self, name: &'n str) -> Result<MemorySource<'n>, FileFault> {
+    fn open(&mut self, name: &'n str) -> Result<MemoryFile<'n>, FileFault> {
         let found = self.find(name);
         self.asked.add(name, found.is_some());
-        let bytes = found.ok_or(FileFault::Device)?;
-        Ok(MemorySource::new(bytes, 4096, None))
+        let rest = found.ok_or(FileFault::Device)?;
+        Ok(MemoryFile { rest })
+    }
+}
+
+/// An opened file in memory. No read of such a file fails.
+#[derive(Drop)]
+pub struct MemoryFile<'a> {
+    rest: &'a [u8],
+}
+
+impl<'a> Source for MemoryFile<'a> {
+    ghost use Rattle.std.specs.Prelude.{Some, false};
+
+    ghost remaining = { λ s. Some s.rest.now };
+
+    ghost has_failed = { λ _. false };
+
+    fn get(&mut self, buffer: &mut [u8]) -> Result<usize, Failed> {
+        let count = buffer.len().min(self.rest.len());
+        let (given, rest) = self.rest.split_at(count);
+        buffer[..count].copy_from_slice(given);
+        self.rest = rest;
+        Ok(count)
+    }
+
+    fn failed(&self) -> bool {
+        false
     }
 }

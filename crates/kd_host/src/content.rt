@@ -1,9 +1,9 @@
 //! The bytes of a file, which is read whole.
 ghost use Rattle.std.specs.Prelude.{◌≡◌, Some};
 ghost use Rattle.kd_tables.specs.Ports.{port};
-ghost use Rattle.kd_desk.specs.Files.{content_of, IsReadWhole};
+ghost use Rattle.kd_host.specs.Files.{content_of, IsReadWhole};
 
-use super::FileFault;
+use crate::file_fault::FileFault;
 use kd_tables::{READ_LIMIT, Source};
 use std::alloc::Global;
 use std::marker::Model;

@@ -1,14 +1,15 @@
 -- What is known of the bytes of a file, which is either read whole, or opened and then streamed.
 -- Code: `read_whole` reads a file chunk by chunk, into a vector that grows.
 -- Test: reads_to_the_limit, a_file_that_is_not_there_is_a_failed_device, stops_where_an_order_is_too_long
-use Rattle.std.specs.Prelude.{◌≡◌, ◌⊎◌, ℕ, ◌+◌, ◌≤◌, nat_le, Bool, true, false, IsTrue, List, [], ◌∷◌, ◌++◌, map}
+use Rattle.std.specs.Prelude.{◌≡◌, ℕ, ◌+◌, ◌≤◌, nat_le, Bool, true, false, IsTrue, List, [], ◌∷◌, ◌++◌, map}
 use Rattle.std.specs.Prelude.{length, Option, Some, None, Result, Ok, Err, find, bytes_eq, option_map, if◌then◌else◌}
 use Rattle.std.specs.Result.{result_map_both}
 use Rattle.std.specs.Borrow.{Bor}
 use Rattle.std.specs.Io.KnownBytes.{Consumes, IsAtEnd}
+use Rattle.kd_tables.specs.Answers.{AgreesOrNoMemory}
 use Rattle.kd_tables.specs.Ports.{read_limit, Port, KeepsFailureFlag}
-use Rattle.kd_desk.specs.declared.files.fault.FileFault.{FileFault}
-use Rattle.kd_desk.specs.declared.files.fault.FileFault.TheVariants.{NoMemory, Device, ReadTooLong}
+use Rattle.kd_host.specs.declared.file_fault.FileFault.{FileFault}
+use Rattle.kd_host.specs.declared.file_fault.FileFault.TheVariants.{NoMemory, Device, ReadTooLong}
 
 -- the bytes of a file, or the fault: there is no file, or the file is too long
 abbrev pub content_of : Option (List ℕ) → Result (List ℕ) FileFault
@@ -23,6 +24,12 @@ pub record KnownFile : Type 0 where
 abbrev pub known_file : {O : Type 0} → (O → Option (List ℕ)) → (O → Bool) → O → KnownFile
 known_file bytes failed file = record { bytes = bytes file; failed = failed file }
 
+-- A read of a file of this type can fail: it has failed for some file of the type. A type whose `has_failed` is false
+-- for every file, such as a file in memory, can't fail.
+pub record CanFail {O : Type 0} (has_failed : O → Bool) : Type 0 where
+  pub file : O
+  pub failed : IsTrue (has_failed file)
+
 -- an opened file with all of its bytes still to be read; or the fault `Device` if there is no file
 abbrev pub opening_of : Option (List ℕ) → Result KnownFile FileFault
 opening_of None = Err Device
@@ -32,26 +39,20 @@ opening_of (Some bytes) = Ok (record { bytes = Some bytes; failed = false })
 abbrev pub bytes_in_files : List (Bor (List ℕ) × Bor (List ℕ)) → List ℕ → Option (List ℕ)
 bytes_in_files files name = option_map (λ file. file.1.now) (find (λ file. bytes_eq file.0.now name) files)
 
--- `answer` is `meant`, or it is `NoMemory`.
-abbrev pub AgreesOrNoMemory : {X : Type 0} → Result X FileFault → Result X FileFault → Type 0
-AgreesOrNoMemory meant answer = (answer ≡ meant) ⊎ (answer ≡ Err NoMemory)
-
 -- `answer` and `meant` are the same fault. Or `answer` is an opened file, and the function `known` maps this file to
 -- `meant`.
 abbrev pub IsOpenAnswer : {O : Type 0} → Result KnownFile FileFault → (O → KnownFile) → Result O FileFault → Type 0
 IsOpenAnswer meant known answer = result_map_both known (λ fault. fault) answer ≡ meant
 
-abbrev pub IsReadAnswer : {X Y : Type 0} → Result Y FileFault → (X → Y) → Result X FileFault → Type 0
-IsReadAnswer meant known answer = AgreesOrNoMemory meant (result_map_both known (λ fault. fault) answer)
-
 -- What was read from a source. `Ok`: all bytes that the source had. `ReadTooLong`: one byte more than a file may have.
--- `Device`, `NoMemory`: all bytes that came before the failed read, or before memory ran out.
+-- `Device`, `NoMemory`: all bytes that came before the failed read, or before memory ran out; at most one byte more
+-- than a file may have, and after a failed read at most as many bytes as a file may have.
 abbrev pub IsReadWholeAs : Port → List ℕ → Result (List ℕ) FileFault → Type 0
 IsReadWholeAs source read (Ok bytes) = (bytes ≡ read) × (length read ≤ read_limit) × IsAtEnd source.has
     × KeepsFailureFlag source
 IsReadWholeAs source read (Err ReadTooLong) = (length read ≡ read_limit + 1) × KeepsFailureFlag source
-IsReadWholeAs source read (Err Device) = IsTrue source.has_failed
-IsReadWholeAs source read (Err NoMemory) = KeepsFailureFlag source
+IsReadWholeAs source read (Err Device) = (length read ≤ read_limit) × IsTrue source.has_failed
+IsReadWholeAs source read (Err NoMemory) = (length read ≤ read_limit + 1) × KeepsFailureFlag source
 
 pub record IsReadWhole (source : Port) (answer : Result (List ℕ) FileFault) : Type 0 where
   pub read : List ℕ
@@ -84,3 +85,9 @@ pub record MissesOne (names : List (List ℕ)) (old new : List AskedName) : Type
 abbrev pub AreAskedFor : List (List ℕ) → List AskedName → List AskedName → Bool → Type 0
 AreAskedFor names old new true = new ≡ old ++ map asked_and_had names
 AreAskedFor names old new false = MissesOne names old new
+
+-- ---- What an inner function answers that reads or opens several files. No public contract cites this definition.
+
+-- `answer` and `meant` are the same fault, or the function `known` maps `answer` to `meant`; or `answer` is `NoMemory`.
+abbrev pub IsReadAnswer : {X Y : Type 0} → Result Y FileFault → (X → Y) → Result X FileFault → Type 0
+IsReadAnswer meant known answer = AgreesOrNoMemory NoMemory meant (result_map_both known (λ fault. fault) answer)

@@ -1,12 +1,9 @@
 -- How a call leaves its ports when it fails.
-use Rattle.kd_desk.proofs.Prelude.{arith, ◌≡◌, ℕ, Bool, true, false, ◌||◌, List, Option, Result, Ok, Err, IsErrAnd}
-use Rattle.kd_desk.proofs.Prelude.{IsTrue, inr, sym, subst, Port, KeepsFailureFlag, FailureAgrees, Appends, TakesPrefix}
-use Rattle.kd_desk.proofs.Prelude.{DeskFault}
-use Rattle.kd_desk.specs.{Ports.WritesText, declared.fault.DeskFault.TheVariants.Device}
-
--- a port with its bytes and its failure, before and after a call
-abbrev pub port_over : Option (List ℕ) → Option (List ℕ) → Bool → Bool → Port
-port_over had has before after = record { had = had; has = has; had_failed = before; has_failed = after }
+use Rattle.std.proofs.Common.{arith, ◌≡◌, ℕ, Bool, true, false, ◌||◌, List, Result, Ok, Err, IsErrAnd, inr, refl, sym}
+use Rattle.std.proofs.Common.{subst}
+use Rattle.std.specs.Io.KnownBytes.{Appends}
+use Rattle.{kd_tables.specs.Ports.{Port, KeepsFailureFlag, FailureAgrees}, kd_tables.specs.Writing.TakesPrefix}
+use Rattle.kd_host.specs.Writing.{WritesText}
 
 -- if a call didn't fail, the port has failed exactly if it had failed before the call
 pub has_failed-same : (before after : Bool) → after ≡ (before || false) → after ≡ before
@@ -29,9 +26,11 @@ pub err-holds : {T F : Type 0} (answer : Result T F) (fault : F) (P : Result T F
 err-holds answer fault P made p = subst P (sym (err_is answer fault made)) p
 
 -- the sink took the whole text, or a prefix of it
-pub in_whole : (text : List ℕ) (sink : Port) → Appends sink.had sink.has text → WritesText text sink (Ok tt)
-in_whole text sink taken = record { written = record { whole = taken; front = tt }; device = tt }
+module _ {Fault : Type 0} (device : Fault) (text : List ℕ) (sink : Port) where
+  pub in_whole : Appends sink.had sink.has text → WritesText device text sink (Ok tt)
+  in_whole taken = record { written = record { whole = taken; front = tt }; device = tt }
 
-pub in_part : (text : List ℕ) (sink : Port) (answer : Result (Unit {0}) DeskFault) → TakesPrefix sink.had sink.has text
-    → IsErrAnd answer (λ made. made ≡ Device) → WritesText text sink answer
-in_part text sink answer taken made = grind (arith, err-holds)
+  pub in_part : (answer : Result (Unit {0}) Fault) → TakesPrefix sink.had sink.has text
+      → IsErrAnd answer (λ made. made ≡ device) → WritesText device text sink answer
+  in_part answer taken made = err-holds answer device (λ a. WritesText device text sink a) made
+      (record { written = record { whole = tt; front = taken }; device = refl })

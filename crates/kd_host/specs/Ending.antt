@@ -1,0 +1,19 @@
+-- How a program ends: the line that it writes to standard error, and its exit status.
+-- Source: the table of the command line in docs/FORMATS.md.
+-- Test: ends_with_a_status_and_a_line
+use Rattle.std.specs.Prelude.{codes, ◌≡◌, ℕ, ◌||◌, List, [], ◌∷◌, ◌++◌, Result, is_err}
+use Rattle.kd_tables.specs.declared.ports.writing.Device.{Device}
+use Rattle.kd_tables.specs.Ports.{Port}
+use Rattle.kd_tables.specs.Writing.{Writes}
+
+-- the line on standard error for the refusal with this text
+abbrev pub refused_line : List ℕ → List ℕ
+refused_line text = codes "refused " ++ text ++ 10 ∷ []
+
+-- The program ends with the exit status `due`. The line was written to standard error, or only a prefix of the line if
+-- standard error failed.
+pub record EndsWithLine (line : List ℕ) (due : ℕ) (errors : Port) (status : ℕ) : Type 0 where
+  pub ends : status ≡ due
+  pub written : Result (Unit {0}) Device
+  pub told : Writes errors.had errors.has line written
+  pub failed : errors.has_failed ≡ (errors.had_failed || is_err written)

@@ -1,0 +1,20 @@
+-- Why a file can't be read or opened, and the text of this refusal.
+-- Test: a_read_that_finds_no_memory_says_so, a_file_that_is_not_there_is_a_failed_device
+use Rattle.std.specs.Prelude.{ℕ, List}
+use Rattle.std.specs.declared.io.ErrorKind.{ErrorKind}
+use Rattle.std.specs.declared.io.ErrorKind.TheVariants.{OutOfMemory}
+use Rattle.kd_tables.specs.declared.refusal.Refusal.TheVariants as refusals
+use Rattle.kd_tables.specs.Refusals.{refusal_name}
+use Rattle.kd_host.specs.declared.file_fault.FileFault.{FileFault}
+use Rattle.kd_host.specs.declared.file_fault.FileFault.TheVariants as files
+
+-- why a file can't be read, by the kind of the system's error: no memory, or a failed device
+abbrev pub fault_of_kind : ErrorKind → FileFault
+fault_of_kind OutOfMemory = files.NoMemory
+fault_of_kind _ = files.Device
+
+-- the number and the name of the refusal for a file's fault
+abbrev pub file_fault_text : FileFault → List ℕ
+file_fault_text files.NoMemory = refusal_name refusals.NoMemory
+file_fault_text files.Device = refusal_name refusals.Device
+file_fault_text files.ReadTooLong = refusal_name refusals.ReadTooLong

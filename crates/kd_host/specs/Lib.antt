@@ -1,0 +1,4 @@
+pub mod Ending
+pub mod FileFault
+pub mod Files
+pub mod Writing
