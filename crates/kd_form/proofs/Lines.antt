@@ -13,7 +13,7 @@ pub use Rattle.kd_form.proofs.Prelude.{All-nil, All-replicate, All-take, All-dro
 pub use Rattle.kd_form.proofs.Prelude.{filled_pattern, blank_count, fits_mark, letters_for_mark, IsFilledLine}
 pub use Rattle.kd_form.proofs.Prelude.{IsPatternLine, AreLettersAppended, IsPatternFault, Result, Ok, Err, MatchResult}
 pub use Rattle.kd_form.proofs.Prelude.{OfRotors, OfPins, AreKeys, blank_places, rotor_pattern, key_pattern, key_letters}
-pub use Rattle.kd_form.proofs.Prelude.{IsAnyKeyLine, FormFault, KeysSuitDay, IsKeysFault, IsFirstKeysFault, IsKeyLine}
+pub use Rattle.kd_form.proofs.Prelude.{IsAnyKeyLine, FormFault, IsKeyLine}
 pub use Rattle.kd_form.proofs.Prelude.{BeginsWithKeys, nil_from_length, false≢true}
 
 -- the list doesn't begin with an item that has the property
@@ -215,21 +215,6 @@ keys_broken s bytes Mismatch none = λ more line. none more (as_form_line s (byt
 pub keys_read : (s : Day) (bytes letters : List ℕ) (k : Keys) → IsFilledLine (key_pattern s) letters bytes
     → key_letters k ≡ letters → AreKeys s k → AreKeys s k × IsKeyLine k bytes
 keys_read s bytes letters k filled told are = grind (arith, key_line)
-
-pub is_first_keys_fault : (s : Day) (keys : List Keys) (index : ℕ) (k : Keys) (fault : FormFault) → index < length keys
-    → get_or keys index k ≡ k → AllWithin (KeysSuitDay s) keys 0 index → IsKeysFault s (index + 1) k fault
-    → IsFirstKeysFault s keys fault
-is_first_keys_fault s keys index k fault inside is before found =
-    let size : length (take index keys) ≡ index = length-take-le index keys (omega arith) in
-    record {
-      before = take index keys;
-      unsuited = k;
-      others = drop (index + 1) keys;
-      joined = cc (take-append-drop index keys, drop_more keys index k inside, is);
-      suited = λ i d below.
-          rw (get_or-take index keys i d (omega (arith, size))) (before i d (omega arith) (omega (arith, size)));
-      is = rw size found;
-    }
 
 -- -------- lines of keys, and what follows them
 

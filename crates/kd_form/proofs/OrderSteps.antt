@@ -4,16 +4,17 @@ pub use Rattle.kd_form.proofs.Prelude.{inr, List, ◌∷◌, ◌++◌, Some, len
 pub use Rattle.kd_form.proofs.Prelude.{append_assoc, length-append, length-drop, arith, get_or, Option, Result, Ok}
 pub use Rattle.kd_form.proofs.Prelude.{Err, IsTrue, slice_get, codes, All, MatchResult, div_ceil, take_all, drop_all}
 pub use Rattle.kd_form.proofs.Prelude.{drop-take, drop-drop, take-take, take_more, length-take-le, Day, Keys, pieces}
-pub use Rattle.kd_form.proofs.Prelude.{IsPartTextMade, part_size, KeysSuitDay, parts_needed, ArePartTextsMade}
-pub use Rattle.kd_form.proofs.Prelude.{letters_from, text_letters, IsFirstKeysFault, IsOrderFaultForGood, InHead}
-pub use Rattle.kd_form.proofs.Prelude.{InKeys, InText, NoLetter, InParts, IsWritableCount, IsSentBeforeEnd}
+pub use Rattle.kd_form.proofs.Prelude.{IsPartTextMade, part_size, parts_needed, ArePartTextsMade, IsMadeAnswer}
+pub use Rattle.kd_form.proofs.Prelude.{letters_from, text_letters, IsOrderFaultForGood, IsWritableCount}
+pub use Rattle.kd_form.proofs.Prelude.{IsSentBeforeEnd, InTurn, IsKeysAnswer, OrderParts, IsBytesAnswer, IsHeadAnswer}
+pub use Rattle.kd_form.proofs.Prelude.{IsReadAnswer, IsByteAnswer, GoesOn, HasFault, false≢true, IsFalse, subst, Rotor, Pin}
 pub use Rattle.kd_form.proofs.Prelude.{order_message, AreLettersTaken, IsHeadBegun, IsHeadLine, HoldsOrderText}
 pub use Rattle.kd_form.proofs.Prelude.{IsTextEndAnswer, IsFreshWriter, IsOpen, HoldsOrder, HoldsOrderStage, All-nil}
 pub use Rattle.kd_form.proofs.Prelude.{PatternFault, AreKeys, IsPatternLine, IsPatternFault, key_pattern, key_words}
 pub use Rattle.kd_form.proofs.Prelude.{line_of, IsLineWithEnd, IsKeyLine, BeginsWithKeys, IsAnyOrderHead, IsOrderHead}
 pub use Rattle.kd_form.proofs.Prelude.{IsOrder, IsOrderHeadFault, is_text_byte, FormFault, HasFaultForGood}
 pub use Rattle.kd_form.proofs.Prelude.{IsMessageAnswer, HasReadSoFar, IsAnyKeyLine, common_steps, BadByte}
-pub use Rattle.kd_form.proofs.Prelude.{HeadCutShort, space_letter, All-push, filter_map-append, ◌-◌, cases_lt}
+pub use Rattle.kd_form.proofs.Prelude.{space_letter, All-push, filter_map-append, ◌-◌, cases_lt}
 pub use Rattle.kd_form.proofs.Prelude.{drop_at, le_of_mul-le-mul_left, take_at}
 use Rattle.std.proofs.lemmas.{Grind.div_ceil_times, Option.slice_get_within, Option.get_or_from_slice_get}
 use Rattle.kd_form.specs.declared.sending.{part_writer.PartWriter.PartWriter, order_head.HeadReader.HeadReader}
@@ -21,9 +22,9 @@ use Rattle.kd_form.specs.declared.sending.order_reader.{OrderReader.OrderReader,
 pub use Rattle.kd_form.proofs.MadeParts.{pieces-next, pieces-none, size_some}
 use Rattle.kd_form.proofs.Lines.{length-filled, as_form_line, key_first, lines_more, same_line, text_front, text_line}
 use Rattle.kd_form.proofs.Lines.{IsPlain, letters_first, plain_keys, plain_text}
-pub use Rattle.kd_form.proofs.OneOrder.{Shorter, Longer, all_of_the_day, prefixes, no_head_fault, no_keys_fault}
-pub use Rattle.kd_form.proofs.OneOrder.{nothing_stands, nothing_stands_yet, one_order, bad_longer, bad_behind}
+pub use Rattle.kd_form.proofs.OneOrder.{Shorter, Longer, all_of_the_day, prefixes, HasOneAnswer-read, head_is, read_is}
 pub use Rattle.kd_form.proofs.OneOrder.{BeginsWithKeys-append}
+use Rattle.kd_form.proofs.Turns.{InTurn-append, InTurn-stays, InTurn-one, InTurn-fault, All-InTurn}
 use Rattle.kd_form.specs.declared.sending.pattern_line.PatternFault.TheVariants as faults
 use Rattle.kd_form.specs.declared.sending.order_reader.OrderStage.TheVariants as stages
 use Rattle.kd_form.specs.SendStream as stream
@@ -69,11 +70,12 @@ module _ {s : Day} {keys : List Keys} {w : PartWriter} {k : Keys} {letters sent 
 
   -- at the end, the kept letters become the last part
   pub last_written : w.count ≢ 0 → div_ceil w.count (part_size s) ≡ length keys
-      → (letters ≢ []) × (parts_needed s (length letters) ≡ length keys)
-      × ArePartTextsMade s 1 (length keys) keys (pieces (part_size s) letters) (sent ++ one)
+      → IsMadeAnswer s keys letters (Ok (sent ++ one))
   last_written counted needed =
       let last = last_number (part_size s) (length keys) (length letters) w.written (size_some s) in
-      grind (arith, last, part_more, take_all)
+      let some : letters ≢ [] = grind arith in
+      let enough : parts_needed s (length letters) ≡ length keys = grind arith in
+      GoesOn tt some (GoesOn tt enough (grind (arith, last, part_more, take_all)))
 
 -- -------- an order up to its text, byte by byte
 
@@ -158,6 +160,12 @@ module _ {s : Day} {keys : List Keys} {line order : List ℕ} (is : IsHeadBegun 
 
 -- -------- the faults that the reader of an order has found, and what is sent by then
 
+-- a fault of keys isn't `BadByte`
+keys_fault : (s : Day) (part : ℕ) (k : Keys) (position : ℕ) (fault : FormFault) → IsKeysAnswer s part k (Err fault)
+    → fault ≢ BadByte position
+keys_fault s part (Rotor k) position fault found same = cc
+keys_fault s part (Pin k) position fault found same = grind arith
+
 pub letters_few : (for_space : Option ℕ) (text : List ℕ) → length (letters_from for_space text) ≤ length text
 letters_few for_space [] = omega arith
 letters_few for_space (byte ∷ text) = grind (arith, letters_first, letters_few for_space text, length-append)
@@ -181,40 +189,118 @@ module _ {s : Day} where
         fault.stops byte (drop 1 fault.rest) beyond (grind arith);
   }
 
+  -- ---- a fault stays, and a right order goes on
+
+  head_stays : {order : List ℕ} {fault : FormFault} (more : List ℕ)
+      → ((position : ℕ) → fault ≡ BadByte position → position ≤ length order) → IsHeadAnswer s order (Err fault)
+      → IsHeadAnswer s (order ++ more) (Err fault)
+  head_stays more inside (HasFault f (position, at, is) e) =
+      HasFault f (position, IsOrderHeadFault-append more at (inside position (cc)), is) e
+  head_stays more inside (GoesOn parts is (HasFault f found e)) =
+      GoesOn (record parts { text = parts.text ++ more }) (IsOrder-append more is) (HasFault f found e)
+  head_stays more inside (GoesOn parts is (GoesOn done suited e)) = absurd (cc)
+
+  head_more : {order : List ℕ} {parts : OrderParts} (more : List ℕ) → IsHeadAnswer s order (Ok parts)
+      → IsHeadAnswer s (order ++ more) (Ok (record parts { text = parts.text ++ more }))
+  head_more more read = let (is, suited) = head_is read in GoesOn _ (IsOrder-append more is) (GoesOn tt suited refl)
+
+  read_stays : {order : List ℕ} {fault : FormFault} (more : List ℕ)
+      → ((position : ℕ) → fault ≡ BadByte position → position ≤ length order) → IsReadAnswer s order (Err fault)
+      → IsReadAnswer s (order ++ more) (Err fault)
+  read_stays more inside (HasFault f head e) =
+      HasFault f (head_stays more (λ position is. inside position (cc)) head) e
+  read_stays more inside (GoesOn parts head (HasFault f bad e)) =
+      GoesOn (record parts { text = parts.text ++ more }) (head_more more head)
+      (HasFault f (InTurn-stays _ _ parts.text more f bad) e)
+  read_stays more inside (GoesOn parts head (GoesOn done allowed e)) = absurd (cc)
+
   pub IsOrderFaultForGood-append : {order : List ℕ} {fault : FormFault} (more : List ℕ)
       → IsOrderFaultForGood s order fault → IsOrderFaultForGood s (order ++ more) fault
-  IsOrderFaultForGood-append {order} more (InHead p h few e) =
-      InHead p (IsOrderHeadFault-append more h few) (omega (arith, few, length-append order more)) e
-  IsOrderFaultForGood-append more (InKeys ks hd t o k) = InKeys ks hd (t ++ more) (IsOrder-append more o) k
-  IsOrderFaultForGood-append more (InText ks hd t n o su b e) =
-      InText ks hd (t ++ more) n (IsOrder-append more o) su (bad_longer t more n b) e
+  IsOrderFaultForGood-append {order} more good = record {
+    found = read_stays more good.inside good.found;
+    inside = λ position is. omega (arith, good.inside position is, length-append order more);
+  }
 
   pub HasFaultForGood-order : {order sent : List ℕ} {fault : FormFault} → IsOrderFaultForGood s order fault
       → ((more : List ℕ) → IsSentBeforeEnd s (order ++ more) sent) → HasFaultForGood (order_message s) order sent fault
-  HasFaultForGood-order stands written = record {
-    stands = λ more. IsOrderFaultForGood-append more stands;
-    refused = λ more. inl (IsOrderFaultForGood-append more stands);
+  HasFaultForGood-order {fault} good written = record {
+    stands = λ more. IsOrderFaultForGood-append more good;
+    refused = λ more. HasFault fault (IsOrderFaultForGood-append more good).found refl;
     written = written;
   }
+
+  -- a fault of the head: nothing is sent
+  pub HasFaultForGood-head : {order sent : List ℕ} {fault : FormFault} → IsHeadAnswer s order (Err fault)
+      → ((position : ℕ) → fault ≡ BadByte position → position ≤ length order) → sent ≡ []
+      → HasFaultForGood (order_message s) order sent fault
+  HasFaultForGood-head {fault} head inside nothing =
+      HasFaultForGood-order (record { found = HasFault fault head refl; inside = inside })
+      (λ more. stream.NothingSent fault (head_stays more inside head) nothing)
+
+  -- the answer to one more byte of the text
+  pub next_byte : {order : List ℕ} {parts : OrderParts} (byte : ℕ) (answer : Result (Unit {0}) FormFault)
+      → IsReadAnswer s order (Ok parts) → IsByteAnswer (length order + 1) byte answer
+      → IsBytesAnswer (length parts.head + 1) (parts.text ++ byte ∷ []) answer
+  next_byte {order} {parts} byte answer read told =
+      let (head, allowed) = read_is read in
+      let joined = (head_is head).0.joined in
+      let place : length order + 1 ≡ length parts.head + 1 + length parts.text =
+      omega (arith, ap length joined, length-append parts.head parts.text) in
+      InTurn-append IsByteAnswer (length parts.head + 1) parts.text (byte ∷ []) answer allowed
+      (InTurn-one IsByteAnswer _ byte answer (rw place at told))
+
+  pub read_more : {order : List ℕ} {parts : OrderParts} (byte : ℕ) → IsReadAnswer s order (Ok parts)
+      → IsTrue (is_text_byte byte)
+      → IsReadAnswer s (order ++ byte ∷ []) (Ok (record parts { text = parts.text ++ byte ∷ [] }))
+  read_more byte read allowed =
+      GoesOn _ (head_more (byte ∷ []) (read_is read).0) (GoesOn tt (next_byte byte (Ok tt) read allowed) refl)
 
   -- ---- how far the reader has read
 
   text_sent : {keys : List Keys} {w : PartWriter} {order sent : List ℕ} → HoldsOrderText s keys w order sent
+      → (more : List ℕ) → ((byte : ℕ) (after : List ℕ) → more ≡ byte ∷ after → IsFalse (is_text_byte byte))
+      → IsSentBeforeEnd s (order ++ more) sent
+  text_sent text more bad =
+      let (head, allowed) = read_is text.read in
+      stream.TextBegun _ text.text _ (head_more more head) (record {
+        rest = more;
+        joined = refl;
+        allowed = All-InTurn _ _ _ text.text allowed;
+        ends = bad;
+      }) text.taken.written text.taken.made
+
+  text_sent_yet : {keys : List Keys} {w : PartWriter} {order sent : List ℕ} → HoldsOrderText s keys w order sent
       → IsSentBeforeEnd s order sent
-  text_sent text =
-      stream.TextBegun _ text.head text.text text.text _ text.sendable.is_order text.sendable.suited
-      (grind (arith, append-nil {A = ℕ})) text.taken.written text.taken.made
+  text_sent_yet {order = order} {sent = sent} text =
+      subst (λ o. IsSentBeforeEnd s o sent) (append-nil order) (text_sent text [] (λ byte after none. absurd (cc)))
+
+  -- a byte that isn't allowed refuses the order for good
+  pub HasFaultForGood-text : {keys : List Keys} {w : PartWriter} {order sent : List ℕ} (byte : ℕ)
+      → HoldsOrderText s keys w order sent → IsFalse (is_text_byte byte)
+      → HasFaultForGood (order_message s) (order ++ byte ∷ []) sent (BadByte (length order + 1))
+  HasFaultForGood-text {order = order} {sent = sent} byte text bad =
+      let fault = next_byte byte (Err _) text.read ((λ _ good. false≢true (sym bad ∙ good)), refl) in
+      HasFaultForGood-order (record {
+        found = GoesOn _ (head_more (byte ∷ []) (read_is text.read).0) (HasFault _ fault refl);
+        inside = λ position is.
+            let same : length order + 1 ≡ position = cc in omega (arith, length-append order (byte ∷ []));
+      })
+      (λ more. subst (λ o. IsSentBeforeEnd s o sent) (sym (append_assoc order (byte ∷ []) more))
+      (text_sent text (byte ∷ more) (λ other after same. grind arith)))
 
   open_yet : (stage : OrderStage) (h : HeadReader) (w : PartWriter) (order sent : List ℕ)
       → HoldsOrderStage s stage h w order sent → IsOpen (order_message s) order sent
-  open_yet stages.Head h w order sent (head, nothing, fresh) = record {
-    unrefused = λ fault. nothing_stands_yet s order fault (head_cut head);
-    written = stream.NothingSent
-        (λ keys front text is suited. no_head_fault s order keys front text _ is (head_cut head)) nothing;
-  }
+  open_yet stages.Head h w order sent (head, nothing, fresh) =
+      let cut : IsHeadAnswer s order (Err (BadByte (length order + 1))) = HasFault _ (_, head_cut head, refl) refl in
+      record {
+        unrefused = λ fault good.
+            let same = HasOneAnswer-read s order (Err fault) (Err _) good.found (HasFault _ cut refl) in
+            omega (arith, good.inside (length order + 1) (cc));
+        written = stream.NothingSent _ cut nothing;
+      }
   open_yet stages.Text h w order sent text = record {
-    unrefused = λ fault. nothing_stands s order _ text.head text.text fault text.sendable;
-    written = text_sent text;
+    unrefused = λ fault good. let clash = HasOneAnswer-read s order (Ok _) (Err fault) text.read good.found in cc;
+    written = text_sent_yet text;
   }
 
   pub HasReadSoFar-order : {r : OrderReader} {order sent : List ℕ} → HoldsOrder s r order sent
@@ -227,8 +313,7 @@ module _ {s : Day} where
   -- after a complete head, the reader holds the order if the keys suit the day, and refuses it otherwise
   pub text_begins : (r : OrderReader) {order text sent : List ℕ} (answer : Result (Unit {0}) FormFault)
       → r.stage ≡ stages.Text → r.read ≡ length order → IsOrder s order r.head.keys.items order []
-      → IsFreshWriter r.writer → text ≡ [] → sent ≡ []
-      → MatchResult answer (λ _. All (KeysSuitDay s) r.head.keys.items) (IsFirstKeysFault s r.head.keys.items)
+      → IsFreshWriter r.writer → text ≡ [] → sent ≡ [] → InTurn (IsKeysAnswer s) 1 r.head.keys.items answer
       → MatchResult answer (λ _. HasReadSoFar (order_message s) (HoldsOrder s r) order sent)
       (HasFaultForGood (order_message s) order text)
   text_begins r {order} (Ok done) here size is fresh none nil suited =
@@ -238,9 +323,13 @@ module _ {s : Day} where
         stage = rw here (record {
           head = order;
           text = [];
-          sendable = grind (arith, All-nil);
+          read = GoesOn _ (GoesOn _ is (GoesOn tt suited refl)) (GoesOn tt refl refl);
           taken = record {
-            suited = grind (arith, all_of_the_day, is.is_head.lines);
+            suited = record {
+              of_the_day = all_of_the_day _ s _ order is.is_head.lines;
+              suited = suited;
+              few = is.is_head.few;
+            };
             counted = fresh.none;
             written = grind (arith, fresh.unwritten);
             kept = grind (arith, drop_all {X = ℕ}, take_all {A = ℕ});
@@ -249,21 +338,26 @@ module _ {s : Day} where
         });
       })
   text_begins r {order} (Err fault) here size is fresh none nil found =
-      HasFaultForGood-order (InKeys r.head.keys.items order [] is found)
-      (λ more. stream.NothingSent (λ others front beyond other suited.
-      let same = one_order s (order ++ more) _ others order front more beyond (IsOrder-append more is) other in
-      no_keys_fault s r.head.keys.items fault (rw same.0 suited) found) none)
+      HasFaultForGood-head (GoesOn _ is (HasFault fault found refl))
+      (λ position same. absurd (InTurn-fault (IsKeysAnswer s) (λ f. f ≢ BadByte position)
+      (λ part k f is. keys_fault s part k position f is) 1 r.head.keys.items fault found same)) none
+
+  -- an order that ends within its head
+  pub IsMessageAnswer-head_cut : {keys : List Keys} {line order sent made : List ℕ} {read : ℕ}
+      → IsHeadBegun s keys line order → sent ≡ [] → made ≡ [] → read ≡ length order
+      → IsMessageAnswer (order_message s) order (sent ++ made) (Err (BadByte (read + 1)))
+  IsMessageAnswer-head_cut {order = order} begun nothing none counted =
+      let cut : IsHeadAnswer s order (Err (BadByte (length order + 1))) = HasFault _ (_, head_cut begun, refl) refl in
+      rw (counted, nothing, none) (HasFault _ (HasFault _ cut refl) refl, stream.NothingSent _ cut refl)
 
   -- at the end of the text, the reader outputs the last part, or finds the fault
   pub IsMessageAnswer-order : {keys : List Keys} {w : PartWriter} {order sent : List ℕ}
       (text : HoldsOrderText s keys w order sent) (made : List ℕ) (answer : Result (Unit {0}) FormFault)
       → IsTextEndAnswer s keys (text_letters s text.text) sent made answer
       → IsMessageAnswer (order_message s) order (sent ++ made) answer
-  IsMessageAnswer-order text made (Ok done) (some, counted, is) = grind arith
-  IsMessageAnswer-order {sent = sent} text made (Err fault) (nothing, inl (none, is)) =
-      (inr (NoLetter _ _ _ text.sendable none is), rw (nothing, append-nil sent) (text_sent text))
-  IsMessageAnswer-order {sent = sent} text made (Err fault) (nothing, inr (some, other, is)) =
-      (inr (InParts _ _ _ text.sendable some other is), rw (nothing, append-nil sent) (text_sent text))
+  IsMessageAnswer-order text made (Ok done) told = GoesOn _ text.read told
+  IsMessageAnswer-order {sent = sent} text made (Err fault) (told, nothing) =
+      (GoesOn _ text.read told, rw (nothing, append-nil sent) (text_sent_yet text))
 
 pub counted_on : {read : ℕ} (order : List ℕ) (byte : ℕ) → read ≡ length order → read + 1 ≡ length (order ++ byte ∷ [])
 counted_on order byte is = ap (λ n. n + 1) is ∙ sym (length-append order (byte ∷ []))

@@ -24,10 +24,10 @@ pub use Rattle.arrayvec.specs.{ArrayVec.ArrayVec, ArrayVec.array_vec_len}
 pub use Rattle.kd_form.specs.FormParts.{AreFewLetters, AreHeadingWords, BeginsHeading, HasFirstLine, IsFraction}
 pub use Rattle.kd_form.specs.FormParts.{IsHeading, IsLetterCount, IsLineText, WithoutReturn, cut_at_headings, parts_of}
 pub use Rattle.kd_form.specs.FormSteps.{FitsHeadingAt, HasBegunHeading, HasLastLineStart, HoldsBody, HoldsForm}
-pub use Rattle.kd_form.specs.FormSteps.{HoldsPart, HoldsFormStage, IsAtPartStart, IsBodyPlaintext, IsHeadingFault}
-pub use Rattle.kd_form.specs.FormSteps.{HeadingMissing, HeadingOfOther, current_part_start}
-pub use Rattle.kd_form.specs.FormText.{AtPart, IsPartFaultAtEnd, AreAllPartsRead, IsLastPart, IsFormReadTo}
-pub use Rattle.kd_form.specs.FormText.{IsReceiveFault, IsRefusedForGood, IsTextOf, NoHeading, PartsProperty, PartStart}
+pub use Rattle.kd_form.specs.FormSteps.{HoldsPart, HoldsFormStage, IsAtPartStart, IsBodyPlaintext, IsHeadingAnswer}
+pub use Rattle.kd_form.specs.FormSteps.{current_part_start}
+pub use Rattle.kd_form.specs.FormText.{AtPart, IsAnswerAt, IsAnswerAfter, IsFormAnswer, IsLastPart, IsFormReadTo}
+pub use Rattle.kd_form.specs.FormText.{IsReceiveFault, IsRefusedForGood, IsTextOf, NoHeading, PartsProperty}
 pub use Rattle.kd_form.specs.FormText.{ReadsPartsTo, IsPartFaultForGood, first_part_start, form_message, plaintext_byte}
 pub use Rattle.kd_form.specs.FormText.{plaintext_bytes, plaintext_with_end, next_part_start, sent_letters}
 pub use Rattle.kd_form.specs.InternalKey.{ArePicked, PrecedesOrEquals, HaveNoInternalKey, IsInternalKey, IsTakenInTurn}
@@ -35,10 +35,10 @@ pub use Rattle.kd_form.specs.InternalKey.{OffWheel, OnWheel, AreRising}
 pub use Rattle.kd_form.specs.KeyPatterns.{IsConverterDay, IsRotorDayWith, IsAnyKeyLine, key_letters, key_pattern}
 pub use Rattle.kd_form.specs.KeyPatterns.{blank_places, rotor_pattern}
 pub use Rattle.kd_form.specs.Keys.{AreKeys, key_words}
-pub use Rattle.kd_form.specs.Laws.{FormsBecomeOneText, FormsGiveTheirOrders, FormsHaveOneFault, FormsStayRefused}
-pub use Rattle.kd_form.specs.Laws.{OrdersGiveLetters, ReceivedFormsHaveNoFault}
+pub use Rattle.kd_form.specs.Laws.{OrderIsAnswered, OrdersHaveOneAnswer, OrdersGiveLetters, FormIsAnswered}
+pub use Rattle.kd_form.specs.Laws.{FormsHaveOneAnswer, FormsStayRefused, FormsGiveTheirOrders}
 pub use Rattle.kd_form.specs.{OnTheKey.{IsKeyFault, OffKey}}
-pub use Rattle.kd_form.specs.PartMaking.{IsPartMade, IsPartTextMade, KeysSuitDay, cipher_from, enciphered_choice}
+pub use Rattle.kd_form.specs.PartMaking.{IsPartMade, IsPartTextMade, IsKeysAnswer, cipher_from, enciphered_choice}
 pub use Rattle.kd_form.specs.PartMaking.{fill_last_group, list_letters, part_size, pin_indicators, pin_letters}
 pub use Rattle.kd_form.specs.PartMaking.{rotor_letters}
 pub use Rattle.kd_form.specs.Order.{BeginsWithKeys, IsPatternFault, IsAnyOrderHead, IsLineWithEnd, IsOrderHead}
@@ -49,13 +49,14 @@ pub use Rattle.kd_form.specs.Patterns.{AreLettersAppended, IsFilledLine, IsPatte
 pub use Rattle.kd_form.specs.Patterns.{fits_mark, letters_for_mark}
 pub use Rattle.kd_form.specs.BodyCipher.{HasIndicator, HasIndicatorsAround, IsLettersAnswer, group_of_body}
 pub use Rattle.kd_form.specs.BodyCipher.{keys_of_body, list_of_body, deciphered_key, text_of_body}
-pub use Rattle.kd_form.specs.PartReading.{HasHeading, InBody, InHeading, InNumber, IsEarlyFault, IsExpectedCount}
-pub use Rattle.kd_form.specs.PartReading.{IsPartFault, IsPartRead, IsBodyAnswer}
+pub use Rattle.kd_form.specs.PartReading.{HasHeading, IsExpectedCount, HasDueNumbers, PartStart, PartContent, ReadPart}
+pub use Rattle.kd_form.specs.PartReading.{IsContentAnswer, IsPartAnswer, IsBodyAnswer}
 pub use Rattle.kd_form.specs.OrderSteps.{AreLettersTaken, IsFreshWriter, IsHeadBegun, IsHeadLine, IsTextEndAnswer}
 pub use Rattle.kd_form.specs.OrderSteps.{HoldsOrder, HoldsOrderStage, HoldsOrderText}
 pub use Rattle.kd_form.specs.SendStream.{IsWritableCount, IsSentBeforeEnd, order_message}
-pub use Rattle.kd_form.specs.Sending.{ArePartTextsMade, HeadCutShort, InHead, InKeys, InParts, InText, IsFirstBadByteAt}
-pub use Rattle.kd_form.specs.Sending.{IsFirstKeysFault, IsFormOf, IsKeysFault, IsSendFault, IsSendable, NoLetter}
+pub use Rattle.kd_form.specs.InTurn.{InTurn}
+pub use Rattle.kd_form.specs.Sending.{ArePartTextsMade, IsByteAnswer, IsBytesAnswer, IsMadeAnswer, IsDividedAnswer}
+pub use Rattle.kd_form.specs.Sending.{IsHeadAnswer, IsReadAnswer, IsOrderAnswer, OrderParts, IsFormOf, IsSendFault}
 pub use Rattle.kd_form.specs.Sending.{IsOrderFaultForGood, space_letter, letter_of_byte, letters_from, parts_needed}
 pub use Rattle.kd_form.specs.Sending.{text_letters}
 pub use Rattle.kd_form.specs.StreamSteps.{AtSource, IsCloseAnswer, IsFinishAnswer, HasBeenEnded, IsFeedAllAnswer}
@@ -76,7 +77,8 @@ pub use Rattle.kd_state.proofs.Lines.{IsNumeralModel-digits, lines_split_into_wo
 pub use Rattle.kd_state.proofs.Lines.{parts_make_lines, texts_determine_first_parts, word_by_bytes}
 pub use Rattle.kd_state.proofs.Keys.{cipher_in_turn, engine_cipher, twice_on_key}
 pub use Rattle.kd_state.specs.declared.machine.parts.Parts.{Parts}
-pub use Rattle.kd_state.specs.AnswerRules.{GoesOn, HasFault, HasOneAnswer-Demands, HasOneAnswer-Finds}
+pub use Rattle.kd_state.specs.AnswerRules.{GoesOn, HasFault, HasOneAnswer-Demands, HasOneAnswer-Finds, ThenNext-Ok}
+pub use Rattle.kd_state.specs.AnswerRules.{HasOneAnswer, Yields-Ok, HasOneAnswer-FindsAlways, Demands}
 pub use Rattle.kd_state.specs.AnswerRules.{HasOneAnswer-ThenNext, HasOneAnswer-Yields}
 pub use Rattle.kd_state.specs.SheetDay.{Day, IsLegalDay, OfPins, OfRotors, pin_day}
 pub use Rattle.kd_state.specs.TwoCiphers.{EngineKey, IsWindow, cipher, physical_cipher, sheet_key}

@@ -16,7 +16,7 @@ pub use Rattle.kd_form.proofs.Prelude.{IsAllowedUpTo, HasTyped, take_more, rules
 pub use Rattle.kd_form.proofs.Prelude.{typed_letters, false≢true, NotReady, FaultBefore}
 pub use Rattle.std.proofs.KnownBytes.{Consumes-nil, Consumes-kept, Consumes-trans, Appends-nil, Appends-trans}
 pub use Rattle.std.proofs.KnownBytes.{starts_with_rest}
-use Rattle.{kd_form.proofs.OneOrder.{bad_behind, no_bad_byte}, std.specs.Io.StartsWith}
+use Rattle.{kd_form.proofs.OneOrder.no_bad_byte, kd_form.proofs.Turns.{bad_behind, bytes_allowed}, std.specs.Io.StartsWith}
 use Rattle.kd_form.specs.{StreamSteps.IsEndAnswer as MessageEnds}
 use Rattle.kd_form.specs.{declared.{stream.interruption.Interruption.Interruption, typing.Typist.Typist}}
 use Rattle.kd_form.specs.declared.stream.interruption.Interruption.TheVariants as stops
@@ -179,7 +179,7 @@ module _ (m : Parts) where
   HasReadSoFar-typed t bytes text typed = record {
     is = typed;
     open_yet = record {
-      unrefused = λ fault found. no_bad_byte bytes found.0 typed.allowed found.1;
+      unrefused = λ fault. no_bad_byte 1 bytes fault typed.allowed;
       written = (bytes, grind (arith, append-nil {A = ℕ}), text_is t bytes text typed);
     };
   }
@@ -190,7 +190,8 @@ module _ (m : Parts) where
       → HasFaultForGood (text_message (physical_cipher m)) (front ++ byte ∷ rest) text (BadByte (length front + 1))
   HasFaultForGood-typed t front rest text byte typed bad =
       let stands : (more : List ℕ) → IsTextFault ((front ++ byte ∷ rest) ++ more) (BadByte (length front + 1)) = λ more.
-      rw append_assoc (length front, bad_behind front (rest ++ more) byte typed.allowed bad, refl) in
+      let place : length front + 1 ≡ 1 + length front = omega arith in
+      rw (append_assoc, place) (bad_behind 1 front (rest ++ more) byte typed.allowed bad) in
       record {
         stands = stands;
         refused = stands;
@@ -240,4 +241,4 @@ module _ (m : Parts) where
 
 pub typed_ends : (m : Parts) (t : Typist)
     → MessageEnds (text_message (physical_cipher m)) (HasTyped m t) (10 ∷ []) (Ok tt)
-typed_ends m t bytes text held = (held.is.allowed, ap (λ l. l ++ 10 ∷ []) (text_is m t bytes text held.is))
+typed_ends m t bytes text held = (bytes_allowed 1 bytes held.is.allowed, ap (λ l. l ++ 10 ∷ []) (text_is m t bytes text held.is))

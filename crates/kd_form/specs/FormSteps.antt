@@ -1,7 +1,8 @@
 -- What `FormReader` holds after it has read some bytes of a form. No public contract cites this file.
-use Rattle.std.specs.Prelude.{codes, ◌≡◌, ◌≢◌, ◌⊎◌, ℕ, ◌<◌, ◌≤◌, List, [], ◌∷◌, ◌++◌, length, take, slice_index, All}
+use Rattle.std.specs.Prelude.{codes, ◌≡◌, ◌⊎◌, ℕ, ◌<◌, ◌≤◌, List, [], ◌∷◌, ◌++◌, length, take, slice_index, All}
 use Rattle.std.specs.Prelude.{IsTrue, Option, Some, None, Result, Ok, Err, MatchResult, MatchOption}
 use Rattle.kd_tables.specs.Text.{is_text_byte}
+use Rattle.kd_state.specs.AnswerRules.{AnswerRule, ◌>>=◌, Yields, Finds, Demands}
 use Rattle.kd_state.specs.SheetDay.{Day}
 use Rattle.kd_state.specs.LineWords.{line_of, IsFirstPart, IsWithout}
 use Rattle.kd_form.specs.declared.fault.FormFault.{FormFault}
@@ -14,8 +15,8 @@ use Rattle.kd_form.specs.declared.receiving.body_reader.PartBody.{PartBody}
 use Rattle.kd_form.specs.Part.{heading_words}
 use Rattle.kd_form.specs.Sending.{letters_from}
 use Rattle.kd_form.specs.FormParts.{BeginsHeading, IsHeading, IsLineText, cut_at_headings, parts_of}
-use Rattle.kd_form.specs.PartReading.{HasHeading, IsExpectedCount, IsBodyAnswer}
-use Rattle.kd_form.specs.FormText.{PartStart, PartsProperty, ReadsPartsTo, first_part_start, plaintext_bytes}
+use Rattle.kd_form.specs.PartReading.{PartStart, HasHeading, HasDueNumbers, IsBodyAnswer}
+use Rattle.kd_form.specs.FormText.{PartsProperty, ReadsPartsTo, first_part_start, plaintext_bytes}
 
 -- ---- the last part
 
@@ -60,8 +61,7 @@ pub record HoldsBody (s : Day) (b : PartBody) (part body : List ℕ) : Type 0 wh
 pub record HoldsPart (s : Day) (b : PartBody) (number : ℕ) (expected : Option ℕ) (part : List ℕ) : Type 0 where
   pub body : List ℕ
   pub holds : HoldsBody s b part body
-  pub numbered : b.heading.part ≡ number
-  pub as_expected : IsExpectedCount expected b.heading.parts
+  pub due : HasDueNumbers number expected b.heading
 
 abbrev pub HoldsFormStage : Day → FormStage → ℕ → Option ℕ → List ℕ → Type 0
 HoldsFormStage s (stages.Heading line) number expected part = HoldsLine line.items part × (length part < 6 → number ≡ 1)
@@ -92,18 +92,12 @@ IsEndedHeading s part found =
     ((h : Heading) (body : List ℕ) → ¬ (HasHeading s (part ++ 10 ∷ []) h body))
     (λ h. IsHeading s h × IsLineText part (line_of (heading_words h)))
 
--- `found` is the heading `h`, with the part number `number` and the expected number of parts.
-pub record IsExpectedHeading (number : ℕ) (expected : Option ℕ) (found : Option Heading) (h : Heading) : Type 0 where
-  pub is : found ≡ Some h
-  pub numbered : h.part ≡ number
-  pub as_expected : IsExpectedCount expected h.parts
-
--- Why `found` is refused: it is `None`, or its heading has a wrong part number or a wrong number of parts.
-pub data IsHeadingFault (number : ℕ) (expected : Option ℕ) (found : Option Heading) (fault : FormFault) : Type 0 where
-  HeadingMissing : found ≡ None → fault ≡ BadHeading number → IsHeadingFault number expected found fault
-  HeadingOfOther : (h : Heading) → found ≡ Some h → (h.part ≢ number) ⊎ (¬ (IsExpectedCount expected h.parts))
-      → fault ≡ PartOrder
-      → IsHeadingFault number expected found fault
+-- The answer to testing the heading `found`, which may be missing.
+abbrev pub IsHeadingAnswer : ℕ → Option ℕ → Option Heading → AnswerRule FormFault Heading
+IsHeadingAnswer number expected found = do
+  heading ← Finds (λ heading. found ≡ Some heading) (BadHeading number)
+  _ ← Demands (HasDueNumbers number expected heading) PartOrder
+  Yields heading
 
 -- ---- the form
 

@@ -1,0 +1,115 @@
+-- Items that are tested in turn: the answer for a list, from the answers for its parts.
+use Rattle.kd_form.proofs.Prelude.{◌≡◌, ℕ, ◌+◌, ◌<◌, List, [], ◌∷◌, ◌++◌, length, take, drop, get_or, Result, Ok, Err, arith}
+use Rattle.kd_form.proofs.Prelude.{subst, sym, refl, ◌∙◌, All, All-nil, All-cons, All-head, All-tail}
+use Rattle.kd_form.proofs.Prelude.{InTurn, Demands, ThenNext-Ok, GoesOn, HasFault, HasOneAnswer-ThenNext, zero, suc}
+use Rattle.kd_form.proofs.Prelude.{HasOneAnswer-Yields, take-append-drop, drop_more, length-take-le, take_more}
+use Rattle.kd_form.proofs.Prelude.{Day, Keys, IsKeysAnswer, IsByteAnswer, IsBytesAnswer, IsTrue, IsFalse, is_text_byte}
+use Rattle.kd_form.proofs.Prelude.{BadByte, false≢true}
+use Rattle.kd_form.specs.OrderSteps.{AreSuitedKeys}
+use Rattle.kd_state.specs.AnswerRules.{HasOneAnswer}
+
+-- the rule for testing one item, which has this number
+abbrev pub TurnRule : Type 0 → Type 0 → Type 1
+TurnRule F X = ℕ → X → Result (Unit {0}) F → Type 0
+
+pub HasOneAnswer-InTurn : {F X : Type 0} {Test : TurnRule F X} → ((number : ℕ) (x : X) → HasOneAnswer (Test number x))
+    → (number : ℕ) (xs : List X) → HasOneAnswer (InTurn Test number xs)
+HasOneAnswer-InTurn one number [] = HasOneAnswer-Yields tt
+HasOneAnswer-InTurn one number (x ∷ xs) =
+    HasOneAnswer-ThenNext (one number x) (λ _ _. HasOneAnswer-InTurn one (number + 1) xs)
+
+-- if the first items pass, the answer for all items is that for the rest
+pub InTurn-append : {F X : Type 0} (Test : TurnRule F X) (number : ℕ) (xs ys : List X) (v : Result (Unit {0}) F)
+    → InTurn Test number xs (Ok tt) → InTurn Test (number + length xs) ys v → InTurn Test number (xs ++ ys) v
+InTurn-append Test number [] ys v passed next = let place : number + 0 ≡ number = omega arith in rw place at next
+InTurn-append Test number (x ∷ xs) ys v passed next =
+    let first = ThenNext-Ok passed in
+    let place : number + length (x ∷ xs) ≡ number + 1 + length xs = omega arith in
+    GoesOn tt first.says (InTurn-append Test (number + 1) xs ys v first.next (rw place at next))
+
+-- more items don't change a fault
+pub InTurn-stays : {F X : Type 0} (Test : TurnRule F X) (number : ℕ) (xs ys : List X) (fault : F)
+    → InTurn Test number xs (Err fault) → InTurn Test number (xs ++ ys) (Err fault)
+InTurn-stays Test number [] ys fault none = absurd (cc)
+InTurn-stays Test number (x ∷ xs) ys fault (HasFault f a e) = HasFault f a e
+InTurn-stays Test number (x ∷ xs) ys fault (GoesOn done a next) =
+    GoesOn done a (InTurn-stays Test (number + 1) xs ys fault next)
+
+-- each item has passed the test
+pub InTurn-at : {F X : Type 0} (Test : TurnRule F X) (number : ℕ) (xs : List X) (place : ℕ) (d : X)
+    → InTurn Test number xs (Ok tt) → place < length xs → Test (number + place) (get_or xs place d) (Ok tt)
+InTurn-at Test number [] place d passed less = absurd (omega arith)
+InTurn-at Test number (x ∷ xs) zero d passed less =
+    let n : number + 0 ≡ number = omega arith in rw n (ThenNext-Ok passed).says
+InTurn-at Test number (x ∷ xs) (suc place) d passed less =
+    let n : number + suc place ≡ number + 1 + place = omega arith in
+    rw n (InTurn-at Test (number + 1) xs place d (ThenNext-Ok passed).next (omega arith))
+
+-- a fault is the fault of one item
+pub InTurn-fault : {F X : Type 0} (Test : TurnRule F X) (Q : F → Type 0)
+    → ((number : ℕ) (x : X) (fault : F) → Test number x (Err fault) → Q fault)
+    → (number : ℕ) (xs : List X) (fault : F) → InTurn Test number xs (Err fault) → Q fault
+InTurn-fault Test Q of number [] fault none = absurd (cc)
+InTurn-fault Test Q of number (x ∷ xs) fault (HasFault f is e) =
+    let same : f ≡ fault = cc in subst Q same (of number x f is)
+InTurn-fault Test Q of number (x ∷ xs) fault (GoesOn done is found) = InTurn-fault Test Q of (number + 1) xs fault found
+
+pub InTurn-one : {F X : Type 0} (Test : TurnRule F X) (number : ℕ) (x : X) (v : Result (Unit {0}) F) → Test number x v
+    → InTurn Test number (x ∷ []) v
+InTurn-one Test number x (Ok done) is = GoesOn tt is refl
+InTurn-one Test number x (Err fault) is = HasFault fault is refl
+
+-- in a loop: one more item passes, or fails
+pub turn_passes : {F X : Type 0} (Test : TurnRule F X) (xs : List X) (index : ℕ) (x : X)
+    → InTurn Test 1 (take index xs) (Ok tt) → index < length xs → get_or xs index x ≡ x → Test (index + 1) x (Ok tt)
+    → InTurn Test 1 (take (index + 1) xs) (Ok tt)
+turn_passes Test xs index x passed inside is one =
+    let place : index + 1 ≡ 1 + length (take index xs) = omega (arith, length-take-le index xs (omega arith)) in
+    rw (take_more xs index x inside, is)
+    (InTurn-append Test 1 (take index xs) (x ∷ []) (Ok tt) passed (InTurn-one Test _ x (Ok tt) (rw place at one)))
+
+pub turn_fails : {F X : Type 0} (Test : TurnRule F X) (xs : List X) (index : ℕ) (x : X) (fault : F)
+    → InTurn Test 1 (take index xs) (Ok tt) → index < length xs → get_or xs index x ≡ x
+    → Test (index + 1) x (Err fault) → InTurn Test 1 xs (Err fault)
+turn_fails Test xs index x fault passed inside is one =
+    let place : index + 1 ≡ 1 + length (take index xs) = omega (arith, length-take-le index xs (omega arith)) in
+    let whole : take index xs ++ x ∷ drop (index + 1) xs ≡ xs =
+    cc (take-append-drop index xs, drop_more xs index x inside, is) in
+    subst (λ l. InTurn Test 1 l (Err fault)) whole
+    (InTurn-append Test 1 (take index xs) (x ∷ drop (index + 1) xs) (Err fault) passed
+    (HasFault fault (rw place at one) refl))
+
+-- if the test of an item is that it has a property, then all items pass if all have the property
+pub InTurn-All : {F X : Type 0} (P : X → Type 0) (due : ℕ → F) (number : ℕ) (xs : List X) → All P xs
+    → InTurn (λ n x. Demands (P x) (due n)) number xs (Ok tt)
+InTurn-All P due number [] all = refl
+InTurn-All P due number (x ∷ xs) all =
+    GoesOn tt (All-head P x xs all) (InTurn-All P due (number + 1) xs (All-tail P x xs all))
+
+pub All-InTurn : {F X : Type 0} (P : X → Type 0) (due : ℕ → F) (number : ℕ) (xs : List X)
+    → InTurn (λ n x. Demands (P x) (due n)) number xs (Ok tt) → All P xs
+All-InTurn P due number [] passed = All-nil P
+All-InTurn P due number (x ∷ xs) passed =
+    let first = ThenNext-Ok passed in All-cons P x xs first.says (All-InTurn P due (number + 1) xs first.next)
+
+-- ---- the bytes of a text
+
+pub bytes_allowed : (position : ℕ) (text : List ℕ) → All (λ b. IsTrue (is_text_byte b)) text
+    → IsBytesAnswer position text (Ok tt)
+bytes_allowed = InTurn-All (λ b. IsTrue (is_text_byte b)) BadByte
+
+-- after allowed bytes, a byte that isn't allowed is the fault
+pub bad_behind : (position : ℕ) (front rest : List ℕ) (byte : ℕ) → All (λ b. IsTrue (is_text_byte b)) front
+    → IsFalse (is_text_byte byte) → IsBytesAnswer position (front ++ byte ∷ rest) (Err (BadByte (position + length front)))
+bad_behind position front rest byte allowed bad =
+    InTurn-append IsByteAnswer position front (byte ∷ rest) _ (bytes_allowed position front allowed)
+    (HasFault _ ((λ _ good. false≢true (sym bad ∙ good)), refl) refl)
+
+-- ---- keys
+
+-- keys that all suit the day suit it one by one
+pub suited_at : (s : Day) (keys : List Keys) (index : ℕ) (k : Keys) → AreSuitedKeys s keys → index < length keys
+    → get_or keys index k ≡ k → IsKeysAnswer s (index + 1) k (Ok tt)
+suited_at s keys index k are inside is =
+    let place : 1 + index ≡ index + 1 = omega arith in
+    rw (place, is) at (InTurn-at (IsKeysAnswer s) 1 keys index k are.suited inside)
