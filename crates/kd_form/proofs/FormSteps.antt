@@ -22,7 +22,7 @@ pub use Rattle.kd_form.proofs.Headings.{at_most, has_byte, one_heading, begins_t
 pub use Rattle.kd_form.proofs.Headings.{begins_more, first_ends, first_more, may_begin, cut_at_headings-line}
 pub use Rattle.kd_form.proofs.Headings.{cut_at_headings-whole, HasBegunHeading-snoc, not_begun, ended_heading}
 pub use Rattle.kd_form.proofs.Headings.{whole_line}
-pub use Rattle.kd_form.proofs.Turns.{bad_behind, bytes_allowed}
+pub use Rattle.kd_form.proofs.Rules.{bad_behind, bytes_allowed}
 use Rattle.kd_form.proofs.Lines.{letters_first, head_unbroken}
 pub use Rattle.kd_form.proofs.OneText.{start_of, right_content, PartContent}
 use Rattle.kd_form.proofs.OneText.{HasOneAnswer-content, read_or_refused, reads_meet, reads_then, IsAnswerAt-for_good, stays_refused}

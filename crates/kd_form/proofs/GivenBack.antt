@@ -17,7 +17,7 @@ use Rattle.kd_form.proofs.Headings.{allowed_one, at_cut, cut_behind, ended_headi
 use Rattle.kd_form.proofs.Headings.{words_begin, one_byte}
 use Rattle.kd_form.proofs.MadeParts.{pieces-next, pieces-none, more_pieces, IsPiece, GivesBack, part_gives_back}
 use Rattle.kd_form.proofs.{MadeParts.size_some, OneText.right_content}
-use Rattle.kd_form.proofs.{Lines.AreAllowed, Lines.IsWithout-plain, OneOrder.{all_of_the_day, one_order, head_is, read_is}}
+use Rattle.kd_form.proofs.{Lines.AreAllowed, Lines.IsWithout-plain, OneOrder.{all_of_the_day, one_order}, Rules.ThenNext-tested}
 
 -- -------- the body of a part as it is written: the letters that it gives, its bytes, and its lines
 
@@ -251,7 +251,7 @@ pub forms_give_their_orders : FormsGiveTheirOrders
 forms_give_their_orders s order form given legal is due =
     let read = ThenNext-Ok is in
     let (keys, head, text) : List Keys × List ℕ × List ℕ = (read.found.keys, read.found.head, read.found.text) in
-    let (order_is, suited) = head_is (read_is read.says).0 in
+    let (order_is, suited) = ThenNext-tested (ThenNext-tested read.says).0 in
     let some = ThenNext-Ok read.next in
     let counted = ThenNext-Ok some.next in
     let letters : List ℕ = text_letters s text in
@@ -281,7 +281,7 @@ orders_give_letters s order form is =
         keys = parts.keys;
         head = parts.head;
         text = parts.text;
-        is_order = (head_is (read_is (ThenNext-Ok is).says).0).0;
+        is_order = (ThenNext-tested (ThenNext-tested (ThenNext-Ok is).says).0).0;
         is = refl;
       },
     )

@@ -8,4 +8,4 @@ pub mod FormSteps
 pub mod Streaming
 pub mod OrderSteps
 pub mod GivenBack
-pub mod Turns
+pub mod Rules

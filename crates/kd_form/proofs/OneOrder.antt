@@ -10,9 +10,7 @@ pub use Rattle.kd_form.proofs.Prelude.{text_letters, Result, false≢true, FormF
 pub use Rattle.kd_form.proofs.Prelude.{InTurn, OrderParts, IsKeysAnswer, IsBytesAnswer, IsDividedAnswer, IsHeadAnswer}
 pub use Rattle.kd_form.proofs.Prelude.{IsReadAnswer, IsMadeAnswer, OrdersHaveOneAnswer, ThenNext-Ok, Yields-Ok}
 pub use Rattle.kd_form.proofs.Prelude.{OrderIsAnswered, IsOrderAnswer, MatchResult}
-use Rattle.kd_form.proofs.Prelude.{HasOneAnswer-ThenNext, HasOneAnswer-Yields, HasOneAnswer-Demands}
-use Rattle.kd_form.proofs.Prelude.{HasOneAnswer-Finds, HasOneAnswer-FindsAlways}
-use Rattle.kd_form.proofs.Turns.{HasOneAnswer-InTurn, bytes_allowed}
+use Rattle.kd_form.proofs.Rules.{one_answers, bytes_allowed}
 use Rattle.kd_state.specs.AnswerRules.{HasOneAnswer}
 use Rattle.kd_form.proofs.Lines.{same_front, plain_keys, key_first, text_front, same_line, plain_text}
 
@@ -168,45 +166,20 @@ HasOneAnswer-divided s order (Err fault) (Err other) (one, a, e) (two, b, d) =
     cc (IsOrderHeadFault-one s order one two a b)
 
 HasOneAnswer-keys : (s : Day) (part : ℕ) (k : Keys) → HasOneAnswer (IsKeysAnswer s part k)
-HasOneAnswer-keys s part (Rotor k) = HasOneAnswer-Demands _ _
-HasOneAnswer-keys s part (Pin k) = HasOneAnswer-ThenNext (HasOneAnswer-Demands _ _) (λ _ _.
-    HasOneAnswer-ThenNext (HasOneAnswer-Finds _ (one_internal_key (enciphered_choice s k)))
-    (λ _ _. HasOneAnswer-Yields tt))
-
--- what is read, if all steps succeed
-pub head_is : {s : Day} {order : List ℕ} {parts : OrderParts} → IsHeadAnswer s order (Ok parts)
-    → IsOrder s order parts.keys parts.head parts.text × InTurn (IsKeysAnswer s) 1 parts.keys (Ok tt)
-head_is is =
-    let divided = ThenNext-Ok is in
-    let suited = ThenNext-Ok divided.next in
-    rw (Yields-Ok suited.next) (divided.says, suited.says)
-
-pub read_is : {s : Day} {order : List ℕ} {parts : OrderParts} → IsReadAnswer s order (Ok parts)
-    → IsHeadAnswer s order (Ok parts) × IsBytesAnswer (length parts.head + 1) parts.text (Ok tt)
-read_is is =
-    let head = ThenNext-Ok is in
-    let allowed = ThenNext-Ok head.next in
-    rw (Yields-Ok allowed.next) (head.says, allowed.says)
+HasOneAnswer-keys s part (Rotor k) = search one_answers
+HasOneAnswer-keys s part (Pin k) = search (one_answers, one_internal_key)
 
 pub HasOneAnswer-bytes : (position : ℕ) (text : List ℕ) → HasOneAnswer (IsBytesAnswer position text)
-HasOneAnswer-bytes = HasOneAnswer-InTurn (λ _ _. HasOneAnswer-Demands _ _)
+HasOneAnswer-bytes position text = search one_answers
 
 pub HasOneAnswer-head : (s : Day) (order : List ℕ) → HasOneAnswer (IsHeadAnswer s order)
-HasOneAnswer-head s order = HasOneAnswer-ThenNext (HasOneAnswer-divided s order) (λ x _.
-    HasOneAnswer-ThenNext (HasOneAnswer-InTurn (HasOneAnswer-keys s) 1 x.keys) (λ _ _. HasOneAnswer-Yields x))
+HasOneAnswer-head s order = search (one_answers, HasOneAnswer-divided, HasOneAnswer-keys)
 
 pub HasOneAnswer-read : (s : Day) (order : List ℕ) → HasOneAnswer (IsReadAnswer s order)
-HasOneAnswer-read s order = HasOneAnswer-ThenNext (HasOneAnswer-head s order) (λ x _.
-    HasOneAnswer-ThenNext (HasOneAnswer-bytes (length x.head + 1) x.text) (λ _ _. HasOneAnswer-Yields x))
-
-HasOneAnswer-form : (s : Day) (keys : List Keys) (letters : List ℕ) → HasOneAnswer (IsMadeAnswer s keys letters)
-HasOneAnswer-form s keys letters = HasOneAnswer-ThenNext (HasOneAnswer-Demands _ _) (λ _ _.
-    HasOneAnswer-ThenNext (HasOneAnswer-Demands _ _) (λ _ _.
-    HasOneAnswer-FindsAlways (one_form s 1 (length keys) keys (pieces (part_size s) letters))))
+HasOneAnswer-read s order = search (one_answers, HasOneAnswer-head)
 
 pub orders_have_one_answer : OrdersHaveOneAnswer
-orders_have_one_answer s order = HasOneAnswer-ThenNext (HasOneAnswer-read s order)
-    (λ x _. HasOneAnswer-form s x.keys (text_letters s x.text))
+orders_have_one_answer s order = search (one_answers, HasOneAnswer-read, one_form) depth 9
 
 pub order_answered : (s : Day) (order : List ℕ) (v : Result (Unit {0}) FormFault)
     → MatchResult v (λ _. (form : List ℕ) × IsOrderAnswer s order (Ok form)) (λ fault. IsOrderAnswer s order (Err fault))

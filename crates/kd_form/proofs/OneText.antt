@@ -16,7 +16,8 @@ pub use Rattle.kd_form.proofs.Prelude.{IsStreamAnswer, KeepFailureFlags, is_devi
 pub use Rattle.kd_form.proofs.Prelude.{FormsHaveOneAnswer, FormsStayRefused, plaintext_with_end, false≢true}
 pub use Rattle.kd_form.proofs.Prelude.{Keys, Rotor, Pin, IsKeysAnswer, IsBytesAnswer, IsReadAnswer, IsMadeAnswer}
 pub use Rattle.kd_form.proofs.Prelude.{IsOrderAnswer, IsByteAnswer, Message}
-use Rattle.kd_form.proofs.Turns.{InTurn-fault, bytes_allowed}
+use Rattle.kd_form.proofs.{Rules.{bytes_allowed, FaultsAre, faults, one_answers}}
+use Rattle.kd_form.proofs.Prelude.{IsDividedAnswer}
 use Rattle.kd_form.proofs.OneOrder.{one_internal_key, HasOneAnswer-bytes}
 pub use Rattle.kd_form.proofs.Prelude.{HasDueNumbers, HasOneAnswer, Demands, PartContent, ReadPart, IsContentAnswer, IsPartAnswer}
 use Rattle.kd_form.proofs.Headings.{one_heading, begins_there, begins_more, first_there, ended_heading, heading_there}
@@ -26,14 +27,8 @@ use Rattle.kd_form.proofs.Headings.{IsAlike, cut_at_headings-IsAlike, as_parts, 
 
 HasOneAnswer-letters : (s : Day) (part : ℕ) (i : Option Indicator) (letters : List ℕ)
     → HasOneAnswer (IsLettersAnswer s part i letters)
-HasOneAnswer-letters s part (Some i) letters =
-    HasOneAnswer-ThenNext (HasOneAnswer-Demands _ _) (λ _ _. HasOneAnswer-Yields _)
-HasOneAnswer-letters s part None letters =
-    HasOneAnswer-ThenNext (HasOneAnswer-Demands _ _) (λ _ _.
-    HasOneAnswer-ThenNext (HasOneAnswer-Demands _ _) (λ _ _.
-    HasOneAnswer-ThenNext (HasOneAnswer-Demands _ _) (λ _ _.
-    HasOneAnswer-ThenNext (HasOneAnswer-Finds _ (one_internal_key (enciphered_choice s (keys_of_body letters))))
-    (λ _ _. HasOneAnswer-Yields _))))
+HasOneAnswer-letters s part (Some i) letters = search one_answers depth 9
+HasOneAnswer-letters s part None letters = search (one_answers, one_internal_key) depth 12
 
 -- the start of a part
 abbrev pub start_of : ℕ → Option ℕ → ℕ → PartStart
@@ -55,9 +50,7 @@ HasOneAnswer-content s p part =
     HasOneAnswer-ThenNext (HasOneAnswer-bytes _ x.body) (λ _ _. HasOneAnswer-Yields x)))
 
 HasOneAnswer-part : (s : Day) (p : PartStart) (part : List ℕ) → HasOneAnswer (IsPartAnswer s p part)
-HasOneAnswer-part s p part = HasOneAnswer-ThenNext (HasOneAnswer-content s p part) (λ x _.
-    HasOneAnswer-ThenNext (HasOneAnswer-ThenNext (HasOneAnswer-Demands _ _) (λ _ _.
-    HasOneAnswer-letters s p.number x.heading.indicator (letters_from None x.body))) (λ _ _. HasOneAnswer-Yields _))
+HasOneAnswer-part s p part = search (one_answers, HasOneAnswer-content, HasOneAnswer-letters)
 
 -- -------- parts that are read
 
@@ -179,32 +172,47 @@ refused_after s form text fault (AtPart (letters, reads, is)) =
 
 -- -------- answers whose reason is a device or the machine
 
-abbrev IsOfMessages : FormFault → Type 0
-IsOfMessages fault = (is_device (Err fault) ≡ false) × (is_off_key (Err fault) ≡ false)
+-- the fault is neither `Device` nor `NotReady` nor `NotOnKey`
+pub record IsOfMessages (fault : FormFault) : Type 0 where
+  pub no_device : is_device (Err fault) ≡ false
+  pub no_machine : is_off_key (Err fault) ≡ false
 
-keys_refused : (s : Day) (part : ℕ) (k : Keys) (fault : FormFault) → IsKeysAnswer s part k (Err fault)
+divided_faults : (s : Day) (order : List ℕ) → FaultsAre IsOfMessages (IsDividedAnswer s order)
+divided_faults s order = record { are = λ fault (position, at, is). rw is search }
+
+keys_faults : (s : Day) (part : ℕ) (k : Keys) → FaultsAre IsOfMessages (IsKeysAnswer s part k)
+keys_faults s part (Rotor k) = search faults
+keys_faults s part (Pin k) = search faults
+
+letters_faults : (s : Day) (part : ℕ) (i : Option Indicator) (letters : List ℕ)
+    → FaultsAre IsOfMessages (IsLettersAnswer s part i letters)
+letters_faults s part (Some i) letters = search faults
+letters_faults s part None letters = search faults depth 9
+
+pub bytes_faults : (position : ℕ) (text : List ℕ) → FaultsAre IsOfMessages (IsBytesAnswer position text)
+bytes_faults position text = search faults
+
+read_faults : (s : Day) (order : List ℕ) → FaultsAre IsOfMessages (IsReadAnswer s order)
+read_faults s order = search (faults, divided_faults, keys_faults, bytes_faults)
+
+order_faults : (s : Day) (order : List ℕ) → FaultsAre IsOfMessages (IsOrderAnswer s order)
+order_faults s order = search (faults, read_faults)
+
+part_faults : (s : Day) (p : PartStart) (part : List ℕ) → FaultsAre IsOfMessages (IsPartAnswer s p part)
+part_faults s p part = search (faults, bytes_faults, letters_faults)
+
+parts_refused : (s : Day) (fault : FormFault) (p : PartStart) (parts : List (List ℕ)) (letters : List ℕ)
+    → ReadsPartsTo s (IsAnswerAt s (Err fault)) p parts letters → IsOfMessages fault
+parts_refused s fault p [] letters ((count, expected, answer), none) = rw answer.1 search
+parts_refused s fault p (part ∷ parts) letters (inl ((f, found, is), none)) =
+    let same : fault ≡ f = cc in rw same ((part_faults s p part).are f found)
+parts_refused s fault p (part ∷ parts) letters (inr (read, more, is, rest, joined)) =
+    parts_refused s fault (next_part_start p read.parts part) parts more rest
+
+refused_form : (s : Day) (form text : List ℕ) (fault : FormFault) → IsAnswerAfter s form text (Err fault)
     → IsOfMessages fault
-keys_refused s part (Rotor k) fault told = grind arith
-keys_refused s part (Pin k) fault told = grind arith
-
-pub bytes_refused : (position : ℕ) (text : List ℕ) (fault : FormFault) → IsBytesAnswer position text (Err fault)
-    → IsOfMessages fault
-bytes_refused = InTurn-fault IsByteAnswer IsOfMessages (λ position byte fault told. grind arith)
-
-read_refused : (s : Day) (order : List ℕ) (fault : FormFault) → IsReadAnswer s order (Err fault) → IsOfMessages fault
-read_refused s order fault told =
-    grind (arith, InTurn-fault (IsKeysAnswer s) IsOfMessages (keys_refused s) 1, bytes_refused)
-
-form_refused : (s : Day) (keys : List Keys) (letters : List ℕ) (fault : FormFault)
-    → IsMadeAnswer s keys letters (Err fault) → IsOfMessages fault
-form_refused s keys letters fault told = grind arith
-
--- a fault of an order is neither `Device` nor `NotReady` nor `NotOnKey`
-order_refused : (s : Day) (order : List ℕ) (fault : FormFault) → IsOrderAnswer s order (Err fault)
-    → IsOfMessages fault
-order_refused s order fault (HasFault f read e) =
-    let same : fault ≡ f = cc in rw same (read_refused s order f read)
-order_refused s order fault (GoesOn parts read told) = form_refused s parts.keys _ fault told
+refused_form s form text fault (letters, reads, is) =
+    parts_refused s fault first_part_start (parts_of form) letters reads
 
 -- if no fault of the messages is `Device`, `NotReady` or `NotOnKey`, a device failed exactly if the answer says so, and
 -- the machine isn't the reason for the answer
@@ -220,42 +228,7 @@ pub FailureAgrees-order : (s : Day) (source sink : Port) (read text : List ℕ) 
     → FailureAgrees source sink (is_device answer) × (is_off_key answer ≡ false)
 FailureAgrees-order s source sink read text answer =
     FailureAgrees-answer (order_message s) source sink read text answer
-    (λ fault good. read_refused s read fault good.found) (order_refused s read)
-
--- a fault of a body's letters, or of a whole body, is neither `Device` nor `NotReady` nor `NotOnKey`
-letters_refused : (s : Day) (part : ℕ) (i : Option Indicator) (letters : List ℕ) (fault : FormFault)
-    → IsLettersAnswer s part i letters (Err fault) → IsOfMessages fault
-letters_refused s part (Some i) letters fault told = grind arith
-letters_refused s part None letters fault told = grind arith
-
-body_refused : (s : Day) (number : ℕ) (h : Heading) (letters : List ℕ) (fault : FormFault)
-    → IsBodyAnswer s number h letters (Err fault) → IsOfMessages fault
-body_refused s number h letters fault told = grind (arith, letters_refused)
-
-content_refused : (s : Day) (p : PartStart) (part : List ℕ) (fault : FormFault)
-    → IsContentAnswer s p part (Err fault) → IsOfMessages fault
-content_refused s p part fault told = grind (arith, bytes_refused)
-
-part_refused : (s : Day) (p : PartStart) (part : List ℕ) (fault : FormFault) → IsPartAnswer s p part (Err fault)
-    → IsOfMessages fault
-part_refused s p part fault (HasFault f content e) =
-    let same : fault ≡ f = cc in rw same (content_refused s p part f content)
-part_refused s p part fault (GoesOn x content (HasFault f told e)) =
-    let same : fault ≡ f = cc in rw same (body_refused s p.number x.heading _ f told)
-part_refused s p part fault (GoesOn x content (GoesOn letters told e)) = absurd (cc)
-
-parts_refused : (s : Day) (fault : FormFault) (p : PartStart) (parts : List (List ℕ)) (letters : List ℕ)
-    → ReadsPartsTo s (IsAnswerAt s (Err fault)) p parts letters → IsOfMessages fault
-parts_refused s fault p [] letters ((count, expected, answer), none) = grind arith
-parts_refused s fault p (part ∷ parts) letters (inl ((f, found, is), none)) =
-    let same : fault ≡ f = cc in rw same (part_refused s p part f found)
-parts_refused s fault p (part ∷ parts) letters (inr (read, more, is, rest, joined)) =
-    parts_refused s fault (next_part_start p read.parts part) parts more rest
-
-refused_form : (s : Day) (form text : List ℕ) (fault : FormFault) → IsAnswerAfter s form text (Err fault)
-    → IsOfMessages fault
-refused_form s form text fault (letters, reads, is) =
-    parts_refused s fault first_part_start (parts_of form) letters reads
+    (λ fault good. (read_faults s read).are fault good.found) (order_faults s read).are
 
 pub FailureAgrees-form : (s : Day) (source sink : Port) (read text : List ℕ) (answer : Result (Unit {0}) FormFault)
     → IsStreamAnswer (form_message s) source sink read text answer

@@ -22,10 +22,12 @@ use Rattle.kd_form.specs.declared.sending.order_reader.{OrderReader.OrderReader,
 pub use Rattle.kd_form.proofs.MadeParts.{pieces-next, pieces-none, size_some}
 use Rattle.kd_form.proofs.Lines.{length-filled, as_form_line, key_first, lines_more, same_line, text_front, text_line}
 use Rattle.kd_form.proofs.Lines.{IsPlain, letters_first, plain_keys, plain_text}
-pub use Rattle.kd_form.proofs.OneOrder.{Shorter, Longer, all_of_the_day, prefixes, HasOneAnswer-read, head_is, read_is}
+pub use Rattle.kd_form.proofs.OneOrder.{Shorter, Longer, all_of_the_day, prefixes, HasOneAnswer-read}
 pub use Rattle.kd_form.proofs.OneOrder.{BeginsWithKeys-append}
-use Rattle.kd_form.proofs.Turns.{InTurn-append, InTurn-stays, InTurn-one, InTurn-fault, All-InTurn}
-use Rattle.kd_form.specs.declared.sending.pattern_line.PatternFault.TheVariants as faults
+use Rattle.kd_form.proofs.Rules.{InTurn-stays, FaultsAre, FaultsAre-InTurn, FaultsAre-Finds, FaultsAre-ThenNext}
+use Rattle.kd_form.proofs.Rules.{FaultsAre-Yields, ThenNext-tested, ThenNext-stays}
+use Rattle.kd_form.proofs.Rules.{ThenNext-first, bytes_allowed, bad_behind}
+use Rattle.kd_form.specs.declared.sending.pattern_line.PatternFault.TheVariants as patterns
 use Rattle.kd_form.specs.declared.sending.order_reader.OrderStage.TheVariants as stages
 use Rattle.kd_form.specs.SendStream as stream
 
@@ -83,15 +85,15 @@ module _ (s : Day) (count : ℕ) where
   -- if the first byte is P, only a line of keys can begin with the bytes
   pub next_keys : (line : List ℕ) (why : PatternFault) → get_or line 0 0 ≡ 80 → count < 99
       → IsPatternFault (IsAnyKeyLine s) line why → IsPatternFault (IsHeadLine s count) line why
-  next_keys line faults.Incomplete first room (more, some, key) = (more, some, inl (key, room))
-  next_keys [] faults.Mismatch first room off = absurd (omega (arith, first))
-  next_keys (byte ∷ line) faults.Mismatch first room off = grind (arith, off, text_front)
+  next_keys line patterns.Incomplete first room (more, some, key) = (more, some, inl (key, room))
+  next_keys [] patterns.Mismatch first room off = absurd (omega (arith, first))
+  next_keys (byte ∷ line) patterns.Mismatch first room off = grind (arith, off, text_front)
 
   pub next_text : (line : List ℕ) (why : PatternFault) → (get_or line 0 0 ≡ 80 → 99 ≤ count)
       → IsPatternFault (IsPatternLine (codes "TEXT")) line why → IsPatternFault (IsHeadLine s count) line why
-  next_text line faults.Incomplete full (more, some, (letters, text)) = (more, some, inr text.ended)
-  next_text [] faults.Mismatch full off = absurd (off (codes "TEXT\n") (text_line (codes "TEXT\n") (inl refl)))
-  next_text (byte ∷ line) faults.Mismatch full off = λ more next. elim next [
+  next_text line patterns.Incomplete full (more, some, (letters, text)) = (more, some, inr text.ended)
+  next_text [] patterns.Mismatch full off = absurd (off (codes "TEXT\n") (text_line (codes "TEXT\n") (inl refl)))
+  next_text (byte ∷ line) patterns.Mismatch full off = λ more next. elim next [
     | inl key ↦ omega (arith, key.1, full (key_first key.0.keys (byte ∷ line ++ more) [] key.0.keyed))
     | inr text ↦ off more (text_line (byte ∷ line ++ more) text)
   ]
@@ -109,8 +111,8 @@ module _ (s : Day) (count : ℕ) where
 
   -- if bytes are a proper prefix of a line of a head, but no such line begins with them and `byte`, then
   -- nothing that begins with them and `byte` begins with such a line
-  pub no_next : (line other one left : List ℕ) (byte : ℕ) → IsPatternFault (IsHeadLine s count) line faults.Incomplete
-      → IsPatternFault (IsHeadLine s count) (line ++ byte ∷ []) faults.Mismatch → IsHeadLine s count one
+  pub no_next : (line other one left : List ℕ) (byte : ℕ) → IsPatternFault (IsHeadLine s count) line patterns.Incomplete
+      → IsPatternFault (IsHeadLine s count) (line ++ byte ∷ []) patterns.Mismatch → IsHeadLine s count one
       → ¬ (line ++ byte ∷ other ≡ one ++ left)
   no_next line other one left byte (more, some, next) off is same = elim (prefixes line (byte ∷ other) one left same) [
     | Shorter [] longer left ↦ some (next_whole more is (rw (longer, append-nil line) next))
@@ -140,7 +142,7 @@ module _ {s : Day} {keys : List Keys} {line order : List ℕ} (is : IsHeadBegun 
       → BeginsWithKeys s (keys ++ k ∷ []) Q (order ++ (more ++ end))
   one_more Q k more end are keyed holds = grind (arith, lines_more, append_assoc)
 
-  pub goes_on : IsPatternFault (IsAnyOrderHead s) order faults.Incomplete
+  pub goes_on : IsPatternFault (IsAnyOrderHead s) order patterns.Incomplete
   goes_on = let (more, some, next) = is.begins in elim next [
     | inl (key, room) ↦
         let text : List ℕ = codes "TEXT\n" in
@@ -154,21 +156,25 @@ module _ {s : Day} {keys : List Keys} {line order : List ℕ} (is : IsHeadBegun 
   head_cut = grind (arith, append-nil, goes_on)
 
   -- a byte with which the line can go on leaves the head open
-  pub head_open : (byte : ℕ) → IsPatternFault (IsHeadLine s (length keys)) (line ++ byte ∷ []) faults.Incomplete
+  pub head_open : (byte : ℕ) → IsPatternFault (IsHeadLine s (length keys)) (line ++ byte ∷ []) patterns.Incomplete
       → IsHeadBegun s keys (line ++ byte ∷ []) (order ++ byte ∷ [])
   head_open byte begins = grind (arith, append-nil keys, lines_more)
 
 -- -------- the faults that the reader of an order has found, and what is sent by then
 
 -- a fault of keys isn't `BadByte`
-keys_fault : (s : Day) (part : ℕ) (k : Keys) (position : ℕ) (fault : FormFault) → IsKeysAnswer s part k (Err fault)
-    → fault ≢ BadByte position
-keys_fault s part (Rotor k) position fault found same = cc
-keys_fault s part (Pin k) position fault found same = grind arith
+keys_faults : (s : Day) (position part : ℕ) (k : Keys) → FaultsAre (λ f. f ≢ BadByte position) (IsKeysAnswer s part k)
+keys_faults s position part (Rotor k) = FaultsAre-Finds (λ same. cc)
+keys_faults s position part (Pin k) = FaultsAre-ThenNext (FaultsAre-Finds (λ same. cc)) (λ _.
+    FaultsAre-ThenNext (FaultsAre-Finds (λ same. cc)) (λ _. FaultsAre-Yields))
 
 pub letters_few : (for_space : Option ℕ) (text : List ℕ) → length (letters_from for_space text) ≤ length text
 letters_few for_space [] = omega arith
 letters_few for_space (byte ∷ text) = grind (arith, letters_first, letters_few for_space text, length-append)
+
+-- the same parts, but more text
+abbrev longer : List ℕ → OrderParts → OrderParts
+longer more parts = record parts { text = parts.text ++ more }
 
 module _ {s : Day} where
   pub IsOrder-append : {order head text : List ℕ} {keys : List Keys} (more : List ℕ) → IsOrder s order keys head text
@@ -189,30 +195,25 @@ module _ {s : Day} where
         fault.stops byte (drop 1 fault.rest) beyond (grind arith);
   }
 
-  -- ---- a fault stays, and a right order goes on
+  -- ---- a fault stays
+
+  head_right : {order : List ℕ} {parts : OrderParts} → IsOrder s order parts.keys parts.head parts.text
+      → InTurn (IsKeysAnswer s) 1 parts.keys (Ok tt) → IsHeadAnswer s order (Ok parts)
+  head_right {parts = parts} is suited = GoesOn parts is (GoesOn tt suited refl)
 
   head_stays : {order : List ℕ} {fault : FormFault} (more : List ℕ)
       → ((position : ℕ) → fault ≡ BadByte position → position ≤ length order) → IsHeadAnswer s order (Err fault)
       → IsHeadAnswer s (order ++ more) (Err fault)
-  head_stays more inside (HasFault f (position, at, is) e) =
-      HasFault f (position, IsOrderHeadFault-append more at (inside position (cc)), is) e
-  head_stays more inside (GoesOn parts is (HasFault f found e)) =
-      GoesOn (record parts { text = parts.text ++ more }) (IsOrder-append more is) (HasFault f found e)
-  head_stays more inside (GoesOn parts is (GoesOn done suited e)) = absurd (cc)
-
-  head_more : {order : List ℕ} {parts : OrderParts} (more : List ℕ) → IsHeadAnswer s order (Ok parts)
-      → IsHeadAnswer s (order ++ more) (Ok (record parts { text = parts.text ++ more }))
-  head_more more read = let (is, suited) = head_is read in GoesOn _ (IsOrder-append more is) (GoesOn tt suited refl)
+  head_stays more inside = ThenNext-stays (longer more)
+      (λ (position, at, is). (position, IsOrderHeadFault-append more at (inside position is), is))
+      (λ parts is found. (IsOrder-append more is, ThenNext-first (λ unsuited. unsuited) found))
 
   read_stays : {order : List ℕ} {fault : FormFault} (more : List ℕ)
       → ((position : ℕ) → fault ≡ BadByte position → position ≤ length order) → IsReadAnswer s order (Err fault)
       → IsReadAnswer s (order ++ more) (Err fault)
-  read_stays more inside (HasFault f head e) =
-      HasFault f (head_stays more (λ position is. inside position (cc)) head) e
-  read_stays more inside (GoesOn parts head (HasFault f bad e)) =
-      GoesOn (record parts { text = parts.text ++ more }) (head_more more head)
-      (HasFault f (InTurn-stays _ _ parts.text more f bad) e)
-  read_stays more inside (GoesOn parts head (GoesOn done allowed e)) = absurd (cc)
+  read_stays more inside = ThenNext-stays (longer more) (head_stays more inside) (λ parts head found.
+      let (is, suited) = ThenNext-tested head in
+      (head_right (IsOrder-append more is) suited, ThenNext-first (InTurn-stays _ _ parts.text more _) found))
 
   pub IsOrderFaultForGood-append : {order : List ℕ} {fault : FormFault} (more : List ℕ)
       → IsOrderFaultForGood s order fault → IsOrderFaultForGood s (order ++ more) fault
@@ -237,56 +238,42 @@ module _ {s : Day} where
       HasFaultForGood-order (record { found = HasFault fault head refl; inside = inside })
       (λ more. stream.NothingSent fault (head_stays more inside head) nothing)
 
-  -- the answer to one more byte of the text
-  pub next_byte : {order : List ℕ} {parts : OrderParts} (byte : ℕ) (answer : Result (Unit {0}) FormFault)
-      → IsReadAnswer s order (Ok parts) → IsByteAnswer (length order + 1) byte answer
-      → IsBytesAnswer (length parts.head + 1) (parts.text ++ byte ∷ []) answer
-  next_byte {order} {parts} byte answer read told =
-      let (head, allowed) = read_is read in
-      let joined = (head_is head).0.joined in
-      let place : length order + 1 ≡ length parts.head + 1 + length parts.text =
-      omega (arith, ap length joined, length-append parts.head parts.text) in
-      InTurn-append IsByteAnswer (length parts.head + 1) parts.text (byte ∷ []) answer allowed
-      (InTurn-one IsByteAnswer _ byte answer (rw place at told))
-
-  pub read_more : {order : List ℕ} {parts : OrderParts} (byte : ℕ) → IsReadAnswer s order (Ok parts)
-      → IsTrue (is_text_byte byte)
-      → IsReadAnswer s (order ++ byte ∷ []) (Ok (record parts { text = parts.text ++ byte ∷ [] }))
-  read_more byte read allowed =
-      GoesOn _ (head_more (byte ∷ []) (read_is read).0) (GoesOn tt (next_byte byte (Ok tt) read allowed) refl)
-
   -- ---- how far the reader has read
 
-  text_sent : {keys : List Keys} {w : PartWriter} {order sent : List ℕ} → HoldsOrderText s keys w order sent
-      → (more : List ℕ) → ((byte : ℕ) (after : List ℕ) → more ≡ byte ∷ after → IsFalse (is_text_byte byte))
-      → IsSentBeforeEnd s (order ++ more) sent
-  text_sent text more bad =
-      let (head, allowed) = read_is text.read in
-      stream.TextBegun _ text.text _ (head_more more head) (record {
-        rest = more;
-        joined = refl;
-        allowed = All-InTurn _ _ _ text.text allowed;
-        ends = bad;
-      }) text.taken.written text.taken.made
+  module _ {keys : List Keys} {w : PartWriter} {order sent : List ℕ} (text : HoldsOrderText s keys w order sent) where
+    -- the order with more bytes has the same keys, and its text goes on with these bytes
+    head_held : (more : List ℕ)
+        → IsHeadAnswer s (order ++ more) (Ok (record { keys = keys; head = text.head; text = text.text ++ more }))
+    head_held more = head_right (IsOrder-append more text.is_order) text.taken.suited.suited
 
-  text_sent_yet : {keys : List Keys} {w : PartWriter} {order sent : List ℕ} → HoldsOrderText s keys w order sent
-      → IsSentBeforeEnd s order sent
-  text_sent_yet {order = order} {sent = sent} text =
-      subst (λ o. IsSentBeforeEnd s o sent) (append-nil order) (text_sent text [] (λ byte after none. absurd (cc)))
+    read_held : IsReadAnswer s order (Ok (record { keys = keys; head = text.head; text = text.text }))
+    read_held =
+        GoesOn _ (head_right text.is_order text.taken.suited.suited) (GoesOn tt (bytes_allowed _ text.text text.allowed) refl)
 
-  -- a byte that isn't allowed refuses the order for good
-  pub HasFaultForGood-text : {keys : List Keys} {w : PartWriter} {order sent : List ℕ} (byte : ℕ)
-      → HoldsOrderText s keys w order sent → IsFalse (is_text_byte byte)
-      → HasFaultForGood (order_message s) (order ++ byte ∷ []) sent (BadByte (length order + 1))
-  HasFaultForGood-text {order = order} {sent = sent} byte text bad =
-      let fault = next_byte byte (Err _) text.read ((λ _ good. false≢true (sym bad ∙ good)), refl) in
-      HasFaultForGood-order (record {
-        found = GoesOn _ (head_more (byte ∷ []) (read_is text.read).0) (HasFault _ fault refl);
-        inside = λ position is.
-            let same : length order + 1 ≡ position = cc in omega (arith, length-append order (byte ∷ []));
-      })
-      (λ more. subst (λ o. IsSentBeforeEnd s o sent) (sym (append_assoc order (byte ∷ []) more))
-      (text_sent text (byte ∷ more) (λ other after same. grind arith)))
+    text_sent : (more : List ℕ) → ((byte : ℕ) (after : List ℕ) → more ≡ byte ∷ after → IsFalse (is_text_byte byte))
+        → IsSentBeforeEnd s (order ++ more) sent
+    text_sent more bad =
+        stream.TextBegun _ text.text _ (head_held more)
+        (record { rest = more; joined = refl; allowed = text.allowed; ends = bad }) text.taken.written text.taken.made
+
+    text_sent_yet : IsSentBeforeEnd s order sent
+    text_sent_yet =
+        subst (λ o. IsSentBeforeEnd s o sent) (append-nil order) (text_sent [] (λ byte after none. absurd (cc)))
+
+    -- a byte that isn't allowed refuses the order for good
+    pub HasFaultForGood-text : (byte : ℕ) → IsFalse (is_text_byte byte)
+        → HasFaultForGood (order_message s) (order ++ byte ∷ []) sent (BadByte (length order + 1))
+    HasFaultForGood-text byte bad =
+        let place : length order + 1 ≡ length text.head + 1 + length text.text =
+        omega (arith, ap length text.is_order.joined, length-append text.head text.text) in
+        let fault = rw (← place) at (bad_behind (length text.head + 1) text.text [] byte text.allowed bad) in
+        HasFaultForGood-order (record {
+          found = GoesOn _ (head_held (byte ∷ [])) (HasFault _ fault refl);
+          inside = λ position is.
+              let same : length order + 1 ≡ position = cc in omega (arith, length-append order (byte ∷ []));
+        })
+        (λ more. subst (λ o. IsSentBeforeEnd s o sent) (sym (append_assoc order (byte ∷ []) more))
+        (text_sent (byte ∷ more) (λ other after same. grind arith)))
 
   open_yet : (stage : OrderStage) (h : HeadReader) (w : PartWriter) (order sent : List ℕ)
       → HoldsOrderStage s stage h w order sent → IsOpen (order_message s) order sent
@@ -299,7 +286,7 @@ module _ {s : Day} where
         written = stream.NothingSent _ cut nothing;
       }
   open_yet stages.Text h w order sent text = record {
-    unrefused = λ fault good. let clash = HasOneAnswer-read s order (Ok _) (Err fault) text.read good.found in cc;
+    unrefused = λ fault good. let clash = HasOneAnswer-read s order (Ok _) (Err fault) (read_held text) good.found in cc;
     written = text_sent_yet text;
   }
 
@@ -323,7 +310,8 @@ module _ {s : Day} where
         stage = rw here (record {
           head = order;
           text = [];
-          read = GoesOn _ (GoesOn _ is (GoesOn tt suited refl)) (GoesOn tt refl refl);
+          is_order = is;
+          allowed = All-nil (λ b. IsTrue (is_text_byte b));
           taken = record {
             suited = record {
               of_the_day = all_of_the_day _ s _ order is.is_head.lines;
@@ -339,8 +327,7 @@ module _ {s : Day} where
       })
   text_begins r {order} (Err fault) here size is fresh none nil found =
       HasFaultForGood-head (GoesOn _ is (HasFault fault found refl))
-      (λ position same. absurd (InTurn-fault (IsKeysAnswer s) (λ f. f ≢ BadByte position)
-      (λ part k f is. keys_fault s part k position f is) 1 r.head.keys.items fault found same)) none
+      (λ position same. absurd ((FaultsAre-InTurn (keys_faults s position) 1 r.head.keys.items).are fault found same)) none
 
   -- an order that ends within its head
   pub IsMessageAnswer-head_cut : {keys : List Keys} {line order sent made : List ℕ} {read : ℕ}
@@ -355,9 +342,9 @@ module _ {s : Day} where
       (text : HoldsOrderText s keys w order sent) (made : List ℕ) (answer : Result (Unit {0}) FormFault)
       → IsTextEndAnswer s keys (text_letters s text.text) sent made answer
       → IsMessageAnswer (order_message s) order (sent ++ made) answer
-  IsMessageAnswer-order text made (Ok done) told = GoesOn _ text.read told
+  IsMessageAnswer-order text made (Ok done) told = GoesOn _ (read_held text) told
   IsMessageAnswer-order {sent = sent} text made (Err fault) (told, nothing) =
-      (GoesOn _ text.read told, rw (nothing, append-nil sent) (text_sent_yet text))
+      (GoesOn _ (read_held text) told, rw (nothing, append-nil sent) (text_sent_yet text))
 
 pub counted_on : {read : ℕ} (order : List ℕ) (byte : ℕ) → read ≡ length order → read + 1 ≡ length (order ++ byte ∷ [])
 counted_on order byte is = ap (λ n. n + 1) is ∙ sym (length-append order (byte ∷ []))

@@ -16,7 +16,7 @@ pub use Rattle.kd_form.proofs.Prelude.{IsAllowedUpTo, HasTyped, take_more, rules
 pub use Rattle.kd_form.proofs.Prelude.{typed_letters, false≢true, NotReady, FaultBefore}
 pub use Rattle.std.proofs.KnownBytes.{Consumes-nil, Consumes-kept, Consumes-trans, Appends-nil, Appends-trans}
 pub use Rattle.std.proofs.KnownBytes.{starts_with_rest}
-use Rattle.{kd_form.proofs.OneOrder.no_bad_byte, kd_form.proofs.Turns.{bad_behind, bytes_allowed}, std.specs.Io.StartsWith}
+use Rattle.{kd_form.proofs.OneOrder.no_bad_byte, kd_form.proofs.Rules.{bad_behind, bytes_allowed}, std.specs.Io.StartsWith}
 use Rattle.kd_form.specs.{StreamSteps.IsEndAnswer as MessageEnds}
 use Rattle.kd_form.specs.{declared.{stream.interruption.Interruption.Interruption, typing.Typist.Typist}}
 use Rattle.kd_form.specs.declared.stream.interruption.Interruption.TheVariants as stops

@@ -1,6 +1,7 @@
 -- What `OrderReader` holds after it has read some bytes of an order. No public contract cites this file.
 use Rattle.std.specs.Prelude.{codes, ◌≡◌, ◌⊎◌, Result, Ok, Err, ℕ, ◌*◌, ◌<◌, ◌≤◌, List, [], ◌++◌, length, take}
-use Rattle.std.specs.Prelude.{drop, All}
+use Rattle.std.specs.Prelude.{drop, All, IsTrue}
+use Rattle.kd_tables.specs.Text.{is_text_byte}
 use Rattle.kd_state.specs.SheetDay.{Day}
 use Rattle.kd_form.specs.declared.fault.FormFault.{FormFault}
 use Rattle.kd_form.specs.declared.keys.Keys.{Keys}
@@ -18,7 +19,7 @@ use Rattle.kd_form.specs.PartMaking.{IsKeysAnswer, part_size}
 use Rattle.kd_form.specs.InTurn.{InTurn}
 use Rattle.kd_form.specs.Order.{BeginsWithKeys, IsPatternFault, IsLineWithEnd, IsOrderHeadFault, IsOrder}
 use Rattle.kd_form.specs.KeyPatterns.{IsAnyKeyLine}
-use Rattle.kd_form.specs.Sending.{text_letters, ArePartTextsMade, IsMadeAnswer, IsReadAnswer}
+use Rattle.kd_form.specs.Sending.{text_letters, ArePartTextsMade, IsMadeAnswer}
 use Rattle.kd_form.specs.SendStream.{IsWritableCount}
 
 -- `line` may come after `count` lines of keys in an order's head. It is the line TEXT or, if `count` is below 99,
@@ -68,7 +69,8 @@ pub record IsFreshWriter (w : PartWriter) : Type 0 where
 pub record HoldsOrderText (s : Day) (keys : List Keys) (w : PartWriter) (order sent : List ℕ) : Type 0 where
   pub head : List ℕ
   pub text : List ℕ
-  pub read : IsReadAnswer s order (Ok (record { keys = keys; head = head; text = text }))
+  pub is_order : IsOrder s order keys head text
+  pub allowed : All (λ b. IsTrue (is_text_byte b)) text
   pub taken : AreLettersTaken s keys w (text_letters s text) sent
 
 abbrev pub HoldsOrderStage : Day → OrderStage → HeadReader → PartWriter → List ℕ → List ℕ → Type 0

@@ -14,7 +14,7 @@ use kd_state::SheetDay;
 ///
 /// Not inlined: otherwise every byte read would pay for this function's stack frame.
 #[inline(never)]
-#[tactic(auto, using(crate::proofs::Prelude::err_is, crate::proofs::Turns::turn_passes, crate::proofs::Turns::turn_fails))]
+#[tactic(auto, using(crate::proofs::Prelude::err_is, crate::proofs::Rules::turn_passes, crate::proofs::Rules::turn_fails))]
 pub(crate) fn check_keys(day: &SheetDay, keys: &[Keys]) -> Result<(), FormFault>
     requires keys { All (AreKeys day.now) keys.now }
     requires few { length keys.now ≤ 99 }

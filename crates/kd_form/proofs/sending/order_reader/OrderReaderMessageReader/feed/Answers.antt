@@ -1,5 +1,5 @@
-use Rattle.kd_form.proofs.OrderSteps.{counted_on, letters_few, HasReadSoFar-order, HasFaultForGood-head, head_is, read_is}
-use Rattle.kd_form.proofs.OrderSteps.{HasFaultForGood-text, read_more, HasFault, text_begins, space_letter, length}
+use Rattle.kd_form.proofs.OrderSteps.{counted_on, letters_few, HasReadSoFar-order, HasFaultForGood-head, IsOrder-append}
+use Rattle.kd_form.proofs.OrderSteps.{HasFaultForGood-text, All-push, is_text_byte, IsTrue, HasFault, text_begins, space_letter, length}
 use Rattle.kd_form.proofs.OrderSteps.{length-append, arith, filter_map-append, BadByte, [], ◌∷◌, ◌++◌, ◌+◌, ◌≡◌, ap, refl, sym}
 use Rattle.kd_form.proofs.OrderSteps.{text_letters, ◌∙◌, all_of_the_day}
 use Rattle.kd_form.specs.declared.sending.order_reader.OrderStage.TheVariants as stages
@@ -12,7 +12,7 @@ pub returns-then-not-is_text_byte : goal.returns-then-not-is_text_byte
 returns-then-not-is_text_byte c bytes text held =
     let here = rw c.in-Text.is at held.is.stage in
     let bad = sym c.is_text_byte.ensures ∙ c.if-not-is_text_byte.true in
-    rw held.is.counted (HasFaultForGood-text c.args.byte here bad)
+    rw held.is.counted (HasFaultForGood-text here c.args.byte bad)
 
 pub take-requires-in-Text-clause-taken : goal.take-requires-in-Text-clause-taken
 take-requires-in-Text-clause-taken c =
@@ -26,9 +26,8 @@ take-requires-in-Text-clause-taken c =
         arith,
         short,
         room.within,
-        ap length (head_is (read_is here.read).0).0.joined,
-        length-append here.head
-            here.text,
+        ap length here.is_order.joined,
+        length-append here.head here.text,
       ),
     )
 
@@ -72,7 +71,8 @@ returns-else-not-is_text_byte c bytes text held =
       stage = rw c.in-Text.is (record {
         head = here.head;
         text = here.text ++ c.args.byte ∷ [];
-        read = read_more c.args.byte here.read allowed;
+        is_order = IsOrder-append (c.args.byte ∷ []) here.is_order;
+        allowed = All-push (λ b. IsTrue (is_text_byte b)) here.text c.args.byte here.allowed allowed;
         taken = rw filter_map-append (rw c.keys-in-Text.ensures at taken);
       });
     })

@@ -1,12 +1,60 @@
--- Items that are tested in turn: the answer for a list, from the answers for its parts.
+-- Rules of several steps, and of items that are tested in turn: which faults they allow, and that they allow one answer.
 use Rattle.kd_form.proofs.Prelude.{◌≡◌, ℕ, ◌+◌, ◌<◌, List, [], ◌∷◌, ◌++◌, length, take, drop, get_or, Result, Ok, Err, arith}
 use Rattle.kd_form.proofs.Prelude.{subst, sym, refl, ◌∙◌, All, All-nil, All-cons, All-head, All-tail}
 use Rattle.kd_form.proofs.Prelude.{InTurn, Demands, ThenNext-Ok, GoesOn, HasFault, HasOneAnswer-ThenNext, zero, suc}
 use Rattle.kd_form.proofs.Prelude.{HasOneAnswer-Yields, take-append-drop, drop_more, length-take-le, take_more}
 use Rattle.kd_form.proofs.Prelude.{Day, Keys, IsKeysAnswer, IsByteAnswer, IsBytesAnswer, IsTrue, IsFalse, is_text_byte}
-use Rattle.kd_form.proofs.Prelude.{BadByte, false≢true}
+use Rattle.kd_form.proofs.Prelude.{BadByte, false≢true, HasOneAnswer, Yields-Ok}
 use Rattle.kd_form.specs.OrderSteps.{AreSuitedKeys}
-use Rattle.kd_state.specs.AnswerRules.{HasOneAnswer}
+use Rattle.kd_state.specs.AnswerRules.{ThenNext, Yields, Finds, FindsAlways, HasOneAnswer-Finds, HasOneAnswer-Demands}
+use Rattle.kd_state.specs.AnswerRules.{HasOneAnswer-FindsAlways}
+
+-- each fault that the rule allows has the property
+pub record FaultsAre {F X : Type 0} (Q : F → Type 0) (rule : Result X F → Type 0) : Type 0 where
+  pub are : (fault : F) → rule (Err fault) → Q fault
+
+module _ {F X : Type 0} {Q : F → Type 0} where
+  pub FaultsAre-ThenNext : {Y : Type 0} {First : Result X F → Type 0} {Next : X → Result Y F → Type 0} → FaultsAre Q First
+      → ((x : X) → FaultsAre Q (Next x)) → FaultsAre Q (ThenNext First Next)
+  FaultsAre-ThenNext {First = First} {Next = Next} first next = record { are = told } where
+    told : (fault : F) → ThenNext First Next (Err fault) → Q fault
+    told fault (HasFault f is e) = let same : f ≡ fault = cc in subst Q same (first.are f is)
+    told fault (GoesOn x is found) = (next x).are fault found
+
+  pub FaultsAre-Finds : {Holds : X → Type 0} {due : F} → Q due → FaultsAre Q (Finds Holds due)
+  FaultsAre-Finds of = record { are = λ fault told. subst Q (sym told.1) of }
+
+  pub FaultsAre-Yields : {x : X} → FaultsAre Q (Yields x)
+  FaultsAre-Yields = record { are = λ fault is. absurd (cc) }
+
+  pub FaultsAre-FindsAlways : {Holds : X → Type 0} → FaultsAre Q (FindsAlways {F = F} Holds)
+  FaultsAre-FindsAlways = record { are = λ fault none. absurd none }
+
+-- ---- two steps
+
+-- if the first step finds a value, and the second only tests it, the value is the first step's
+pub ThenNext-tested : {F X : Type 0} {First : Result X F → Type 0} {Test : X → Result (Unit {0}) F → Type 0} {x : X}
+    → ThenNext First (λ x. ThenNext (Test x) (λ _. Yields x)) (Ok x) → First (Ok x) × Test x (Ok tt)
+ThenNext-tested is = let found = ThenNext-Ok is in
+    let tested = ThenNext-Ok found.next in rw (Yields-Ok tested.next) (found.says, tested.says)
+
+-- a fault of two steps stays if the first step's fault stays or, after a value, the second step's fault
+pub ThenNext-stays : {F X Y Z W : Type 0} {First : Result X F → Type 0} {Next : X → Result Y F → Type 0}
+    {Other : Result Z F → Type 0} {Then : Z → Result W F → Type 0} {fault : F} (to : X → Z)
+    → (First (Err fault) → Other (Err fault))
+    → ((x : X) → First (Ok x) → Next x (Err fault) → Other (Ok (to x)) × Then (to x) (Err fault))
+    → ThenNext First Next (Err fault) → ThenNext Other Then (Err fault)
+ThenNext-stays {First = First} {fault = fault} to stays goes (HasFault f is e) =
+    let same : f ≡ fault = cc in HasFault fault (stays (subst (λ f. First (Err f)) same is)) refl
+ThenNext-stays to stays goes (GoesOn x is found) = let (one, other) = goes x is found in GoesOn (to x) one other
+
+-- a fault of a test stays, whatever step follows
+pub ThenNext-first : {F X Y : Type 0} {Test Other : Result (Unit {0}) F → Type 0} {x : X}
+    {Then : Unit {0} → Result Y F → Type 0} {fault : F} → (Test (Err fault) → Other (Err fault))
+    → ThenNext Test (λ _. Yields x) (Err fault) → ThenNext Other Then (Err fault)
+ThenNext-first stays = ThenNext-stays (λ x. x) stays (λ _ _ none. absurd (cc))
+
+-- ---- items tested in turn
 
 -- the rule for testing one item, which has this number
 abbrev pub TurnRule : Type 0 → Type 0 → Type 1
@@ -17,6 +65,23 @@ pub HasOneAnswer-InTurn : {F X : Type 0} {Test : TurnRule F X} → ((number : �
 HasOneAnswer-InTurn one number [] = HasOneAnswer-Yields tt
 HasOneAnswer-InTurn one number (x ∷ xs) =
     HasOneAnswer-ThenNext (one number x) (λ _ _. HasOneAnswer-InTurn one (number + 1) xs)
+
+pub FaultsAre-InTurn : {F X : Type 0} {Q : F → Type 0} {Test : ℕ → X → Result (Unit {0}) F → Type 0}
+    → ((number : ℕ) (x : X) → FaultsAre Q (Test number x)) → (number : ℕ) (xs : List X)
+    → FaultsAre Q (InTurn Test number xs)
+FaultsAre-InTurn of number [] = FaultsAre-Yields
+FaultsAre-InTurn of number (x ∷ xs) = FaultsAre-ThenNext (of number x) (λ _. FaultsAre-InTurn of (number + 1) xs)
+
+pub ruleset faults = (FaultsAre-ThenNext, FaultsAre-Finds, FaultsAre-Yields, FaultsAre-FindsAlways, FaultsAre-InTurn)
+
+pub ruleset one_answers = (
+  HasOneAnswer-ThenNext,
+  HasOneAnswer-Finds,
+  HasOneAnswer-Demands,
+  HasOneAnswer-Yields,
+  HasOneAnswer-FindsAlways,
+  HasOneAnswer-InTurn,
+)
 
 -- if the first items pass, the answer for all items is that for the rest
 pub InTurn-append : {F X : Type 0} (Test : TurnRule F X) (number : ℕ) (xs ys : List X) (v : Result (Unit {0}) F)
@@ -44,15 +109,6 @@ InTurn-at Test number (x ∷ xs) zero d passed less =
 InTurn-at Test number (x ∷ xs) (suc place) d passed less =
     let n : number + suc place ≡ number + 1 + place = omega arith in
     rw n (InTurn-at Test (number + 1) xs place d (ThenNext-Ok passed).next (omega arith))
-
--- a fault is the fault of one item
-pub InTurn-fault : {F X : Type 0} (Test : TurnRule F X) (Q : F → Type 0)
-    → ((number : ℕ) (x : X) (fault : F) → Test number x (Err fault) → Q fault)
-    → (number : ℕ) (xs : List X) (fault : F) → InTurn Test number xs (Err fault) → Q fault
-InTurn-fault Test Q of number [] fault none = absurd (cc)
-InTurn-fault Test Q of number (x ∷ xs) fault (HasFault f is e) =
-    let same : f ≡ fault = cc in subst Q same (of number x f is)
-InTurn-fault Test Q of number (x ∷ xs) fault (GoesOn done is found) = InTurn-fault Test Q of (number + 1) xs fault found
 
 pub InTurn-one : {F X : Type 0} (Test : TurnRule F X) (number : ℕ) (x : X) (v : Result (Unit {0}) F) → Test number x v
     → InTurn Test number (x ∷ []) v
