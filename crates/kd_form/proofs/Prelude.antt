@@ -21,11 +21,11 @@ pub use Rattle.std.proofs.lemmas.List.Elements.{All-weaker, filter_map-append, A
 pub use Rattle.std.specs.{Int.div_ceil, Io.KnownBytes.{Appends, Consumes, IsAtEnd, Keeps}}
 pub use Rattle.std.specs.List.{AllWithin, cons_option, enumerate_from, flat_map, join_with_byte, list_all}
 pub use Rattle.arrayvec.specs.{ArrayVec.ArrayVec, ArrayVec.array_vec_len}
-pub use Rattle.kd_form.specs.FormParts.{AreFewLetters, AreHeadingWords, BeginsHeading, HasFirstLine, IsFraction}
+pub use Rattle.kd_form.specs.FormParts.{BeginsHeading, HasFirstLine, IsFraction}
 pub use Rattle.kd_form.specs.FormParts.{IsHeading, IsLetterCount, IsLineText, WithoutReturn, cut_at_headings, parts_of}
 pub use Rattle.kd_form.specs.FormSteps.{FitsHeadingAt, HasBegunHeading, HasLastLineStart, HoldsBody, HoldsForm}
 pub use Rattle.kd_form.specs.FormSteps.{HoldsPart, HoldsFormStage, IsAtPartStart, IsBodyPlaintext, IsHeadingAnswer}
-pub use Rattle.kd_form.specs.FormSteps.{current_part_start}
+pub use Rattle.kd_form.specs.FormSteps.{current_part_start, AreFewLetters, AreHeadingWords}
 pub use Rattle.kd_form.specs.FormText.{AtPart, IsAnswerAt, IsAnswerAfter, IsFormAnswer, IsLastPart, IsFormReadTo}
 pub use Rattle.kd_form.specs.FormText.{IsReceiveFault, IsRefusedForGood, IsTextOf, NoHeading, PartsProperty}
 pub use Rattle.kd_form.specs.FormText.{ReadsPartsTo, IsPartFaultForGood, first_part_start, form_message, plaintext_byte}
@@ -60,11 +60,11 @@ pub use Rattle.kd_form.specs.Sending.{IsHeadAnswer, IsReadAnswer, IsOrderAnswer,
 pub use Rattle.kd_form.specs.Sending.{IsOrderFaultForGood, space_letter, letter_of_byte, letters_from, parts_needed}
 pub use Rattle.kd_form.specs.Sending.{text_letters}
 pub use Rattle.kd_form.specs.StreamSteps.{AtSource, IsCloseAnswer, IsFinishAnswer, HasBeenEnded, IsFeedAllAnswer}
-pub use Rattle.kd_form.specs.StreamSteps.{HasRoom, HasReadSoFar, InFeeding, IsFed, IsChunkRead, IsReadStopped}
+pub use Rattle.kd_form.specs.StreamSteps.{HasRoom, HasFaultForGood, HasReadSoFar, InFeeding, IsFed, IsChunkRead, IsReadStopped}
 pub use Rattle.kd_form.specs.StreamSteps.{IsReadNextAnswer, answer_with_fault, fault_of_interruption}
 pub use Rattle.kd_form.specs.StreamSteps.{is_device_interruption}
 pub use Rattle.kd_form.specs.Streams.{IsStreamAnswer, KeepFailureFlags, FaultAtEnd, ByTheEnd, ByThen, IsMessageAnswer}
-pub use Rattle.kd_form.specs.Streams.{FallsShort, IsOpen, HasFaultForGood, IsStreamed, Message, FaultBefore, SinkFails}
+pub use Rattle.kd_form.specs.Streams.{FallsShort, IsOpen, IsStreamed, Message, FaultBefore, SinkFails}
 pub use Rattle.kd_form.specs.Streams.{FaultForGood, TooLong, MessageComplete, is_device, is_off_key}
 pub use Rattle.kd_form.specs.Typing.{IsAllowedUpTo, IsTextFault, HasTyped, IsTypedChunk, cipher_text, text_message}
 pub use Rattle.kd_form.specs.Typing.{typed_letters}

@@ -1,5 +1,5 @@
 -- What `FormReader` holds after it has read some bytes of a form. No public contract cites this file.
-use Rattle.std.specs.Prelude.{codes, ◌≡◌, ◌⊎◌, ℕ, ◌<◌, ◌≤◌, List, [], ◌∷◌, ◌++◌, length, take, slice_index, All}
+use Rattle.std.specs.Prelude.{codes, ◌≡◌, ◌≢◌, ◌⊎◌, ℕ, ◌<◌, ◌≤◌, List, [], ◌∷◌, ◌++◌, length, take, slice_index, All}
 use Rattle.std.specs.Prelude.{IsTrue, Option, Some, None, Result, Ok, Err, MatchResult, MatchOption}
 use Rattle.kd_tables.specs.Text.{is_text_byte}
 use Rattle.kd_state.specs.AnswerRules.{AnswerRule, ◌>>=◌, Yields, Finds, Demands}
@@ -17,6 +17,19 @@ use Rattle.kd_form.specs.Sending.{letters_from}
 use Rattle.kd_form.specs.FormParts.{BeginsHeading, IsHeading, IsLineText, cut_at_headings, parts_of}
 use Rattle.kd_form.specs.PartReading.{PartStart, HasHeading, HasDueNumbers, IsBodyAnswer}
 use Rattle.kd_form.specs.FormText.{PartsProperty, ReadsPartsTo, first_part_start, plaintext_bytes}
+
+-- ---- the words of a heading
+
+-- `found` is the valid heading with the words `words`, or `None` if no valid heading has these words.
+abbrev pub AreHeadingWords : Day → List (List ℕ) → Option Heading → Type 0
+AreHeadingWords s words found =
+    MatchOption found ((h : Heading) → IsHeading s h → heading_words h ≢ words)
+    (λ h. IsHeading s h × (heading_words h ≡ words))
+
+-- `letters` are at most four letters, as numbers below 26.
+pub record AreFewLetters (letters : List ℕ) : Type 0 where
+  pub few : length letters ≤ 4
+  pub within : All (λ letter. letter < 26) letters
 
 -- ---- the last part
 
@@ -63,6 +76,7 @@ pub record HoldsPart (s : Day) (b : PartBody) (number : ℕ) (expected : Option 
   pub holds : HoldsBody s b part body
   pub due : HasDueNumbers number expected b.heading
 
+-- The reader holds the part `part`, as far as it has been read: its heading line, or its heading and its body.
 abbrev pub HoldsFormStage : Day → FormStage → ℕ → Option ℕ → List ℕ → Type 0
 HoldsFormStage s (stages.Heading line) number expected part = HoldsLine line.items part × (length part < 6 → number ≡ 1)
 HoldsFormStage s (stages.Body b) number expected part = HoldsPart s b number expected part
@@ -105,6 +119,7 @@ IsHeadingAnswer number expected found = do
 abbrev pub current_part_start : FormReader → List ℕ → PartStart
 current_part_start r front = record { number = r.number; expected = r.expected; bytes_before = length front }
 
+-- The next part starts at `q`, and none of it is left.
 abbrev pub IsAtPartStart : PartStart → PartsProperty
 IsAtPartStart q p parts = (p ≡ q) × (parts ≡ [])
 

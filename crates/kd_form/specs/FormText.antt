@@ -16,10 +16,11 @@ use Rattle.kd_form.specs.Sending.{space_letter, text_letters}
 use Rattle.kd_form.specs.FormParts.{BeginsHeading, parts_of}
 use Rattle.kd_form.specs.PartReading.{PartStart, ReadPart, IsContentAnswer, IsPartAnswer}
 
--- the start of the first part, and of the part after `part`, which starts at `p` and says that there are `count` parts
+-- the start of the first part
 abbrev pub first_part_start : PartStart
 first_part_start = record { number = 1; expected = None; bytes_before = 0 }
 
+-- the start of the part after `part`, which starts at `p` and says that there are `count` parts
 abbrev pub next_part_start : PartStart → ℕ → List ℕ → PartStart
 next_part_start p count part = record
     { number = p.number + 1; expected = Some count; bytes_before = p.bytes_before + length part }

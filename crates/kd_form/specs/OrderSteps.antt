@@ -33,6 +33,7 @@ pub record IsHeadBegun (s : Day) (keys : List Keys) (line order : List ℕ) : Ty
   pub few : length keys ≤ 99
   pub begins : IsPatternFault (IsHeadLine s (length keys)) line faults.Incomplete
 
+-- what a reader of the head has read after one more byte: the head is still open, complete, or wrong at this byte
 abbrev pub IsHeadStep : Day → List Keys → List ℕ → List ℕ → HeadStep → Type 0
 IsHeadStep s keys line order Open = IsHeadBegun s keys line order
 IsHeadStep s keys line order Text = IsOrder s order keys order []
@@ -73,11 +74,13 @@ pub record HoldsOrderText (s : Day) (keys : List Keys) (w : PartWriter) (order s
   pub allowed : All (λ b. IsTrue (is_text_byte b)) text
   pub taken : AreLettersTaken s keys w (text_letters s text) sent
 
+-- The reader holds the order, as far as it has been read: up to a place in its head, or in its text.
 abbrev pub HoldsOrderStage : Day → OrderStage → HeadReader → PartWriter → List ℕ → List ℕ → Type 0
 HoldsOrderStage s stages.Head h w order sent = IsHeadBegun s h.keys.items h.line.items order × (sent ≡ [])
     × IsFreshWriter w
 HoldsOrderStage s stages.Text h w order sent = HoldsOrderText s h.keys.items w order sent
 
+-- The reader `r` has read `order`, and `sent` was output for it.
 pub record HoldsOrder (s : Day) (r : OrderReader) (order sent : List ℕ) : Type 0 where
   pub counted : r.read ≡ length order
   pub stage : HoldsOrderStage s r.stage r.head r.writer order sent
