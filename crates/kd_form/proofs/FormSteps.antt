@@ -1,32 +1,30 @@
 -- What the reader of a form holds after one more byte, and its answer at the end.
 pub use Rattle.kd_form.proofs.Prelude.{err_is, [], ◌≡◌, ◌≢◌, ◌⊎◌, inl, inr, ℕ, ◌+◌, ◌-◌, ◌≤◌, List, ◌∷◌, ◌++◌, length}
 pub use Rattle.kd_form.proofs.Prelude.{take, refl, sym, ap, subst, ◌∙◌, append_assoc, length-append, Ok, Err, arith}
-pub use Rattle.kd_form.proofs.Prelude.{codes, All, IsTrue, Option, Some, None, MatchOption, option_to_list}
-pub use Rattle.kd_form.proofs.Prelude.{map-append, take-append_seam, cases_lt, cases_eq, append-nil, take_all}
-pub use Rattle.kd_form.proofs.Prelude.{take-take, take-append-le, length-take, length-take-le, filter_map-append}
-pub use Rattle.kd_form.proofs.Prelude.{All-nil, All-push, ArrayVec, is_text_byte, Day, line_of, IsFirstPart}
-pub use Rattle.kd_form.proofs.Prelude.{FormFault, Heading, IsLineText, heading_words, letter_of_byte, letters_from}
-pub use Rattle.kd_form.proofs.Prelude.{IsHeading, BeginsHeading, Result, HasFault, GoesOn, IsBodyAnswer, HasHeading}
-pub use Rattle.kd_form.proofs.Prelude.{IsExpectedCount, HasDueNumbers, IsContentAnswer, IsPartAnswer, IsHeadingAnswer}
-pub use Rattle.kd_form.proofs.Prelude.{HoldsBody, IsBodyPlaintext, HasBegunHeading, HoldsPart, HoldsFormStage}
-pub use Rattle.kd_form.proofs.Prelude.{IsAtPartStart, HoldsForm, ThenNext-Ok, Yields-Ok}
-pub use Rattle.kd_form.proofs.Prelude.{PartOrder, plaintext_bytes, IsRefusedForGood, NoHeading, form_message}
-pub use Rattle.kd_form.proofs.Prelude.{HasFaultForGood, IsMessageAnswer, HasReadSoFar, PartsProperty, ReadsPartsTo}
-pub use Rattle.kd_form.proofs.Prelude.{IsFormReadTo, IsPartFaultForGood, IsAnswerAt}
-pub use Rattle.kd_form.proofs.Prelude.{IsLastPart, AtPart, cut_at_headings, parts_of, PartStart, first_part_start}
-pub use Rattle.kd_form.proofs.Prelude.{next_part_start, HasLastLineStart, current_part_start, plaintext_byte}
-pub use Rattle.kd_form.proofs.Prelude.{space_letter, BadHeading, BadByte, false≢true, All-take}
+pub use Rattle.kd_form.proofs.Prelude.{codes, All, IsTrue, Option, Some, None, MatchOption, option_to_list, map-append}
+pub use Rattle.kd_form.proofs.Prelude.{take-append_seam, cases_lt, cases_eq, append-nil, take_all, take-take}
+pub use Rattle.kd_form.proofs.Prelude.{take-append-le, length-take, length-take-le, filter_map-append, All-nil}
+pub use Rattle.kd_form.proofs.Prelude.{All-push, ArrayVec, is_text_byte, Day, line_of, IsFirstPart, FormFault, Heading}
+pub use Rattle.kd_form.proofs.Prelude.{IsLineText, heading_words, letter_of_byte, letters_from, IsHeading}
+pub use Rattle.kd_form.proofs.Prelude.{BeginsHeading, Result, HasFault, GoesOn, IsBodyAnswer, HasHeading, HasDueNumbers}
+pub use Rattle.kd_form.proofs.Prelude.{IsContentAnswer, IsPartAnswer, IsHeadingAnswer, HoldsBody, IsBodyPlaintext}
+pub use Rattle.kd_form.proofs.Prelude.{HasBegunHeading, HoldsPart, HoldsFormStage, IsAtPartStart, HoldsForm, PartOrder}
+pub use Rattle.kd_form.proofs.Prelude.{plaintext_bytes, IsRefusedForGood, NoHeading, form_message, HasFaultForGood}
+pub use Rattle.kd_form.proofs.Prelude.{IsMessageAnswer, HasReadSoFar, PartsProperty, ReadsPartsTo, IsFormReadTo}
+pub use Rattle.kd_form.proofs.Prelude.{IsPartFaultForGood, IsAnswerAt, IsLastPart, AtPart, cut_at_headings, parts_of}
+pub use Rattle.kd_form.proofs.Prelude.{PartStart, first_part_start, next_part_start, HasLastLineStart}
+pub use Rattle.kd_form.proofs.Prelude.{current_part_start, plaintext_byte, space_letter, BadHeading, false≢true}
+pub use Rattle.kd_form.proofs.Prelude.{All-take}
 use Rattle.kd_form.specs.declared.receiving.body_reader.PartBody.{PartBody}
 use Rattle.kd_form.specs.declared.receiving.form_reader.{FormReader.FormReader, FormStage.FormStage}
-pub use Rattle.kd_form.proofs.Headings.{at_most, has_byte, one_heading, begins_there, as_parts, BeginsHeading-digit}
-pub use Rattle.kd_form.proofs.Headings.{begins_more, first_ends, first_more, may_begin, cut_at_headings-line}
-pub use Rattle.kd_form.proofs.Headings.{cut_at_headings-whole, HasBegunHeading-snoc, not_begun, ended_heading}
-pub use Rattle.kd_form.proofs.Headings.{whole_line}
-pub use Rattle.kd_form.proofs.Rules.{bad_behind, bytes_allowed}
+pub use Rattle.kd_form.proofs.Headings.{at_most, has_byte, begins_there, as_parts, BeginsHeading-digit, begins_more}
+pub use Rattle.kd_form.proofs.Headings.{first_ends, first_more, may_begin, cut_at_headings-line, cut_at_headings-whole}
+pub use Rattle.kd_form.proofs.Headings.{HasBegunHeading-snoc, not_begun, ended_heading, whole_line}
+pub use Rattle.kd_form.proofs.Rules.{bad_behind, ThenNext-tested, ThenNext-stays, ThenNext-first}
 use Rattle.kd_form.proofs.Lines.{letters_first, head_unbroken}
 pub use Rattle.kd_form.proofs.OneText.{start_of, right_content, PartContent}
-use Rattle.kd_form.proofs.OneText.{HasOneAnswer-content, read_or_refused, reads_meet, reads_then, IsAnswerAt-for_good, stays_refused}
-use Rattle.kd_form.proofs.OneText.{refused_after}
+use Rattle.kd_form.proofs.OneText.{HasOneAnswer-content, read_or_refused, reads_meet, reads_then, IsAnswerAt-for_good}
+use Rattle.kd_form.proofs.OneText.{stays_refused, refused_after}
 use Rattle.kd_form.specs.declared.receiving.form_reader.FormStage.TheVariants as stages
 
 -- -------- the body of a part, byte by byte
@@ -164,26 +162,17 @@ module _ {s : Day} {b : PartBody} {number : ℕ} {expected : Option ℕ} {part b
 
 -- ---- the heading of a part
 
-pub heading_due : {number : ℕ} {expected : Option ℕ} {found : Option Heading} {h : Heading}
-    → IsHeadingAnswer number expected found (Ok h) → (found ≡ Some h) × HasDueNumbers number expected h
-heading_due is = let there = ThenNext-Ok is in let due = ThenNext-Ok there.next in
-    rw (Yields-Ok due.next) (there.says, due.says)
-
 -- a missing or wrong heading is a fault of the part's content
 pub heading_refused : {s : Day} {number : ℕ} {expected : Option ℕ} {part : List ℕ} {fault : FormFault} (start : ℕ)
     (found : Option Heading)
     → MatchOption found ((h : Heading) (body : List ℕ) → ¬ (HasHeading s part h body)) (λ h. HasHeading s part h [])
     → IsHeadingAnswer number expected found (Err fault)
     → IsContentAnswer s (start_of number expected start) part (Err fault)
-heading_refused {fault = fault} start None told (HasFault f (none, is) e) =
-    let same : fault ≡ f = cc in HasFault f ((λ (x : PartContent) has. told x.heading x.body has), is) (ap Err same)
-heading_refused start (Some h) told (HasFault f (none, is) e) = absurd (none h refl)
-heading_refused start None told (GoesOn h is next) = absurd (cc)
-heading_refused {fault = fault} start (Some h) told (GoesOn x is (HasFault f (wrong, due) e)) =
-    let same : fault ≡ f = cc in
-    let this : x ≡ h = cc in
-    GoesOn (record { heading = h; body = [] }) told (HasFault f (rw this at wrong, due) (ap Err same))
-heading_refused start (Some h) told (GoesOn x is (GoesOn done due e)) = absurd (cc)
+heading_refused start None told = ThenNext-stays (λ h. record { heading = h; body = [] })
+    (λ (none, is). ((λ (x : PartContent) has. told x.heading x.body has), is)) (λ h is found. absurd (cc))
+heading_refused start (Some h) told = ThenNext-stays (λ h. record { heading = h; body = [] })
+    (λ (none, is). absurd (none h refl))
+    (λ x is found. let this : x ≡ h = cc in (rw this told, ThenNext-first (λ wrong. wrong) found))
 
 -- -------- the reader of a form, byte by byte
 

@@ -6,13 +6,13 @@ pub use Rattle.kd_form.proofs.Prelude.{cons_option, nat_tests, All-nil, All-cons
 pub use Rattle.kd_form.proofs.Prelude.{All-take, All-drop, filter_map-append, is_text_byte, letters_text, line_of}
 pub use Rattle.kd_form.proofs.Prelude.{pieces, letter_groups, line_then, body_text, Part, heading_words, part_text}
 pub use Rattle.kd_form.proofs.Prelude.{letter_of_byte, letters_from, Day, IsHeading, BeginsHeading, HasHeading}
-pub use Rattle.kd_form.proofs.Prelude.{WithoutReturn, cut_at_headings, parts_of, common_steps, ◌≢◌, ◌%◌, inl, inr, length-append}
-pub use Rattle.kd_form.proofs.Prelude.{Option, IfSome, cases_lt, take_all, drop_all, length-take, length-take-le}
-pub use Rattle.kd_form.proofs.Prelude.{IsLegalDay, Keys, plaintext_with_end, sent_letters, AreKeys}
-pub use Rattle.kd_form.proofs.Prelude.{FormsGiveTheirOrders, InTurn, IsKeysAnswer, ThenNext-Ok, part_size, fill_last_group, IsBodyAnswer, Ok}
-pub use Rattle.kd_form.proofs.Prelude.{IsPartAnswer, HasDueNumbers, space_letter, text_letters, ArePartTextsMade, ReadsPartsTo}
-pub use Rattle.kd_form.proofs.Prelude.{plaintext_bytes, first_part_start, IsAnswerAt, IsExpectedCount, take-append_seam, All-more}
-pub use Rattle.kd_form.proofs.Prelude.{GoesOn}
+pub use Rattle.kd_form.proofs.Prelude.{WithoutReturn, cut_at_headings, parts_of, common_steps, ◌≢◌, ◌%◌, inl, inr}
+pub use Rattle.kd_form.proofs.Prelude.{length-append, Option, IfSome, cases_lt, take_all, drop_all, length-take}
+pub use Rattle.kd_form.proofs.Prelude.{length-take-le, IsLegalDay, Keys, plaintext_with_end, sent_letters, AreKeys}
+pub use Rattle.kd_form.proofs.Prelude.{FormsGiveTheirOrders, InTurn, IsKeysAnswer, ThenNext-Ok, part_size}
+pub use Rattle.kd_form.proofs.Prelude.{fill_last_group, IsBodyAnswer, Ok, IsPartAnswer, HasDueNumbers, space_letter}
+pub use Rattle.kd_form.proofs.Prelude.{text_letters, ArePartTextsMade, ReadsPartsTo, plaintext_bytes, first_part_start}
+pub use Rattle.kd_form.proofs.Prelude.{IsAnswerAt, IsExpectedCount, take-append_seam, All-more, GoesOn}
 use Rattle.kd_form.proofs.Headings.{allowed_one, at_cut, cut_behind, ended_heading, has_byte, plain_heading}
 use Rattle.kd_form.proofs.Headings.{words_begin, one_byte}
 use Rattle.kd_form.proofs.MadeParts.{pieces-next, pieces-none, more_pieces, IsPiece, GivesBack, part_gives_back}

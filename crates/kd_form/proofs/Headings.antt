@@ -6,21 +6,21 @@ pub use Rattle.kd_form.proofs.Prelude.{length-append, length-take, arith, codes,
 pub use Rattle.kd_form.proofs.Prelude.{nat_tests, cases_Bool, cases_eq, cases_lt, false≢true, append-nil}
 pub use Rattle.kd_form.proofs.Prelude.{take-append-le, take-append-drop, take-append_seam, get_or-append}
 pub use Rattle.kd_form.proofs.Prelude.{get_or-append_seam, get_or-take, get_or_past, BeginsHeading, cut_at_headings}
-pub use Rattle.kd_form.proofs.Prelude.{parts_of, FitsHeadingAt, HasBegunHeading, IsWithout, IsBytesAnswer, FormFault, Err}
-pub use Rattle.kd_form.proofs.Prelude.{is_text_byte, AllPass-from_list_all, All-take, All-same, take-take, take_more}
-pub use Rattle.kd_form.proofs.Prelude.{rules, ◌^◌, ◌+◌, decimal, All, Option, Some, None, MatchOption, All-from_get_or}
-pub use Rattle.kd_form.proofs.Prelude.{All-cons, All-nil, All-append, All-map, All-push, All-weaker, IsFirstPart}
-pub use Rattle.kd_form.proofs.Prelude.{line_of, words_of, texts_determine_first_parts, numbers_are_words}
+pub use Rattle.kd_form.proofs.Prelude.{parts_of, FitsHeadingAt, HasBegunHeading, IsWithout, IsBytesAnswer, FormFault}
+pub use Rattle.kd_form.proofs.Prelude.{Err, is_text_byte, AllPass-from_list_all, All-take, All-same, take-take}
+pub use Rattle.kd_form.proofs.Prelude.{take_more, rules, ◌^◌, ◌+◌, decimal, All, Option, Some, None, MatchOption}
+pub use Rattle.kd_form.proofs.Prelude.{All-from_get_or, All-cons, All-nil, All-append, All-map, All-push, All-weaker}
+pub use Rattle.kd_form.proofs.Prelude.{IsFirstPart, line_of, words_of, texts_determine_first_parts, numbers_are_words}
 pub use Rattle.kd_form.proofs.Prelude.{lines_split_into_words, parts_make_lines, fraction_text, indicator_words}
 pub use Rattle.kd_form.proofs.Prelude.{heading_words, length-map, append_cancel_right, take_all, get_or-map}
 pub use Rattle.kd_form.proofs.Prelude.{letters_text, AreFewLetters, IsFraction, IsLetterCount, IsHeading}
 pub use Rattle.kd_form.proofs.Prelude.{AreHeadingWords, HasFirstLine, IsLineText, Day, OfRotors, OfPins, Heading}
 pub use Rattle.kd_form.proofs.Prelude.{Indicator, HasIndicator, IsRotorDayWith, IsConverterDay, HasHeading, drop-cons}
-pub use Rattle.kd_form.proofs.Prelude.{map, IsFalse, word_by_bytes}
+pub use Rattle.kd_form.proofs.Prelude.{map, word_by_bytes}
 use Rattle.std.proofs.lemmas.Fmt.{digits_decimal, decimal_injective, length-decimal-le, decimal_nonempty}
 use Rattle.{kd_form.specs.FormParts.begins_heading, std.proofs.lemmas.Slice.Eq.bytes_eq-Decides}
 pub use Rattle.kd_form.proofs.OneOrder.{no_bad_byte, same_letters, same_word}
-use Rattle.kd_form.proofs.Prelude.{GoesOn, HasFault}
+use Rattle.kd_form.proofs.Rules.{ThenNext-stays}
 pub use Rattle.kd_form.proofs.Lines.{AreAllowed, plain_text, whole_line, same_front, IsPlain, plain_letters, plain_more}
 
 -- ---- where a heading begins
@@ -197,10 +197,8 @@ bad_stays (b ∷ body) more position fault none found =
           let few : length body < 6 = grind (arith, cases_lt (length body) 6, begins_front body more, is.0 break) in
           let allowed = few_allowed body more few begun in
           absurd (no_bad_byte position (b ∷ body) fault (grind (arith, All-cons, break)) found)
-      | inr not ↦ rw (no_cut b (body ++ more) not) (elim found [
-        | HasFault f bad e ↦ HasFault f bad e
-        | GoesOn done good next ↦ GoesOn done good (bad_stays body more (position + 1) fault is.1 next)
-      ])
+      | inr not ↦ rw (no_cut b (body ++ more) not) (ThenNext-stays (λ d. d) (λ bad. bad)
+          (λ done good next. (good, bad_stays body more (position + 1) fault is.1 next)) found)
     ]
 
 -- `part` is `line`, an LF, and a rest in which the first bad byte is where `body` has it

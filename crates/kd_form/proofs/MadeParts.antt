@@ -7,15 +7,15 @@ pub use Rattle.kd_form.proofs.Prelude.{Some, Contains, cases_eq, append-nil, map
 pub use Rattle.kd_form.proofs.Prelude.{IsInternalKey, HaveNoInternalKey, IsTakenInTurn, OnWheel, OffWheel, ◌-◌, ◌%◌}
 pub use Rattle.kd_form.proofs.Prelude.{take, drop, sym, length-drop, add-one, min, replicate, codes, decimal, Option}
 pub use Rattle.kd_form.proofs.Prelude.{option_map, div_ceil, join_with_byte, div-eq_of_lt, mod-eq_of_lt, take_min}
-pub use Rattle.kd_form.proofs.Prelude.{drop_min, length-replicate, Heading, fraction_text, indicator_words}
-pub use Rattle.kd_form.proofs.Prelude.{heading_words, pieces, words_after_spaces, line_then, Part, pin_day, IsLegalDay}
-pub use Rattle.kd_form.proofs.Prelude.{Keys, Rotor, Pin, PinKeys, Indicator, IsKeysAnswer, ThenNext-Ok, rotor_letters}
-pub use Rattle.kd_form.proofs.Prelude.{enciphered_choice, pin_letters, list_letters, IsPartMade, part_size}
-pub use Rattle.kd_form.proofs.Prelude.{pin_indicators, fill_last_group, sheet_key, IsWindow, take-append_seam}
-pub use Rattle.kd_form.proofs.Prelude.{drop-append_seam, HasIndicator, deciphered_key, HasIndicatorsAround}
-pub use Rattle.kd_form.proofs.Prelude.{group_of_body, keys_of_body, list_of_body, text_of_body, IsLettersAnswer, Ok}
-pub use Rattle.kd_form.proofs.Prelude.{All-append, All-cons, All-replicate, twice_on_key, IsFraction, IsHeading}
-pub use Rattle.kd_form.proofs.Prelude.{sent_letters, AreKeys, nat_tests, AreRising, GoesOn}
+pub use Rattle.kd_form.proofs.Prelude.{drop_min, length-replicate, Heading, indicator_words, heading_words, pieces}
+pub use Rattle.kd_form.proofs.Prelude.{words_after_spaces, line_then, Part, pin_day, IsLegalDay, Keys, Rotor, Pin}
+pub use Rattle.kd_form.proofs.Prelude.{PinKeys, Indicator, IsKeysAnswer, ThenNext-Ok, rotor_letters, enciphered_choice}
+pub use Rattle.kd_form.proofs.Prelude.{pin_letters, list_letters, IsPartMade, part_size, pin_indicators}
+pub use Rattle.kd_form.proofs.Prelude.{fill_last_group, sheet_key, IsWindow, take-append_seam, drop-append_seam}
+pub use Rattle.kd_form.proofs.Prelude.{HasIndicator, deciphered_key, HasIndicatorsAround, group_of_body, keys_of_body}
+pub use Rattle.kd_form.proofs.Prelude.{list_of_body, text_of_body, IsLettersAnswer, Ok, All-append, All-cons}
+pub use Rattle.kd_form.proofs.Prelude.{All-replicate, twice_on_key, IsFraction, IsHeading, sent_letters, AreKeys}
+pub use Rattle.kd_form.proofs.Prelude.{nat_tests, AreRising, GoesOn}
 use Rattle.{kd_enigma.specs.Cipher.{path, product}}
 use Rattle.{kd_state.specs.TwoCiphers.{EngineKey, engine_key_after, key_with_window}}
 use Rattle.kd_form.specs.PartMaking.{IsKeyOfDaysMachine}

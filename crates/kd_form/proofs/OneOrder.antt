@@ -1,15 +1,12 @@
 -- An order is read in one way, and becomes one form or has one fault.
-pub use Rattle.kd_form.proofs.Prelude.{common_steps, ◌≡◌, ◌≢◌, ℕ, ◌+◌, inl, inr, List, [], ◌∷◌, ◌++◌, length, refl}
-pub use Rattle.kd_form.proofs.Prelude.{sym, ap, subst, ◌∙◌, append_assoc, arith, Err, Ok, drop, ◌≤◌, ◌⊎◌, codes, All}
-pub use Rattle.kd_form.proofs.Prelude.{IsTrue, IsFalse, append_cancel_right, append-nil, All-cons, All-nil, All-map}
-pub use Rattle.kd_form.proofs.Prelude.{letters_text, is_text_byte, line_of, Day, OfRotors, OfPins, Keys, Rotor, Pin}
-pub use Rattle.kd_form.proofs.Prelude.{PrecedesOrEquals, IsInternalKey, key_words, AreKeys, IsLineWithEnd}
-pub use Rattle.kd_form.proofs.Prelude.{BeginsWithKeys, IsOrder, IsOrderHead, IsOrderHeadFault, IsPartTextMade}
-pub use Rattle.kd_form.proofs.Prelude.{enciphered_choice, part_size, pieces, ArePartTextsMade}
-pub use Rattle.kd_form.proofs.Prelude.{text_letters, Result, false≢true, FormFault, nil_from_length, length-append}
-pub use Rattle.kd_form.proofs.Prelude.{InTurn, OrderParts, IsKeysAnswer, IsBytesAnswer, IsDividedAnswer, IsHeadAnswer}
-pub use Rattle.kd_form.proofs.Prelude.{IsReadAnswer, IsMadeAnswer, OrdersHaveOneAnswer, ThenNext-Ok, Yields-Ok}
-pub use Rattle.kd_form.proofs.Prelude.{OrderIsAnswered, IsOrderAnswer, MatchResult}
+pub use Rattle.kd_form.proofs.Prelude.{◌≡◌, ℕ, ◌+◌, List, [], ◌∷◌, ◌++◌, length, refl, sym, ap, subst, ◌∙◌}
+pub use Rattle.kd_form.proofs.Prelude.{append_assoc, arith, Err, Ok, drop, ◌≤◌, codes, All, IsTrue, append_cancel_right}
+pub use Rattle.kd_form.proofs.Prelude.{append-nil, All-cons, All-nil, All-map, letters_text, is_text_byte, line_of, Day}
+pub use Rattle.kd_form.proofs.Prelude.{OfRotors, OfPins, Keys, Rotor, Pin, PrecedesOrEquals, IsInternalKey, key_words}
+pub use Rattle.kd_form.proofs.Prelude.{AreKeys, IsLineWithEnd, BeginsWithKeys, IsOrder, IsOrderHead, IsOrderHeadFault}
+pub use Rattle.kd_form.proofs.Prelude.{IsPartTextMade, enciphered_choice, ArePartTextsMade, FormFault, nil_from_length}
+pub use Rattle.kd_form.proofs.Prelude.{length-append, IsKeysAnswer, IsBytesAnswer, IsDividedAnswer, IsHeadAnswer}
+pub use Rattle.kd_form.proofs.Prelude.{IsReadAnswer, OrdersHaveOneAnswer}
 use Rattle.kd_form.proofs.Rules.{one_answers, bytes_allowed}
 use Rattle.kd_state.specs.AnswerRules.{HasOneAnswer}
 use Rattle.kd_form.proofs.Lines.{same_front, plain_keys, key_first, text_front, same_line, plain_text}
@@ -180,12 +177,6 @@ HasOneAnswer-read s order = search (one_answers, HasOneAnswer-head)
 
 pub orders_have_one_answer : OrdersHaveOneAnswer
 orders_have_one_answer s order = search (one_answers, HasOneAnswer-read, one_form) depth 9
-
-pub order_answered : (s : Day) (order : List ℕ) (v : Result (Unit {0}) FormFault)
-    → MatchResult v (λ _. (form : List ℕ) × IsOrderAnswer s order (Ok form)) (λ fault. IsOrderAnswer s order (Err fault))
-    → OrderIsAnswered s order
-order_answered s order (Ok done) (form, is) = (Ok form, is)
-order_answered s order (Err fault) is = (Err fault, is)
 
 pub no_bad_byte : (position : ℕ) (text : List ℕ) (fault : FormFault) → All (λ b. IsTrue (is_text_byte b)) text
     → ¬ (IsBytesAnswer position text (Err fault))

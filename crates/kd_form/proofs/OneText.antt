@@ -1,25 +1,20 @@
 -- A form becomes one text or has one fault; a fault that stands stays when more bytes follow.
 pub use Rattle.kd_form.proofs.Prelude.{err_is, append-nil, ◌≡◌, ℕ, ◌+◌, ◌-◌, inl, inr, List, [], ◌∷◌, ◌++◌, length}
 pub use Rattle.kd_form.proofs.Prelude.{Result, Ok, Err, refl, sym, ap, subst, ◌∙◌, append_assoc, arith, All, IsTrue}
-pub use Rattle.kd_form.proofs.Prelude.{Option, Some, None, is_text_byte, Day, FormFault, BadByte, BadHeading, PartOrder}
-pub use Rattle.kd_form.proofs.Prelude.{Heading, Indicator, enciphered_choice, letters_from}
-pub use Rattle.kd_form.proofs.Prelude.{keys_of_body, HasOneAnswer-Demands, HasOneAnswer-Finds}
-pub use Rattle.kd_form.proofs.Prelude.{HasOneAnswer-ThenNext, HasOneAnswer-Yields, GoesOn, HasFault}
-pub use Rattle.kd_form.proofs.Prelude.{IsBodyAnswer, IsLettersAnswer, HasHeading}
-pub use Rattle.kd_form.proofs.Prelude.{BeginsHeading, IsAtPartStart}
-pub use Rattle.kd_form.proofs.Prelude.{PartsProperty, PartStart, first_part_start, next_part_start, ReadsPartsTo}
-pub use Rattle.kd_form.proofs.Prelude.{IsAnswerAt, IsAnswerAfter, IsPartFaultForGood, AtPart, cut_at_headings}
-pub use Rattle.kd_form.proofs.Prelude.{IsFormAnswer, FormIsAnswered, MatchResult, IsRefusedForGood, plaintext_bytes}
-pub use Rattle.kd_form.proofs.Prelude.{parts_of, NoHeading, IsReceiveFault, false, length-append, Port}
-pub use Rattle.kd_form.proofs.Prelude.{FailureAgrees, Parts, form_message, IsKeyFault, order_message}
-pub use Rattle.kd_form.proofs.Prelude.{IsStreamAnswer, KeepFailureFlags, is_device, is_off_key, text_message, IsWithout}
-pub use Rattle.kd_form.proofs.Prelude.{FormsHaveOneAnswer, FormsStayRefused, plaintext_with_end, false≢true}
-pub use Rattle.kd_form.proofs.Prelude.{Keys, Rotor, Pin, IsKeysAnswer, IsBytesAnswer, IsReadAnswer, IsMadeAnswer}
-pub use Rattle.kd_form.proofs.Prelude.{IsOrderAnswer, IsByteAnswer, Message}
-use Rattle.kd_form.proofs.{Rules.{bytes_allowed, FaultsAre, faults, one_answers}}
+pub use Rattle.kd_form.proofs.Prelude.{Option, Some, None, is_text_byte, Day, FormFault, PartOrder, Heading, Indicator}
+pub use Rattle.kd_form.proofs.Prelude.{HasOneAnswer-Demands, HasOneAnswer-Finds, HasOneAnswer-ThenNext}
+pub use Rattle.kd_form.proofs.Prelude.{HasOneAnswer-Yields, GoesOn, HasFault, IsLettersAnswer, HasHeading}
+pub use Rattle.kd_form.proofs.Prelude.{BeginsHeading, IsAtPartStart, PartsProperty, PartStart, first_part_start}
+pub use Rattle.kd_form.proofs.Prelude.{next_part_start, ReadsPartsTo, IsAnswerAt, IsAnswerAfter, IsPartFaultForGood}
+pub use Rattle.kd_form.proofs.Prelude.{AtPart, cut_at_headings, IsRefusedForGood, plaintext_bytes, parts_of, NoHeading}
+pub use Rattle.kd_form.proofs.Prelude.{false, length-append, Port, FailureAgrees, form_message, order_message}
+pub use Rattle.kd_form.proofs.Prelude.{IsStreamAnswer, is_device, is_off_key, IsWithout, FormsHaveOneAnswer}
+pub use Rattle.kd_form.proofs.Prelude.{FormsStayRefused, false≢true, Keys, Rotor, Pin, IsKeysAnswer, IsBytesAnswer}
+pub use Rattle.kd_form.proofs.Prelude.{IsReadAnswer, IsOrderAnswer, Message, HasDueNumbers, HasOneAnswer, Demands}
+pub use Rattle.kd_form.proofs.Prelude.{PartContent, ReadPart, IsContentAnswer, IsPartAnswer}
+use Rattle.kd_form.proofs.{Rules.{bytes_allowed, FaultsAre, faults, one_answers, ThenNext-stays, ThenNext-first}}
 use Rattle.kd_form.proofs.Prelude.{IsDividedAnswer}
 use Rattle.kd_form.proofs.OneOrder.{one_internal_key, HasOneAnswer-bytes}
-pub use Rattle.kd_form.proofs.Prelude.{HasDueNumbers, HasOneAnswer, Demands, PartContent, ReadPart, IsContentAnswer, IsPartAnswer}
 use Rattle.kd_form.proofs.Headings.{one_heading, begins_there, begins_more, first_there, ended_heading, heading_there}
 use Rattle.kd_form.proofs.Headings.{IsAlike, cut_at_headings-IsAlike, as_parts, first_done, cut_at_headings-whole}
 
@@ -143,19 +138,13 @@ module _ (s : Day) where
 
 pub forms_have_one_answer : FormsHaveOneAnswer
 forms_have_one_answer s form (Ok text) (Ok other) (one, reads, is) (two, also, so) =
-    let same = (one_reading s form one two (Ok tt) (Ok tt) reads also).0 in cc
+    cc ((one_reading s form one two (Ok tt) (Ok tt) reads also).0)
 forms_have_one_answer s form (Err fault) (Err other) (one, reads) (two, also) =
-    let same = (one_reading s form one two (Err fault) (Err other) reads also).1 in cc
+    cc ((one_reading s form one two (Err fault) (Err other) reads also).1)
 forms_have_one_answer s form (Ok text) (Err fault) (one, reads, is) (two, also) =
-    let clash = (one_reading s form one two (Ok tt) (Err fault) reads also).1 in cc
+    cc ((one_reading s form one two (Ok tt) (Err fault) reads also).1)
 forms_have_one_answer s form (Err fault) (Ok text) (one, reads) (two, also, is) =
-    let clash = (one_reading s form one two (Err fault) (Ok tt) reads also).1 in cc
-
-pub form_answered : (s : Day) (form : List ℕ) (v : Result (Unit {0}) FormFault)
-    → MatchResult v (λ _. (text : List ℕ) × IsFormAnswer s form (Ok text)) (λ fault. IsFormAnswer s form (Err fault))
-    → FormIsAnswered s form
-form_answered s form (Ok done) (text, is) = (Ok text, is)
-form_answered s form (Err fault) is = (Err fault, is)
+    cc ((one_reading s form one two (Err fault) (Ok tt) reads also).1)
 
 -- a fault for good is the form's fault
 pub refused_after : (s : Day) (form text : List ℕ) (fault : FormFault) → IsRefusedForGood s form text fault
@@ -245,26 +234,21 @@ content_as_well : (s : Day) (p : PartStart) (line body other : List ℕ) (fault 
     → ((position : ℕ) (fault : FormFault) → IsBytesAnswer position body (Err fault)
     → IsBytesAnswer position other (Err fault))
     → IsContentAnswer s p (line ++ 10 ∷ body) (Err fault) → IsContentAnswer s p (line ++ 10 ∷ other) (Err fault)
-content_as_well s p line body other fault unbroken bad (HasFault f (none, e) d) = HasFault f (
-  (λ x has.
-      none (record { heading = x.heading; body = body }) (ended_heading s line body x.heading unbroken has.is_heading
-      (heading_there s line other x.heading x.body unbroken has).0)),
-  e,
-) d
-content_as_well s p line body other fault unbroken bad (GoesOn x has told) =
+content_as_well s p line body other fault unbroken bad = ThenNext-stays (λ x. record { heading = x.heading; body = other })
+    (λ (none, e). (
+      (λ x has. none (record { heading = x.heading; body = body })
+          (ended_heading s line body x.heading unbroken has.is_heading
+          (heading_there s line other x.heading x.body unbroken has).0)),
+      e,
+    )) (λ x has told.
     let there = heading_there s line body x.heading x.body unbroken has in
-    GoesOn (record { heading = x.heading; body = other })
-    (ended_heading s line other x.heading unbroken has.is_heading there.0) (elim told [
-      | HasFault f wrong d ↦ HasFault f wrong d
-      | GoesOn done due next ↦ GoesOn done due (elim next [
-        | HasFault f found d ↦
-            let place : p.bytes_before + (length (line ++ 10 ∷ body) - length x.body) + 1
-            ≡ p.bytes_before + (length (line ++ 10 ∷ other) - length other) + 1 =
-            omega (arith, ap length there.1, length-append line (10 ∷ body), length-append line (10 ∷ other)) in
-            HasFault f (bad _ f (rw (place, there.1) at found)) d
-        | GoesOn all allowed e ↦ absurd (cc)
-      ])
-    ])
+    let place : p.bytes_before + (length (line ++ 10 ∷ body) - length x.body) + 1
+    ≡ p.bytes_before + (length (line ++ 10 ∷ other) - length other) + 1 =
+    omega (arith, ap length there.1, length-append line (10 ∷ body), length-append line (10 ∷ other)) in (
+      ended_heading s line other x.heading unbroken has.is_heading there.0,
+      ThenNext-stays (λ d. d) (λ wrong. wrong) (λ done due next.
+          (due, ThenNext-first (λ found. bad _ fault (rw (place, there.1) at found)) next)) told,
+    ))
 
 -- a fault that stands at a part also stands with more bytes
 stands_on : (s : Day) (fault : FormFault) (more : List ℕ) → (p : PartStart) (rest : List ℕ)

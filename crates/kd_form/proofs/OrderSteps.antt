@@ -1,21 +1,20 @@
 -- What the reader of an order holds after one more byte, and its answer at the end.
 pub use Rattle.kd_form.proofs.Prelude.{append-nil, length-take, [], ◌≡◌, ◌≢◌, ℕ, zero, suc, ◌+◌, ◌*◌, ◌<◌, ◌≤◌, inl}
-pub use Rattle.kd_form.proofs.Prelude.{inr, List, ◌∷◌, ◌++◌, Some, length, take, drop, refl, sym, ap, ◌∙◌}
-pub use Rattle.kd_form.proofs.Prelude.{append_assoc, length-append, length-drop, arith, get_or, Option, Result, Ok}
-pub use Rattle.kd_form.proofs.Prelude.{Err, IsTrue, slice_get, codes, All, MatchResult, div_ceil, take_all, drop_all}
-pub use Rattle.kd_form.proofs.Prelude.{drop-take, drop-drop, take-take, take_more, length-take-le, Day, Keys, pieces}
+pub use Rattle.kd_form.proofs.Prelude.{inr, List, ◌∷◌, ◌++◌, Some, length, take, drop, refl, sym, ap, ◌∙◌, append_assoc}
+pub use Rattle.kd_form.proofs.Prelude.{length-append, length-drop, arith, get_or, Option, Result, Ok, Err, IsTrue}
+pub use Rattle.kd_form.proofs.Prelude.{slice_get, codes, MatchResult, div_ceil, take_all, drop_all, drop-take}
+pub use Rattle.kd_form.proofs.Prelude.{drop-drop, take-take, take_more, length-take-le, Day, Keys, pieces}
 pub use Rattle.kd_form.proofs.Prelude.{IsPartTextMade, part_size, parts_needed, ArePartTextsMade, IsMadeAnswer}
 pub use Rattle.kd_form.proofs.Prelude.{letters_from, text_letters, IsOrderFaultForGood, IsWritableCount}
-pub use Rattle.kd_form.proofs.Prelude.{IsSentBeforeEnd, InTurn, IsKeysAnswer, OrderParts, IsBytesAnswer, IsHeadAnswer}
-pub use Rattle.kd_form.proofs.Prelude.{IsReadAnswer, IsByteAnswer, GoesOn, HasFault, false≢true, IsFalse, subst, Rotor, Pin}
-pub use Rattle.kd_form.proofs.Prelude.{order_message, AreLettersTaken, IsHeadBegun, IsHeadLine, HoldsOrderText}
-pub use Rattle.kd_form.proofs.Prelude.{IsTextEndAnswer, IsFreshWriter, IsOpen, HoldsOrder, HoldsOrderStage, All-nil}
-pub use Rattle.kd_form.proofs.Prelude.{PatternFault, AreKeys, IsPatternLine, IsPatternFault, key_pattern, key_words}
-pub use Rattle.kd_form.proofs.Prelude.{line_of, IsLineWithEnd, IsKeyLine, BeginsWithKeys, IsAnyOrderHead, IsOrderHead}
-pub use Rattle.kd_form.proofs.Prelude.{IsOrder, IsOrderHeadFault, is_text_byte, FormFault, HasFaultForGood}
-pub use Rattle.kd_form.proofs.Prelude.{IsMessageAnswer, HasReadSoFar, IsAnyKeyLine, common_steps, BadByte}
-pub use Rattle.kd_form.proofs.Prelude.{space_letter, All-push, filter_map-append, ◌-◌, cases_lt}
-pub use Rattle.kd_form.proofs.Prelude.{drop_at, le_of_mul-le-mul_left, take_at}
+pub use Rattle.kd_form.proofs.Prelude.{IsSentBeforeEnd, InTurn, IsKeysAnswer, OrderParts, IsHeadAnswer, IsReadAnswer}
+pub use Rattle.kd_form.proofs.Prelude.{GoesOn, HasFault, IsFalse, subst, Rotor, Pin, order_message, AreLettersTaken}
+pub use Rattle.kd_form.proofs.Prelude.{IsHeadBegun, IsHeadLine, HoldsOrderText, IsTextEndAnswer, IsFreshWriter, IsOpen}
+pub use Rattle.kd_form.proofs.Prelude.{HoldsOrder, HoldsOrderStage, All-nil, PatternFault, AreKeys, IsPatternLine}
+pub use Rattle.kd_form.proofs.Prelude.{IsPatternFault, key_pattern, key_words, line_of, IsLineWithEnd, IsKeyLine}
+pub use Rattle.kd_form.proofs.Prelude.{BeginsWithKeys, IsAnyOrderHead, IsOrderHead, IsOrder, IsOrderHeadFault}
+pub use Rattle.kd_form.proofs.Prelude.{is_text_byte, FormFault, HasFaultForGood, IsMessageAnswer, HasReadSoFar}
+pub use Rattle.kd_form.proofs.Prelude.{IsAnyKeyLine, common_steps, BadByte, space_letter, All-push, filter_map-append}
+pub use Rattle.kd_form.proofs.Prelude.{◌-◌, cases_lt, drop_at, le_of_mul-le-mul_left, take_at}
 use Rattle.std.proofs.lemmas.{Grind.div_ceil_times, Option.slice_get_within, Option.get_or_from_slice_get}
 use Rattle.kd_form.specs.declared.sending.{part_writer.PartWriter.PartWriter, order_head.HeadReader.HeadReader}
 use Rattle.kd_form.specs.declared.sending.order_reader.{OrderReader.OrderReader, OrderStage.OrderStage}
@@ -25,8 +24,8 @@ use Rattle.kd_form.proofs.Lines.{IsPlain, letters_first, plain_keys, plain_text}
 pub use Rattle.kd_form.proofs.OneOrder.{Shorter, Longer, all_of_the_day, prefixes, HasOneAnswer-read}
 pub use Rattle.kd_form.proofs.OneOrder.{BeginsWithKeys-append}
 use Rattle.kd_form.proofs.Rules.{InTurn-stays, FaultsAre, FaultsAre-InTurn, FaultsAre-Finds, FaultsAre-ThenNext}
-use Rattle.kd_form.proofs.Rules.{FaultsAre-Yields, ThenNext-tested, ThenNext-stays}
-use Rattle.kd_form.proofs.Rules.{ThenNext-first, bytes_allowed, bad_behind}
+use Rattle.kd_form.proofs.Rules.{FaultsAre-Yields, ThenNext-tested, ThenNext-stays, ThenNext-first, bytes_allowed}
+use Rattle.kd_form.proofs.Rules.{bad_behind}
 use Rattle.kd_form.specs.declared.sending.pattern_line.PatternFault.TheVariants as patterns
 use Rattle.kd_form.specs.declared.sending.order_reader.OrderStage.TheVariants as stages
 use Rattle.kd_form.specs.SendStream as stream

@@ -1,10 +1,10 @@
 -- Rules of several steps, and of items that are tested in turn: which faults they allow, and that they allow one answer.
-use Rattle.kd_form.proofs.Prelude.{◌≡◌, ℕ, ◌+◌, ◌<◌, List, [], ◌∷◌, ◌++◌, length, take, drop, get_or, Result, Ok, Err, arith}
-use Rattle.kd_form.proofs.Prelude.{subst, sym, refl, ◌∙◌, All, All-nil, All-cons, All-head, All-tail}
-use Rattle.kd_form.proofs.Prelude.{InTurn, Demands, ThenNext-Ok, GoesOn, HasFault, HasOneAnswer-ThenNext, zero, suc}
-use Rattle.kd_form.proofs.Prelude.{HasOneAnswer-Yields, take-append-drop, drop_more, length-take-le, take_more}
-use Rattle.kd_form.proofs.Prelude.{Day, Keys, IsKeysAnswer, IsByteAnswer, IsBytesAnswer, IsTrue, IsFalse, is_text_byte}
-use Rattle.kd_form.proofs.Prelude.{BadByte, false≢true, HasOneAnswer, Yields-Ok}
+use Rattle.kd_form.proofs.Prelude.{◌≡◌, ℕ, ◌+◌, ◌<◌, List, [], ◌∷◌, ◌++◌, length, take, drop, get_or, Result, Ok, Err}
+use Rattle.kd_form.proofs.Prelude.{arith, subst, sym, refl, ◌∙◌, All, All-head, All-tail, InTurn, Demands, ThenNext-Ok}
+use Rattle.kd_form.proofs.Prelude.{GoesOn, HasFault, HasOneAnswer-ThenNext, zero, suc, HasOneAnswer-Yields}
+use Rattle.kd_form.proofs.Prelude.{take-append-drop, drop_more, length-take-le, take_more, Day, Keys, IsKeysAnswer}
+use Rattle.kd_form.proofs.Prelude.{IsByteAnswer, IsBytesAnswer, IsTrue, IsFalse, is_text_byte, BadByte, false≢true}
+use Rattle.kd_form.proofs.Prelude.{HasOneAnswer, Yields-Ok, MatchResult}
 use Rattle.kd_form.specs.OrderSteps.{AreSuitedKeys}
 use Rattle.kd_state.specs.AnswerRules.{ThenNext, Yields, Finds, FindsAlways, HasOneAnswer-Finds, HasOneAnswer-Demands}
 use Rattle.kd_state.specs.AnswerRules.{HasOneAnswer-FindsAlways}
@@ -54,6 +54,12 @@ pub ThenNext-first : {F X Y : Type 0} {Test Other : Result (Unit {0}) F → Type
     → ThenNext Test (λ _. Yields x) (Err fault) → ThenNext Other Then (Err fault)
 ThenNext-first stays = ThenNext-stays (λ x. x) stays (λ _ _ none. absurd (cc))
 
+-- if a call's answers are right by a rule, some answer is right
+pub some_answer : {F X : Type 0} (rule : Result X F → Type 0) (v : Result (Unit {0}) F)
+    → MatchResult v (λ _. (x : X) × rule (Ok x)) (λ fault. rule (Err fault)) → (answer : Result X F) × rule answer
+some_answer rule (Ok done) (x, is) = (Ok x, is)
+some_answer rule (Err fault) is = (Err fault, is)
+
 -- ---- items tested in turn
 
 -- the rule for testing one item, which has this number
@@ -66,9 +72,8 @@ HasOneAnswer-InTurn one number [] = HasOneAnswer-Yields tt
 HasOneAnswer-InTurn one number (x ∷ xs) =
     HasOneAnswer-ThenNext (one number x) (λ _ _. HasOneAnswer-InTurn one (number + 1) xs)
 
-pub FaultsAre-InTurn : {F X : Type 0} {Q : F → Type 0} {Test : ℕ → X → Result (Unit {0}) F → Type 0}
-    → ((number : ℕ) (x : X) → FaultsAre Q (Test number x)) → (number : ℕ) (xs : List X)
-    → FaultsAre Q (InTurn Test number xs)
+pub FaultsAre-InTurn : {F X : Type 0} {Q : F → Type 0} {Test : TurnRule F X}
+    → ((number : ℕ) (x : X) → FaultsAre Q (Test number x)) → (number : ℕ) (xs : List X) → FaultsAre Q (InTurn Test number xs)
 FaultsAre-InTurn of number [] = FaultsAre-Yields
 FaultsAre-InTurn of number (x ∷ xs) = FaultsAre-ThenNext (of number x) (λ _. FaultsAre-InTurn of (number + 1) xs)
 
@@ -95,10 +100,9 @@ InTurn-append Test number (x ∷ xs) ys v passed next =
 -- more items don't change a fault
 pub InTurn-stays : {F X : Type 0} (Test : TurnRule F X) (number : ℕ) (xs ys : List X) (fault : F)
     → InTurn Test number xs (Err fault) → InTurn Test number (xs ++ ys) (Err fault)
-InTurn-stays Test number [] ys fault none = absurd (cc)
-InTurn-stays Test number (x ∷ xs) ys fault (HasFault f a e) = HasFault f a e
-InTurn-stays Test number (x ∷ xs) ys fault (GoesOn done a next) =
-    GoesOn done a (InTurn-stays Test (number + 1) xs ys fault next)
+InTurn-stays Test number [] ys fault = λ none. absurd (cc)
+InTurn-stays Test number (x ∷ xs) ys fault =
+    ThenNext-stays (λ d. d) (λ a. a) (λ done a next. (a, InTurn-stays Test (number + 1) xs ys fault next))
 
 -- each item has passed the test
 pub InTurn-at : {F X : Type 0} (Test : TurnRule F X) (number : ℕ) (xs : List X) (place : ℕ) (d : X)
@@ -110,11 +114,6 @@ InTurn-at Test number (x ∷ xs) (suc place) d passed less =
     let n : number + suc place ≡ number + 1 + place = omega arith in
     rw n (InTurn-at Test (number + 1) xs place d (ThenNext-Ok passed).next (omega arith))
 
-pub InTurn-one : {F X : Type 0} (Test : TurnRule F X) (number : ℕ) (x : X) (v : Result (Unit {0}) F) → Test number x v
-    → InTurn Test number (x ∷ []) v
-InTurn-one Test number x (Ok done) is = GoesOn tt is refl
-InTurn-one Test number x (Err fault) is = HasFault fault is refl
-
 -- in a loop: one more item passes, or fails
 pub turn_passes : {F X : Type 0} (Test : TurnRule F X) (xs : List X) (index : ℕ) (x : X)
     → InTurn Test 1 (take index xs) (Ok tt) → index < length xs → get_or xs index x ≡ x → Test (index + 1) x (Ok tt)
@@ -122,7 +121,7 @@ pub turn_passes : {F X : Type 0} (Test : TurnRule F X) (xs : List X) (index : �
 turn_passes Test xs index x passed inside is one =
     let place : index + 1 ≡ 1 + length (take index xs) = omega (arith, length-take-le index xs (omega arith)) in
     rw (take_more xs index x inside, is)
-    (InTurn-append Test 1 (take index xs) (x ∷ []) (Ok tt) passed (InTurn-one Test _ x (Ok tt) (rw place at one)))
+    (InTurn-append Test 1 (take index xs) (x ∷ []) (Ok tt) passed (GoesOn tt (rw place at one) refl))
 
 pub turn_fails : {F X : Type 0} (Test : TurnRule F X) (xs : List X) (index : ℕ) (x : X) (fault : F)
     → InTurn Test 1 (take index xs) (Ok tt) → index < length xs → get_or xs index x ≡ x
@@ -141,12 +140,6 @@ pub InTurn-All : {F X : Type 0} (P : X → Type 0) (due : ℕ → F) (number : �
 InTurn-All P due number [] all = refl
 InTurn-All P due number (x ∷ xs) all =
     GoesOn tt (All-head P x xs all) (InTurn-All P due (number + 1) xs (All-tail P x xs all))
-
-pub All-InTurn : {F X : Type 0} (P : X → Type 0) (due : ℕ → F) (number : ℕ) (xs : List X)
-    → InTurn (λ n x. Demands (P x) (due n)) number xs (Ok tt) → All P xs
-All-InTurn P due number [] passed = All-nil P
-All-InTurn P due number (x ∷ xs) passed =
-    let first = ThenNext-Ok passed in All-cons P x xs first.says (All-InTurn P due (number + 1) xs first.next)
 
 -- ---- the bytes of a text
 

@@ -1,5 +1,5 @@
-use Rattle.kd_form.proofs.OneOrder.{order_answered}
+use Rattle.kd_form.proofs.{Rules.some_answer, Prelude.IsOrderAnswer}
 use Rattle.kd_form.proofs.laws.orders_have_an_answer.Goals as goal
 
 pub returns : goal.returns
-returns c = order_answered _ _ c.check_message-answer.result c.check_message-answer.ensures
+returns c = some_answer (IsOrderAnswer c.args.day.now c.args.order.now) c.check_message-answer.result c.check_message-answer.ensures

@@ -1,10 +1,10 @@
-use Rattle.kd_form.proofs.FormSteps.{heading_due, heading_refused, right_content, refl, ◌∙◌}
-use Rattle.kd_form.proofs.FormSteps.{arith, IsTrue, All-nil, is_text_byte, HasFault, GoesOn}
+use Rattle.kd_form.proofs.FormSteps.{ThenNext-tested, heading_refused, right_content, refl, ◌∙◌, arith, IsTrue, All-nil}
+use Rattle.kd_form.proofs.FormSteps.{is_text_byte, HasFault, GoesOn}
 use Rattle.kd_form.proofs.receiving.form_reader.fault_in_heading.Goals as goal
 
 pub returns-in-Ok : goal.returns-in-Ok
 returns-in-Ok c = λ part held p number expected.
-    let (is, due) = heading_due c.in-Ok.ensures in
+    let (is, due) = ThenNext-tested c.in-Ok.ensures in
     let has = rw is at (c.heading_of_open_line-heading.ensures part held.unbroken (c.as_slice.ensures.value ∙ held.kept)) in
     rw (number, expected) (GoesOn _ (right_content p.bytes_before has due (All-nil (λ b. IsTrue (is_text_byte b))))
     (HasFault _ (HasFault _ ((λ _ none. grind (arith, none, has.is_heading.letters)), refl) refl) refl))

@@ -1,6 +1,5 @@
-use Rattle.kd_form.proofs.FormSteps.{err_is, next_last, next_refused, IsMessageAnswer-text}
-use Rattle.kd_form.proofs.FormSteps.{IsMessageAnswer-part_fault, IsMessageAnswer-parts_missing, in_stage}
-use Rattle.kd_form.proofs.FormSteps.{ℕ, ap, ArrayVec, ◌∙◌, refl}
+use Rattle.kd_form.proofs.FormSteps.{err_is, next_last, next_refused, IsMessageAnswer-text, IsMessageAnswer-part_fault}
+use Rattle.kd_form.proofs.FormSteps.{IsMessageAnswer-parts_missing, in_stage, ℕ, ap, ArrayVec, ◌∙◌, refl}
 use Rattle.kd_form.proofs.receiving.form_reader.FormReaderMessageReader.end.Goals as goal
 
 pub decipher_into-requires-clause-heading : goal.decipher_into-requires-clause-heading

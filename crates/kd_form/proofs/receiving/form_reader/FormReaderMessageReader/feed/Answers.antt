@@ -1,10 +1,7 @@
 use Rattle.kd_form.proofs.FormSteps.{err_is, first_longer, goes_on, HasReadSoFar-form, HoldsForm-byte, in_stage}
-use Rattle.kd_form.proofs.FormSteps.{take_kept}
-use Rattle.kd_form.proofs.FormSteps.{heading_due, heading_refused, IsRefusedForGood-HasFaultForGood, GoesOn, HasFault}
-use Rattle.kd_form.proofs.FormSteps.{HasFaultForGood-last_part}
-use Rattle.kd_form.proofs.FormSteps.{four_letters}
-use Rattle.kd_form.proofs.FormSteps.{HasFaultForGood-part, HoldsForm-next_part, HasBegunHeading-snoc, not_begun}
-use Rattle.kd_form.proofs.FormSteps.{cut_at_headings-line}
+use Rattle.kd_form.proofs.FormSteps.{take_kept, ThenNext-tested, heading_refused, IsRefusedForGood-HasFaultForGood}
+use Rattle.kd_form.proofs.FormSteps.{GoesOn, HasFault, HasFaultForGood-last_part, four_letters, HasFaultForGood-part}
+use Rattle.kd_form.proofs.FormSteps.{HoldsForm-next_part, HasBegunHeading-snoc, not_begun, cut_at_headings-line}
 use Rattle.kd_form.proofs.FormSteps.{ended_heading, bad_behind, ◌≢◌, take, All-push, All-nil, IsTrue, is_text_byte}
 use Rattle.kd_form.proofs.FormSteps.{IsLineText, line_of, heading_words, [], ◌∷◌, ◌++◌, ◌+◌, ◌-◌, ◌≡◌, ℕ, List, length}
 use Rattle.kd_form.proofs.FormSteps.{length-append, refl, inl, ap, subst, plaintext_bytes, BeginsHeading, NoHeading}
@@ -87,7 +84,7 @@ pub returns-in_ok-heading-in-Heading : goal.returns-in_ok-heading-in-Heading
 returns-in_ok-heading-in-Heading c = λ form text so_far.
     let h = so_far.is in
     let there = (in_stage h c.in-Heading.is).0 in
-    let (found, due) = heading_due c.in_ok-heading-in-Heading.ensures in
+    let (found, due) = ThenNext-tested c.in_ok-heading-in-Heading.ensures in
     let told =
     c.heading_of_ended_line-heading.ensures h.last there.unbroken (c.as_slice-in-Heading.ensures.value ∙ there.kept) in
     let (is_heading, text_is) = rw found at told in

@@ -1,7 +1,7 @@
 use Rattle.kd_form.proofs.OrderSteps.{counted_on, letters_few, HasReadSoFar-order, HasFaultForGood-head, IsOrder-append}
-use Rattle.kd_form.proofs.OrderSteps.{HasFaultForGood-text, All-push, is_text_byte, IsTrue, HasFault, text_begins, space_letter, length}
-use Rattle.kd_form.proofs.OrderSteps.{length-append, arith, filter_map-append, BadByte, [], ◌∷◌, ◌++◌, ◌+◌, ◌≡◌, ap, refl, sym}
-use Rattle.kd_form.proofs.OrderSteps.{text_letters, ◌∙◌, all_of_the_day}
+use Rattle.kd_form.proofs.OrderSteps.{HasFaultForGood-text, All-push, is_text_byte, IsTrue, HasFault, text_begins}
+use Rattle.kd_form.proofs.OrderSteps.{space_letter, length, length-append, arith, filter_map-append, BadByte, [], ◌∷◌}
+use Rattle.kd_form.proofs.OrderSteps.{◌++◌, ◌+◌, ◌≡◌, ap, refl, sym, text_letters, ◌∙◌, all_of_the_day}
 use Rattle.kd_form.specs.declared.sending.order_reader.OrderStage.TheVariants as stages
 use Rattle.kd_form.proofs.sending.order_reader.OrderReaderMessageReader.feed.Goals as goal
 
