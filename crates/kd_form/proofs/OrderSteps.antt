@@ -13,8 +13,8 @@ pub use Rattle.kd_form.proofs.Prelude.{HoldsOrder, HoldsOrderStage, All-nil, Pat
 pub use Rattle.kd_form.proofs.Prelude.{IsPatternFault, key_pattern, key_words, line_of, IsLineWithEnd, IsKeyLine}
 pub use Rattle.kd_form.proofs.Prelude.{BeginsWithKeys, IsAnyOrderHead, IsOrderHead, IsOrder, IsOrderHeadFault}
 pub use Rattle.kd_form.proofs.Prelude.{is_text_byte, FormFault, HasFaultForGood, IsMessageAnswer, HasReadSoFar}
-pub use Rattle.kd_form.proofs.Prelude.{IsAnyKeyLine, common_steps, BadByte, space_letter, All-push, filter_map-append}
-pub use Rattle.kd_form.proofs.Prelude.{◌-◌, cases_lt, drop_at, le_of_mul-le-mul_left, take_at}
+pub use Rattle.kd_form.proofs.Prelude.{IsAnyKeyLine, common_steps, BadByte, All-push, filter_map-append, ◌-◌, cases_lt}
+pub use Rattle.kd_form.proofs.Prelude.{drop_at, le_of_mul-le-mul_left, take_at}
 use Rattle.std.proofs.lemmas.{Grind.div_ceil_times, Option.slice_get_within, Option.get_or_from_slice_get}
 use Rattle.kd_form.specs.declared.sending.{part_writer.PartWriter.PartWriter, order_head.HeadReader.HeadReader}
 use Rattle.kd_form.specs.declared.sending.order_reader.{OrderReader.OrderReader, OrderStage.OrderStage}

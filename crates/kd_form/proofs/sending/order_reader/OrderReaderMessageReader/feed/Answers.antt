@@ -1,8 +1,8 @@
+use Rattle.kd_form.proofs.Prelude.{common_steps}
 use Rattle.kd_form.proofs.OrderSteps.{counted_on, letters_few, HasReadSoFar-order, HasFaultForGood-head, IsOrder-append}
 use Rattle.kd_form.proofs.OrderSteps.{IsOrderHeadFault-append, HasFaultForGood-text, All-push, is_text_byte, IsTrue}
-use Rattle.kd_form.proofs.OrderSteps.{HasFault, text_begins, space_letter, length, length-append, arith}
-use Rattle.kd_form.proofs.OrderSteps.{filter_map-append, BadByte, [], ◌∷◌, ◌++◌, ◌+◌, ap, refl, sym, text_letters, ◌∙◌}
-use Rattle.kd_form.proofs.OrderSteps.{all_of_the_day}
+use Rattle.kd_form.proofs.OrderSteps.{HasFault, text_begins, length-append, arith, filter_map-append, BadByte, [], ◌∷◌}
+use Rattle.kd_form.proofs.OrderSteps.{◌++◌, ◌+◌, ap, refl, sym, text_letters, ◌∙◌, all_of_the_day}
 use Rattle.kd_form.specs.declared.sending.order_reader.OrderStage.TheVariants as stages
 use Rattle.kd_form.proofs.sending.order_reader.OrderReaderMessageReader.feed.Goals as goal
 
@@ -10,27 +10,10 @@ pub check_keys-requires-clause-keys : goal.check_keys-requires-clause-keys
 check_keys-requires-clause-keys c = grind (arith, all_of_the_day)
 
 pub returns-then-not-is_text_byte : goal.returns-then-not-is_text_byte
-returns-then-not-is_text_byte c bytes text held =
-    let here = rw c.in-Text.is at held.is.stage in
-    let bad = sym c.is_text_byte.ensures ∙ c.if-not-is_text_byte.true in
-    rw held.is.counted (HasFaultForGood-text here c.args.byte bad)
+returns-then-not-is_text_byte c bytes text held = grind (arith, common_steps, c.in-Text.is, c.is_text_byte.ensures, c.if-not-is_text_byte.true, HasFaultForGood-text)
 
 pub take-requires-in-Text-clause-taken : goal.take-requires-in-Text-clause-taken
-take-requires-in-Text-clause-taken c =
-    let room = c.requires.room in
-    let here = rw c.in-Text.is at room.held.is.stage in
-    let short = letters_few (space_letter c.args.day.now) here.text in (
-      text_letters c.args.day.now here.text,
-      room.text,
-      rw c.keys-in-Text.ensures here.taken,
-      omega (
-        arith,
-        short,
-        room.within,
-        ap length here.is_order.joined,
-        length-append here.head here.text,
-      ),
-    )
+take-requires-in-Text-clause-taken c = grind (arith, common_steps, c.in-Text.is, letters_few, c.keys-in-Text.ensures, length-append)
 
 pub returns-in-Open : goal.returns-in-Open
 returns-in-Open c bytes text held =
