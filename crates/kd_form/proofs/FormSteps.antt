@@ -149,7 +149,8 @@ module _ {s : Day} {b : PartBody} {number : ℕ} {expected : Option ℕ} {part b
   next_read made told =
       let (one, read, is) = told (letters_from None body) more refl next.kept in (
         one,
-        λ start. GoesOn _ (right_content start next.has next.due next.allowed) (GoesOn one (next_body (Ok one) read) refl),
+        λ start. GoesOn _ (right_content start next.has next.due next.allowed)
+            (GoesOn one (next_body (Ok one) read) refl),
         is,
       )
 
@@ -388,11 +389,12 @@ module _ {s : Day} {r : FormReader} {form text : List ℕ} (h : HoldsForm s r fo
           begun = inr (grind (arith, h.begun, begins_there s whole b.heading _ has, begins_more h.front whole));
           first = λ same. absurd (omega (arith, same, there.due.numbered, there.holds.is_heading.number.first));
           read = reads_then s (here h) (IsAtPartStart
-              (start_of (r.number + 1) (Some b.heading.parts) (length (h.front ++ whole)))) first_part_start h.parts (whole ∷ []) h.letters one h.read (inr (
+              (start_of (r.number + 1) (Some b.heading.parts) (length (h.front ++ whole))))
+              first_part_start h.parts (whole ∷ []) h.letters one h.read (inr (
                 record { parts = b.heading.parts; letters = one },
                 [],
                 read (length h.front),
-                ((ap (λ n. start_of (r.number + 1) (Some b.heading.parts) n) (sym (length-append h.front whole)), refl), refl),
+                ((ap (start_of (r.number + 1) (Some b.heading.parts)) (sym (length-append h.front whole)), refl), refl),
                 sym (append-nil one),
               ));
           is = cc (h.is, given, map-append (plaintext_byte (space_letter s)) h.letters one);

@@ -17,7 +17,8 @@ use Rattle.kd_form.proofs.Headings.{allowed_one, at_cut, cut_behind, ended_headi
 use Rattle.kd_form.proofs.Headings.{words_begin, one_byte}
 use Rattle.kd_form.proofs.MadeParts.{pieces-next, pieces-none, more_pieces, IsPiece, GivesBack, part_gives_back}
 use Rattle.kd_form.proofs.{MadeParts.size_some, OneText.right_content}
-use Rattle.kd_form.proofs.{Lines.AreAllowed, Lines.IsWithout-plain, OneOrder.{all_of_the_day, one_order}, Rules.ThenNext-tested}
+use Rattle.kd_form.proofs.{Lines.{AreAllowed, IsWithout-plain}, OneOrder.{all_of_the_day, one_order}}
+use Rattle.kd_form.proofs.Rules.{ThenNext-tested}
 
 -- -------- the body of a part as it is written: the letters that it gives, its bytes, and its lines
 
@@ -198,12 +199,12 @@ record AreGivenBack (s : Day) (part parts count : ℕ) (pieces : List (List ℕ)
   begins : texts ≢ [] → BeginsHeading form
   cut_so : cut_at_headings (10 ∷ form) ≡ (10 ∷ [], texts)
   read : (expected : Option ℕ) (start : ℕ) → IsExpectedCount expected parts → (texts ≡ [] → expected ≡ Some parts)
-      → ReadsPartsTo s (IsAnswerAt s (Ok tt)) (record { number = part; expected = expected; bytes_before = start }) texts
-      (flat_map (sent_letters s) pieces)
+      → ReadsPartsTo s (IsAnswerAt s (Ok tt)) (record { number = part; expected = expected; bytes_before = start })
+      texts (flat_map (sent_letters s) pieces)
 
 parts_are_given_back : (s : Day) (part parts : ℕ) (keys : List Keys) (pieces : List (List ℕ)) (form : List ℕ)
-    → IsLegalDay s → All (AreKeys s) keys → InTurn (IsKeysAnswer s) part keys (Ok tt) → All (IsPiece s) pieces → 1 ≤ part
-    → part + length keys ≡ parts + 1
+    → IsLegalDay s → All (AreKeys s) keys → InTurn (IsKeysAnswer s) part keys (Ok tt) → All (IsPiece s) pieces
+    → 1 ≤ part → part + length keys ≡ parts + 1
     → parts ≤ 99 → ArePartTextsMade s part parts keys pieces form → AreGivenBack s part parts (length keys) pieces form
 parts_are_given_back s part parts [] [] form legal are suited all first last few made = rw made (record {
   texts = [];
@@ -219,7 +220,8 @@ parts_are_given_back s part parts (k ∷ keys) (piece ∷ pieces) form legal are
     (ThenNext-Ok suited).next (All-tail (IsPiece s) piece pieces all) (omega arith) (omega arith) few others in
     let back : GivesBack s part parts (sent_letters s piece) made =
     part_gives_back s part parts k piece made legal (All-head (AreKeys s) k keys are)
-    (ThenNext-Ok suited).says (record { first = first; in_order = omega arith; few = few }) (All-head (IsPiece s) piece pieces all) makes in
+    (ThenNext-Ok suited).says (record { first = first; in_order = omega arith; few = few })
+    (All-head (IsPiece s) piece pieces all) makes in
     let given = gives_body made.body back.within in
     let is_read : (expected : Option ℕ) (start : ℕ) → IsExpectedCount expected parts
     → IsPartAnswer s (record { number = part; expected = expected; bytes_before = start }) (part_text made)
@@ -228,7 +230,8 @@ parts_are_given_back s part parts (k ∷ keys) (piece ∷ pieces) form legal are
       numbered = back.numbered;
       as_expected = subst (λ n. IsExpectedCount expected n) (sym back.same_parts) due;
     } in
-    rw (← back.same_parts) (GoesOn _ (right_content start (part_has_heading s made back.is_heading) numbers given.allowed)
+    rw (← back.same_parts) (GoesOn _
+    (right_content start (part_has_heading s made back.is_heading) numbers given.allowed)
     (GoesOn (sent_letters s piece)
     (subst (λ ls. IsBodyAnswer s part made.heading ls (Ok (sent_letters s piece))) (sym given.gives)
     (GoesOn tt back.counted back.read)) refl)) in
@@ -265,7 +268,8 @@ forms_give_their_orders s order form given legal is due =
     grind (arith, common_steps, more_pieces, size_some, some.says, back.counted, counted.says) in
     let read = back.read None 0 tt (λ none. absurd (some none)) in
     let texts : back.texts ≡ parts_of form = ap (λ c. c.1) (sym back.cut_so ∙ at_cut form (back.begins some)) in
-    let given_letters : ReadsPartsTo s (IsAnswerAt s (Ok tt)) first_part_start (parts_of form) (sent_letters s letters) =
+    let given_letters
+    : ReadsPartsTo s (IsAnswerAt s (Ok tt)) first_part_start (parts_of form) (sent_letters s letters) =
     subst (λ ps. ReadsPartsTo s (IsAnswerAt s (Ok tt)) first_part_start ps (sent_letters s letters)) texts
     (subst (ReadsPartsTo s (IsAnswerAt s (Ok tt)) first_part_start back.texts) (sent_pieces s letters) read) in (
       plaintext_bytes s (sent_letters s letters),

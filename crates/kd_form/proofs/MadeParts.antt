@@ -338,7 +338,8 @@ part_gives_back (OfPins s) part parts (Pin k) piece made legal are suits fractio
           let placed = pin_places k k.external (list_letters day) enciphered refl are.external.count legal.list.count in
           let text : cipher_from day internal enciphered ≡ fill_last_group piece =
           twice_on_key day internal (fill_last_group piece) legal inner in
-          GoesOn tt placed.around (GoesOn tt (rw placed.keys at (has_internal day k part suits).0) (GoesOn tt (sym placed.listed)
+          GoesOn tt placed.around (GoesOn tt (rw placed.keys at (has_internal day k part suits).0)
+          (GoesOn tt (sym placed.listed)
           (GoesOn internal (rw placed.keys at first) (cc (text, placed.text_is)))));
     })
 part_gives_back _ part parts _ piece made legal are suits fraction is makes = absurd are

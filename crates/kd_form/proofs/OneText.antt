@@ -132,7 +132,8 @@ module _ (s : Day) where
   pub one_reading : (form text more : List ℕ) (v w : Result (Unit {0}) FormFault) → IsAnswerAfter s form text v
       → IsAnswerAfter s form more w → (text ≡ more) × (v ≡ w)
   one_reading form text more v w (letters, reads, is) (others, also, so) =
-      let both = reads_meet (IsAnswerAt s v) (IsAnswerAt s w) (v ≡ w) (never_passes v w) (never_passes w v) (IsAnswerAt-one v w)
+      let both = reads_meet (IsAnswerAt s v) (IsAnswerAt s w) (v ≡ w) (never_passes v w) (never_passes w v)
+      (IsAnswerAt-one v w)
       first_part_start (parts_of form) letters others reads also in
       (is ∙ ap (plaintext_bytes s) both.0 ∙ sym so, both.1)
 
@@ -205,8 +206,8 @@ refused_form s form text fault (letters, reads, is) =
 
 -- if no fault of the messages is `Device`, `NotReady` or `NotOnKey`, a device failed exactly if the answer says so, and
 -- the machine isn't the reason for the answer
-pub FailureAgrees-answer : (m : Message) (source sink : Port) (read text : List ℕ) (answer : Result (Unit {0}) FormFault)
-    → ((fault : FormFault) → m.stands read fault → IsOfMessages fault)
+pub FailureAgrees-answer : (m : Message) (source sink : Port) (read text : List ℕ)
+    (answer : Result (Unit {0}) FormFault) → ((fault : FormFault) → m.stands read fault → IsOfMessages fault)
     → ((fault : FormFault) → m.refused read fault → IsOfMessages fault)
     → IsStreamAnswer m source sink read text answer
     → FailureAgrees source sink (is_device answer) × (is_off_key answer ≡ false)
@@ -234,7 +235,8 @@ content_as_well : (s : Day) (p : PartStart) (line body other : List ℕ) (fault 
     → ((position : ℕ) (fault : FormFault) → IsBytesAnswer position body (Err fault)
     → IsBytesAnswer position other (Err fault))
     → IsContentAnswer s p (line ++ 10 ∷ body) (Err fault) → IsContentAnswer s p (line ++ 10 ∷ other) (Err fault)
-content_as_well s p line body other fault unbroken bad = ThenNext-stays (λ x. record { heading = x.heading; body = other })
+content_as_well s p line body other fault unbroken bad =
+    ThenNext-stays (λ x. record { heading = x.heading; body = other })
     (λ (none, e). (
       (λ x has. none (record { heading = x.heading; body = body })
           (ended_heading s line body x.heading unbroken has.is_heading

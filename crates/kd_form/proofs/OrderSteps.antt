@@ -215,7 +215,8 @@ module _ {s : Day} where
   no_bad_byte_in : (keys : List Keys) (order : List ℕ) (position : ℕ) → IsOrderHead s keys order
       → ¬ (IsReadAnswer s order (Err (BadByte position)))
   no_bad_byte_in keys order position head =
-      let is : IsOrder s order keys order [] = record { joined = sym (append-nil order); is_head = head } in told is where
+      let is : IsOrder s order keys order [] = record { joined = sym (append-nil order); is_head = head } in
+      told is where
         told : IsOrder s order keys order [] → ¬ (IsReadAnswer s order (Err (BadByte position)))
         told is (HasFault f (HasFault g (at, divided, e) d) c) = no_head_fault s order keys order [] at is divided
         told is (HasFault f (GoesOn parts divided (HasFault g unsuited d)) c) =
@@ -223,7 +224,8 @@ module _ {s : Day} where
         told is (HasFault f (GoesOn parts divided (GoesOn done suited d)) c) = cc
         told is (GoesOn parts read (HasFault f bad d)) =
             let same = one_order s order keys parts.keys order parts.head [] parts.text is (ThenNext-tested read).0 in
-            no_bad_byte (length parts.head + 1) parts.text f (rw (← same.2) (All-nil (λ b. IsTrue (is_text_byte b)))) bad
+            no_bad_byte (length parts.head + 1) parts.text f (rw (← same.2) (All-nil (λ b. IsTrue (is_text_byte b))))
+            bad
         told is (GoesOn parts read (GoesOn done allowed d)) = cc
 
   -- ---- how far the reader has read
@@ -236,7 +238,8 @@ module _ {s : Day} where
 
     read_held : IsReadAnswer s order (Ok (record { keys = keys; head = text.head; text = text.text }))
     read_held =
-        GoesOn _ (head_right text.is_order text.taken.suited.suited) (GoesOn tt (bytes_allowed _ text.text text.allowed) refl)
+        GoesOn _ (head_right text.is_order text.taken.suited.suited)
+        (GoesOn tt (bytes_allowed _ text.text text.allowed) refl)
 
     text_sent : (more : List ℕ) → ((byte : ℕ) (after : List ℕ) → more ≡ byte ∷ after → IsFalse (is_text_byte byte))
         → IsSentBeforeEnd s (order ++ more) sent
@@ -273,7 +276,8 @@ module _ {s : Day} where
         written = stream.NothingSent _ cut nothing;
       }
   open_yet stages.Text h w order sent text = record {
-    unrefused = λ fault good. let clash = HasOneAnswer-read s order (Ok _) (Err fault) (read_held text) (rw append-nil at (good [])) in cc;
+    unrefused = λ fault good.
+        let clash = HasOneAnswer-read s order (Ok _) (Err fault) (read_held text) (rw append-nil at (good [])) in cc;
     written = text_sent_yet text;
   }
 

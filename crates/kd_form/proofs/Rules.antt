@@ -1,4 +1,4 @@
--- Rules of several steps, and of items that are tested in turn: which faults they allow, and that they allow one answer.
+-- Rules of several steps, and of items tested in turn: which faults they allow, and that they allow one answer.
 use Rattle.kd_form.proofs.Prelude.{◌≡◌, ℕ, ◌+◌, ◌<◌, List, [], ◌∷◌, ◌++◌, length, take, drop, get_or, Result, Ok, Err}
 use Rattle.kd_form.proofs.Prelude.{arith, subst, sym, refl, ◌∙◌, All, All-head, All-tail, InTurn, Demands, ThenNext-Ok}
 use Rattle.kd_form.proofs.Prelude.{GoesOn, HasFault, HasOneAnswer-ThenNext, zero, suc, HasOneAnswer-Yields}
@@ -14,8 +14,8 @@ pub record FaultsAre {F X : Type 0} (Q : F → Type 0) (rule : Result X F → Ty
   pub are : (fault : F) → rule (Err fault) → Q fault
 
 module _ {F X : Type 0} {Q : F → Type 0} where
-  pub FaultsAre-ThenNext : {Y : Type 0} {First : Result X F → Type 0} {Next : X → Result Y F → Type 0} → FaultsAre Q First
-      → ((x : X) → FaultsAre Q (Next x)) → FaultsAre Q (ThenNext First Next)
+  pub FaultsAre-ThenNext : {Y : Type 0} {First : Result X F → Type 0} {Next : X → Result Y F → Type 0}
+      → FaultsAre Q First → ((x : X) → FaultsAre Q (Next x)) → FaultsAre Q (ThenNext First Next)
   FaultsAre-ThenNext {First = First} {Next = Next} first next = record { are = told } where
     told : (fault : F) → ThenNext First Next (Err fault) → Q fault
     told fault (HasFault f is e) = let same : f ≡ fault = cc in subst Q same (first.are f is)
@@ -73,7 +73,8 @@ HasOneAnswer-InTurn one number (x ∷ xs) =
     HasOneAnswer-ThenNext (one number x) (λ _ _. HasOneAnswer-InTurn one (number + 1) xs)
 
 pub FaultsAre-InTurn : {F X : Type 0} {Q : F → Type 0} {Test : TurnRule F X}
-    → ((number : ℕ) (x : X) → FaultsAre Q (Test number x)) → (number : ℕ) (xs : List X) → FaultsAre Q (InTurn Test number xs)
+    → ((number : ℕ) (x : X) → FaultsAre Q (Test number x)) → (number : ℕ) (xs : List X)
+    → FaultsAre Q (InTurn Test number xs)
 FaultsAre-InTurn of number [] = FaultsAre-Yields
 FaultsAre-InTurn of number (x ∷ xs) = FaultsAre-ThenNext (of number x) (λ _. FaultsAre-InTurn of (number + 1) xs)
 
@@ -142,7 +143,8 @@ bytes_allowed = InTurn-All (λ b. IsTrue (is_text_byte b)) BadByte
 
 -- after allowed bytes, a byte that isn't allowed is the fault
 pub bad_behind : (position : ℕ) (front rest : List ℕ) (byte : ℕ) → All (λ b. IsTrue (is_text_byte b)) front
-    → IsFalse (is_text_byte byte) → IsBytesAnswer position (front ++ byte ∷ rest) (Err (BadByte (position + length front)))
+    → IsFalse (is_text_byte byte)
+    → IsBytesAnswer position (front ++ byte ∷ rest) (Err (BadByte (position + length front)))
 bad_behind position front rest byte allowed bad =
     InTurn-append IsByteAnswer position front (byte ∷ rest) _ (bytes_allowed position front allowed)
     (HasFault _ ((λ _ good. false≢true (sym bad ∙ good)), refl) refl)

@@ -16,7 +16,7 @@ pub use Rattle.kd_form.proofs.Prelude.{take_more, rules, TooLong, port, All-nil,
 pub use Rattle.kd_form.proofs.Prelude.{false≢true, NotReady, FaultBefore}
 pub use Rattle.std.proofs.KnownBytes.{Consumes-nil, Consumes-kept, Consumes-trans, Appends-nil, Appends-trans}
 pub use Rattle.std.proofs.KnownBytes.{starts_with_rest}
-use Rattle.{kd_form.proofs.OneOrder.no_bad_byte, kd_form.proofs.Rules.{bad_behind, bytes_allowed}, std.specs.Io.StartsWith}
+use Rattle.{kd_form.proofs.{OneOrder.no_bad_byte, Rules.{bad_behind, bytes_allowed}}, std.specs.Io.StartsWith}
 use Rattle.kd_form.specs.{StreamSteps.IsEndAnswer as MessageEnds}
 use Rattle.kd_form.specs.{declared.{stream.interruption.Interruption.Interruption, typing.Typist.Typist}}
 use Rattle.kd_form.specs.declared.stream.interruption.Interruption.TheVariants as stops
@@ -241,4 +241,5 @@ module _ (m : Parts) where
 
 pub typed_ends : (m : Parts) (t : Typist)
     → MessageEnds (text_message (physical_cipher m)) (HasTyped m t) (10 ∷ []) (Ok tt)
-typed_ends m t bytes text held = (bytes_allowed 1 bytes held.is.allowed, ap (λ l. l ++ 10 ∷ []) (text_is m t bytes text held.is))
+typed_ends m t bytes text held =
+    (bytes_allowed 1 bytes held.is.allowed, ap (λ l. l ++ 10 ∷ []) (text_is m t bytes text held.is))

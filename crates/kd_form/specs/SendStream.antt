@@ -1,6 +1,7 @@
 -- Which parts of an order's form are written before the end of the order is read. Parts are counted from 1.
 -- Test: orders_are_sent
-use Rattle.std.specs.Prelude.{◌≡◌, ◌⊎◌, ℕ, ◌*◌, ◌<◌, ◌≤◌, List, [], ◌∷◌, ◌++◌, length, take, All, IsTrue, IsFalse, Ok, Err}
+use Rattle.std.specs.Prelude.{◌≡◌, ◌⊎◌, ℕ, ◌*◌, ◌<◌, ◌≤◌, List, [], ◌∷◌, ◌++◌, length, take, Ok, Err}
+use Rattle.std.specs.Prelude.{All, IsTrue, IsFalse}
 use Rattle.kd_tables.specs.Text.{is_text_byte}
 use Rattle.kd_state.specs.SheetDay.{Day}
 use Rattle.kd_form.specs.declared.fault.FormFault.{FormFault}

@@ -109,7 +109,6 @@ IsFormOf s order form = IsOrderAnswer s order (Ok form)
 abbrev pub IsSendFault : Day → List ℕ → FormFault → Type 0
 IsSendFault s order fault = IsOrderAnswer s order (Err fault)
 
--- The order has `fault`, whatever bytes follow. The fault is found while the bytes are read, and isn't one that only the
--- end of an order shows.
+-- The order has `fault`, whatever bytes follow. So the fault is found while the bytes are read, not at the order's end.
 abbrev pub IsOrderFaultForGood : Day → List ℕ → FormFault → Type 0
 IsOrderFaultForGood s order fault = (more : List ℕ) → IsReadAnswer s (order ++ more) (Err fault)

@@ -5,7 +5,8 @@ use Rattle.kd_form.proofs.receiving.form_reader.fault_in_heading.Goals as goal
 pub returns-in-Ok : goal.returns-in-Ok
 returns-in-Ok c = λ part held p number expected.
     let (is, due) = ThenNext-tested c.in-Ok.ensures in
-    let has = rw is at (c.heading_of_open_line-heading.ensures part held.unbroken (c.as_slice.ensures.value ∙ held.kept)) in
+    let told = c.heading_of_open_line-heading.ensures part held.unbroken (c.as_slice.ensures.value ∙ held.kept) in
+    let has = rw is at told in
     rw (number, expected) (GoesOn _ (right_content p.bytes_before has due (All-nil (λ b. IsTrue (is_text_byte b))))
     (HasFault _ (HasFault _ ((λ _ none. grind (arith, none, has.is_heading.letters)), refl) refl) refl))
 

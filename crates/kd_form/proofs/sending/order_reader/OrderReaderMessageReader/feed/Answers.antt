@@ -10,10 +10,12 @@ pub check_keys-requires-clause-keys : goal.check_keys-requires-clause-keys
 check_keys-requires-clause-keys c = grind (arith, all_of_the_day)
 
 pub returns-then-not-is_text_byte : goal.returns-then-not-is_text_byte
-returns-then-not-is_text_byte c bytes text held = grind (arith, common_steps, c.in-Text.is, c.is_text_byte.ensures, c.if-not-is_text_byte.true, HasFaultForGood-text)
+returns-then-not-is_text_byte c bytes text held =
+    grind (arith, c.in-Text.is, c.is_text_byte.ensures, c.if-not-is_text_byte.true, HasFaultForGood-text)
 
 pub take-requires-in-Text-clause-taken : goal.take-requires-in-Text-clause-taken
-take-requires-in-Text-clause-taken c = grind (arith, common_steps, c.in-Text.is, letters_few, c.keys-in-Text.ensures, length-append)
+take-requires-in-Text-clause-taken c =
+    grind (arith, common_steps, c.in-Text.is, letters_few, c.keys-in-Text.ensures, length-append)
 
 pub returns-in-Open : goal.returns-in-Open
 returns-in-Open c bytes text held =
