@@ -1,29 +1,30 @@
 -- What the reader of a form holds after one more byte, and its answer at the end.
 pub use Rattle.kd_form.proofs.Prelude.{err_is, [], ◌≡◌, ◌≢◌, ◌⊎◌, inl, inr, ℕ, ◌+◌, ◌-◌, ◌≤◌, List, ◌∷◌, ◌++◌, length}
 pub use Rattle.kd_form.proofs.Prelude.{take, refl, sym, ap, subst, ◌∙◌, append_assoc, length-append, Ok, Err, arith}
-pub use Rattle.kd_form.proofs.Prelude.{codes, All, IsTrue, Option, Some, None, MatchOption, option_to_list}
-pub use Rattle.kd_form.proofs.Prelude.{map-append, take-append_seam, cases_lt, cases_eq, append-nil, take_all}
-pub use Rattle.kd_form.proofs.Prelude.{take-take, take-append-le, length-take, length-take-le, filter_map-append}
-pub use Rattle.kd_form.proofs.Prelude.{All-nil, All-push, ArrayVec, is_text_byte, Day, line_of, IsFirstPart}
-pub use Rattle.kd_form.proofs.Prelude.{FormFault, Heading, IsLineText, heading_words, letter_of_byte, letters_from}
-pub use Rattle.kd_form.proofs.Prelude.{IsHeading, BeginsHeading, Result, HasFault, GoesOn, IsBodyAnswer, HasHeading}
-pub use Rattle.kd_form.proofs.Prelude.{IsEarlyFault, IsExpectedCount, InHeading, InNumber, InBody, IsPartFault}
-pub use Rattle.kd_form.proofs.Prelude.{HoldsBody, IsBodyPlaintext, HasBegunHeading, HoldsPart, HoldsFormStage}
-pub use Rattle.kd_form.proofs.Prelude.{HoldsForm, IsHeadingFault, HeadingMissing, HeadingOfOther, IsPartRead}
-pub use Rattle.kd_form.proofs.Prelude.{PartOrder, plaintext_bytes, IsRefusedForGood, NoHeading, form_message}
-pub use Rattle.kd_form.proofs.Prelude.{HasFaultForGood, IsMessageAnswer, HasReadSoFar, PartsProperty, ReadsPartsTo}
-pub use Rattle.kd_form.proofs.Prelude.{IsFormReadTo, IsPartFaultForGood, IsPartFaultAtEnd, AreAllPartsRead}
-pub use Rattle.kd_form.proofs.Prelude.{IsLastPart, AtPart, cut_at_headings, parts_of, PartStart, first_part_start}
-pub use Rattle.kd_form.proofs.Prelude.{next_part_start, HasLastLineStart, current_part_start, plaintext_byte}
-pub use Rattle.kd_form.proofs.Prelude.{space_letter, BadHeading, BadByte, false≢true, All-take}
+pub use Rattle.kd_form.proofs.Prelude.{codes, All, IsTrue, Option, Some, None, MatchOption, option_to_list, map-append}
+pub use Rattle.kd_form.proofs.Prelude.{take-append_seam, cases_lt, cases_eq, append-nil, take_all, take-take}
+pub use Rattle.kd_form.proofs.Prelude.{take-append-le, length-take, length-take-le, filter_map-append, All-nil}
+pub use Rattle.kd_form.proofs.Prelude.{All-push, ArrayVec, is_text_byte, Day, line_of, IsFirstPart, FormFault, Heading}
+pub use Rattle.kd_form.proofs.Prelude.{IsLineText, heading_words, letter_of_byte, letters_from, IsHeading}
+pub use Rattle.kd_form.proofs.Prelude.{BeginsHeading, Result, HasFault, GoesOn, IsBodyAnswer, HasHeading, HasDueNumbers}
+pub use Rattle.kd_form.proofs.Prelude.{IsContentAnswer, IsPartAnswer, IsHeadingAnswer, HoldsBody, IsBodyPlaintext}
+pub use Rattle.kd_form.proofs.Prelude.{HasBegunHeading, HoldsPart, HoldsFormStage, IsAtPartStart, HoldsForm, PartOrder}
+pub use Rattle.kd_form.proofs.Prelude.{plaintext_bytes, IsRefusedForGood, NoHeading, form_message, HasFaultForGood}
+pub use Rattle.kd_form.proofs.Prelude.{IsMessageAnswer, HasReadSoFar, PartsProperty, ReadsPartsTo, IsFormReadTo}
+pub use Rattle.kd_form.proofs.Prelude.{IsPartFaultForGood, IsAnswerAt, IsLastPart, AtPart, cut_at_headings, parts_of}
+pub use Rattle.kd_form.proofs.Prelude.{PartStart, first_part_start, next_part_start, HasLastLineStart}
+pub use Rattle.kd_form.proofs.Prelude.{current_part_start, plaintext_byte, space_letter, BadHeading, false≢true}
+pub use Rattle.kd_form.proofs.Prelude.{All-take}
 use Rattle.kd_form.specs.declared.receiving.body_reader.PartBody.{PartBody}
 use Rattle.kd_form.specs.declared.receiving.form_reader.{FormReader.FormReader, FormStage.FormStage}
-pub use Rattle.kd_form.proofs.Headings.{at_most, has_byte, one_heading, begins_there, as_parts, BeginsHeading-digit}
-pub use Rattle.kd_form.proofs.Headings.{begins_more, first_ends, first_more, may_begin, cut_at_headings-line}
-pub use Rattle.kd_form.proofs.Headings.{cut_at_headings-whole, HasBegunHeading-snoc, not_begun, ended_heading}
-pub use Rattle.kd_form.proofs.Headings.{whole_line, no_bad_byte, bad_behind}
+pub use Rattle.kd_form.proofs.Headings.{at_most, has_byte, begins_there, as_parts, BeginsHeading-digit, begins_more}
+pub use Rattle.kd_form.proofs.Headings.{first_ends, first_more, may_begin, cut_at_headings-line, cut_at_headings-whole}
+pub use Rattle.kd_form.proofs.Headings.{HasBegunHeading-snoc, not_begun, ended_heading, whole_line}
+pub use Rattle.kd_form.proofs.Rules.{bad_behind, ThenNext-tested, ThenNext-stays, ThenNext-first}
 use Rattle.kd_form.proofs.Lines.{letters_first, head_unbroken}
-use Rattle.kd_form.proofs.OneText.{read_or_refused, reads_meet, reads_then, AnswersAt-stands, stays_refused}
+pub use Rattle.kd_form.proofs.OneText.{start_of, right_content, PartContent}
+use Rattle.kd_form.proofs.OneText.{HasOneAnswer-content, read_or_refused, reads_meet, reads_then, IsAnswerAt-for_good}
+use Rattle.kd_form.proofs.OneText.{stays_refused, refused_after}
 use Rattle.kd_form.specs.declared.receiving.form_reader.FormStage.TheVariants as stages
 
 -- -------- the body of a part, byte by byte
@@ -132,52 +133,47 @@ HoldsWithMore b others P =
 -- next heading
 pub record IsNext (s : Day) (b : PartBody) (number : ℕ) (expected : Option ℕ) (part body more : List ℕ) : Type 0 where
   pub has : HasHeading s part b.heading body
-  pub numbered : b.heading.part ≡ number
-  pub as_expected : IsExpectedCount expected b.heading.parts
+  pub due : HasDueNumbers number expected b.heading
   pub allowed : All (λ b. IsTrue (is_text_byte b)) body
   pub kept : b.letters.items ≡ take 525 (letters_from None body ++ more)
 
 module _ {s : Day} {b : PartBody} {number : ℕ} {expected : Option ℕ} {part body more : List ℕ}
     (next : IsNext s b number expected part body more) where
+  next_body : (v : Result (List ℕ) FormFault) → IsBodyAnswer s b.heading.part b.heading (letters_from None body) v
+      → IsBodyAnswer s number b.heading (letters_from None body) v
+  next_body v = subst (λ n. IsBodyAnswer s n b.heading (letters_from None body) v) next.due.numbered
+
   next_read : (made : List ℕ) → HoldsWithMore b (length more) (λ letters. IsBodyPlaintext s b.heading letters made)
-      → (one : List ℕ) × IsPartRead s number b.heading.parts part one × (made ≡ plaintext_bytes s one)
+      → (one : List ℕ) × ((start : ℕ) → IsPartAnswer s (start_of number expected start) part
+      (Ok (record { parts = b.heading.parts; letters = one }))) × (made ≡ plaintext_bytes s one)
   next_read made told =
-      let (text, read, is) = told (letters_from None body) more refl next.kept in (
-        text,
-        record {
-          heading = b.heading;
-          body = body;
-          has = next.has;
-          numbered = next.numbered;
-          same_parts = refl;
-          allowed = next.allowed;
-          read = subst (λ n. IsBodyAnswer s n b.heading (letters_from None body) (Ok text)) next.numbered read;
-        },
+      let (one, read, is) = told (letters_from None body) more refl next.kept in (
+        one,
+        λ start. GoesOn _ (right_content start next.has next.due next.allowed)
+            (GoesOn one (next_body (Ok one) read) refl),
         is,
       )
 
   pub next_refused : (fault : FormFault)
       → HoldsWithMore b (length more) (λ letters. IsBodyAnswer s b.heading.part b.heading letters (Err fault))
-      → (start : ℕ) → IsPartFault s number expected start part fault
+      → (start : ℕ) → IsPartAnswer s (start_of number expected start) part (Err fault)
   next_refused fault told start =
       let found = told (letters_from None body) more refl next.kept in
-      inr (record {
-        heading = b.heading;
-        body = body;
-        has = next.has;
-        numbered = next.numbered;
-        as_expected = next.as_expected;
-        allowed = next.allowed;
-        found = subst (λ n. IsBodyAnswer s n b.heading (letters_from None body) (Err fault)) next.numbered found;
-      })
+      GoesOn _ (right_content start next.has next.due next.allowed) (HasFault fault (next_body (Err fault) found) refl)
 
--- a missing or wrong heading is an early fault of its part
-pub IsHeadingFault-IsEarlyFault : {s : Day} {number : ℕ} {expected : Option ℕ} {part : List ℕ} {found : Option Heading}
-    {fault : FormFault} (start : ℕ)
+-- ---- the heading of a part
+
+-- a missing or wrong heading is a fault of the part's content
+pub heading_refused : {s : Day} {number : ℕ} {expected : Option ℕ} {part : List ℕ} {fault : FormFault} (start : ℕ)
+    (found : Option Heading)
     → MatchOption found ((h : Heading) (body : List ℕ) → ¬ (HasHeading s part h body)) (λ h. HasHeading s part h [])
-    → IsHeadingFault number expected found fault → IsEarlyFault s number expected start part fault
-IsHeadingFault-IsEarlyFault start told (HeadingMissing none is) = InHeading (rw none at told) is
-IsHeadingFault-IsEarlyFault start told (HeadingOfOther h there wrong is) = InNumber h [] (rw there at told) wrong is
+    → IsHeadingAnswer number expected found (Err fault)
+    → IsContentAnswer s (start_of number expected start) part (Err fault)
+heading_refused start None told = ThenNext-stays (λ h. record { heading = h; body = [] })
+    (λ (none, is). ((λ (x : PartContent) has. told x.heading x.body has), is)) (λ h is found. absurd (cc))
+heading_refused start (Some h) told = ThenNext-stays (λ h. record { heading = h; body = [] })
+    (λ (none, is). absurd (none h refl))
+    (λ x is found. let this : x ≡ h = cc in (rw this told, ThenNext-first (λ wrong. wrong) found))
 
 -- -------- the reader of a form, byte by byte
 
@@ -189,17 +185,12 @@ has_begun s (stages.Body b) number expected held = inr (begins_there s _ b.headi
 module _ {s : Day} {number : ℕ} {expected : Option ℕ} {part : List ℕ} where
   HoldsFormStage-not_early : {line body : List ℕ} {fault : FormFault} (start : ℕ) (stage : FormStage)
       → HoldsFormStage s stage number expected part → IsFirstPart 10 part line body
-      → ¬ (IsEarlyFault s number expected start part fault)
-  HoldsFormStage-not_early {line} {body} start (stages.Heading shown) held broken early =
+      → ¬ (IsContentAnswer s (start_of number expected start) part (Err fault))
+  HoldsFormStage-not_early {line} {body} start (stages.Heading shown) held broken found =
       has_byte 10 line body (rw broken.joined at held.0.unbroken)
-  HoldsFormStage-not_early start (stages.Body b) held broken (InHeading none is) =
-      none b.heading held.body (body_heading held.holds)
-  HoldsFormStage-not_early start (stages.Body b) held broken (InNumber h rest has other is) =
-      let same = one_heading s part b.heading h held.body rest (body_heading held.holds) has in
-      grind (arith, same, held.numbered, held.as_expected)
-  HoldsFormStage-not_early start (stages.Body b) held broken (InBody h rest place has numbered due bad is) =
-      let same = one_heading s part b.heading h held.body rest (body_heading held.holds) has in
-      no_bad_byte rest place (rw same.1 at held.holds.allowed) bad
+  HoldsFormStage-not_early start (stages.Body b) held broken found =
+      let so_far = right_content start (body_heading held.holds) held.due held.holds.allowed in
+      let clash = HasOneAnswer-content s (start_of number expected start) part (Ok _) (Err _) so_far found in cc
 
 -- ---- the form that the reader holds
 
@@ -246,9 +237,9 @@ module _ {s : Day} {r : FormReader} {form text : List ℕ} (h : HoldsForm s r fo
   unrefused before fault (AtPart (others, stands, so)) =
       let (letters, reads, is) = IsFormReadTo-last IsHere [] [] (inl ((refl, refl), refl)) refl in
       (reads_meet s IsHere (IsPartFaultForGood s fault) ⊥
-      (λ p part parts count one more held is due rest. let none : parts ≡ [] = cc in (rw none at rest).0)
-      (λ p part parts count one more stands is due rest.
-      read_or_refused s (AnswersAt-stands s fault p (part ∷ parts) stands).1 is due)
+      (λ p part parts read more held is rest. let none : parts ≡ [] = cc in (rw none at rest).0)
+      (λ p part parts read more stands is rest.
+      read_or_refused s p part read _ (IsAnswerAt-for_good s fault p (part ∷ parts) stands).1 is)
       (never_refused fault) first_part_start (parts_of form) letters others reads stands).1
 
   pub HasReadSoFar-form : HasReadSoFar (form_message s) (HoldsForm s r) form text
@@ -266,8 +257,8 @@ pub IsRefusedForGood-HasFaultForGood : {s : Day} {form text : List ℕ} {fault :
     → IsRefusedForGood s form text fault → HasFaultForGood (form_message s) form text fault
 IsRefusedForGood-HasFaultForGood {s} {form} {text} {fault} found = record {
   stands = λ more. (text, stays_refused s form more text fault found);
-  refused = λ more. (text, inl (stays_refused s form more text fault found));
-  written = λ more. inl (stays_refused s form more text fault found);
+  refused = λ more. (text, refused_after s (form ++ more) text fault (stays_refused s form more text fault found));
+  written = λ more. refused_after s (form ++ more) text fault (stays_refused s form more text fault found);
 }
 
 -- the byte is a digit after the five bytes `PART `
@@ -312,8 +303,7 @@ EndsInHeading-holds {b = b} mine begun =
           is_heading = holds.is_heading;
           first = inl (holds.line, record { joined = sym last.broken; without = holds.first.without }, holds.text);
         };
-        numbered = mine.numbered;
-        as_expected = mine.as_expected;
+        due = mine.due;
         allowed = subst (All (λ b. IsTrue (is_text_byte b))) (take-append_seam last.settled (codes "PART "))
             (All-take (λ b. IsTrue (is_text_byte b)) (length last.settled) _ (rw lines at holds.allowed));
         kept = holds.kept ∙ ap (λ l. take 525 (letters_from None l)) lines
@@ -397,8 +387,16 @@ module _ {s : Day} {r : FormReader} {form text : List ℕ} (h : HoldsForm s r fo
           cuts = grind (arith, append_assoc, as_parts, cut_off);
           alone = ap (λ c. c.1) (cut_at_headings-line (codes "PART ") byte head_unbroken);
           begun = inr (grind (arith, h.begun, begins_there s whole b.heading _ has, begins_more h.front whole));
-          first = λ same. absurd (omega (arith, same, there.numbered, there.holds.is_heading.number.first));
-          read = grind (arith, reads_then, first_part_start, read, length-append, append-nil);
+          first = λ same. absurd (omega (arith, same, there.due.numbered, there.holds.is_heading.number.first));
+          read = reads_then s (here h) (IsAtPartStart
+              (start_of (r.number + 1) (Some b.heading.parts) (length (h.front ++ whole))))
+              first_part_start h.parts (whole ∷ []) h.letters one h.read (inr (
+                record { parts = b.heading.parts; letters = one },
+                [],
+                read (length h.front),
+                ((ap (start_of (r.number + 1) (Some b.heading.parts)) (sym (length-append h.front whole)), refl), refl),
+                sym (append-nil one),
+              ));
           is = cc (h.is, given, map-append (plaintext_byte (space_letter s)) h.letters one);
           counted = omega (arith, h.counted, length-append form (byte ∷ []));
           stage = grind (arith, All-push, head_unbroken, BeginsHeading-digit);
@@ -407,11 +405,12 @@ module _ {s : Day} {r : FormReader} {form text : List ℕ} (h : HoldsForm s r fo
   -- ---- the end
 
   pub IsMessageAnswer-part_fault : {made : List ℕ} {fault : FormFault}
-      → ((start : ℕ) → IsPartFault s r.number r.expected start h.last fault) → made ≡ []
+      → ((start : ℕ) → IsPartAnswer s (start_of r.number r.expected start) h.last (Err fault)) → made ≡ []
       → IsMessageAnswer (form_message s) form (text ++ made) (Err fault)
   IsMessageAnswer-part_fault {made} {fault} found none =
-      let ends = IsFormReadTo-last h (IsPartFaultAtEnd s fault) [] made (inl (found (length h.front), refl)) none in
-      ((text ++ made, inr ends), inr ends)
+      let ends = IsFormReadTo-last h (IsAnswerAt s (Err fault)) [] made
+      (inl ((fault, found (length h.front), refl), refl)) none in
+      ((text ++ made, ends), ends)
 
   module _ {b : PartBody} (stage : r.stage ≡ stages.Body b) where
     abbrev mine : HoldsPart s b r.number r.expected h.last
@@ -426,19 +425,23 @@ module _ {s : Day} {r : FormReader} {form text : List ℕ} (h : HoldsForm s r fo
           → IsFormReadTo s B form (text ++ given)
       IsFormReadTo-end B so =
           let (one, read, is) = next_read next_last given told in
-          IsFormReadTo-last h B one given (inr
-          (b.heading.parts, one, [], read, mine.as_expected, (so, refl), sym (append-nil one))) is
+          IsFormReadTo-last h B one given (inr (
+            record { parts = b.heading.parts; letters = one },
+            [],
+            read (length h.front),
+            (so, refl),
+            sym (append-nil one),
+          )) is
 
       pub IsMessageAnswer-text : {made : List ℕ} → b.heading.parts ≡ r.number → made ≡ given ++ 10 ∷ []
           → IsMessageAnswer (form_message s) form (text ++ made) (Ok tt)
       IsMessageAnswer-text same is =
-          let (letters, read, text_is) = IsFormReadTo-end AreAllPartsRead
-          (b.heading.parts, refl, ap (λ n. n + 1) (sym same)) in
-          record { letters = letters; read = read; is = cc (is, text_is, append_assoc text given (10 ∷ [])) }
+          let read = IsFormReadTo-end (IsAnswerAt s (Ok tt)) (b.heading.parts, refl, ap (λ n. n + 1) (sym same)) in
+          (text ++ given, read, ap (λ l. text ++ l) is ∙ sym (append_assoc text given (10 ∷ [])))
 
       pub IsMessageAnswer-parts_missing : b.heading.parts ≢ r.number
           → IsMessageAnswer (form_message s) form (text ++ given) (Err PartOrder)
       IsMessageAnswer-parts_missing other =
-          let few : r.number + 1 ≤ b.heading.parts = omega (arith, mine.numbered, mine.holds.is_heading.number) in
-          let ends = IsFormReadTo-end (IsPartFaultAtEnd s PartOrder) (refl, b.heading.parts, refl, few) in
-          ((text ++ given, inr ends), inr ends)
+          let ends = IsFormReadTo-end (IsAnswerAt s (Err PartOrder))
+          (b.heading.parts, refl, ((λ _ same. other (omega arith)), refl)) in
+          ((text ++ given, ends), ends)

@@ -6,18 +6,19 @@ pub use Rattle.kd_form.proofs.Prelude.{cons_option, nat_tests, All-nil, All-cons
 pub use Rattle.kd_form.proofs.Prelude.{All-take, All-drop, filter_map-append, is_text_byte, letters_text, line_of}
 pub use Rattle.kd_form.proofs.Prelude.{pieces, letter_groups, line_then, body_text, Part, heading_words, part_text}
 pub use Rattle.kd_form.proofs.Prelude.{letter_of_byte, letters_from, Day, IsHeading, BeginsHeading, HasHeading}
-pub use Rattle.kd_form.proofs.Prelude.{WithoutReturn, cut_at_headings, common_steps, ◌≢◌, ◌%◌, inl, inr, length-append}
-pub use Rattle.kd_form.proofs.Prelude.{Option, IfSome, cases_lt, take_all, drop_all, length-take, length-take-le}
-pub use Rattle.kd_form.proofs.Prelude.{IsLegalDay, Keys, plaintext_with_end, sent_letters, AreKeys}
-pub use Rattle.kd_form.proofs.Prelude.{FormsGiveTheirOrders, KeysSuitDay, part_size, fill_last_group, IsBodyAnswer, Ok}
-pub use Rattle.kd_form.proofs.Prelude.{IsPartRead, space_letter, text_letters, ArePartTextsMade, ReadsPartsTo}
-pub use Rattle.kd_form.proofs.Prelude.{first_part_start, AreAllPartsRead, IsExpectedCount, take-append_seam, All-more}
-pub use Rattle.kd_form.proofs.Prelude.{GoesOn}
+pub use Rattle.kd_form.proofs.Prelude.{WithoutReturn, cut_at_headings, parts_of, common_steps, ◌≢◌, ◌%◌, inl, inr}
+pub use Rattle.kd_form.proofs.Prelude.{length-append, Option, IfSome, cases_lt, take_all, drop_all, length-take}
+pub use Rattle.kd_form.proofs.Prelude.{length-take-le, IsLegalDay, Keys, plaintext_with_end, sent_letters, AreKeys}
+pub use Rattle.kd_form.proofs.Prelude.{FormsGiveTheirOrders, InTurn, IsKeysAnswer, ThenNext-Ok, part_size}
+pub use Rattle.kd_form.proofs.Prelude.{fill_last_group, IsBodyAnswer, Ok, IsPartAnswer, HasDueNumbers, space_letter}
+pub use Rattle.kd_form.proofs.Prelude.{text_letters, ArePartTextsMade, ReadsPartsTo, plaintext_bytes, first_part_start}
+pub use Rattle.kd_form.proofs.Prelude.{IsAnswerAt, IsExpectedCount, take-append_seam, All-more, GoesOn}
 use Rattle.kd_form.proofs.Headings.{allowed_one, at_cut, cut_behind, ended_heading, has_byte, plain_heading}
 use Rattle.kd_form.proofs.Headings.{words_begin, one_byte}
 use Rattle.kd_form.proofs.MadeParts.{pieces-next, pieces-none, more_pieces, IsPiece, GivesBack, part_gives_back}
-use Rattle.kd_form.proofs.MadeParts.{size_some}
-use Rattle.kd_form.proofs.{Lines.AreAllowed, Lines.IsWithout-plain, OneOrder.all_of_the_day, OneOrder.one_order}
+use Rattle.kd_form.proofs.{MadeParts.size_some, OneText.right_content}
+use Rattle.kd_form.proofs.{Lines.{AreAllowed, IsWithout-plain}, OneOrder.{all_of_the_day, one_order}}
+use Rattle.kd_form.proofs.Rules.{ThenNext-tested}
 
 -- -------- the body of a part as it is written: the letters that it gives, its bytes, and its lines
 
@@ -198,12 +199,12 @@ record AreGivenBack (s : Day) (part parts count : ℕ) (pieces : List (List ℕ)
   begins : texts ≢ [] → BeginsHeading form
   cut_so : cut_at_headings (10 ∷ form) ≡ (10 ∷ [], texts)
   read : (expected : Option ℕ) (start : ℕ) → IsExpectedCount expected parts → (texts ≡ [] → expected ≡ Some parts)
-      → ReadsPartsTo s AreAllPartsRead (record { number = part; expected = expected; bytes_before = start }) texts
-      (flat_map (sent_letters s) pieces)
+      → ReadsPartsTo s (IsAnswerAt s (Ok tt)) (record { number = part; expected = expected; bytes_before = start })
+      texts (flat_map (sent_letters s) pieces)
 
 parts_are_given_back : (s : Day) (part parts : ℕ) (keys : List Keys) (pieces : List (List ℕ)) (form : List ℕ)
-    → IsLegalDay s → All (AreKeys s) keys → All (KeysSuitDay s) keys → All (IsPiece s) pieces → 1 ≤ part
-    → part + length keys ≡ parts + 1
+    → IsLegalDay s → All (AreKeys s) keys → InTurn (IsKeysAnswer s) part keys (Ok tt) → All (IsPiece s) pieces
+    → 1 ≤ part → part + length keys ≡ parts + 1
     → parts ≤ 99 → ArePartTextsMade s part parts keys pieces form → AreGivenBack s part parts (length keys) pieces form
 parts_are_given_back s part parts [] [] form legal are suited all first last few made = rw made (record {
   texts = [];
@@ -216,52 +217,75 @@ parts_are_given_back s part parts (k ∷ keys) (piece ∷ pieces) form legal are
     (one, more, (made, makes, written), others, joined) =
     let rest : AreGivenBack s (part + 1) parts (length keys) pieces more =
     parts_are_given_back s (part + 1) parts keys pieces more legal (All-tail (AreKeys s) k keys are)
-    (All-tail (KeysSuitDay s) k keys suited)
-    (All-tail (IsPiece s) piece pieces all) (omega arith) (omega arith) few others in
+    (ThenNext-Ok suited).next (All-tail (IsPiece s) piece pieces all) (omega arith) (omega arith) few others in
     let back : GivesBack s part parts (sent_letters s piece) made =
     part_gives_back s part parts k piece made legal (All-head (AreKeys s) k keys are)
-    (All-head (KeysSuitDay s) k keys suited)
-    (record { first = first; in_order = omega arith; few = few }) (All-head (IsPiece s) piece pieces all) makes in
+    (ThenNext-Ok suited).says (record { first = first; in_order = omega arith; few = few })
+    (All-head (IsPiece s) piece pieces all) makes in
     let given = gives_body made.body back.within in
-    let is_read : IsPartRead s part parts (part_text made) (sent_letters s piece) = record {
-      heading = made.heading;
-      body = body_text made.body;
-      has = part_has_heading s made back.is_heading;
+    let is_read : (expected : Option ℕ) (start : ℕ) → IsExpectedCount expected parts
+    → IsPartAnswer s (record { number = part; expected = expected; bytes_before = start }) (part_text made)
+    (Ok (record { parts = parts; letters = sent_letters s piece })) = λ expected start due.
+    let numbers : HasDueNumbers part expected made.heading = record {
       numbered = back.numbered;
-      same_parts = back.same_parts;
-      allowed = given.allowed;
-      read =
-          subst (λ ls. IsBodyAnswer s part made.heading ls (Ok (sent_letters s piece))) (sym given.gives)
-          (GoesOn tt back.counted back.read);
+      as_expected = subst (λ n. IsExpectedCount expected n) (sym back.same_parts) due;
     } in
+    rw (← back.same_parts) (GoesOn _
+    (right_content start (part_has_heading s made back.is_heading) numbers given.allowed)
+    (GoesOn (sent_letters s piece)
+    (subst (λ ls. IsBodyAnswer s part made.heading ls (Ok (sent_letters s piece))) (sym given.gives)
+    (GoesOn tt back.counted back.read)) refl)) in
     rw (joined, written) (record {
       texts = part_text made ∷ rest.texts;
       counted = omega (arith, rest.counted);
       begins = λ some. part_begins_heading s made more back.is_heading;
       cut_so = part_is_first s made more rest.texts back.is_heading back.within rest.cut_so;
-      read = grind (arith, is_read, rest.read);
+      read = λ expected start due known. inr (
+        record { parts = parts; letters = sent_letters s piece },
+        flat_map (sent_letters s) pieces,
+        is_read expected start due,
+        rest.read (Some parts) (start + length (part_text made)) refl (λ none. refl),
+        refl,
+      );
     })
 parts_are_given_back s part parts _ _ form legal are suited all first last few made = absurd made
 
 pub forms_give_their_orders : FormsGiveTheirOrders
 forms_give_their_orders s order form given legal is due =
-    let letters : List ℕ = text_letters s is.text in
-    let sent : List ℕ = sent_letters s letters in
-    let order_is = is.sendable.is_order in
-    let same = one_order s order is.keys due.keys is.head due.head is.text due.text order_is due.is_order in
-    let back : AreGivenBack s 1 (length is.keys) (length is.keys) (pieces (part_size s) letters) form =
-    parts_are_given_back s 1 (length is.keys) is.keys (pieces (part_size s) letters) form legal
-    (all_of_the_day _ s is.keys is.head order_is.is_head.lines) is.sendable.suited
-    (are_pieces s letters (letters_from-within (space_letter s) is.text (grind arith))) (omega arith)
-    (omega arith) order_is.is_head.few is.made in
+    let read = ThenNext-Ok is in
+    let (keys, head, text) : List Keys × List ℕ × List ℕ = (read.found.keys, read.found.head, read.found.text) in
+    let (order_is, suited) = ThenNext-tested (ThenNext-tested read.says).0 in
+    let some = ThenNext-Ok read.next in
+    let counted = ThenNext-Ok some.next in
+    let letters : List ℕ = text_letters s text in
+    let same = one_order s order keys due.keys head due.head text due.text order_is due.is_order in
+    let back : AreGivenBack s 1 (length keys) (length keys) (pieces (part_size s) letters) form =
+    parts_are_given_back s 1 (length keys) keys (pieces (part_size s) letters) form legal
+    (all_of_the_day _ s keys head order_is.is_head.lines) suited
+    (are_pieces s letters (letters_from-within (space_letter s) text (grind arith))) (omega arith)
+    (omega arith) order_is.is_head.few counted.next in
     let some : back.texts ≢ [] =
-    grind (arith, common_steps, more_pieces, size_some, is.some, back.counted, is.counted) in
+    grind (arith, common_steps, more_pieces, size_some, some.says, back.counted, counted.says) in
     let read = back.read None 0 tt (λ none. absurd (some none)) in
-    record {
-      letters = sent;
-      read = grind (arith, first_part_start, at_cut, back.begins, sent_pieces, letters, read);
-      is = due.is ∙ ap (λ t. plaintext_with_end s (sent_letters s (text_letters s t))) (sym same.2);
-    }
+    let texts : back.texts ≡ parts_of form = ap (λ c. c.1) (sym back.cut_so ∙ at_cut form (back.begins some)) in
+    let given_letters
+    : ReadsPartsTo s (IsAnswerAt s (Ok tt)) first_part_start (parts_of form) (sent_letters s letters) =
+    subst (λ ps. ReadsPartsTo s (IsAnswerAt s (Ok tt)) first_part_start ps (sent_letters s letters)) texts
+    (subst (ReadsPartsTo s (IsAnswerAt s (Ok tt)) first_part_start back.texts) (sent_pieces s letters) read) in (
+      plaintext_bytes s (sent_letters s letters),
+      (sent_letters s letters, given_letters, refl),
+      due.is ∙ ap (λ t. plaintext_with_end s (sent_letters s (text_letters s t))) (sym same.2),
+    )
 
 pub orders_give_letters : OrdersGiveLetters
-orders_give_letters s order form is = (plaintext_with_end s (sent_letters s (text_letters s is.text)), grind arith)
+orders_give_letters s order form is =
+    let parts = (ThenNext-Ok is).found in (
+      plaintext_with_end s (sent_letters s (text_letters s parts.text)),
+      record {
+        keys = parts.keys;
+        head = parts.head;
+        text = parts.text;
+        is_order = (ThenNext-tested (ThenNext-tested (ThenNext-Ok is).says).0).0;
+        is = refl;
+      },
+    )

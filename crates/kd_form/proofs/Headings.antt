@@ -6,20 +6,21 @@ pub use Rattle.kd_form.proofs.Prelude.{length-append, length-take, arith, codes,
 pub use Rattle.kd_form.proofs.Prelude.{nat_tests, cases_Bool, cases_eq, cases_lt, false≢true, append-nil}
 pub use Rattle.kd_form.proofs.Prelude.{take-append-le, take-append-drop, take-append_seam, get_or-append}
 pub use Rattle.kd_form.proofs.Prelude.{get_or-append_seam, get_or-take, get_or_past, BeginsHeading, cut_at_headings}
-pub use Rattle.kd_form.proofs.Prelude.{parts_of, FitsHeadingAt, HasBegunHeading, IsWithout, IsFirstBadByteAt}
-pub use Rattle.kd_form.proofs.Prelude.{is_text_byte, AllPass-from_list_all, All-take, All-same, take-take, take_more}
-pub use Rattle.kd_form.proofs.Prelude.{rules, ◌^◌, ◌+◌, decimal, All, Option, Some, None, MatchOption, All-from_get_or}
-pub use Rattle.kd_form.proofs.Prelude.{All-cons, All-nil, All-append, All-map, All-push, All-weaker, IsFirstPart}
-pub use Rattle.kd_form.proofs.Prelude.{line_of, words_of, texts_determine_first_parts, numbers_are_words}
+pub use Rattle.kd_form.proofs.Prelude.{parts_of, FitsHeadingAt, HasBegunHeading, IsWithout, IsBytesAnswer, FormFault}
+pub use Rattle.kd_form.proofs.Prelude.{Err, is_text_byte, AllPass-from_list_all, All-take, All-same, take-take}
+pub use Rattle.kd_form.proofs.Prelude.{take_more, rules, ◌^◌, ◌+◌, decimal, All, Option, Some, None, MatchOption}
+pub use Rattle.kd_form.proofs.Prelude.{All-from_get_or, All-cons, All-nil, All-append, All-map, All-push, All-weaker}
+pub use Rattle.kd_form.proofs.Prelude.{IsFirstPart, line_of, words_of, texts_determine_first_parts, numbers_are_words}
 pub use Rattle.kd_form.proofs.Prelude.{lines_split_into_words, parts_make_lines, fraction_text, indicator_words}
 pub use Rattle.kd_form.proofs.Prelude.{heading_words, length-map, append_cancel_right, take_all, get_or-map}
 pub use Rattle.kd_form.proofs.Prelude.{letters_text, AreFewLetters, IsFraction, IsLetterCount, IsHeading}
 pub use Rattle.kd_form.proofs.Prelude.{AreHeadingWords, HasFirstLine, IsLineText, Day, OfRotors, OfPins, Heading}
 pub use Rattle.kd_form.proofs.Prelude.{Indicator, HasIndicator, IsRotorDayWith, IsConverterDay, HasHeading, drop-cons}
-pub use Rattle.kd_form.proofs.Prelude.{map, IsFalse, word_by_bytes}
+pub use Rattle.kd_form.proofs.Prelude.{map, word_by_bytes}
 use Rattle.std.proofs.lemmas.Fmt.{digits_decimal, decimal_injective, length-decimal-le, decimal_nonempty}
 use Rattle.{kd_form.specs.FormParts.begins_heading, std.proofs.lemmas.Slice.Eq.bytes_eq-Decides}
-pub use Rattle.kd_form.proofs.OneOrder.{no_bad_byte, same_letters, same_word, bad_behind}
+pub use Rattle.kd_form.proofs.OneOrder.{no_bad_byte, same_letters, same_word}
+use Rattle.kd_form.proofs.Rules.{ThenNext-stays}
 pub use Rattle.kd_form.proofs.Lines.{AreAllowed, plain_text, whole_line, same_front, IsPlain, plain_letters, plain_more}
 
 -- ---- where a heading begins
@@ -186,37 +187,26 @@ few_allowed : (bytes more : List ℕ) → length bytes < 6 → BeginsHeading (by
 few_allowed bytes more few begun = grind (arith, common_steps, All-same, few_begin, All-take, AllPass-from_list_all)
 
 -- with more bytes, the first byte that isn't allowed stays where it is, in the same part
-cut_at_headings-bad_byte : (front rest more : List ℕ) (byte : ℕ) → AreAllowed front → IsFalse (is_text_byte byte)
-    → (cut_at_headings (front ++ byte ∷ rest)).1 ≡ []
-    → (other : List ℕ) × ((cut_at_headings ((front ++ byte ∷ rest) ++ more)).0 ≡ front ++ byte ∷ other)
-cut_at_headings-bad_byte [] rest more byte allowed bad none =
-    let not = λ (is : byte ≡ 10) (begun : BeginsHeading (rest ++ more)). false≢true (sym bad ∙ ap is_text_byte is) in
-    ((cut_at_headings (rest ++ more)).0, ap (λ c. c.0) (no_cut byte (rest ++ more) not))
-cut_at_headings-bad_byte (b ∷ front) rest more byte allowed bad none =
-    let body : List ℕ = front ++ byte ∷ rest in
+bad_stays : (body more : List ℕ) (position : ℕ) (fault : FormFault) → (cut_at_headings body).1 ≡ []
+    → IsBytesAnswer position body (Err fault) → IsBytesAnswer position (cut_at_headings (body ++ more)).0 (Err fault)
+bad_stays [] more position fault none found = absurd (cc)
+bad_stays (b ∷ body) more position fault none found =
     let is = cut_at_headings-tail b body none in
-    let good = All-tail (λ x. IsTrue (is_text_byte x)) b front allowed in
     elim (cut_or_not b (body ++ more)) [
       | inl (break, begun) ↦
           let few : length body < 6 = grind (arith, cases_lt (length body) 6, begins_front body more, is.0 break) in
-          absurd (no_bad_byte body _ (few_allowed body more few begun) (bad_behind front rest byte good bad))
-      | inr not ↦
-          let (other, same) = cut_at_headings-bad_byte front rest more byte good bad is.1 in
-          (other, rw (no_cut b (body ++ more) not, same) refl)
+          let allowed = few_allowed body more few begun in
+          absurd (no_bad_byte position (b ∷ body) fault (grind (arith, All-cons, break)) found)
+      | inr not ↦ rw (no_cut b (body ++ more) not) (ThenNext-stays (λ d. d) (λ bad. bad)
+          (λ done good next. (good, bad_stays body more (position + 1) fault is.1 next)) found)
     ]
-
-bad_stays : (body more : List ℕ) (place : ℕ) → (cut_at_headings body).1 ≡ [] → IsFirstBadByteAt body place
-    → IsFirstBadByteAt ((cut_at_headings (body ++ more)).0) place
-bad_stays body more place none bad =
-    let (other, is) = cut_at_headings-bad_byte bad.before bad.rest more bad.byte bad.allowed bad.bad
-    (rw bad.joined at none) in
-    rw (bad.joined, is, bad.size) (bad_behind bad.before other bad.byte bad.allowed bad.bad)
 
 -- `part` is `line`, an LF, and a rest in which the first bad byte is where `body` has it
 pub record IsAlike (part line body : List ℕ) : Type 0 where
   pub other : List ℕ
   pub is : part ≡ line ++ 10 ∷ other
-  pub bad : (place : ℕ) → IsFirstBadByteAt body place → IsFirstBadByteAt other place
+  pub bad : (position : ℕ) (fault : FormFault) → IsBytesAnswer position body (Err fault)
+      → IsBytesAnswer position other (Err fault)
 
 pub cut_at_headings-IsAlike : (line body more : List ℕ) → IsWithout 10 line
     → (cut_at_headings (line ++ 10 ∷ body)).1 ≡ []
@@ -232,12 +222,12 @@ cut_at_headings-IsAlike line body more unbroken none =
           record {
             other = [];
             is = part ∙ ap (λ (c : List ℕ × List (List ℕ)). line ++ c.0) (at_cut (body ++ more) begun);
-            bad = λ place at. absurd (no_bad_byte body place (few_allowed body more few begun) at);
+            bad = λ position fault at. absurd (no_bad_byte position body fault (few_allowed body more few begun) at);
           }
       | inr not ↦ record {
         other = (cut_at_headings (body ++ more)).0;
         is = part ∙ ap (λ (c : List ℕ × List (List ℕ)). line ++ c.0) (no_cut 10 (body ++ more) not);
-        bad = λ place. bad_stays body more place is.1;
+        bad = λ position fault. bad_stays body more position fault is.1;
       }
     ]
 

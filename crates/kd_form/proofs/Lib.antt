@@ -8,3 +8,4 @@ pub mod FormSteps
 pub mod Streaming
 pub mod OrderSteps
 pub mod GivenBack
+pub mod Rules

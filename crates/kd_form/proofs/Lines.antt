@@ -1,19 +1,18 @@
 -- Prefixes of a list up to an item with a property, plain text, and the lines of an order's head.
 use Rattle.{std.specs.Cmp.Lexicographic.pointwise_decides, kd_state.specs.Machine.AreLetters}
 use Rattle.kd_form.specs.declared.sending.pattern_line.PatternFault.TheVariants.{Incomplete, Mismatch}
-pub use Rattle.kd_form.proofs.Prelude.{err_is, ◌≡◌, ◌≢◌, ℕ, ◌+◌, ◌≤◌, ◌<◌, true, List, [], ◌∷◌, ◌++◌, refl, subst, Day}
+pub use Rattle.kd_form.proofs.Prelude.{err_is, ◌≡◌, ◌≢◌, ℕ, ◌+◌, ◌≤◌, ◌<◌, true, List, [], ◌∷◌, ◌++◌, refl, Day}
 pub use Rattle.kd_form.proofs.Prelude.{length-append, arith, take, ap, ◌∙◌, length, sym, codes, All, nat_le, IsTrue}
 pub use Rattle.kd_form.proofs.Prelude.{is_text_byte, list_all, nat_tests, take_all, length-take, AllPass-from_list_all}
 pub use Rattle.kd_form.proofs.Prelude.{All-append, All-cons, All-map, All-weaker, All-head, All-tail, letters_text}
 pub use Rattle.kd_form.proofs.Prelude.{line_of, IsWithout, Option, option_to_list, letter_of_byte, letters_from, Keys}
 pub use Rattle.kd_form.proofs.Prelude.{Rotor, Pin, key_words, common_steps, zero, suc, inl, inr, false, get_or, drop}
-pub use Rattle.kd_form.proofs.Prelude.{replicate, append_assoc, length-drop, ◌==◌, AllWithin, cases_Bool, get_or-take}
-pub use Rattle.kd_form.proofs.Prelude.{take-append-drop, length-replicate, length-take-le, append-nil, drop_more}
-pub use Rattle.kd_form.proofs.Prelude.{All-nil, All-replicate, All-take, All-drop, PatternFault, IsLineWithEnd}
-pub use Rattle.kd_form.proofs.Prelude.{filled_pattern, blank_count, fits_mark, letters_for_mark, IsFilledLine}
-pub use Rattle.kd_form.proofs.Prelude.{IsPatternLine, AreLettersAppended, IsPatternFault, Result, Ok, Err, MatchResult}
-pub use Rattle.kd_form.proofs.Prelude.{OfRotors, OfPins, AreKeys, blank_places, rotor_pattern, key_pattern, key_letters}
-pub use Rattle.kd_form.proofs.Prelude.{IsAnyKeyLine, FormFault, KeysSuitDay, IsKeysFault, IsFirstKeysFault, IsKeyLine}
+pub use Rattle.kd_form.proofs.Prelude.{replicate, append_assoc, length-drop, ◌==◌, cases_Bool, take-append-drop}
+pub use Rattle.kd_form.proofs.Prelude.{length-replicate, length-take-le, append-nil, All-nil, All-replicate, All-take}
+pub use Rattle.kd_form.proofs.Prelude.{All-drop, PatternFault, IsLineWithEnd, filled_pattern, blank_count, fits_mark}
+pub use Rattle.kd_form.proofs.Prelude.{letters_for_mark, IsFilledLine, IsPatternLine, AreLettersAppended}
+pub use Rattle.kd_form.proofs.Prelude.{IsPatternFault, Result, Ok, Err, MatchResult, OfRotors, OfPins, AreKeys}
+pub use Rattle.kd_form.proofs.Prelude.{blank_places, rotor_pattern, key_pattern, key_letters, IsAnyKeyLine, IsKeyLine}
 pub use Rattle.kd_form.proofs.Prelude.{BeginsWithKeys, nil_from_length, false≢true}
 
 -- the list doesn't begin with an item that has the property
@@ -215,21 +214,6 @@ keys_broken s bytes Mismatch none = λ more line. none more (as_form_line s (byt
 pub keys_read : (s : Day) (bytes letters : List ℕ) (k : Keys) → IsFilledLine (key_pattern s) letters bytes
     → key_letters k ≡ letters → AreKeys s k → AreKeys s k × IsKeyLine k bytes
 keys_read s bytes letters k filled told are = grind (arith, key_line)
-
-pub is_first_keys_fault : (s : Day) (keys : List Keys) (index : ℕ) (k : Keys) (fault : FormFault) → index < length keys
-    → get_or keys index k ≡ k → AllWithin (KeysSuitDay s) keys 0 index → IsKeysFault s (index + 1) k fault
-    → IsFirstKeysFault s keys fault
-is_first_keys_fault s keys index k fault inside is before found =
-    let size : length (take index keys) ≡ index = length-take-le index keys (omega arith) in
-    record {
-      before = take index keys;
-      unsuited = k;
-      others = drop (index + 1) keys;
-      joined = cc (take-append-drop index keys, drop_more keys index k inside, is);
-      suited = λ i d below.
-          rw (get_or-take index keys i d (omega (arith, size))) (before i d (omega arith) (omega (arith, size)));
-      is = rw size found;
-    }
 
 -- -------- lines of keys, and what follows them
 

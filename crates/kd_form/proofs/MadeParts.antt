@@ -7,15 +7,15 @@ pub use Rattle.kd_form.proofs.Prelude.{Some, Contains, cases_eq, append-nil, map
 pub use Rattle.kd_form.proofs.Prelude.{IsInternalKey, HaveNoInternalKey, IsTakenInTurn, OnWheel, OffWheel, ◌-◌, ◌%◌}
 pub use Rattle.kd_form.proofs.Prelude.{take, drop, sym, length-drop, add-one, min, replicate, codes, decimal, Option}
 pub use Rattle.kd_form.proofs.Prelude.{option_map, div_ceil, join_with_byte, div-eq_of_lt, mod-eq_of_lt, take_min}
-pub use Rattle.kd_form.proofs.Prelude.{drop_min, length-replicate, Heading, fraction_text, indicator_words}
-pub use Rattle.kd_form.proofs.Prelude.{heading_words, pieces, words_after_spaces, line_then, Part, pin_day, IsLegalDay}
-pub use Rattle.kd_form.proofs.Prelude.{Keys, Rotor, Pin, PinKeys, Indicator, KeysSuitDay, rotor_letters}
-pub use Rattle.kd_form.proofs.Prelude.{enciphered_choice, pin_letters, list_letters, IsPartMade, part_size}
-pub use Rattle.kd_form.proofs.Prelude.{pin_indicators, fill_last_group, sheet_key, IsWindow, take-append_seam}
-pub use Rattle.kd_form.proofs.Prelude.{drop-append_seam, HasIndicator, deciphered_key, HasIndicatorsAround}
-pub use Rattle.kd_form.proofs.Prelude.{group_of_body, keys_of_body, list_of_body, text_of_body, IsLettersAnswer, Ok}
-pub use Rattle.kd_form.proofs.Prelude.{All-append, All-cons, All-replicate, twice_on_key, IsFraction, IsHeading}
-pub use Rattle.kd_form.proofs.Prelude.{sent_letters, AreKeys, nat_tests, AreRising, GoesOn}
+pub use Rattle.kd_form.proofs.Prelude.{drop_min, length-replicate, Heading, indicator_words, heading_words, pieces}
+pub use Rattle.kd_form.proofs.Prelude.{words_after_spaces, line_then, Part, pin_day, IsLegalDay, Keys, Rotor, Pin}
+pub use Rattle.kd_form.proofs.Prelude.{PinKeys, Indicator, IsKeysAnswer, ThenNext-Ok, rotor_letters, enciphered_choice}
+pub use Rattle.kd_form.proofs.Prelude.{pin_letters, list_letters, IsPartMade, part_size, pin_indicators}
+pub use Rattle.kd_form.proofs.Prelude.{fill_last_group, sheet_key, IsWindow, take-append_seam, drop-append_seam}
+pub use Rattle.kd_form.proofs.Prelude.{HasIndicator, deciphered_key, HasIndicatorsAround, group_of_body, keys_of_body}
+pub use Rattle.kd_form.proofs.Prelude.{list_of_body, text_of_body, IsLettersAnswer, Ok, All-append, All-cons}
+pub use Rattle.kd_form.proofs.Prelude.{All-replicate, twice_on_key, IsFraction, IsHeading, sent_letters, AreKeys}
+pub use Rattle.kd_form.proofs.Prelude.{nat_tests, AreRising, GoesOn}
 use Rattle.{kd_enigma.specs.Cipher.{path, product}}
 use Rattle.{kd_state.specs.TwoCiphers.{EngineKey, engine_key_after, key_with_window}}
 use Rattle.kd_form.specs.PartMaking.{IsKeyOfDaysMachine}
@@ -222,10 +222,11 @@ pub heading_line : (front whole : List ℕ) (h : Heading)
     → whole ≡ front ++ line_then (heading_words h) []
 heading_line front whole h written = grind (arith, append_assoc {A = ℕ}, line_of_groups)
 
--- keys that suit the day have an internal key
-pub has_internal : (s : Day) (k : PinKeys) → KeysSuitDay s (Pin k)
-    → (internal : List ℕ) × IsInternalKey (enciphered_choice s k) internal
-has_internal s k suits = grind arith
+-- keys that suit the day can show in the windows, and have an internal key
+pub has_internal : (s : Day) (k : PinKeys) (part : ℕ) → IsKeysAnswer s part (Pin k) (Ok tt)
+    → IsWindow (sheet_key s) k.external × ((internal : List ℕ) × IsInternalKey (enciphered_choice s k) internal)
+has_internal s k part suits =
+    let shown = ThenNext-Ok suits in let found = ThenNext-Ok shown.next in (shown.says, (found.found, found.says))
 
 -- the deciphered message key can show in the windows
 pub key_is_window : (s : Day) (i : Indicator) (key : List ℕ) → HasIndicator s (Some i) → key ≡ deciphered_key s i
@@ -286,7 +287,7 @@ pin_places k (a ∷ b ∷ c ∷ d ∷ e ∷ f ∷ []) (x ∷ y ∷ []) text is s
 pin_places k _ _ text is six two = absurd (omega arith)
 
 pub part_gives_back : (s : Day) (part parts : ℕ) (k : Keys) (piece : List ℕ) (made : Part) → IsLegalDay s → AreKeys s k
-    → KeysSuitDay s k → IsFraction part parts → IsPiece s piece
+    → IsKeysAnswer s part k (Ok tt) → IsFraction part parts → IsPiece s piece
     → IsPartMade s part parts k piece made → GivesBack s part parts (sent_letters s piece) made
 part_gives_back (OfRotors s) part parts (Rotor k) piece made legal are suits fraction is makes =
     let day : Day = OfRotors s in
@@ -337,7 +338,8 @@ part_gives_back (OfPins s) part parts (Pin k) piece made legal are suits fractio
           let placed = pin_places k k.external (list_letters day) enciphered refl are.external.count legal.list.count in
           let text : cipher_from day internal enciphered ≡ fill_last_group piece =
           twice_on_key day internal (fill_last_group piece) legal inner in
-          GoesOn tt placed.around (GoesOn tt (rw placed.keys at suits.0) (GoesOn tt (sym placed.listed)
+          GoesOn tt placed.around (GoesOn tt (rw placed.keys at (has_internal day k part suits).0)
+          (GoesOn tt (sym placed.listed)
           (GoesOn internal (rw placed.keys at first) (cc (text, placed.text_is)))));
     })
-part_gives_back _ part parts _ piece made legal are suits fraction is makes = absurd suits
+part_gives_back _ part parts _ piece made legal are suits fraction is makes = absurd are

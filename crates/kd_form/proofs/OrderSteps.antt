@@ -1,19 +1,19 @@
 -- What the reader of an order holds after one more byte, and its answer at the end.
 pub use Rattle.kd_form.proofs.Prelude.{append-nil, length-take, [], ◌≡◌, ◌≢◌, ℕ, zero, suc, ◌+◌, ◌*◌, ◌<◌, ◌≤◌, inl}
-pub use Rattle.kd_form.proofs.Prelude.{inr, List, ◌∷◌, ◌++◌, Some, length, take, drop, refl, sym, ap, ◌∙◌}
-pub use Rattle.kd_form.proofs.Prelude.{append_assoc, length-append, length-drop, arith, get_or, Option, Result, Ok}
-pub use Rattle.kd_form.proofs.Prelude.{Err, IsTrue, slice_get, codes, All, MatchResult, div_ceil, take_all, drop_all}
-pub use Rattle.kd_form.proofs.Prelude.{drop-take, drop-drop, take-take, take_more, length-take-le, Day, Keys, pieces}
-pub use Rattle.kd_form.proofs.Prelude.{IsPartTextMade, part_size, KeysSuitDay, parts_needed, ArePartTextsMade}
-pub use Rattle.kd_form.proofs.Prelude.{letters_from, text_letters, IsFirstKeysFault, IsOrderFaultForGood, InHead}
-pub use Rattle.kd_form.proofs.Prelude.{InKeys, InText, NoLetter, InParts, IsWritableCount, IsSentBeforeEnd}
-pub use Rattle.kd_form.proofs.Prelude.{order_message, AreLettersTaken, IsHeadBegun, IsHeadLine, HoldsOrderText}
-pub use Rattle.kd_form.proofs.Prelude.{IsTextEndAnswer, IsFreshWriter, IsOpen, HoldsOrder, HoldsOrderStage, All-nil}
-pub use Rattle.kd_form.proofs.Prelude.{PatternFault, AreKeys, IsPatternLine, IsPatternFault, key_pattern, key_words}
-pub use Rattle.kd_form.proofs.Prelude.{line_of, IsLineWithEnd, IsKeyLine, BeginsWithKeys, IsAnyOrderHead, IsOrderHead}
-pub use Rattle.kd_form.proofs.Prelude.{IsOrder, IsOrderHeadFault, is_text_byte, FormFault, HasFaultForGood}
-pub use Rattle.kd_form.proofs.Prelude.{IsMessageAnswer, HasReadSoFar, IsAnyKeyLine, common_steps, BadByte}
-pub use Rattle.kd_form.proofs.Prelude.{HeadCutShort, space_letter, All-push, filter_map-append, ◌-◌, cases_lt}
+pub use Rattle.kd_form.proofs.Prelude.{inr, List, ◌∷◌, ◌++◌, Some, length, take, drop, refl, sym, ap, ◌∙◌, append_assoc}
+pub use Rattle.kd_form.proofs.Prelude.{length-append, length-drop, arith, get_or, Option, Result, Ok, Err, IsTrue}
+pub use Rattle.kd_form.proofs.Prelude.{slice_get, codes, MatchResult, div_ceil, take_all, drop_all, drop-take}
+pub use Rattle.kd_form.proofs.Prelude.{drop-drop, take-take, take_more, length-take-le, Day, Keys, pieces}
+pub use Rattle.kd_form.proofs.Prelude.{IsPartTextMade, part_size, parts_needed, ArePartTextsMade, IsMadeAnswer}
+pub use Rattle.kd_form.proofs.Prelude.{letters_from, text_letters, IsOrderFaultForGood, IsWritableCount}
+pub use Rattle.kd_form.proofs.Prelude.{IsSentBeforeEnd, InTurn, IsKeysAnswer, OrderParts, IsHeadAnswer, IsReadAnswer}
+pub use Rattle.kd_form.proofs.Prelude.{GoesOn, HasFault, IsFalse, subst, Rotor, Pin, order_message, AreLettersTaken}
+pub use Rattle.kd_form.proofs.Prelude.{IsHeadBegun, IsHeadLine, HoldsOrderText, IsTextEndAnswer, IsFreshWriter, IsOpen}
+pub use Rattle.kd_form.proofs.Prelude.{HoldsOrder, HoldsOrderStage, All-nil, PatternFault, AreKeys, IsPatternLine}
+pub use Rattle.kd_form.proofs.Prelude.{IsPatternFault, key_pattern, key_words, line_of, IsLineWithEnd, IsKeyLine}
+pub use Rattle.kd_form.proofs.Prelude.{BeginsWithKeys, IsAnyOrderHead, IsOrderHead, IsOrder, IsOrderHeadFault}
+pub use Rattle.kd_form.proofs.Prelude.{is_text_byte, FormFault, HasFaultForGood, IsMessageAnswer, HasReadSoFar}
+pub use Rattle.kd_form.proofs.Prelude.{IsAnyKeyLine, common_steps, BadByte, All-push, filter_map-append, ◌-◌, cases_lt}
 pub use Rattle.kd_form.proofs.Prelude.{drop_at, le_of_mul-le-mul_left, take_at}
 use Rattle.std.proofs.lemmas.{Grind.div_ceil_times, Option.slice_get_within, Option.get_or_from_slice_get}
 use Rattle.kd_form.specs.declared.sending.{part_writer.PartWriter.PartWriter, order_head.HeadReader.HeadReader}
@@ -21,10 +21,12 @@ use Rattle.kd_form.specs.declared.sending.order_reader.{OrderReader.OrderReader,
 pub use Rattle.kd_form.proofs.MadeParts.{pieces-next, pieces-none, size_some}
 use Rattle.kd_form.proofs.Lines.{length-filled, as_form_line, key_first, lines_more, same_line, text_front, text_line}
 use Rattle.kd_form.proofs.Lines.{IsPlain, letters_first, plain_keys, plain_text}
-pub use Rattle.kd_form.proofs.OneOrder.{Shorter, Longer, all_of_the_day, prefixes, no_head_fault, no_keys_fault}
-pub use Rattle.kd_form.proofs.OneOrder.{nothing_stands, nothing_stands_yet, one_order, bad_longer, bad_behind}
+pub use Rattle.kd_form.proofs.OneOrder.{Shorter, Longer, all_of_the_day, prefixes, HasOneAnswer-read, no_bad_byte}
 pub use Rattle.kd_form.proofs.OneOrder.{BeginsWithKeys-append}
-use Rattle.kd_form.specs.declared.sending.pattern_line.PatternFault.TheVariants as faults
+use Rattle.kd_form.proofs.OneOrder.{no_head_fault, one_order}
+use Rattle.kd_form.proofs.Rules.{FaultsAre, FaultsAre-InTurn, FaultsAre-Finds, FaultsAre-ThenNext, FaultsAre-Yields}
+use Rattle.kd_form.proofs.Rules.{ThenNext-tested, bytes_allowed, bad_behind}
+use Rattle.kd_form.specs.declared.sending.pattern_line.PatternFault.TheVariants as patterns
 use Rattle.kd_form.specs.declared.sending.order_reader.OrderStage.TheVariants as stages
 use Rattle.kd_form.specs.SendStream as stream
 
@@ -69,11 +71,12 @@ module _ {s : Day} {keys : List Keys} {w : PartWriter} {k : Keys} {letters sent 
 
   -- at the end, the kept letters become the last part
   pub last_written : w.count ≢ 0 → div_ceil w.count (part_size s) ≡ length keys
-      → (letters ≢ []) × (parts_needed s (length letters) ≡ length keys)
-      × ArePartTextsMade s 1 (length keys) keys (pieces (part_size s) letters) (sent ++ one)
+      → IsMadeAnswer s keys letters (Ok (sent ++ one))
   last_written counted needed =
       let last = last_number (part_size s) (length keys) (length letters) w.written (size_some s) in
-      grind (arith, last, part_more, take_all)
+      let some : letters ≢ [] = grind arith in
+      let enough : parts_needed s (length letters) ≡ length keys = grind arith in
+      GoesOn tt some (GoesOn tt enough (grind (arith, last, part_more, take_all)))
 
 -- -------- an order up to its text, byte by byte
 
@@ -81,15 +84,15 @@ module _ (s : Day) (count : ℕ) where
   -- if the first byte is P, only a line of keys can begin with the bytes
   pub next_keys : (line : List ℕ) (why : PatternFault) → get_or line 0 0 ≡ 80 → count < 99
       → IsPatternFault (IsAnyKeyLine s) line why → IsPatternFault (IsHeadLine s count) line why
-  next_keys line faults.Incomplete first room (more, some, key) = (more, some, inl (key, room))
-  next_keys [] faults.Mismatch first room off = absurd (omega (arith, first))
-  next_keys (byte ∷ line) faults.Mismatch first room off = grind (arith, off, text_front)
+  next_keys line patterns.Incomplete first room (more, some, key) = (more, some, inl (key, room))
+  next_keys [] patterns.Mismatch first room off = absurd (omega (arith, first))
+  next_keys (byte ∷ line) patterns.Mismatch first room off = grind (arith, off, text_front)
 
   pub next_text : (line : List ℕ) (why : PatternFault) → (get_or line 0 0 ≡ 80 → 99 ≤ count)
       → IsPatternFault (IsPatternLine (codes "TEXT")) line why → IsPatternFault (IsHeadLine s count) line why
-  next_text line faults.Incomplete full (more, some, (letters, text)) = (more, some, inr text.ended)
-  next_text [] faults.Mismatch full off = absurd (off (codes "TEXT\n") (text_line (codes "TEXT\n") (inl refl)))
-  next_text (byte ∷ line) faults.Mismatch full off = λ more next. elim next [
+  next_text line patterns.Incomplete full (more, some, (letters, text)) = (more, some, inr text.ended)
+  next_text [] patterns.Mismatch full off = absurd (off (codes "TEXT\n") (text_line (codes "TEXT\n") (inl refl)))
+  next_text (byte ∷ line) patterns.Mismatch full off = λ more next. elim next [
     | inl key ↦ omega (arith, key.1, full (key_first key.0.keys (byte ∷ line ++ more) [] key.0.keyed))
     | inr text ↦ off more (text_line (byte ∷ line ++ more) text)
   ]
@@ -107,8 +110,8 @@ module _ (s : Day) (count : ℕ) where
 
   -- if bytes are a proper prefix of a line of a head, but no such line begins with them and `byte`, then
   -- nothing that begins with them and `byte` begins with such a line
-  pub no_next : (line other one left : List ℕ) (byte : ℕ) → IsPatternFault (IsHeadLine s count) line faults.Incomplete
-      → IsPatternFault (IsHeadLine s count) (line ++ byte ∷ []) faults.Mismatch → IsHeadLine s count one
+  pub no_next : (line other one left : List ℕ) (byte : ℕ) → IsPatternFault (IsHeadLine s count) line patterns.Incomplete
+      → IsPatternFault (IsHeadLine s count) (line ++ byte ∷ []) patterns.Mismatch → IsHeadLine s count one
       → ¬ (line ++ byte ∷ other ≡ one ++ left)
   no_next line other one left byte (more, some, next) off is same = elim (prefixes line (byte ∷ other) one left same) [
     | Shorter [] longer left ↦ some (next_whole more is (rw (longer, append-nil line) next))
@@ -138,7 +141,7 @@ module _ {s : Day} {keys : List Keys} {line order : List ℕ} (is : IsHeadBegun 
       → BeginsWithKeys s (keys ++ k ∷ []) Q (order ++ (more ++ end))
   one_more Q k more end are keyed holds = grind (arith, lines_more, append_assoc)
 
-  pub goes_on : IsPatternFault (IsAnyOrderHead s) order faults.Incomplete
+  pub goes_on : IsPatternFault (IsAnyOrderHead s) order patterns.Incomplete
   goes_on = let (more, some, next) = is.begins in elim next [
     | inl (key, room) ↦
         let text : List ℕ = codes "TEXT\n" in
@@ -152,11 +155,17 @@ module _ {s : Day} {keys : List Keys} {line order : List ℕ} (is : IsHeadBegun 
   head_cut = grind (arith, append-nil, goes_on)
 
   -- a byte with which the line can go on leaves the head open
-  pub head_open : (byte : ℕ) → IsPatternFault (IsHeadLine s (length keys)) (line ++ byte ∷ []) faults.Incomplete
+  pub head_open : (byte : ℕ) → IsPatternFault (IsHeadLine s (length keys)) (line ++ byte ∷ []) patterns.Incomplete
       → IsHeadBegun s keys (line ++ byte ∷ []) (order ++ byte ∷ [])
   head_open byte begins = grind (arith, append-nil keys, lines_more)
 
 -- -------- the faults that the reader of an order has found, and what is sent by then
+
+-- a fault of keys isn't `BadByte`
+keys_faults : (s : Day) (position part : ℕ) (k : Keys) → FaultsAre (λ f. f ≢ BadByte position) (IsKeysAnswer s part k)
+keys_faults s position part (Rotor k) = FaultsAre-Finds (λ same. cc)
+keys_faults s position part (Pin k) = FaultsAre-ThenNext (FaultsAre-Finds (λ same. cc)) (λ _.
+    FaultsAre-ThenNext (FaultsAre-Finds (λ same. cc)) (λ _. FaultsAre-Yields))
 
 pub letters_few : (for_space : Option ℕ) (text : List ℕ) → length (letters_from for_space text) ≤ length text
 letters_few for_space [] = omega arith
@@ -181,40 +190,95 @@ module _ {s : Day} where
         fault.stops byte (drop 1 fault.rest) beyond (grind arith);
   }
 
-  pub IsOrderFaultForGood-append : {order : List ℕ} {fault : FormFault} (more : List ℕ)
-      → IsOrderFaultForGood s order fault → IsOrderFaultForGood s (order ++ more) fault
-  IsOrderFaultForGood-append {order} more (InHead p h few e) =
-      InHead p (IsOrderHeadFault-append more h few) (omega (arith, few, length-append order more)) e
-  IsOrderFaultForGood-append more (InKeys ks hd t o k) = InKeys ks hd (t ++ more) (IsOrder-append more o) k
-  IsOrderFaultForGood-append more (InText ks hd t n o su b e) =
-      InText ks hd (t ++ more) n (IsOrder-append more o) su (bad_longer t more n b) e
+  -- ---- a fault for good
+
+  head_right : {order : List ℕ} {parts : OrderParts} → IsOrder s order parts.keys parts.head parts.text
+      → InTurn (IsKeysAnswer s) 1 parts.keys (Ok tt) → IsHeadAnswer s order (Ok parts)
+  head_right {parts = parts} is suited = GoesOn parts is (GoesOn tt suited refl)
 
   pub HasFaultForGood-order : {order sent : List ℕ} {fault : FormFault} → IsOrderFaultForGood s order fault
       → ((more : List ℕ) → IsSentBeforeEnd s (order ++ more) sent) → HasFaultForGood (order_message s) order sent fault
-  HasFaultForGood-order stands written = record {
-    stands = λ more. IsOrderFaultForGood-append more stands;
-    refused = λ more. inl (IsOrderFaultForGood-append more stands);
+  HasFaultForGood-order {fault = fault} good written = record {
+    stands = λ more other. rw append_assoc (good (more ++ other));
+    refused = λ more. HasFault fault (good more) refl;
     written = written;
   }
 
+  -- a fault of the head: nothing is sent
+  pub HasFaultForGood-head : {order sent : List ℕ} {fault : FormFault}
+      → ((more : List ℕ) → IsHeadAnswer s (order ++ more) (Err fault)) → sent ≡ []
+      → HasFaultForGood (order_message s) order sent fault
+  HasFaultForGood-head {fault = fault} head nothing = HasFaultForGood-order (λ more. HasFault fault (head more) refl)
+      (λ more. stream.NothingSent fault (head more) nothing)
+
+  -- if an order is just a head, no byte of it is bad
+  no_bad_byte_in : (keys : List Keys) (order : List ℕ) (position : ℕ) → IsOrderHead s keys order
+      → ¬ (IsReadAnswer s order (Err (BadByte position)))
+  no_bad_byte_in keys order position head =
+      let is : IsOrder s order keys order [] = record { joined = sym (append-nil order); is_head = head } in
+      told is where
+        told : IsOrder s order keys order [] → ¬ (IsReadAnswer s order (Err (BadByte position)))
+        told is (HasFault f (HasFault g (at, divided, e) d) c) = no_head_fault s order keys order [] at is divided
+        told is (HasFault f (GoesOn parts divided (HasFault g unsuited d)) c) =
+            (FaultsAre-InTurn (keys_faults s position) 1 parts.keys).are g unsuited (cc)
+        told is (HasFault f (GoesOn parts divided (GoesOn done suited d)) c) = cc
+        told is (GoesOn parts read (HasFault f bad d)) =
+            let same = one_order s order keys parts.keys order parts.head [] parts.text is (ThenNext-tested read).0 in
+            no_bad_byte (length parts.head + 1) parts.text f (rw (← same.2) (All-nil (λ b. IsTrue (is_text_byte b))))
+            bad
+        told is (GoesOn parts read (GoesOn done allowed d)) = cc
+
   -- ---- how far the reader has read
 
-  text_sent : {keys : List Keys} {w : PartWriter} {order sent : List ℕ} → HoldsOrderText s keys w order sent
-      → IsSentBeforeEnd s order sent
-  text_sent text =
-      stream.TextBegun _ text.head text.text text.text _ text.sendable.is_order text.sendable.suited
-      (grind (arith, append-nil {A = ℕ})) text.taken.written text.taken.made
+  module _ {keys : List Keys} {w : PartWriter} {order sent : List ℕ} (text : HoldsOrderText s keys w order sent) where
+    -- the order with more bytes has the same keys, and its text goes on with these bytes
+    head_held : (more : List ℕ)
+        → IsHeadAnswer s (order ++ more) (Ok (record { keys = keys; head = text.head; text = text.text ++ more }))
+    head_held more = head_right (IsOrder-append more text.is_order) text.taken.suited.suited
+
+    read_held : IsReadAnswer s order (Ok (record { keys = keys; head = text.head; text = text.text }))
+    read_held =
+        GoesOn _ (head_right text.is_order text.taken.suited.suited)
+        (GoesOn tt (bytes_allowed _ text.text text.allowed) refl)
+
+    text_sent : (more : List ℕ) → ((byte : ℕ) (after : List ℕ) → more ≡ byte ∷ after → IsFalse (is_text_byte byte))
+        → IsSentBeforeEnd s (order ++ more) sent
+    text_sent more bad =
+        stream.TextBegun _ text.text _ (head_held more)
+        (record { rest = more; joined = refl; allowed = text.allowed; ends = bad }) text.taken.written text.taken.made
+
+    text_sent_yet : IsSentBeforeEnd s order sent
+    text_sent_yet =
+        subst (λ o. IsSentBeforeEnd s o sent) (append-nil order) (text_sent [] (λ byte after none. absurd (cc)))
+
+    -- a byte that isn't allowed refuses the order for good
+    pub HasFaultForGood-text : (byte : ℕ) → IsFalse (is_text_byte byte)
+        → HasFaultForGood (order_message s) (order ++ byte ∷ []) sent (BadByte (length order + 1))
+    HasFaultForGood-text byte bad =
+        let place : length order + 1 ≡ length text.head + 1 + length text.text =
+        omega (arith, ap length text.is_order.joined, length-append text.head text.text) in
+        HasFaultForGood-order
+        (λ more. rw (place, append_assoc) (GoesOn _ (head_held (byte ∷ more)) (HasFault _
+        (bad_behind (length text.head + 1) text.text more byte text.allowed bad) refl)))
+        (λ more. rw append_assoc (text_sent (byte ∷ more) (λ other after same. grind arith)))
 
   open_yet : (stage : OrderStage) (h : HeadReader) (w : PartWriter) (order sent : List ℕ)
       → HoldsOrderStage s stage h w order sent → IsOpen (order_message s) order sent
-  open_yet stages.Head h w order sent (head, nothing, fresh) = record {
-    unrefused = λ fault. nothing_stands_yet s order fault (head_cut head);
-    written = stream.NothingSent
-        (λ keys front text is suited. no_head_fault s order keys front text _ is (head_cut head)) nothing;
-  }
+  open_yet stages.Head h w order sent (head, nothing, fresh) =
+      let cut : IsHeadAnswer s order (Err (BadByte (length order + 1))) = HasFault _ (_, head_cut head, refl) refl in
+      record {
+        unrefused = λ fault good.
+            let same =
+            HasOneAnswer-read s order (Err fault) (Err _) (rw append-nil at (good [])) (HasFault _ cut refl) in
+            let (more, some, (keys, whole)) = goes_on head in
+            let is : fault ≡ BadByte (length order + 1) = cc in
+            no_bad_byte_in keys (order ++ more) (length order + 1) whole (rw is at (good more));
+        written = stream.NothingSent _ cut nothing;
+      }
   open_yet stages.Text h w order sent text = record {
-    unrefused = λ fault. nothing_stands s order _ text.head text.text fault text.sendable;
-    written = text_sent text;
+    unrefused = λ fault good.
+        let clash = HasOneAnswer-read s order (Ok _) (Err fault) (read_held text) (rw append-nil at (good [])) in cc;
+    written = text_sent_yet text;
   }
 
   pub HasReadSoFar-order : {r : OrderReader} {order sent : List ℕ} → HoldsOrder s r order sent
@@ -227,8 +291,7 @@ module _ {s : Day} where
   -- after a complete head, the reader holds the order if the keys suit the day, and refuses it otherwise
   pub text_begins : (r : OrderReader) {order text sent : List ℕ} (answer : Result (Unit {0}) FormFault)
       → r.stage ≡ stages.Text → r.read ≡ length order → IsOrder s order r.head.keys.items order []
-      → IsFreshWriter r.writer → text ≡ [] → sent ≡ []
-      → MatchResult answer (λ _. All (KeysSuitDay s) r.head.keys.items) (IsFirstKeysFault s r.head.keys.items)
+      → IsFreshWriter r.writer → text ≡ [] → sent ≡ [] → InTurn (IsKeysAnswer s) 1 r.head.keys.items answer
       → MatchResult answer (λ _. HasReadSoFar (order_message s) (HoldsOrder s r) order sent)
       (HasFaultForGood (order_message s) order text)
   text_begins r {order} (Ok done) here size is fresh none nil suited =
@@ -238,9 +301,14 @@ module _ {s : Day} where
         stage = rw here (record {
           head = order;
           text = [];
-          sendable = grind (arith, All-nil);
+          is_order = is;
+          allowed = All-nil (λ b. IsTrue (is_text_byte b));
           taken = record {
-            suited = grind (arith, all_of_the_day, is.is_head.lines);
+            suited = record {
+              of_the_day = all_of_the_day _ s _ order is.is_head.lines;
+              suited = suited;
+              few = is.is_head.few;
+            };
             counted = fresh.none;
             written = grind (arith, fresh.unwritten);
             kept = grind (arith, drop_all {X = ℕ}, take_all {A = ℕ});
@@ -249,21 +317,24 @@ module _ {s : Day} where
         });
       })
   text_begins r {order} (Err fault) here size is fresh none nil found =
-      HasFaultForGood-order (InKeys r.head.keys.items order [] is found)
-      (λ more. stream.NothingSent (λ others front beyond other suited.
-      let same = one_order s (order ++ more) _ others order front more beyond (IsOrder-append more is) other in
-      no_keys_fault s r.head.keys.items fault (rw same.0 suited) found) none)
+      HasFaultForGood-head (λ more. GoesOn _ (IsOrder-append more is) (HasFault fault found refl)) none
+
+  -- an order that ends within its head
+  pub IsMessageAnswer-head_cut : {keys : List Keys} {line order sent made : List ℕ} {read : ℕ}
+      → IsHeadBegun s keys line order → sent ≡ [] → made ≡ [] → read ≡ length order
+      → IsMessageAnswer (order_message s) order (sent ++ made) (Err (BadByte (read + 1)))
+  IsMessageAnswer-head_cut {order = order} begun nothing none counted =
+      let cut : IsHeadAnswer s order (Err (BadByte (length order + 1))) = HasFault _ (_, head_cut begun, refl) refl in
+      rw (counted, nothing, none) (HasFault _ (HasFault _ cut refl) refl, stream.NothingSent _ cut refl)
 
   -- at the end of the text, the reader outputs the last part, or finds the fault
   pub IsMessageAnswer-order : {keys : List Keys} {w : PartWriter} {order sent : List ℕ}
       (text : HoldsOrderText s keys w order sent) (made : List ℕ) (answer : Result (Unit {0}) FormFault)
       → IsTextEndAnswer s keys (text_letters s text.text) sent made answer
       → IsMessageAnswer (order_message s) order (sent ++ made) answer
-  IsMessageAnswer-order text made (Ok done) (some, counted, is) = grind arith
-  IsMessageAnswer-order {sent = sent} text made (Err fault) (nothing, inl (none, is)) =
-      (inr (NoLetter _ _ _ text.sendable none is), rw (nothing, append-nil sent) (text_sent text))
-  IsMessageAnswer-order {sent = sent} text made (Err fault) (nothing, inr (some, other, is)) =
-      (inr (InParts _ _ _ text.sendable some other is), rw (nothing, append-nil sent) (text_sent text))
+  IsMessageAnswer-order text made (Ok done) told = GoesOn _ (read_held text) told
+  IsMessageAnswer-order {sent = sent} text made (Err fault) (told, nothing) =
+      (GoesOn _ (read_held text) told, rw (nothing, append-nil sent) (text_sent_yet text))
 
 pub counted_on : {read : ℕ} (order : List ℕ) (byte : ℕ) → read ≡ length order → read + 1 ≡ length (order ++ byte ∷ [])
 counted_on order byte is = ap (λ n. n + 1) is ∙ sym (length-append order (byte ∷ []))

@@ -19,26 +19,26 @@ pub use Rattle.std.proofs.lemmas.List.Elements.{All-append, All-cons, All-drop, 
 pub use Rattle.std.proofs.lemmas.List.Elements.{All-map, All-nil, All-push, All-replicate, All-same, All-tail, All-take}
 pub use Rattle.std.proofs.lemmas.List.Elements.{All-weaker, filter_map-append, All-more}
 pub use Rattle.std.specs.{Int.div_ceil, Io.KnownBytes.{Appends, Consumes, IsAtEnd, Keeps}}
-pub use Rattle.std.specs.List.{AllWithin, cons_option, enumerate_from, flat_map, join_with_byte, list_all}
+pub use Rattle.std.specs.List.{cons_option, enumerate_from, flat_map, join_with_byte, list_all}
 pub use Rattle.arrayvec.specs.{ArrayVec.ArrayVec, ArrayVec.array_vec_len}
-pub use Rattle.kd_form.specs.FormParts.{AreFewLetters, AreHeadingWords, BeginsHeading, HasFirstLine, IsFraction}
-pub use Rattle.kd_form.specs.FormParts.{IsHeading, IsLetterCount, IsLineText, WithoutReturn, cut_at_headings, parts_of}
+pub use Rattle.kd_form.specs.FormParts.{BeginsHeading, HasFirstLine, IsFraction, IsHeading, IsLetterCount, IsLineText}
+pub use Rattle.kd_form.specs.FormParts.{WithoutReturn, cut_at_headings, parts_of}
 pub use Rattle.kd_form.specs.FormSteps.{FitsHeadingAt, HasBegunHeading, HasLastLineStart, HoldsBody, HoldsForm}
-pub use Rattle.kd_form.specs.FormSteps.{HoldsPart, HoldsFormStage, IsAtPartStart, IsBodyPlaintext, IsHeadingFault}
-pub use Rattle.kd_form.specs.FormSteps.{HeadingMissing, HeadingOfOther, current_part_start}
-pub use Rattle.kd_form.specs.FormText.{AtPart, IsPartFaultAtEnd, AreAllPartsRead, IsLastPart, IsFormReadTo}
-pub use Rattle.kd_form.specs.FormText.{IsReceiveFault, IsRefusedForGood, IsTextOf, NoHeading, PartsProperty, PartStart}
-pub use Rattle.kd_form.specs.FormText.{ReadsPartsTo, IsPartFaultForGood, first_part_start, form_message, plaintext_byte}
-pub use Rattle.kd_form.specs.FormText.{plaintext_bytes, plaintext_with_end, next_part_start, sent_letters}
+pub use Rattle.kd_form.specs.FormSteps.{HoldsPart, HoldsFormStage, IsAtPartStart, IsBodyPlaintext, IsHeadingAnswer}
+pub use Rattle.kd_form.specs.FormSteps.{current_part_start, AreFewLetters, AreHeadingWords}
+pub use Rattle.kd_form.specs.FormText.{AtPart, IsAnswerAt, IsAnswerAfter, IsFormAnswer, IsLastPart, IsFormReadTo}
+pub use Rattle.kd_form.specs.FormText.{IsRefusedForGood, NoHeading, PartsProperty, ReadsPartsTo, IsPartFaultForGood}
+pub use Rattle.kd_form.specs.FormText.{first_part_start, form_message, plaintext_byte, plaintext_bytes}
+pub use Rattle.kd_form.specs.FormText.{plaintext_with_end, next_part_start, sent_letters}
 pub use Rattle.kd_form.specs.InternalKey.{ArePicked, PrecedesOrEquals, HaveNoInternalKey, IsInternalKey, IsTakenInTurn}
 pub use Rattle.kd_form.specs.InternalKey.{OffWheel, OnWheel, AreRising}
 pub use Rattle.kd_form.specs.KeyPatterns.{IsConverterDay, IsRotorDayWith, IsAnyKeyLine, key_letters, key_pattern}
 pub use Rattle.kd_form.specs.KeyPatterns.{blank_places, rotor_pattern}
 pub use Rattle.kd_form.specs.Keys.{AreKeys, key_words}
-pub use Rattle.kd_form.specs.Laws.{FormsBecomeOneText, FormsGiveTheirOrders, FormsHaveOneFault, FormsStayRefused}
-pub use Rattle.kd_form.specs.Laws.{OrdersGiveLetters, ReceivedFormsHaveNoFault}
+pub use Rattle.kd_form.specs.Laws.{OrdersHaveOneAnswer, OrdersGiveLetters, FormsHaveOneAnswer, FormsStayRefused}
+pub use Rattle.kd_form.specs.Laws.{FormsGiveTheirOrders}
 pub use Rattle.kd_form.specs.{OnTheKey.{IsKeyFault, OffKey}}
-pub use Rattle.kd_form.specs.PartMaking.{IsPartMade, IsPartTextMade, KeysSuitDay, cipher_from, enciphered_choice}
+pub use Rattle.kd_form.specs.PartMaking.{IsPartMade, IsPartTextMade, IsKeysAnswer, cipher_from, enciphered_choice}
 pub use Rattle.kd_form.specs.PartMaking.{fill_last_group, list_letters, part_size, pin_indicators, pin_letters}
 pub use Rattle.kd_form.specs.PartMaking.{rotor_letters}
 pub use Rattle.kd_form.specs.Order.{BeginsWithKeys, IsPatternFault, IsAnyOrderHead, IsLineWithEnd, IsOrderHead}
@@ -49,38 +49,37 @@ pub use Rattle.kd_form.specs.Patterns.{AreLettersAppended, IsFilledLine, IsPatte
 pub use Rattle.kd_form.specs.Patterns.{fits_mark, letters_for_mark}
 pub use Rattle.kd_form.specs.BodyCipher.{HasIndicator, HasIndicatorsAround, IsLettersAnswer, group_of_body}
 pub use Rattle.kd_form.specs.BodyCipher.{keys_of_body, list_of_body, deciphered_key, text_of_body}
-pub use Rattle.kd_form.specs.PartReading.{HasHeading, InBody, InHeading, InNumber, IsEarlyFault, IsExpectedCount}
-pub use Rattle.kd_form.specs.PartReading.{IsPartFault, IsPartRead, IsBodyAnswer}
+pub use Rattle.kd_form.specs.PartReading.{HasHeading, IsExpectedCount, HasDueNumbers, PartStart, PartContent, ReadPart}
+pub use Rattle.kd_form.specs.PartReading.{IsContentAnswer, IsPartAnswer, IsBodyAnswer}
 pub use Rattle.kd_form.specs.OrderSteps.{AreLettersTaken, IsFreshWriter, IsHeadBegun, IsHeadLine, IsTextEndAnswer}
 pub use Rattle.kd_form.specs.OrderSteps.{HoldsOrder, HoldsOrderStage, HoldsOrderText}
 pub use Rattle.kd_form.specs.SendStream.{IsWritableCount, IsSentBeforeEnd, order_message}
-pub use Rattle.kd_form.specs.Sending.{ArePartTextsMade, HeadCutShort, InHead, InKeys, InParts, InText, IsFirstBadByteAt}
-pub use Rattle.kd_form.specs.Sending.{IsFirstKeysFault, IsFormOf, IsKeysFault, IsSendFault, IsSendable, NoLetter}
-pub use Rattle.kd_form.specs.Sending.{IsOrderFaultForGood, space_letter, letter_of_byte, letters_from, parts_needed}
-pub use Rattle.kd_form.specs.Sending.{text_letters}
-pub use Rattle.kd_form.specs.StreamSteps.{AtSource, IsCloseAnswer, IsFinishAnswer, HasBeenEnded, IsFeedAllAnswer}
-pub use Rattle.kd_form.specs.StreamSteps.{HasRoom, HasReadSoFar, InFeeding, IsFed, IsChunkRead, IsReadStopped}
+pub use Rattle.kd_form.specs.InTurn.{InTurn}
+pub use Rattle.kd_form.specs.Sending.{ArePartTextsMade, IsByteAnswer, IsBytesAnswer, IsMadeAnswer, IsDividedAnswer}
+pub use Rattle.kd_form.specs.Sending.{IsHeadAnswer, IsReadAnswer, IsOrderAnswer, OrderParts, IsOrderFaultForGood}
+pub use Rattle.kd_form.specs.Sending.{space_letter, letter_of_byte, letters_from, parts_needed, text_letters}
+pub use Rattle.kd_form.specs.StreamSteps.{AtSource, IsCloseAnswer, HasBeenEnded, IsFeedAllAnswer, HasRoom}
+pub use Rattle.kd_form.specs.StreamSteps.{HasFaultForGood, HasReadSoFar, InFeeding, IsFed, IsReadStopped}
 pub use Rattle.kd_form.specs.StreamSteps.{IsReadNextAnswer, answer_with_fault, fault_of_interruption}
 pub use Rattle.kd_form.specs.StreamSteps.{is_device_interruption}
-pub use Rattle.kd_form.specs.Streams.{IsStreamAnswer, KeepFailureFlags, FaultAtEnd, ByTheEnd, ByThen, IsMessageAnswer}
-pub use Rattle.kd_form.specs.Streams.{FallsShort, IsOpen, HasFaultForGood, IsStreamed, Message, FaultBefore, SinkFails}
-pub use Rattle.kd_form.specs.Streams.{FaultForGood, TooLong, MessageComplete, is_device, is_off_key}
+pub use Rattle.kd_form.specs.Streams.{IsStreamAnswer, FaultAtEnd, ByTheEnd, ByThen, IsMessageAnswer, FallsShort, IsOpen}
+pub use Rattle.kd_form.specs.Streams.{IsStreamed, Message, FaultBefore, SinkFails, FaultForGood, TooLong}
+pub use Rattle.kd_form.specs.Streams.{MessageComplete, is_device, is_off_key}
 pub use Rattle.kd_form.specs.Typing.{IsAllowedUpTo, IsTextFault, HasTyped, IsTypedChunk, cipher_text, text_message}
 pub use Rattle.kd_form.specs.Typing.{typed_letters}
 pub use Rattle.kd_form.specs.declared.{fault.FormFault.FormFault, heading.{Heading.Heading, Indicator.Indicator}}
 pub use Rattle.kd_form.specs.declared.keys.{Keys.{Keys, TheVariants.{Pin, Rotor}}, PinKeys.PinKeys}
 pub use Rattle.kd_form.specs.declared.sending.pattern_line.PatternFault.{PatternFault}
-pub use Rattle.kd_form.specs.declared.fault.FormFault.TheVariants.{BadByte, BadHeading, EmptyText, NotReady, PartKeys}
-pub use Rattle.kd_form.specs.declared.fault.FormFault.TheVariants.{PartOrder}
+pub use Rattle.kd_form.specs.declared.fault.FormFault.TheVariants.{BadByte, BadHeading, NotReady, PartOrder}
 pub use Rattle.kd_state.proofs.Lines.{IsNumeralModel-digits, lines_split_into_words, numbers_are_words}
 pub use Rattle.kd_state.proofs.Lines.{parts_make_lines, texts_determine_first_parts, word_by_bytes}
 pub use Rattle.kd_state.proofs.Keys.{cipher_in_turn, engine_cipher, twice_on_key}
 pub use Rattle.kd_state.specs.declared.machine.parts.Parts.{Parts}
-pub use Rattle.kd_state.specs.AnswerRules.{GoesOn, HasFault}
+pub use Rattle.kd_state.specs.AnswerRules.{GoesOn, HasFault, HasOneAnswer, Demands}
 pub use Rattle.kd_state.proofs.OneAnswer.{HasOneAnswer-Demands, HasOneAnswer-Finds, HasOneAnswer-ThenNext}
-pub use Rattle.kd_state.proofs.OneAnswer.{HasOneAnswer-Yields}
+pub use Rattle.kd_state.proofs.OneAnswer.{HasOneAnswer-Yields, ThenNext-Ok, Yields-Ok}
 pub use Rattle.kd_state.specs.SheetDay.{Day, IsLegalDay, OfPins, OfRotors, pin_day}
-pub use Rattle.kd_state.specs.TwoCiphers.{EngineKey, IsWindow, cipher, physical_cipher, sheet_key}
+pub use Rattle.kd_state.specs.TwoCiphers.{IsWindow, cipher, physical_cipher, sheet_key}
 pub use Rattle.kd_state.specs.LineWords.{IsFirstPart, IsWithout, line_of, words_of}
 pub use Rattle.kd_tables.specs.{Ports.EndAgrees, Ports.FailureAgrees, Ports.KeepsFailureFlag, Ports.Port, Ports.port}
 pub use Rattle.kd_tables.specs.{Ports.read_limit, Text.is_text_byte, Text.letters_text, Writing.TakesPrefix}

@@ -2,21 +2,21 @@
 pub use Rattle.kd_form.proofs.Prelude.{err_is, append-nil, take-append-drop, AtSource, InFeeding, IsReadStopped, []}
 pub use Rattle.kd_form.proofs.Prelude.{◌≡◌, ℕ, ◌+◌, ◌-◌, ◌≤◌, ◌<◌, Bool, true, false, ◌||◌, List, ◌++◌, Option, Some}
 pub use Rattle.kd_form.proofs.Prelude.{Result, Ok, Err, length, take, drop, IsTrue, refl, sym, ap, subst, ◌∙◌}
-pub use Rattle.kd_form.proofs.Prelude.{append_assoc, length-append, length-drop, arith, Appends, Consumes, Keeps}
-pub use Rattle.kd_form.proofs.Prelude.{IsAtEnd, starts_with_of_append, read_limit, Port, KeepsFailureFlag, EndAgrees}
+pub use Rattle.kd_form.proofs.Prelude.{append_assoc, length-append, length-drop, arith, Appends, Consumes, IsAtEnd}
+pub use Rattle.kd_form.proofs.Prelude.{starts_with_of_append, read_limit, Port, KeepsFailureFlag, EndAgrees}
 pub use Rattle.kd_form.proofs.Prelude.{TakesPrefix, FormFault, Message, ByThen, ByTheEnd, IsStreamAnswer}
 pub use Rattle.kd_form.proofs.Prelude.{MessageComplete, FaultForGood, FaultAtEnd, SinkFails, IsStreamed, FallsShort}
-pub use Rattle.kd_form.proofs.Prelude.{IsFinishAnswer, HasReadSoFar, HasRoom, IsFed, IsFeedAllAnswer, HasBeenEnded}
-pub use Rattle.kd_form.proofs.Prelude.{IsCloseAnswer, IsChunkRead, IsReadNextAnswer, fault_of_interruption}
-pub use Rattle.kd_form.proofs.Prelude.{answer_with_fault, is_device_interruption, length-take-le, ◌∷◌, IsFalse, get_or}
-pub use Rattle.kd_form.proofs.Prelude.{suc, drop-cons, map-append, take_all, All-append, filter_map-append}
-pub use Rattle.kd_form.proofs.Prelude.{is_text_byte, Parts, cipher_in_turn, engine_cipher, cipher, physical_cipher}
-pub use Rattle.kd_form.proofs.Prelude.{BadByte, HasFaultForGood, cipher_text, text_message, IsTextFault, IsTypedChunk}
-pub use Rattle.kd_form.proofs.Prelude.{IsAllowedUpTo, HasTyped, take_more, rules, TooLong, port, All-nil, letters_text}
-pub use Rattle.kd_form.proofs.Prelude.{typed_letters, false≢true, NotReady, FaultBefore}
+pub use Rattle.kd_form.proofs.Prelude.{HasReadSoFar, IsFed, IsFeedAllAnswer, HasBeenEnded, IsCloseAnswer}
+pub use Rattle.kd_form.proofs.Prelude.{IsReadNextAnswer, fault_of_interruption, answer_with_fault}
+pub use Rattle.kd_form.proofs.Prelude.{is_device_interruption, length-take-le, ◌∷◌, IsFalse, get_or, suc, drop-cons}
+pub use Rattle.kd_form.proofs.Prelude.{map-append, take_all, All-append, filter_map-append, is_text_byte, Parts}
+pub use Rattle.kd_form.proofs.Prelude.{cipher_in_turn, engine_cipher, cipher, physical_cipher, BadByte, HasFaultForGood}
+pub use Rattle.kd_form.proofs.Prelude.{cipher_text, text_message, IsTextFault, IsTypedChunk, IsAllowedUpTo, HasTyped}
+pub use Rattle.kd_form.proofs.Prelude.{take_more, rules, TooLong, port, All-nil, letters_text, typed_letters}
+pub use Rattle.kd_form.proofs.Prelude.{false≢true, NotReady, FaultBefore}
 pub use Rattle.std.proofs.KnownBytes.{Consumes-nil, Consumes-kept, Consumes-trans, Appends-nil, Appends-trans}
 pub use Rattle.std.proofs.KnownBytes.{starts_with_rest}
-use Rattle.{kd_form.proofs.OneOrder.{bad_behind, no_bad_byte}, std.specs.Io.StartsWith}
+use Rattle.{kd_form.proofs.{OneOrder.no_bad_byte, Rules.{bad_behind, bytes_allowed}}, std.specs.Io.StartsWith}
 use Rattle.kd_form.specs.{StreamSteps.IsEndAnswer as MessageEnds}
 use Rattle.kd_form.specs.{declared.{stream.interruption.Interruption.Interruption, typing.Typist.Typist}}
 use Rattle.kd_form.specs.declared.stream.interruption.Interruption.TheVariants as stops
@@ -179,7 +179,7 @@ module _ (m : Parts) where
   HasReadSoFar-typed t bytes text typed = record {
     is = typed;
     open_yet = record {
-      unrefused = λ fault found. no_bad_byte bytes found.0 typed.allowed found.1;
+      unrefused = λ fault. no_bad_byte 1 bytes fault typed.allowed;
       written = (bytes, grind (arith, append-nil {A = ℕ}), text_is t bytes text typed);
     };
   }
@@ -190,7 +190,8 @@ module _ (m : Parts) where
       → HasFaultForGood (text_message (physical_cipher m)) (front ++ byte ∷ rest) text (BadByte (length front + 1))
   HasFaultForGood-typed t front rest text byte typed bad =
       let stands : (more : List ℕ) → IsTextFault ((front ++ byte ∷ rest) ++ more) (BadByte (length front + 1)) = λ more.
-      rw append_assoc (length front, bad_behind front (rest ++ more) byte typed.allowed bad, refl) in
+      let place : length front + 1 ≡ 1 + length front = omega arith in
+      rw (append_assoc, place) (bad_behind 1 front (rest ++ more) byte typed.allowed bad) in
       record {
         stands = stands;
         refused = stands;
@@ -240,4 +241,5 @@ module _ (m : Parts) where
 
 pub typed_ends : (m : Parts) (t : Typist)
     → MessageEnds (text_message (physical_cipher m)) (HasTyped m t) (10 ∷ []) (Ok tt)
-typed_ends m t bytes text held = (held.is.allowed, ap (λ l. l ++ 10 ∷ []) (text_is m t bytes text held.is))
+typed_ends m t bytes text held =
+    (bytes_allowed 1 bytes held.is.allowed, ap (λ l. l ++ 10 ∷ []) (text_is m t bytes text held.is))

@@ -42,14 +42,15 @@ pub record HasIndicatorsAround (letters : List ℕ) : Type 0 where
   pub again : take 10 letters ≡ drop (length letters - 10) letters
   pub twice : slice_index letters 0 ≡ slice_index letters 1
 
--- The keys in a body: the chosen letter is the second letter, and the external letters are the next six. Then come
--- the two list letters, and then the enciphered text.
+-- the keys in a body: the chosen letter is the second letter, and the external letters are the next six
 abbrev pub keys_of_body : List ℕ → PinKeys
 keys_of_body letters = record { chosen = slice_index letters 1; external = slice_range letters 2 8 }
 
+-- the two list letters in a body: they follow the external letters
 abbrev pub list_of_body : List ℕ → List ℕ
 list_of_body letters = slice_range letters 8 10
 
+-- the enciphered text in a body: the letters between the indicators
 abbrev pub text_of_body : List ℕ → List ℕ
 text_of_body letters = slice_range letters 10 (length letters - 10)
 

@@ -2,13 +2,12 @@
 -- Code: `FormReader` reads byte by byte; it keeps the first six bytes of a body's line, to see whether the line
 -- is a heading line.
 -- Test: forms_are_received
-use Rattle.std.specs.Prelude.{codes, ◌≡◌, ◌≢◌, ◌⊎◌, ℕ, ◌%◌, ◌<◌, ◌≤◌, ◌==◌, ◌&&◌, nat_le, Bool, IsTrue, if◌then◌else◌}
-use Rattle.std.specs.Prelude.{List, [], ◌∷◌, ◌++◌, length, take, slice_index, All, Option, MatchOption}
+use Rattle.std.specs.Prelude.{codes, ◌≡◌, ◌≢◌, ◌⊎◌, ℕ, ◌%◌, ◌≤◌, ◌==◌, ◌&&◌, nat_le, Bool, IsTrue, if◌then◌else◌}
+use Rattle.std.specs.Prelude.{List, [], ◌∷◌, ◌++◌, take, slice_index}
 use Rattle.std.specs.Str.{bytes_eq}
 use Rattle.kd_state.specs.SheetDay.{Day, OfRotors, OfPins}
 use Rattle.kd_state.specs.LineWords.{IsFirstPart, IsWithout}
 use Rattle.kd_form.specs.declared.heading.Heading.{Heading}
-use Rattle.kd_form.specs.Part.{heading_words}
 use Rattle.kd_form.specs.BodyCipher.{HasIndicator}
 
 -- whether `bytes` begin as a heading line does: with `PART ` and a digit
@@ -16,6 +15,7 @@ unfoldable pub begins_heading : List ℕ → Bool
 begins_heading bytes =
     bytes_eq (take 5 bytes) (codes "PART ") && (nat_le 48 (slice_index bytes 5) && nat_le (slice_index bytes 5) 57)
 
+-- `bytes` begin as a heading line does.
 abbrev pub BeginsHeading : List ℕ → Type 0
 BeginsHeading bytes = IsTrue (begins_heading bytes)
 
@@ -26,6 +26,7 @@ cut_at_headings (byte ∷ bytes) =
     if byte == 10 && begins_heading bytes then (byte ∷ [], (cut_at_headings bytes).0 ∷ (cut_at_headings bytes).1)
     else (byte ∷ (cut_at_headings bytes).0, (cut_at_headings bytes).1)
 
+-- all parts of a form
 abbrev pub parts_of : List ℕ → List (List ℕ)
 parts_of form = (cut_at_headings form).0 ∷ (cut_at_headings form).1
 
@@ -60,16 +61,3 @@ abbrev pub HasFirstLine : List ℕ → List ℕ → List ℕ → Type 0
 HasFirstLine text line rest =
     ((shown : List ℕ) × IsFirstPart 10 text shown rest × IsLineText shown line)
     ⊎ (IsWithout 10 text × (text ≡ line) × (rest ≡ []))
-
--- ---- What the code holds. No public contract cites these definitions.
-
--- `found` is the valid heading with the words `words`, or `None` if no valid heading has these words.
-abbrev pub AreHeadingWords : Day → List (List ℕ) → Option Heading → Type 0
-AreHeadingWords s words found =
-    MatchOption found ((h : Heading) → IsHeading s h → heading_words h ≢ words)
-    (λ h. IsHeading s h × (heading_words h ≡ words))
-
--- `letters` are at most four letters, as numbers below 26.
-pub record AreFewLetters (letters : List ℕ) : Type 0 where
-  pub few : length letters ≤ 4
-  pub within : All (λ letter. letter < 26) letters

@@ -2,6 +2,7 @@
 use Rattle.std.specs.Prelude.{codes, ◌≡◌, ◌≢◌, ◌⊎◌, ℕ, ◌<◌, ◌≤◌, List, [], ◌∷◌, ◌++◌, length, take, slice_index, All}
 use Rattle.std.specs.Prelude.{IsTrue, Option, Some, None, Result, Ok, Err, MatchResult, MatchOption}
 use Rattle.kd_tables.specs.Text.{is_text_byte}
+use Rattle.kd_state.specs.AnswerRules.{AnswerRule, ◌>>=◌, Yields, Finds, Demands}
 use Rattle.kd_state.specs.SheetDay.{Day}
 use Rattle.kd_state.specs.LineWords.{line_of, IsFirstPart, IsWithout}
 use Rattle.kd_form.specs.declared.fault.FormFault.{FormFault}
@@ -14,8 +15,21 @@ use Rattle.kd_form.specs.declared.receiving.body_reader.PartBody.{PartBody}
 use Rattle.kd_form.specs.Part.{heading_words}
 use Rattle.kd_form.specs.Sending.{letters_from}
 use Rattle.kd_form.specs.FormParts.{BeginsHeading, IsHeading, IsLineText, cut_at_headings, parts_of}
-use Rattle.kd_form.specs.PartReading.{HasHeading, IsExpectedCount, IsBodyAnswer}
-use Rattle.kd_form.specs.FormText.{PartStart, PartsProperty, ReadsPartsTo, first_part_start, plaintext_bytes}
+use Rattle.kd_form.specs.PartReading.{PartStart, HasHeading, HasDueNumbers, IsBodyAnswer}
+use Rattle.kd_form.specs.FormText.{PartsProperty, ReadsPartsTo, first_part_start, plaintext_bytes}
+
+-- ---- the words of a heading
+
+-- `found` is the valid heading with the words `words`, or `None` if no valid heading has these words.
+abbrev pub AreHeadingWords : Day → List (List ℕ) → Option Heading → Type 0
+AreHeadingWords s words found =
+    MatchOption found ((h : Heading) → IsHeading s h → heading_words h ≢ words)
+    (λ h. IsHeading s h × (heading_words h ≡ words))
+
+-- `letters` are at most four letters, as numbers below 26.
+pub record AreFewLetters (letters : List ℕ) : Type 0 where
+  pub few : length letters ≤ 4
+  pub within : All (λ letter. letter < 26) letters
 
 -- ---- the last part
 
@@ -60,9 +74,9 @@ pub record HoldsBody (s : Day) (b : PartBody) (part body : List ℕ) : Type 0 wh
 pub record HoldsPart (s : Day) (b : PartBody) (number : ℕ) (expected : Option ℕ) (part : List ℕ) : Type 0 where
   pub body : List ℕ
   pub holds : HoldsBody s b part body
-  pub numbered : b.heading.part ≡ number
-  pub as_expected : IsExpectedCount expected b.heading.parts
+  pub due : HasDueNumbers number expected b.heading
 
+-- The reader holds the part `part`, as far as it has been read: its heading line, or its heading and its body.
 abbrev pub HoldsFormStage : Day → FormStage → ℕ → Option ℕ → List ℕ → Type 0
 HoldsFormStage s (stages.Heading line) number expected part = HoldsLine line.items part × (length part < 6 → number ≡ 1)
 HoldsFormStage s (stages.Body b) number expected part = HoldsPart s b number expected part
@@ -92,18 +106,12 @@ IsEndedHeading s part found =
     ((h : Heading) (body : List ℕ) → ¬ (HasHeading s (part ++ 10 ∷ []) h body))
     (λ h. IsHeading s h × IsLineText part (line_of (heading_words h)))
 
--- `found` is the heading `h`, with the part number `number` and the expected number of parts.
-pub record IsExpectedHeading (number : ℕ) (expected : Option ℕ) (found : Option Heading) (h : Heading) : Type 0 where
-  pub is : found ≡ Some h
-  pub numbered : h.part ≡ number
-  pub as_expected : IsExpectedCount expected h.parts
-
--- Why `found` is refused: it is `None`, or its heading has a wrong part number or a wrong number of parts.
-pub data IsHeadingFault (number : ℕ) (expected : Option ℕ) (found : Option Heading) (fault : FormFault) : Type 0 where
-  HeadingMissing : found ≡ None → fault ≡ BadHeading number → IsHeadingFault number expected found fault
-  HeadingOfOther : (h : Heading) → found ≡ Some h → (h.part ≢ number) ⊎ (¬ (IsExpectedCount expected h.parts))
-      → fault ≡ PartOrder
-      → IsHeadingFault number expected found fault
+-- The answer to testing the heading `found`, which may be missing.
+abbrev pub IsHeadingAnswer : ℕ → Option ℕ → Option Heading → AnswerRule FormFault Heading
+IsHeadingAnswer number expected found = do
+  heading ← Finds (λ heading. found ≡ Some heading) (BadHeading number)
+  _ ← Demands (HasDueNumbers number expected heading) PartOrder
+  Yields heading
 
 -- ---- the form
 
@@ -111,6 +119,7 @@ pub data IsHeadingFault (number : ℕ) (expected : Option ℕ) (found : Option H
 abbrev pub current_part_start : FormReader → List ℕ → PartStart
 current_part_start r front = record { number = r.number; expected = r.expected; bytes_before = length front }
 
+-- The next part starts at `q`, and none of it is left.
 abbrev pub IsAtPartStart : PartStart → PartsProperty
 IsAtPartStart q p parts = (p ≡ q) × (parts ≡ [])
 

@@ -1,8 +1,9 @@
 -- How a form is read, part by part. Parts are counted from 1.
 -- Code: `FormReader` keeps only the part that it is reading.
 -- Test: long_texts_are_sent_and_received
-use Rattle.std.specs.Prelude.{◌≡◌, ◌⊎◌, ℕ, ◌+◌, ◌≤◌, ◌==◌, List, [], ◌∷◌, ◌++◌, length, map, Option, Some, None}
-use Rattle.std.specs.Prelude.{if◌then◌else◌}
+use Rattle.std.specs.Prelude.{◌≡◌, ◌⊎◌, ℕ, ◌+◌, ◌==◌, List, [], ◌∷◌, ◌++◌, length, map, Option, Some, None}
+use Rattle.std.specs.Prelude.{if◌then◌else◌, Result, Ok, Err}
+use Rattle.kd_state.specs.AnswerRules.{AnswerRule, Demands}
 use Rattle.kd_state.specs.SheetDay.{Day, OfRotors, OfPins}
 use Rattle.kd_state.specs.LineWords.{IsFirstPart}
 use Rattle.kd_form.specs.declared.fault.FormFault.{FormFault}
@@ -13,24 +14,18 @@ use Rattle.kd_form.specs.Streams.{Message}
 use Rattle.kd_form.specs.Order.{IsOrder}
 use Rattle.kd_form.specs.Sending.{space_letter, text_letters}
 use Rattle.kd_form.specs.FormParts.{BeginsHeading, parts_of}
-use Rattle.kd_form.specs.PartReading.{IsPartRead, IsExpectedCount, IsEarlyFault, IsPartFault}
+use Rattle.kd_form.specs.PartReading.{PartStart, ReadPart, IsContentAnswer, IsPartAnswer}
 
--- How a part begins. `number`: the part's number. `expected`: the number of all parts, if an earlier heading gave it.
--- `bytes_before`: how many bytes of the form come before the part.
-pub record PartStart : Type 0 where
-  pub number : ℕ
-  pub expected : Option ℕ
-  pub bytes_before : ℕ
-
+-- the start of the first part
 abbrev pub first_part_start : PartStart
 first_part_start = record { number = 1; expected = None; bytes_before = 0 }
 
--- the start of the next part, if `part` starts at `p`, and the heading of `part` says that there are `count` parts
+-- the start of the part after `part`, which starts at `p` and says that there are `count` parts
 abbrev pub next_part_start : PartStart → ℕ → List ℕ → PartStart
 next_part_start p count part = record
     { number = p.number + 1; expected = Some count; bytes_before = p.bytes_before + length part }
 
--- A property of a part's start and of the list of parts from there on. Example: `AreAllPartsRead`.
+-- A property of a part's start and of the list of parts from there on. Example: `IsAnswerAt`.
 abbrev pub PartsProperty : Type 1
 PartsProperty = PartStart → List (List ℕ) → Type 0
 
@@ -40,8 +35,8 @@ abbrev pub ReadsPartsTo : Day → PartsProperty → PartStart → List (List ℕ
 ReadsPartsTo s Holds p [] letters = Holds p [] × (letters ≡ [])
 ReadsPartsTo s Holds p (part ∷ parts) letters =
     (Holds p (part ∷ parts) × (letters ≡ []))
-    ⊎ ((count : ℕ) × (one more : List ℕ) × IsPartRead s p.number count part one × IsExpectedCount p.expected count
-    × ReadsPartsTo s Holds (next_part_start p count part) parts more × (letters ≡ one ++ more))
+    ⊎ ((read : ReadPart) × (more : List ℕ) × IsPartAnswer s p part (Ok read)
+    × ReadsPartsTo s Holds (next_part_start p read.parts part) parts more × (letters ≡ read.letters ++ more))
 
 -- ---- The text of a form.
 -- Test: forms_are_received
@@ -65,28 +60,42 @@ IsFormReadTo s Holds form text =
     (letters : List ℕ) × ReadsPartsTo s Holds first_part_start (parts_of form) letters
     × (text ≡ plaintext_bytes s letters)
 
--- No part is left, and as many parts were read as the headings say.
-abbrev pub AreAllPartsRead : PartsProperty
-AreAllPartsRead p [] = (count : ℕ) × (p.expected ≡ Some count) × (p.number ≡ count + 1)
-AreAllPartsRead p (part ∷ parts) = ⊥
+-- ---- The result of reading a form: its text, or its first fault.
+-- Test: forms_are_received, parts_are_missing_or_exchanged
 
--- `text` is the text of the whole form, which has as many parts as its headings say.
-pub record IsTextOf (s : Day) (form text : List ℕ) : Type 0 where
-  pub letters : List ℕ
-  pub read : ReadsPartsTo s AreAllPartsRead first_part_start (parts_of form) letters
-  pub is : text ≡ plaintext_with_end s letters
+-- The answer for a form whose other parts are read. It is the fault of the next part. If no part is left, as many parts
+-- must have been read as the headings say.
+abbrev pub IsAnswerAt : Day → Result (Unit {0}) FormFault → PartsProperty
+IsAnswerAt s answer p [] = (count : ℕ) × (p.expected ≡ Some count) × Demands (p.number ≡ count + 1) PartOrder answer
+IsAnswerAt s answer p (part ∷ parts) = (fault : FormFault) × IsPartAnswer s p part (Err fault) × (answer ≡ Err fault)
 
--- ---- Why a form has no text: its first fault, for good or at the form's end, and the text before this fault.
+-- The answer for a whole form, and the text of the parts before its first fault, if it has one.
+abbrev pub IsAnswerAfter : Day → List ℕ → List ℕ → Result (Unit {0}) FormFault → Type 0
+IsAnswerAfter s form text answer = IsFormReadTo s (IsAnswerAt s answer) form text
+
+-- The answer for a whole form: the text of its parts, then LF; or its first fault.
+abbrev pub IsFormAnswer : Day → List ℕ → AnswerRule FormFault (List ℕ)
+IsFormAnswer s form (Ok text) = (parts : List ℕ) × IsAnswerAfter s form parts (Ok tt) × (text ≡ parts ++ 10 ∷ [])
+IsFormAnswer s form (Err fault) = (text : List ℕ) × IsAnswerAfter s form text (Err fault)
+
+-- `text` is the form's text.
+abbrev pub IsTextOf : Day → List ℕ → List ℕ → Type 0
+IsTextOf s form text = IsFormAnswer s form (Ok text)
+
+-- `fault` is the form's first fault.
+abbrev pub IsReceiveFault : Day → List ℕ → FormFault → Type 0
+IsReceiveFault s form fault = IsFormAnswer s form (Err fault)
+
+-- ---- Which faults no further bytes can change, and what is written before a fault.
 -- Test: forms_are_received, parts_are_missing_or_exchanged
 
 -- The first part not yet read, which begins at `p`, has `fault`, and no further bytes can change that: another part
--- follows, or the part's heading line has ended and the fault is an early one (`IsEarlyFault`).
+-- follows, or the part's heading line has ended, and the fault is one of `IsContentAnswer`.
 abbrev pub IsPartFaultForGood : Day → FormFault → PartsProperty
 IsPartFaultForGood s fault p [] = ⊥
 IsPartFaultForGood s fault p (part ∷ []) =
-    ((line body : List ℕ) × IsFirstPart 10 part line body)
-    × IsEarlyFault s p.number p.expected p.bytes_before part fault
-IsPartFaultForGood s fault p (part ∷ next ∷ others) = IsPartFault s p.number p.expected p.bytes_before part fault
+    ((line body : List ℕ) × IsFirstPart 10 part line body) × IsContentAnswer s p part (Err fault)
+IsPartFaultForGood s fault p (part ∷ next ∷ others) = IsPartAnswer s p part (Err fault)
 
 -- The form has `fault` whatever bytes follow, and `text` is the text of the parts before the fault. Either the form
 -- can't begin with a heading line, whatever bytes follow, or one of its parts has the fault.
@@ -94,22 +103,6 @@ pub data IsRefusedForGood (s : Day) (form text : List ℕ) (fault : FormFault) :
   NoHeading : ((more : List ℕ) → ¬ (BeginsHeading (form ++ more))) → text ≡ [] → fault ≡ BadHeading 1
       → IsRefusedForGood s form text fault
   AtPart : IsFormReadTo s (IsPartFaultForGood s fault) form text → IsRefusedForGood s form text fault
-
--- The form has ended, and has `fault`. All its parts were read, or all but the last. If the last part is unread, it has
--- the fault. If all were read, the fault is `PartOrder`: the headings announce more parts than the form has.
-abbrev pub IsPartFaultAtEnd : Day → FormFault → PartsProperty
-IsPartFaultAtEnd s fault p [] = (fault ≡ PartOrder) × (count : ℕ) × (p.expected ≡ Some count) × (p.number ≤ count)
-IsPartFaultAtEnd s fault p (part ∷ []) = IsPartFault s p.number p.expected p.bytes_before part fault
-IsPartFaultAtEnd s fault p (part ∷ next ∷ others) = ⊥
-
--- The form ends here and has `fault`. `text` is the text of the parts before the fault. An empty form counts as one
--- empty part.
-abbrev pub IsRefusedAtEnd : Day → List ℕ → List ℕ → FormFault → Type 0
-IsRefusedAtEnd s form text fault = IsFormReadTo s (IsPartFaultAtEnd s fault) form text
-
--- The form has `fault`, for good or because the form ends here.
-abbrev pub IsReceiveFault : Day → List ℕ → FormFault → Type 0
-IsReceiveFault s form fault = (text : List ℕ) × (IsRefusedForGood s form text fault ⊎ IsRefusedAtEnd s form text fault)
 
 -- Only the last part is left.
 abbrev pub IsLastPart : PartsProperty
@@ -119,7 +112,7 @@ IsLastPart p parts = (part : List ℕ) × (parts ≡ part ∷ [])
 -- last.
 abbrev pub IsTextBefore : Day → Option FormFault → List ℕ → List ℕ → Type 0
 IsTextBefore s None form text = IsFormReadTo s IsLastPart form text
-IsTextBefore s (Some fault) form text = IsRefusedForGood s form text fault ⊎ IsRefusedAtEnd s form text fault
+IsTextBefore s (Some fault) form text = IsAnswerAfter s form text (Err fault)
 
 -- forms, as a kind of message
 abbrev pub form_message : Day → Message

@@ -17,9 +17,11 @@ abbrev pub rotor_pattern : ℕ → List ℕ
 rotor_pattern slots = line_of (codes "PART" ∷ blank_places slots ∷ blank_places slots ∷ blank_places 2
     ∷ blank_places 3 ∷ [])
 
+-- the pattern of a line of keys on the Converter M-209
 abbrev pub pin_pattern : List ℕ
 pin_pattern = line_of (codes "PART" ∷ blank_places 1 ∷ blank_places 6 ∷ [])
 
+-- the pattern of a line of keys for the day's model
 abbrev pub key_pattern : Day → List ℕ
 key_pattern (OfRotors s) = rotor_pattern (length s.wheels)
 key_pattern (OfPins s) = pin_pattern

@@ -4,6 +4,7 @@ pub mod InternalKey
 pub mod Part
 pub mod PartMaking
 pub mod Patterns
+pub mod InTurn
 pub mod Order
 pub mod Sending
 pub mod OnTheKey

@@ -1,9 +1,9 @@
 -- What `OrderReader` holds after it has read some bytes of an order. No public contract cites this file.
-use Rattle.std.specs.Prelude.{codes, ◌≡◌, ◌≢◌, ◌⊎◌, Result, Ok, Err, ℕ, ◌*◌, ◌<◌, ◌≤◌, List, [], ◌++◌, length, take}
-use Rattle.std.specs.Prelude.{drop, All}
+use Rattle.std.specs.Prelude.{codes, ◌≡◌, ◌⊎◌, Result, Ok, Err, ℕ, ◌*◌, ◌<◌, ◌≤◌, List, [], ◌++◌, length, take}
+use Rattle.std.specs.Prelude.{drop, All, IsTrue}
+use Rattle.kd_tables.specs.Text.{is_text_byte}
 use Rattle.kd_state.specs.SheetDay.{Day}
 use Rattle.kd_form.specs.declared.fault.FormFault.{FormFault}
-use Rattle.kd_form.specs.declared.fault.FormFault.TheVariants.{EmptyText, PartKeys}
 use Rattle.kd_form.specs.declared.keys.Keys.{Keys}
 use Rattle.kd_form.specs.declared.sending.order_head.HeadReader.{HeadReader}
 use Rattle.kd_form.specs.declared.sending.order_head.HeadStep.{HeadStep}
@@ -15,10 +15,11 @@ use Rattle.kd_form.specs.declared.sending.order_reader.OrderStage.{OrderStage}
 use Rattle.kd_form.specs.declared.sending.order_reader.OrderStage.TheVariants as stages
 use Rattle.kd_form.specs.Keys.{AreKeys}
 use Rattle.kd_form.specs.Part.{pieces}
-use Rattle.kd_form.specs.PartMaking.{KeysSuitDay, part_size}
+use Rattle.kd_form.specs.PartMaking.{IsKeysAnswer, part_size}
+use Rattle.kd_form.specs.InTurn.{InTurn}
 use Rattle.kd_form.specs.Order.{BeginsWithKeys, IsPatternFault, IsLineWithEnd, IsOrderHeadFault, IsOrder}
 use Rattle.kd_form.specs.KeyPatterns.{IsAnyKeyLine}
-use Rattle.kd_form.specs.Sending.{text_letters, parts_needed, ArePartTextsMade, IsSendable}
+use Rattle.kd_form.specs.Sending.{text_letters, ArePartTextsMade, IsMadeAnswer}
 use Rattle.kd_form.specs.SendStream.{IsWritableCount}
 
 -- `line` may come after `count` lines of keys in an order's head. It is the line TEXT or, if `count` is below 99,
@@ -32,6 +33,7 @@ pub record IsHeadBegun (s : Day) (keys : List Keys) (line order : List ℕ) : Ty
   pub few : length keys ≤ 99
   pub begins : IsPatternFault (IsHeadLine s (length keys)) line faults.Incomplete
 
+-- what a reader of the head has read after one more byte: the head is still open, complete, or wrong at this byte
 abbrev pub IsHeadStep : Day → List Keys → List ℕ → List ℕ → HeadStep → Type 0
 IsHeadStep s keys line order Open = IsHeadBegun s keys line order
 IsHeadStep s keys line order Text = IsOrder s order keys order []
@@ -40,7 +42,7 @@ IsHeadStep s keys line order Bad = IsOrderHeadFault s order (length order)
 -- There are keys for at most 99 parts. All are for the day's model, and suit the day.
 pub record AreSuitedKeys (s : Day) (keys : List Keys) : Type 0 where
   pub of_the_day : All (AreKeys s) keys
-  pub suited : All (KeysSuitDay s) keys
+  pub suited : InTurn (IsKeysAnswer s) 1 keys (Ok tt)
   pub few : length keys ≤ 99
 
 -- The keys suit the day. The writer `w` has taken `letters`, and has written all parts that can be written. It keeps
@@ -53,20 +55,10 @@ pub record AreLettersTaken (s : Day) (keys : List Keys) (w : PartWriter) (letter
   pub made : ArePartTextsMade s 1 (length keys) (take w.written keys)
       (pieces (part_size s) (take (part_size s * w.written) letters)) sent
 
--- Why a text with the letters `letters` can't be sent. Either there are none, or they need more or fewer parts than the
--- order has lines of keys.
-abbrev pub IsTextEndFault : Day → List Keys → List ℕ → FormFault → Type 0
-IsTextEndFault s keys letters fault =
-    ((letters ≡ []) × (fault ≡ EmptyText))
-    ⊎ ((letters ≢ []) × (parts_needed s (length letters) ≢ length keys)
-    × (fault ≡ PartKeys (parts_needed s (length letters)) (length keys)))
-
 -- At the end of the text, the last part was written, or the text is refused.
 abbrev pub IsTextEndAnswer : Day → List Keys → List ℕ → List ℕ → List ℕ → Result (Unit {0}) FormFault → Type 0
-IsTextEndAnswer s keys letters sent made (Ok _) =
-    (letters ≢ []) × (parts_needed s (length letters) ≡ length keys)
-    × ArePartTextsMade s 1 (length keys) keys (pieces (part_size s) letters) (sent ++ made)
-IsTextEndAnswer s keys letters sent made (Err fault) = (made ≡ []) × IsTextEndFault s keys letters fault
+IsTextEndAnswer s keys letters sent made (Ok _) = IsMadeAnswer s keys letters (Ok (sent ++ made))
+IsTextEndAnswer s keys letters sent made (Err fault) = IsMadeAnswer s keys letters (Err fault) × (made ≡ [])
 
 -- The writer has taken no letter yet.
 pub record IsFreshWriter (w : PartWriter) : Type 0 where
@@ -78,14 +70,17 @@ pub record IsFreshWriter (w : PartWriter) : Type 0 where
 pub record HoldsOrderText (s : Day) (keys : List Keys) (w : PartWriter) (order sent : List ℕ) : Type 0 where
   pub head : List ℕ
   pub text : List ℕ
-  pub sendable : IsSendable s order keys head text
+  pub is_order : IsOrder s order keys head text
+  pub allowed : All (λ b. IsTrue (is_text_byte b)) text
   pub taken : AreLettersTaken s keys w (text_letters s text) sent
 
+-- The reader holds the order, as far as it has been read: up to a place in its head, or in its text.
 abbrev pub HoldsOrderStage : Day → OrderStage → HeadReader → PartWriter → List ℕ → List ℕ → Type 0
 HoldsOrderStage s stages.Head h w order sent = IsHeadBegun s h.keys.items h.line.items order × (sent ≡ [])
     × IsFreshWriter w
 HoldsOrderStage s stages.Text h w order sent = HoldsOrderText s h.keys.items w order sent
 
+-- The reader `r` has read `order`, and `sent` was output for it.
 pub record HoldsOrder (s : Day) (r : OrderReader) (order sent : List ℕ) : Type 0 where
   pub counted : r.read ≡ length order
   pub stage : HoldsOrderStage s r.stage r.head r.writer order sent

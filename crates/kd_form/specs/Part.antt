@@ -43,6 +43,7 @@ pub record Part : Type 0 where
   pub heading : Heading
   pub body : List ℕ
 
+-- a part as it is written: its heading line, and the lines of its body
 abbrev pub part_text : Part → List ℕ
 part_text part = line_then (heading_words part.heading) (body_text part.body)
 

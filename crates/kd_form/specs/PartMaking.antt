@@ -1,9 +1,11 @@
 -- The cipher of a day's own machine (a machine set as the day says), and the size of a part.
 -- Code: `DayMachine` has one engine, and sets its windows anew for each text.
 use Rattle.std.specs.Prelude.{◌≡◌, ℕ, ◌-◌, ◌%◌, List, [], ◌∷◌, ◌++◌, length, Option, Some, None, replicate}
-use Rattle.kd_state.specs.Machine.{AreOnWheels}
-use Rattle.kd_state.specs.SheetDay.{Day, OfRotors, OfPins, AreOneOfGroups}
-use Rattle.kd_state.specs.TwoCiphers.{EngineKey, cipher, key_with_window, sheet_key}
+use Rattle.kd_state.specs.SheetDay.{Day, OfRotors, OfPins, AreADaysGroup}
+use Rattle.kd_state.specs.AnswerRules.{AnswerRule, ◌>>=◌, Yields, Finds, Demands}
+use Rattle.kd_state.specs.TwoCiphers.{EngineKey, IsWindow, cipher, key_with_window, sheet_key}
+use Rattle.kd_form.specs.declared.fault.FormFault.{FormFault}
+use Rattle.kd_form.specs.declared.fault.FormFault.TheVariants.{KeyNotOnWheel, WrongGroup, IndicatorSpent}
 use Rattle.kd_form.specs.declared.keys.Keys.{Keys}
 use Rattle.kd_form.specs.declared.keys.Keys.TheVariants.{Rotor, Pin}
 use Rattle.kd_form.specs.declared.keys.RotorKeys.{RotorKeys}
@@ -75,14 +77,14 @@ pin_letters s k internal text = pin_indicators s k ++ cipher_from s internal (fi
 -- ---- Which keys suit a day, and the part of a form that a text becomes with them.
 -- Test: orders_are_sent
 
--- The keys suit the day. On a rotor machine, the keys' group is one of the day's groups. On the Converter M-209,
--- each external letter is on its wheel, and there is an internal key.
-abbrev pub KeysSuitDay : Day → Keys → Type 0
-KeysSuitDay (OfRotors s) (Rotor k) = AreOneOfGroups s.groups k.group
-KeysSuitDay (OfPins s) (Pin k) =
-    AreOnWheels k.external × ((internal : List ℕ) × IsInternalKey (enciphered_choice (OfPins s) k) internal)
-KeysSuitDay (OfRotors s) (Pin k) = ⊥
-KeysSuitDay (OfPins s) (Rotor k) = ⊥
+-- The answer to whether the keys of part `part` suit the day. On a rotor machine, the keys' group must be one of the
+-- day's groups. On the Converter M-209, each external letter must be on its wheel, and there must be an internal key.
+abbrev pub IsKeysAnswer : Day → ℕ → Keys → AnswerRule FormFault (Unit {0})
+IsKeysAnswer s part (Rotor k) = Demands (AreADaysGroup s k.group) (WrongGroup part)
+IsKeysAnswer s part (Pin k) = do
+  _ ← Demands (IsWindow (sheet_key s) k.external) KeyNotOnWheel
+  _ ← Finds (IsInternalKey (enciphered_choice s k)) (IndicatorSpent part)
+  Yields tt
 
 -- `made` is part number `part` of `parts`: `text` enciphered with the keys.
 abbrev pub IsPartMade : Day → ℕ → ℕ → Keys → List ℕ → Part → Type 0

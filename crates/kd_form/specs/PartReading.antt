@@ -1,23 +1,53 @@
 -- What one part of a form becomes: the letters of its text, or its first fault. Parts and bytes are counted
 -- from 1.
 -- Test: forms_are_received
-use Rattle.std.specs.Prelude.{◌≡◌, ◌≢◌, ◌⊎◌, ℕ, ◌+◌, ◌-◌, List, length, All, IsTrue, Option, Some, None, Ok, Err}
-use Rattle.kd_tables.specs.Text.{is_text_byte}
-use Rattle.kd_state.specs.AnswerRules.{AnswerRule, ◌>>=◌, Demands}
+use Rattle.std.specs.Prelude.{◌≡◌, ℕ, ◌+◌, ◌-◌, List, length, Option, Some, None}
+use Rattle.kd_state.specs.AnswerRules.{AnswerRule, ◌>>=◌, Yields, Finds, Demands}
 use Rattle.kd_state.specs.SheetDay.{Day}
 use Rattle.kd_state.specs.LineWords.{line_of}
 use Rattle.kd_form.specs.declared.fault.FormFault.{FormFault}
-use Rattle.kd_form.specs.declared.fault.FormFault.TheVariants.{BadByte, BadHeading, CountWrong, PartOrder}
+use Rattle.kd_form.specs.declared.fault.FormFault.TheVariants.{BadHeading, CountWrong, PartOrder}
 use Rattle.kd_form.specs.declared.heading.Heading.{Heading}
 use Rattle.kd_form.specs.Part.{heading_words}
-use Rattle.kd_form.specs.Sending.{letters_from, IsFirstBadByteAt}
+use Rattle.kd_form.specs.Sending.{letters_from, IsBytesAnswer}
 use Rattle.kd_form.specs.BodyCipher.{IsLettersAnswer}
 use Rattle.kd_form.specs.FormParts.{IsHeading, HasFirstLine}
+
+-- How a part begins. `number`: the part's number. `expected`: the number of all parts, if an earlier heading gave it.
+-- `bytes_before`: how many bytes of the form come before the part.
+pub record PartStart : Type 0 where
+  pub number : ℕ
+  pub expected : Option ℕ
+  pub bytes_before : ℕ
 
 -- `h` is the heading in the part's first line, and `body` follows this line.
 pub record HasHeading (s : Day) (part : List ℕ) (h : Heading) (body : List ℕ) : Type 0 where
   pub is_heading : IsHeading s h
   pub first : HasFirstLine part (line_of (heading_words h)) body
+
+-- `parts` is the number of parts that the earlier headings say. Without an earlier heading, it may be any number.
+abbrev pub IsExpectedCount : Option ℕ → ℕ → Type 0
+IsExpectedCount None parts = Unit {0}
+IsExpectedCount (Some first) parts = first ≡ parts
+
+-- The heading `h` has the part number `number`, and the expected number of parts.
+pub record HasDueNumbers (number : ℕ) (expected : Option ℕ) (h : Heading) : Type 0 where
+  pub numbered : h.part ≡ number
+  pub as_expected : IsExpectedCount expected h.parts
+
+-- what a part consists of: its heading, and the bytes after the heading line
+pub record PartContent : Type 0 where
+  pub heading : Heading
+  pub body : List ℕ
+
+-- The answer to reading the bytes of a part that starts at `p`: it must begin with a heading line, with the right
+-- numbers, and each byte of its body must be allowed.
+abbrev pub IsContentAnswer : Day → PartStart → List ℕ → AnswerRule FormFault PartContent
+IsContentAnswer s p part = do
+  content ← Finds (λ content. HasHeading s part content.heading content.body) (BadHeading p.number)
+  _ ← Demands (HasDueNumbers p.number p.expected content.heading) PartOrder
+  _ ← IsBytesAnswer (p.bytes_before + (length part - length content.body) + 1) content.body
+  Yields content
 
 -- The answer is `CountWrong` if the body has more or fewer letters than its heading says. Otherwise it is the
 -- answer for the body's letters by `IsLettersAnswer`.
@@ -26,46 +56,14 @@ IsBodyAnswer s number h letters = do
   _ ← Demands (length letters ≡ h.letters) (CountWrong number)
   IsLettersAnswer s number h.indicator letters
 
--- `part` is part number `number` of `parts`, and its body is deciphered to the letters `text`.
-pub record IsPartRead (s : Day) (number parts : ℕ) (part text : List ℕ) : Type 0 where
-  pub heading : Heading
-  pub body : List ℕ
-  pub has : HasHeading s part heading body
-  pub numbered : heading.part ≡ number
-  pub same_parts : heading.parts ≡ parts
-  pub allowed : All (λ b. IsTrue (is_text_byte b)) body
-  pub read : IsBodyAnswer s number heading (letters_from None body) (Ok text)
+-- what a part says: the number of all parts, and the letters of the part's text
+pub record ReadPart : Type 0 where
+  pub parts : ℕ
+  pub letters : List ℕ
 
--- `parts` is the number of parts that the earlier headings say. Without an earlier heading, it may be any number.
-abbrev pub IsExpectedCount : Option ℕ → ℕ → Type 0
-IsExpectedCount None parts = Unit {0}
-IsExpectedCount (Some first) parts = first ≡ parts
-
--- The first fault of a part, if it shows before the part ends: no valid heading; a wrong part number or a wrong number
--- of parts; a byte of the body that isn't allowed. The form has `start` bytes before the part.
-pub data IsEarlyFault (s : Day) (number : ℕ) (expected : Option ℕ) (start : ℕ) (part : List ℕ)
-    (fault : FormFault) : Type 0 where
-  InHeading : ((h : Heading) (body : List ℕ) → ¬ (HasHeading s part h body)) → fault ≡ BadHeading number
-      → IsEarlyFault s number expected start part fault
-  InNumber : (h : Heading) (body : List ℕ) → HasHeading s part h body
-      → (h.part ≢ number) ⊎ (¬ (IsExpectedCount expected h.parts)) → fault ≡ PartOrder
-      → IsEarlyFault s number expected start part fault
-  InBody : (h : Heading) (body : List ℕ) (place : ℕ) → HasHeading s part h body → h.part ≡ number
-      → IsExpectedCount expected h.parts → IsFirstBadByteAt body place
-      → fault ≡ BadByte (start + (length part - length body) + place + 1)
-      → IsEarlyFault s number expected start part fault
-
--- The first fault of a part, if it can't be known before the whole part is read: a fault of the body's letters.
-pub record IsLateFault (s : Day) (number : ℕ) (expected : Option ℕ) (part : List ℕ) (fault : FormFault) : Type 0 where
-  pub heading : Heading
-  pub body : List ℕ
-  pub has : HasHeading s part heading body
-  pub numbered : heading.part ≡ number
-  pub as_expected : IsExpectedCount expected heading.parts
-  pub allowed : All (λ b. IsTrue (is_text_byte b)) body
-  pub found : IsBodyAnswer s number heading (letters_from None body) (Err fault)
-
--- `fault` is the part's first fault.
-abbrev pub IsPartFault : Day → ℕ → Option ℕ → ℕ → List ℕ → FormFault → Type 0
-IsPartFault s number expected start part fault =
-    IsEarlyFault s number expected start part fault ⊎ IsLateFault s number expected part fault
+-- The answer for a whole part that starts at `p`.
+abbrev pub IsPartAnswer : Day → PartStart → List ℕ → AnswerRule FormFault ReadPart
+IsPartAnswer s p part = do
+  content ← IsContentAnswer s p part
+  letters ← IsBodyAnswer s p.number content.heading (letters_from None content.body)
+  Yields (record { parts = content.heading.parts; letters = letters })

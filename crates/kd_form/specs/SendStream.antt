@@ -1,13 +1,14 @@
 -- Which parts of an order's form are written before the end of the order is read. Parts are counted from 1.
 -- Test: orders_are_sent
-use Rattle.std.specs.Prelude.{◌≡◌, ◌⊎◌, ℕ, ◌*◌, ◌<◌, ◌≤◌, List, [], ◌∷◌, ◌++◌, length, take, All, IsTrue, IsFalse}
+use Rattle.std.specs.Prelude.{◌≡◌, ◌⊎◌, ℕ, ◌*◌, ◌<◌, ◌≤◌, List, [], ◌∷◌, ◌++◌, length, take, Ok, Err}
+use Rattle.std.specs.Prelude.{All, IsTrue, IsFalse}
 use Rattle.kd_tables.specs.Text.{is_text_byte}
 use Rattle.kd_state.specs.SheetDay.{Day}
-use Rattle.kd_form.specs.declared.keys.Keys.{Keys}
+use Rattle.kd_form.specs.declared.fault.FormFault.{FormFault}
 use Rattle.kd_form.specs.Part.{pieces}
-use Rattle.kd_form.specs.PartMaking.{KeysSuitDay, part_size}
-use Rattle.kd_form.specs.Order.{IsOrder}
-use Rattle.kd_form.specs.Sending.{text_letters, IsOrderFaultForGood, IsSendFault, ArePartTextsMade, IsFormOf}
+use Rattle.kd_form.specs.PartMaking.{part_size}
+use Rattle.kd_form.specs.Sending.{text_letters, OrderParts, IsHeadAnswer, IsOrderFaultForGood, IsSendFault}
+use Rattle.kd_form.specs.Sending.{ArePartTextsMade, IsFormOf}
 use Rattle.kd_form.specs.Streams.{Message}
 
 -- `front` is the prefix of `text` before the first byte that isn't allowed.
@@ -26,13 +27,11 @@ pub record IsWritableCount (size parts letters written : ℕ) : Type 0 where
 -- `sent` is written before the end of the order is read. If the head isn't complete, or the keys don't suit the day,
 -- nothing is written. Otherwise `sent` has the parts that `IsWritableCount` counts.
 pub data IsSentBeforeEnd (s : Day) (order sent : List ℕ) : Type 0 where
-  NothingSent : ((keys : List Keys) (head text : List ℕ) → IsOrder s order keys head text
-      → ¬ (All (KeysSuitDay s) keys))
-      → sent ≡ [] → IsSentBeforeEnd s order sent
-  TextBegun : (keys : List Keys) (head text front : List ℕ) (written : ℕ) → IsOrder s order keys head text
-      → All (KeysSuitDay s) keys
-      → IsAllowedPrefix text front → IsWritableCount (part_size s) (length keys) (length (text_letters s front)) written
-      → ArePartTextsMade s 1 (length keys) (take written keys)
+  NothingSent : (fault : FormFault) → IsHeadAnswer s order (Err fault) → sent ≡ [] → IsSentBeforeEnd s order sent
+  TextBegun : (parts : OrderParts) (front : List ℕ) (written : ℕ) → IsHeadAnswer s order (Ok parts)
+      → IsAllowedPrefix parts.text front
+      → IsWritableCount (part_size s) (length parts.keys) (length (text_letters s front)) written
+      → ArePartTextsMade s 1 (length parts.keys) (take written parts.keys)
       (pieces (part_size s) (take (part_size s * written) (text_letters s front))) sent
       → IsSentBeforeEnd s order sent
 

@@ -1,18 +1,16 @@
 -- What an order becomes: its form, or its first fault. Parts and bytes are counted from 1.
-use Rattle.std.specs.Prelude.{◌≡◌, ◌≢◌, ℕ, ◌+◌, ◌-◌, ◌≤◌, ◌⊎◌, ◌==◌, List, [], ◌∷◌, ◌++◌, length, filter_map, All}
-use Rattle.std.specs.Prelude.{IsTrue, IsFalse, Option, Some, None, if◌then◌else◌}
+use Rattle.std.specs.Prelude.{◌≡◌, ◌≢◌, ℕ, ◌+◌, ◌-◌, ◌==◌, List, [], ◌∷◌, ◌++◌, length, filter_map, Ok, Err}
+use Rattle.std.specs.Prelude.{IsTrue, Option, Some, None, if◌then◌else◌}
 use Rattle.std.specs.Int.{div_ceil}
 use Rattle.kd_tables.specs.Text.{is_capital, is_text_byte}
-use Rattle.kd_state.specs.Machine.{AreOnWheels}
-use Rattle.kd_state.specs.SheetDay.{Day, OfRotors, OfPins, AreOneOfGroups}
+use Rattle.kd_state.specs.AnswerRules.{AnswerRule, ◌>>=◌, Yields, Demands, FindsAlways}
+use Rattle.kd_state.specs.SheetDay.{Day, OfRotors, OfPins}
 use Rattle.kd_form.specs.declared.fault.FormFault.{FormFault}
-use Rattle.kd_form.specs.declared.fault.FormFault.TheVariants.{BadByte, EmptyText, PartKeys, KeyNotOnWheel, WrongGroup}
-use Rattle.kd_form.specs.declared.fault.FormFault.TheVariants.{IndicatorSpent}
+use Rattle.kd_form.specs.declared.fault.FormFault.TheVariants.{BadByte, EmptyText, PartKeys}
 use Rattle.kd_form.specs.declared.keys.Keys.{Keys}
-use Rattle.kd_form.specs.declared.keys.Keys.TheVariants.{Rotor, Pin}
-use Rattle.kd_form.specs.InternalKey.{HaveNoInternalKey}
+use Rattle.kd_form.specs.InTurn.{InTurn}
 use Rattle.kd_form.specs.Part.{pieces}
-use Rattle.kd_form.specs.PartMaking.{KeysSuitDay, IsPartTextMade, enciphered_choice, part_size}
+use Rattle.kd_form.specs.PartMaking.{IsKeysAnswer, IsPartTextMade, part_size}
 use Rattle.kd_form.specs.Order.{IsOrder, IsOrderHeadFault}
 
 -- ---- The letters that an order's text gives, and how many parts they need.
@@ -35,74 +33,19 @@ letters_from for_space text = filter_map (letter_of_byte for_space) text
 abbrev pub text_letters : Day → List ℕ → List ℕ
 text_letters s text = letters_from (space_letter s) text
 
--- `place` is the index, from 0, of the first byte of `text` that isn't allowed.
-pub record IsFirstBadByteAt (text : List ℕ) (place : ℕ) : Type 0 where
-  pub before : List ℕ
-  pub byte : ℕ
-  pub rest : List ℕ
-  pub joined : text ≡ before ++ byte ∷ rest
-  pub size : place ≡ length before
-  pub allowed : All (λ b. IsTrue (is_text_byte b)) before
-  pub bad : IsFalse (is_text_byte byte)
+-- The answer to whether the byte at `position` is allowed in a text.
+abbrev pub IsByteAnswer : ℕ → ℕ → AnswerRule FormFault (Unit {0})
+IsByteAnswer position byte = Demands (IsTrue (is_text_byte byte)) (BadByte position)
+
+-- The answer to whether each byte of `text`, whose first byte is at `position`, is allowed in a text.
+abbrev pub IsBytesAnswer : ℕ → List ℕ → AnswerRule FormFault (Unit {0})
+IsBytesAnswer position text = InTurn IsByteAnswer position text
 
 -- the number of parts for a text with this number of letters
 abbrev pub parts_needed : Day → ℕ → ℕ
 parts_needed s letters = div_ceil letters (part_size s)
 
--- ---- Why an order becomes no form: its first fault, for good or at the order's end.
--- Test: orders_are_sent
-
--- Why the keys of part `part` don't suit the day.
-abbrev pub IsKeysFault : Day → ℕ → Keys → FormFault → Type 0
-IsKeysFault (OfRotors s) part (Rotor k) fault = ¬ (AreOneOfGroups s.groups k.group) × (fault ≡ WrongGroup part)
-IsKeysFault (OfPins s) part (Pin k) fault =
-    (¬ (AreOnWheels k.external) × (fault ≡ KeyNotOnWheel))
-    ⊎ (AreOnWheels k.external × HaveNoInternalKey (enciphered_choice (OfPins s) k) × (fault ≡ IndicatorSpent part))
-IsKeysFault (OfRotors s) part (Pin k) fault = ⊥
-IsKeysFault (OfPins s) part (Rotor k) fault = ⊥
-
--- The fault of the first part whose keys don't suit the day.
-pub record IsFirstKeysFault (s : Day) (keys : List Keys) (fault : FormFault) : Type 0 where
-  pub before : List Keys
-  pub unsuited : Keys
-  pub others : List Keys
-  pub joined : keys ≡ before ++ unsuited ∷ others
-  pub suited : All (KeysSuitDay s) before
-  pub is : IsKeysFault s (length before + 1) unsuited fault
-
--- The order has a complete head, its keys suit the day, and each byte of its text is allowed. So its only possible
--- fault is one at its end (`IsOrderFaultAtEnd`).
-pub record IsSendable (s : Day) (order : List ℕ) (keys : List Keys) (head text : List ℕ) : Type 0 where
-  pub is_order : IsOrder s order keys head text
-  pub suited : All (KeysSuitDay s) keys
-  pub allowed : All (λ b. IsTrue (is_text_byte b)) text
-
--- A fault of an order's head, of its keys, or of a byte of its text. No further bytes can change such a fault.
-pub data IsOrderFaultForGood (s : Day) (order : List ℕ) (fault : FormFault) : Type 0 where
-  InHead : (position : ℕ) → IsOrderHeadFault s order position → position ≤ length order → fault ≡ BadByte position
-      → IsOrderFaultForGood s order fault
-  InKeys : (keys : List Keys) (head text : List ℕ) → IsOrder s order keys head text → IsFirstKeysFault s keys fault
-      → IsOrderFaultForGood s order fault
-  InText : (keys : List Keys) (head text : List ℕ) (place : ℕ) → IsOrder s order keys head text
-      → All (KeysSuitDay s) keys
-      → IsFirstBadByteAt text place → fault ≡ BadByte (length head + place + 1) → IsOrderFaultForGood s order fault
-
--- The fault that an order has if it ends here: its head is incomplete; or its text has no letter, or needs more or
--- fewer parts than there are lines of keys.
-pub data IsOrderFaultAtEnd (s : Day) (order : List ℕ) (fault : FormFault) : Type 0 where
-  HeadCutShort : IsOrderHeadFault s order (length order + 1) → fault ≡ BadByte (length order + 1)
-      → IsOrderFaultAtEnd s order fault
-  NoLetter : (keys : List Keys) (head text : List ℕ) → IsSendable s order keys head text → text_letters s text ≡ []
-      → fault ≡ EmptyText → IsOrderFaultAtEnd s order fault
-  InParts : (keys : List Keys) (head text : List ℕ) → IsSendable s order keys head text → text_letters s text ≢ []
-      → parts_needed s (length (text_letters s text)) ≢ length keys
-      → fault ≡ PartKeys (parts_needed s (length (text_letters s text))) (length keys) → IsOrderFaultAtEnd s order fault
-
--- `fault` is the order's first fault.
-abbrev pub IsSendFault : Day → List ℕ → FormFault → Type 0
-IsSendFault s order fault = IsOrderFaultForGood s order fault ⊎ IsOrderFaultAtEnd s order fault
-
--- ---- The form that an order becomes.
+-- ---- The form that a text becomes.
 -- Test: long_texts_are_sent_and_received
 
 -- The bytes are the last parts of a form that has `parts` parts, from part number `part` on. Each part is made from its
@@ -115,12 +58,57 @@ ArePartTextsMade s part parts (k ∷ keys) (piece ∷ pieces) bytes =
 ArePartTextsMade s part parts [] (piece ∷ pieces) bytes = ⊥
 ArePartTextsMade s part parts (k ∷ keys) [] bytes = ⊥
 
--- The order has no fault, and `form` is its form, in which all parts but the last are full.
-pub record IsFormOf (s : Day) (order form : List ℕ) : Type 0 where
+-- The answer for an order with these keys, whose text has these letters: its form, in which all parts but the last are
+-- full. The text must have a letter, and must need as many parts as there are lines of keys.
+abbrev pub IsMadeAnswer : Day → List Keys → List ℕ → AnswerRule FormFault (List ℕ)
+IsMadeAnswer s keys letters = do
+  _ ← Demands (letters ≢ []) EmptyText
+  _ ← Demands (parts_needed s (length letters) ≡ length keys) (PartKeys (parts_needed s (length letters)) (length keys))
+  FindsAlways (ArePartTextsMade s 1 (length keys) keys (pieces (part_size s) letters))
+
+-- ---- The result of reading an order: its form, or its first fault.
+-- Test: orders_are_sent
+
+-- what an order consists of: the head, which has a line for each of `keys`, and the text
+pub record OrderParts : Type 0 where
   pub keys : List Keys
   pub head : List ℕ
   pub text : List ℕ
-  pub sendable : IsSendable s order keys head text
-  pub some : text_letters s text ≢ []
-  pub counted : parts_needed s (length (text_letters s text)) ≡ length keys
-  pub made : ArePartTextsMade s 1 (length keys) keys (pieces (part_size s) (text_letters s text)) form
+
+-- The answer to dividing an order into head and text. If it has no complete head, the fault is `BadByte`, with the
+-- position of the first byte with which no head can go on.
+abbrev pub IsDividedAnswer : Day → List ℕ → AnswerRule FormFault OrderParts
+IsDividedAnswer s order (Ok parts) = IsOrder s order parts.keys parts.head parts.text
+IsDividedAnswer s order (Err fault) = (position : ℕ) × IsOrderHeadFault s order position × (fault ≡ BadByte position)
+
+-- The answer to reading an order up to its text: it has a complete head, and the keys of each part suit the day.
+abbrev pub IsHeadAnswer : Day → List ℕ → AnswerRule FormFault OrderParts
+IsHeadAnswer s order = do
+  parts ← IsDividedAnswer s order
+  _ ← InTurn (IsKeysAnswer s) 1 parts.keys
+  Yields parts
+
+-- The answer to reading the bytes of an order: its head is right, and each byte of its text is allowed.
+abbrev pub IsReadAnswer : Day → List ℕ → AnswerRule FormFault OrderParts
+IsReadAnswer s order = do
+  parts ← IsHeadAnswer s order
+  _ ← IsBytesAnswer (length parts.head + 1) parts.text
+  Yields parts
+
+-- The answer for a whole order: its form, or its first fault.
+abbrev pub IsOrderAnswer : Day → List ℕ → AnswerRule FormFault (List ℕ)
+IsOrderAnswer s order = do
+  parts ← IsReadAnswer s order
+  IsMadeAnswer s parts.keys (text_letters s parts.text)
+
+-- `form` is the order's form.
+abbrev pub IsFormOf : Day → List ℕ → List ℕ → Type 0
+IsFormOf s order form = IsOrderAnswer s order (Ok form)
+
+-- `fault` is the order's first fault.
+abbrev pub IsSendFault : Day → List ℕ → FormFault → Type 0
+IsSendFault s order fault = IsOrderAnswer s order (Err fault)
+
+-- The order has `fault`, whatever bytes follow. So the fault is found while the bytes are read, not at the order's end.
+abbrev pub IsOrderFaultForGood : Day → List ℕ → FormFault → Type 0
+IsOrderFaultForGood s order fault = (more : List ℕ) → IsReadAnswer s (order ++ more) (Err fault)

@@ -1,6 +1,6 @@
 -- What a step of reading a message does. No public contract cites this file.
 use Rattle.std.specs.Prelude.{◌≡◌, ℕ, ◌+◌, ◌^◌, ◌<◌, ◌≤◌, Bool, true, false, ◌||◌, List, [], ◌∷◌, ◌++◌, length, Result}
-use Rattle.std.specs.Prelude.{Ok, Err, MatchResult}
+use Rattle.std.specs.Prelude.{Ok, Err, MatchResult, Some}
 use Rattle.std.specs.Io.{StartsWith}
 use Rattle.std.specs.Io.KnownBytes.{Appends, Consumes, IsAtEnd}
 use Rattle.kd_tables.specs.Ports.{read_limit, Port, KeepsFailureFlag, FailsAlone}
@@ -8,7 +8,7 @@ use Rattle.kd_form.specs.declared.fault.FormFault.{FormFault}
 use Rattle.kd_form.specs.declared.fault.FormFault.TheVariants as faults
 use Rattle.kd_form.specs.declared.stream.interruption.Interruption.{Interruption}
 use Rattle.kd_form.specs.declared.stream.interruption.Interruption.TheVariants.{Device, Refused}
-use Rattle.kd_form.specs.Streams.{Message, IsOpen, HasFaultForGood, IsMessageAnswer, FallsShort}
+use Rattle.kd_form.specs.Streams.{Message, IsOpen, IsMessageAnswer, FallsShort}
 
 -- The reader has read `bytes` and output `text`. So far the bytes have no fault, and the reader's state satisfies
 -- `holds`.
@@ -22,6 +22,12 @@ pub record HasRoom (m : Message) (holds : List ℕ → List ℕ → Type 0) (roo
   pub text : List ℕ
   pub held : HasReadSoFar m holds bytes text
   pub within : length bytes + room < 2 ^ 63
+
+-- The bytes have `fault` whatever bytes follow, and `text` is written before the fault.
+pub record HasFaultForGood (m : Message) (bytes text : List ℕ) (fault : FormFault) : Type 0 where
+  pub stands : (more : List ℕ) → m.stands (bytes ++ more) fault
+  pub refused : (more : List ℕ) → m.refused (bytes ++ more) fault
+  pub written : (more : List ℕ) → m.written_before (Some fault) (bytes ++ more) text
 
 -- The reader reads `byte`. If `byte` causes no fault, the reader outputs `made`, and its state changes from `old` to
 -- `new`. Otherwise the message is refused, whatever bytes follow.
@@ -71,6 +77,7 @@ pub record IsFed (m : Message) (new : List ℕ → List ℕ → Type 0) (bytes t
   pub written : Appends sink.had sink.has made
   pub fed : HasBeenFed m new bytes (text ++ made) answer
 
+-- The reader, in a state that satisfies `old`, reads the bytes `more`, and its output is written to the sink.
 abbrev pub IsFeedAllAnswer : Message → (List ℕ → List ℕ → Type 0) → (List ℕ → List ℕ → Type 0) → List ℕ → Port
     → Result (Unit {0}) Interruption → Type 0
 IsFeedAllAnswer m old new more sink answer =
@@ -85,12 +92,14 @@ HasBeenEnded m bytes text (Err (Refused fault)) = IsMessageAnswer m bytes text (
 HasBeenEnded m bytes text (Err Device) =
     (due : List ℕ) × (answer : Result (Unit {0}) FormFault) × IsMessageAnswer m bytes due answer × FallsShort due text
 
+-- The message has ended after `bytes`, and the rest of the reader's output was written to the sink.
 pub record IsClosed (m : Message) (bytes text : List ℕ) (sink : Port) (answer : Result (Unit {0}) Interruption) :
     Type 0 where
   pub made : List ℕ
   pub written : Appends sink.had sink.has made
   pub ended : HasBeenEnded m bytes (text ++ made) answer
 
+-- The reader, in a state that satisfies `old`, ends the message.
 abbrev pub IsFinishAnswer : Message → (List ℕ → List ℕ → Type 0) → Port → Result (Unit {0}) Interruption → Type 0
 IsFinishAnswer m old sink answer = (bytes text : List ℕ) → HasReadSoFar m old bytes text
     → IsClosed m bytes text sink answer
@@ -100,6 +109,7 @@ abbrev pub answer_with_fault : Result (Unit {0}) Interruption → Result (Unit {
 answer_with_fault (Ok _) = Ok tt
 answer_with_fault (Err stop) = Err (fault_of_interruption stop)
 
+-- A call ends the message and returns its fault, or `Device` if the sink failed.
 pub record IsCloseAnswer (m : Message) (old : List ℕ → List ℕ → Type 0) (sink : Port)
     (answer : Result (Unit {0}) FormFault) : Type 0 where
   pub finished : Result (Unit {0}) Interruption
@@ -129,6 +139,7 @@ HasBeenRead m new source sink bytes more text (Ok count) =
     × KeepsFailureFlag sink
 HasBeenRead m new source sink bytes more text (Err stop) = IsReadStopped m new source sink (bytes ++ more) text stop
 
+-- At most `room` bytes were taken from the source and fed to the reader, and its output was written to the sink.
 pub record IsChunkRead (m : Message) (new : List ℕ → List ℕ → Type 0) (bytes text : List ℕ) (room : ℕ)
     (source sink : Port)
     (answer : Result ℕ Interruption) : Type 0 where
@@ -139,6 +150,7 @@ pub record IsChunkRead (m : Message) (new : List ℕ → List ℕ → Type 0) (b
   pub written : Appends sink.had sink.has made
   pub read : HasBeenRead m new source sink bytes more (text ++ made) answer
 
+-- The reader, in a state that satisfies `old`, reads the next bytes of the source.
 abbrev pub IsReadNextAnswer : Message → (List ℕ → List ℕ → Type 0) → (List ℕ → List ℕ → Type 0) → ℕ → Port → Port
     → Result ℕ Interruption → Type 0
 IsReadNextAnswer m old new room source sink answer =

@@ -116,11 +116,3 @@ pub data StreamsUnlessFault (is_fault : FormFault → Type 0) (may : Type 0) (me
 abbrev pub StreamsOnKey : Parts → Day → Message → Port → Port → Result (Unit {0}) FormFault → Type 0
 StreamsOnKey m s message source sink answer = StreamsUnlessFault (IsKeyFault m s) (IsReadyOnKey m s) message source
     sink answer
-
--- ---- What the code holds. No public contract cites these definitions.
-
--- The bytes have `fault` whatever bytes follow, and `text` is written before the fault.
-pub record HasFaultForGood (m : Message) (bytes text : List ℕ) (fault : FormFault) : Type 0 where
-  pub stands : (more : List ℕ) → m.stands (bytes ++ more) fault
-  pub refused : (more : List ℕ) → m.refused (bytes ++ more) fault
-  pub written : (more : List ℕ) → m.written_before (Some fault) (bytes ++ more) text

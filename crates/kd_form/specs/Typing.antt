@@ -2,16 +2,16 @@
 -- Code: `type_stream` reads chunks of at most 4,096 bytes, and presses a key for each letter of a chunk.
 -- Test: types_to_the_first_byte_that_is_not_allowed, stops_at_a_failed_read, stops_where_the_sink_fails,
 -- reads_to_the_limit
-use Rattle.std.specs.Prelude.{◌≡◌, ℕ, ◌+◌, ◌<◌, ◌≤◌, List, [], ◌∷◌, ◌++◌, length, take, slice_index, All, IsTrue}
-use Rattle.std.specs.Prelude.{IsFalse, None, Result}
+use Rattle.std.specs.Prelude.{◌≡◌, ℕ, ◌<◌, ◌≤◌, List, [], ◌∷◌, ◌++◌, length, take, slice_index, All, IsTrue}
+use Rattle.std.specs.Prelude.{IsFalse, None, Result, Ok, Err}
 use Rattle.kd_tables.specs.Text.{is_text_byte, letters_text}
 use Rattle.kd_tables.specs.Ports.{Port}
 use Rattle.kd_state.specs.declared.machine.parts.Parts.{Parts}
 use Rattle.kd_state.specs.TwoCiphers.{EngineKey, IsReady, cipher, engine_key_after, physical_cipher}
 use Rattle.kd_form.specs.declared.fault.FormFault.{FormFault}
-use Rattle.kd_form.specs.declared.fault.FormFault.TheVariants.{NotReady, BadByte}
+use Rattle.kd_form.specs.declared.fault.FormFault.TheVariants.{NotReady}
 use Rattle.kd_form.specs.declared.typing.Typist.{Typist}
-use Rattle.kd_form.specs.Sending.{letters_from, IsFirstBadByteAt}
+use Rattle.kd_form.specs.Sending.{letters_from, IsBytesAnswer}
 use Rattle.kd_form.specs.SendStream.{IsAllowedPrefix}
 use Rattle.kd_form.specs.Streams.{Message, StreamsUnlessFault}
 
@@ -25,14 +25,14 @@ cipher_text enciphers bytes = letters_text (enciphers (typed_letters bytes))
 
 -- The fault is `BadByte`, with the position of the first byte that isn't allowed, counted from 1.
 abbrev pub IsTextFault : List ℕ → FormFault → Type 0
-IsTextFault bytes fault = (place : ℕ) × IsFirstBadByteAt bytes place × (fault ≡ BadByte (place + 1))
+IsTextFault bytes fault = IsBytesAnswer 1 bytes (Err fault)
 
 -- typed texts, as a kind of message; all letters before the first byte that isn't allowed are enciphered
 abbrev pub text_message : (List ℕ → List ℕ) → Message
 text_message enciphers = record {
   stands = IsTextFault;
   refused = IsTextFault;
-  becomes = λ bytes text. All (λ b. IsTrue (is_text_byte b)) bytes × (text ≡ cipher_text enciphers bytes ++ 10 ∷ []);
+  becomes = λ bytes text. IsBytesAnswer 1 bytes (Ok tt) × (text ≡ cipher_text enciphers bytes ++ 10 ∷ []);
   written_before = λ reason bytes text. (front : List ℕ) × IsAllowedPrefix bytes front
       × (text ≡ cipher_text enciphers front);
 }

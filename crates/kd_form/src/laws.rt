@@ -1,8 +1,6 @@
 //! Laws: each order and each form has one result or one fault, and a form gives back its order's letters.
-ghost use Rattle.kd_form.specs.Laws.{OrderIsAnswered, FormIsAnswered, OrdersBecomeOneForm, OrdersHaveOneFault};
-ghost use Rattle.kd_form.specs.Laws.{SentOrdersHaveNoFault, OrdersStayRefused, FormsBecomeOneText, FormsHaveOneFault};
-ghost use Rattle.kd_form.specs.Laws.{ReceivedFormsHaveNoFault, FormsStayRefused, OrdersGiveLetters};
-ghost use Rattle.kd_form.specs.Laws.{FormsGiveTheirOrders};
+ghost use Rattle.kd_form.specs.Laws.{OrderIsAnswered, OrdersHaveOneAnswer, OrdersStayRefused, FormIsAnswered};
+ghost use Rattle.kd_form.specs.Laws.{FormsHaveOneAnswer, FormsStayRefused, OrdersGiveLetters, FormsGiveTheirOrders};
 
 use super::receiving::form_reader::FormReader;
 use super::sending::order_reader::OrderReader;
@@ -11,9 +9,7 @@ use kd_state::SheetDay;
 
 /// An order has at most one form and at most one fault, and never both.
 pub fn orders_have_one_answer()
-    ensures form { OrdersBecomeOneForm }
-    ensures fault { OrdersHaveOneFault }
-    ensures never_both { SentOrdersHaveNoFault }
+    ensures { OrdersHaveOneAnswer }
 {}
 
 /// Every order has a form or a fault: the body of this function reads `order` and finds which.
@@ -30,9 +26,7 @@ pub fn orders_stay_refused()
 
 /// A form has at most one text and at most one fault, and never both.
 pub fn forms_have_one_answer()
-    ensures text { FormsBecomeOneText }
-    ensures fault { FormsHaveOneFault }
-    ensures never_both { ReceivedFormsHaveNoFault }
+    ensures { FormsHaveOneAnswer }
 {}
 
 /// A fault that shows before the end of a form remains the form's fault, whatever bytes follow.

@@ -22,7 +22,8 @@ pub use Rattle.kd_state.proofs.{Carrying.{if_carried, leads_join, leads_next, le
 pub use Rattle.kd_state.proofs.CostTable.{columns_are_the_pairs, thirteen_columns}
 pub use Rattle.kd_state.specs.{Costs.{bar_cost, cable_cost, columns_of, cost_table}, OneModel.IsOneModelOf}
 pub use Rattle.kd_state.specs.AnswerRules.{GoesOn, HasFault}
-pub use Rattle.kd_state.proofs.OneAnswer.{HasOneAnswer, HasOneAnswer-Demands, HasOneAnswer-Finds}
+pub use Rattle.kd_state.specs.AnswerRules.{HasOneAnswer}
+pub use Rattle.kd_state.proofs.OneAnswer.{HasOneAnswer-Demands, HasOneAnswer-Finds}
 pub use Rattle.kd_state.proofs.OneAnswer.{HasOneAnswer-ThenNext, ThenNext-Ok}
 pub use Rattle.kd_state.specs.Machine.{IsMachine, cable_in_order, letters_in_cables, model_of}
 pub use Rattle.kd_state.specs.declared.setting.{Setting.Setting, why.Why.Why}

@@ -1,10 +1,7 @@
 -- At most one result is right by a rule of `AnswerRules`, if this is so for each step.
-use Rattle.kd_state.specs.AnswerRules.{Demands, Finds, FindsAlways, GoesOn, HasFault, ThenNext, Yields}
+use Rattle.kd_state.specs.AnswerRules.{Demands, Finds, FindsAlways, GoesOn, HasFault, HasOneAnswer, ThenNext, Yields}
 use Rattle.std.specs.Prelude.{◌≡◌, Result, Ok, Err, refl}
 use Rattle.std.proofs.Common.{sym, ap, ◌∙◌, subst}
-
-abbrev pub HasOneAnswer : {F X : Type 0} → (Result X F → Type 0) → Type 0
-HasOneAnswer {F} {X} First = (v w : Result X F) → First v → First w → v ≡ w
 
 abbrev pub Succeeds : {F X : Type 0} → Result X F → Type 0
 Succeeds (Ok x) = Unit {0}

@@ -37,3 +37,7 @@ Demands Holds due = Finds (λ _. Holds) due
 abbrev pub FindsAlways : {F X : Type 0} → (X → Type 0) → AnswerRule F X
 FindsAlways Holds (Ok x) = Holds x
 FindsAlways Holds (Err fault) = ⊥
+
+-- At most one answer is right by the rule.
+abbrev pub HasOneAnswer : {F X : Type 0} → AnswerRule F X → Type 0
+HasOneAnswer {F} {X} rule = (answer other : Result X F) → rule answer → rule other → answer ≡ other

@@ -1,9 +1,8 @@
 //! Reads a form byte by byte: divides it into parts, and each part into heading line and body.
-ghost use Rattle.std.specs.Prelude.{codes, ◌≡◌, ◌↔◌, ◌+◌, ℕ, List, [], ◌∷◌, ◌++◌, length, IsTrue, MatchResult};
-ghost use Rattle.kd_form.specs.declared.heading.Heading.{Heading};
-ghost use Rattle.kd_form.specs.PartReading.{IsExpectedCount, IsPartFault};
+ghost use Rattle.std.specs.Prelude.{codes, ◌≡◌, ◌↔◌, ◌+◌, ℕ, List, [], ◌∷◌, ◌++◌, length, IsTrue, Err};
+ghost use Rattle.kd_form.specs.PartReading.{IsExpectedCount, IsPartAnswer, PartStart};
 ghost use Rattle.kd_form.specs.FormText.{form_message};
-ghost use Rattle.kd_form.specs.FormSteps.{FitsHeadingAt, IsExpectedHeading, IsHeadingFault, HoldsLine, HoldsForm};
+ghost use Rattle.kd_form.specs.FormSteps.{FitsHeadingAt, IsHeadingAnswer, HoldsLine, HoldsForm};
 
 use super::body_reader::{HEADING_LETTERS, PartBody};
 use super::heading_reader::{heading_of_ended_line, heading_of_open_line};
@@ -117,8 +116,8 @@ fn fault_in_heading(
     expected: Option<u8>,
     line: &ArrayVec<u8, KEPT_LINE>,
 ) -> FormFault
-    ensures { (part : List ℕ) → HoldsLine line.now.items part → (start : ℕ)
-        → IsPartFault day.now number expected start part result }
+    ensures { (part : List ℕ) → HoldsLine line.now.items part → (p : PartStart)
+        → p.number ≡ number → p.expected ≡ expected → IsPartAnswer day.now p part (Err result) }
 {
     let heading = heading_of_open_line(day, line.as_slice());
     match check_heading(number, expected, heading) {
@@ -157,9 +156,7 @@ fn check_heading(
     expected: Option<u8>,
     heading: Option<Heading>,
 ) -> Result<Heading, FormFault>
-    ensures { MatchResult result
-        (IsExpectedHeading number expected heading)
-        (IsHeadingFault number expected heading) }
+    ensures { IsHeadingAnswer number expected heading result }
 {
     let Some(heading) = heading else {
         return Err(FormFault::BadHeading(number));

@@ -1,8 +1,8 @@
 //! Checks that the keys of an order suit the day.
-ghost use Rattle.std.specs.Prelude.{◌≤◌, length, All, MatchResult};
+ghost use Rattle.std.specs.Prelude.{◌≤◌, length, All};
+ghost use Rattle.kd_form.specs.InTurn.{InTurn};
 ghost use Rattle.kd_form.specs.Keys.{AreKeys};
-ghost use Rattle.kd_form.specs.PartMaking.{KeysSuitDay};
-ghost use Rattle.kd_form.specs.Sending.{IsKeysFault, IsFirstKeysFault};
+ghost use Rattle.kd_form.specs.PartMaking.{IsKeysAnswer};
 
 use crate::day_machine::DayMachine;
 use crate::fault::FormFault;
@@ -14,13 +14,11 @@ use kd_state::SheetDay;
 ///
 /// Not inlined: otherwise every byte read would pay for this function's stack frame.
 #[inline(never)]
-#[tactic(auto, using(crate::proofs::Prelude::err_is, crate::proofs::Lines::is_first_keys_fault))]
+#[tactic(auto, using(crate::proofs::Prelude::err_is, crate::proofs::Rules::turn_passes, crate::proofs::Rules::turn_fails))]
 pub(crate) fn check_keys(day: &SheetDay, keys: &[Keys]) -> Result<(), FormFault>
     requires keys { All (AreKeys day.now) keys.now }
     requires few { length keys.now ≤ 99 }
-    ensures { MatchResult result
-        (λ _. All (KeysSuitDay day.now) keys.now)
-        (IsFirstKeysFault day.now keys.now) }
+    ensures { InTurn (IsKeysAnswer day.now) 1 keys.now result }
 {
     for (index, keys) in keys.iter().enumerate() {
         check_part_keys(day, index as u8 + 1, keys)?;
@@ -31,9 +29,7 @@ pub(crate) fn check_keys(day: &SheetDay, keys: &[Keys]) -> Result<(), FormFault>
 /// Checks that the keys of part number `part` suit the day.
 fn check_part_keys(day: &SheetDay, part: u8, keys: &Keys) -> Result<(), FormFault>
     requires { AreKeys day.now keys.now }
-    ensures { MatchResult result
-        (λ _. KeysSuitDay day.now keys.now)
-        (IsKeysFault day.now part keys.now) }
+    ensures { IsKeysAnswer day.now part keys.now result }
 {
     match keys {
         Keys::Rotor(keys) => {
@@ -50,9 +46,7 @@ fn check_part_keys(day: &SheetDay, part: u8, keys: &Keys) -> Result<(), FormFaul
 /// Checks that the keys of part number `part` suit the day of a Converter M-209.
 fn check_pin_keys(machine: &mut DayMachine, part: u8, keys: &PinKeys) -> Result<(), FormFault>
     requires { AreKeys machine.old (Keys.Pin keys.now) }
-    ensures { MatchResult result
-        (λ _. KeysSuitDay machine.old (Keys.Pin keys.now))
-        (IsKeysFault machine.old part (Keys.Pin keys.now)) }
+    ensures { IsKeysAnswer machine.old part (Keys.Pin keys.now) result }
 {
     if !machine.can_show(&keys.external) {
         return Err(FormFault::KeyNotOnWheel);

@@ -1,9 +1,10 @@
 //! Makes one part of a form from the part's keys and its piece of the text.
-ghost use Rattle.std.specs.Prelude.{◌≡◌, ◌≤◌, ℕ, List, length};
+ghost use Rattle.std.specs.Prelude.{◌≡◌, ◌≤◌, ℕ, List, length, Ok};
+ghost use Rattle.kd_state.specs.TwoCiphers.{sheet_key, IsWindow};
 ghost use Rattle.kd_form.specs.InternalKey.{IsInternalKey};
 ghost use Rattle.kd_form.specs.Keys.{AreKeys};
 ghost use Rattle.kd_form.specs.Part.{part_text};
-ghost use Rattle.kd_form.specs.PartMaking.{KeysSuitDay, IsPartTextMade, part_of, part_size, indicator_of};
+ghost use Rattle.kd_form.specs.PartMaking.{IsKeysAnswer, IsPartTextMade, part_of, part_size, indicator_of};
 ghost use Rattle.kd_form.specs.PartMaking.{rotor_letters};
 ghost use Rattle.kd_form.specs.PartMaking.{enciphered_choice, pin_indicators, pin_letters, fill_last_group};
 
@@ -42,7 +43,7 @@ pub(crate) fn make_part(
     text: &[Letter],
 ) -> ArrayString<LONGEST_PART>
     requires keys { AreKeys day.now keys.now }
-    requires suits { KeysSuitDay day.now keys.now }
+    requires suits { IsKeysAnswer day.now part keys.now (Ok tt) }
     requires few { length text.now ≤ part_size day.now }
     ensures { IsPartTextMade day.now part parts keys.now text.now result.bytes }
 {
@@ -120,10 +121,11 @@ fn rotor_letters(
 }
 
 /// The body of a part on the Converter M-209: `text` enciphered, with the indicators before and after it.
-#[tactic(auto, using(crate::proofs::MadeParts::has_internal))]
 fn pin_letters(machine: &mut DayMachine, keys: &PinKeys, text: &[Letter]) -> ArrayVec<Letter, 520>
     requires keys { AreKeys machine.old (Keys.Pin keys.now) }
-    requires suits { KeysSuitDay machine.old (Keys.Pin keys.now) }
+    requires window { IsWindow (sheet_key machine.old) keys.now.external }
+    requires internal { (internal : List ℕ)
+        × IsInternalKey (enciphered_choice machine.old keys.now) internal }
     requires few { length text.now ≤ 500 }
     ensures value { (internal : List ℕ)
         × IsInternalKey (enciphered_choice machine.old keys.now) internal

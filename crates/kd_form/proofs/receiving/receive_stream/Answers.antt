@@ -1,4 +1,4 @@
-use Rattle.kd_form.proofs.{OneText.{err_is, IsOfForms-fault, refl, arith}, Prelude.FaultBefore}
+use Rattle.kd_form.proofs.{OneText.{err_is, FailureAgrees-form, sym, ◌∙◌, false≢true}, Prelude.{refl, FaultBefore}}
 use Rattle.kd_form.proofs.receiving.receive_stream.Goals as goal
 
 pub returns-in_err-check_machine-clause-streamed : goal.returns-in_err-check_machine-clause-streamed
@@ -8,7 +8,8 @@ returns-in_err-check_machine-clause-streamed g c =
     (record { has = refl; well = refl }))
 
 pub returns-clause-untouched : goal.returns-clause-untouched
-returns-clause-untouched g c = grind (arith, IsOfForms-fault c.args.day.now c.stream_message.ensures.read)
+returns-clause-untouched g c =
+    λ off. absurd (false≢true (sym (FailureAgrees-form _ _ _ _ _ _ c.stream_message.ensures.answers).1 ∙ off))
 
 pub returns-clause-failed : goal.returns-clause-failed
-returns-clause-failed g c = grind (arith, IsOfForms-fault c.args.day.now c.stream_message.ensures.read)
+returns-clause-failed g c = (FailureAgrees-form _ _ _ _ _ _ c.stream_message.ensures.answers).0

@@ -1,4 +1,4 @@
-use Rattle.kd_form.proofs.{OneText.{err_is, FailureAgrees-answer, sym, ◌∙◌, false≢true}, Prelude.{refl, FaultBefore}}
+use Rattle.kd_form.proofs.{OneText.{err_is, FailureAgrees-order, sym, ◌∙◌, false≢true}, Prelude.{refl, FaultBefore}}
 use Rattle.kd_form.proofs.sending.send_stream.Goals as goal
 
 pub returns-in_err-check_machine-clause-streamed : goal.returns-in_err-check_machine-clause-streamed
@@ -9,7 +9,7 @@ returns-in_err-check_machine-clause-streamed g c =
 
 pub returns-clause-untouched : goal.returns-clause-untouched
 returns-clause-untouched g c =
-    λ off. absurd (false≢true (sym (FailureAgrees-answer _ _ _ _ _ _ c.stream_message.ensures.answers).1 ∙ off))
+    λ off. absurd (false≢true (sym (FailureAgrees-order _ _ _ _ _ _ c.stream_message.ensures.answers).1 ∙ off))
 
 pub returns-clause-failed : goal.returns-clause-failed
-returns-clause-failed g c = (FailureAgrees-answer _ _ _ _ _ _ c.stream_message.ensures.answers).0
+returns-clause-failed g c = (FailureAgrees-order _ _ _ _ _ _ c.stream_message.ensures.answers).0

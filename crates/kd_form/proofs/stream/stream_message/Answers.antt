@@ -1,5 +1,5 @@
-use Rattle.kd_form.proofs.Streaming.{err_is, SoFar-read, SoFar-ended, IsStreamed-stopped, IsStreamed-closed}
-use Rattle.kd_form.proofs.Streaming.{well_now, [], ◌∷◌, ◌++◌, ◌∙◌, refl, arith, TooLong, Consumes-nil, Consumes-trans}
+use Rattle.kd_form.proofs.Streaming.{err_is, SoFar-read, SoFar-ended, IsStreamed-stopped, IsStreamed-closed, well_now}
+use Rattle.kd_form.proofs.Streaming.{[], ◌∷◌, ◌++◌, ◌∙◌, refl, arith, TooLong, Consumes-nil, Consumes-trans}
 use Rattle.kd_form.proofs.Streaming.{Appends-nil}
 use Rattle.kd_form.proofs.stream.stream_message.Goals as goal
 

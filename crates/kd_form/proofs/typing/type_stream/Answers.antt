@@ -1,3 +1,4 @@
+use Rattle.kd_form.proofs.OneText.{bytes_faults, arith}
 use Rattle.kd_form.proofs.Streaming.{err_is, HasReadSoFar-typed, [], refl, sym, ap, ◌∙◌, All-nil, IsTrue, is_text_byte}
 use Rattle.kd_form.proofs.Streaming.{letters_text, typed_letters, cipher, engine_cipher, false≢true, NotReady}
 use Rattle.kd_form.proofs.Streaming.{FaultBefore}
@@ -17,3 +18,9 @@ returns-in_err-engine-clause-streamed g c =
     rw (err_is _ _ c.from_residual.ensures.1)
     (FaultBefore NotReady (λ ready. false≢true (c.in_err-engine.ensures.ready.1 ready), refl) refl
     (record { has = refl; well = refl }) (record { has = refl; well = refl }))
+
+pub returns-clause-untouched : goal.returns-clause-untouched
+returns-clause-untouched g c = grind (arith, (bytes_faults 1 c.stream_message.ensures.read).are)
+
+pub returns-clause-failed : goal.returns-clause-failed
+returns-clause-failed g c = grind (arith, (bytes_faults 1 c.stream_message.ensures.read).are)

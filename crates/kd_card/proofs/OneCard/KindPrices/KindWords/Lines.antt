@@ -37,7 +37,8 @@ pub use Rattle.kd_card.specs.{Laws.TextsDetermineCards, Reading.{EndsKindsAt, he
 pub use Rattle.kd_card.specs.Reading.{IsKindOfWords, IsPriceText}
 pub use Rattle.kd_card.specs.Prices.{ArePrices, column_prices, IsPriceList, price_sum, table_size, version_of}
 pub use Rattle.{kd_card.specs.Prices.{ArePricesInRange, row_prices}, kd_state.specs.SheetDay.IsDayNumber}
-pub use Rattle.kd_state.proofs.OneAnswer.{HasOneAnswer, HasOneAnswer-Demands, HasOneAnswer-Finds, HasOneAnswer-Yields}
+pub use Rattle.kd_state.specs.AnswerRules.{HasOneAnswer}
+pub use Rattle.kd_state.proofs.OneAnswer.{HasOneAnswer-Demands, HasOneAnswer-Finds, HasOneAnswer-Yields}
 pub use Rattle.kd_state.proofs.OneAnswer.{HasOneAnswer-FindsAlways, HasOneAnswer-ThenNext, ThenNext-Ok, Yields-Ok}
 pub use Rattle.kd_state.specs.AnswerRules.{Demands, GoesOn, HasFault, ThenNext, Yields}
 pub use Rattle.kd_state.specs.{Costs.column_letters, declared.setting.Setting.Setting}

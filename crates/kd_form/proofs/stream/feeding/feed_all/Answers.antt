@@ -1,3 +1,4 @@
+use Rattle.kd_form.proofs.Prelude.{common_steps}
 use Rattle.kd_form.proofs.Streaming.{err_is, Appends-nil, append-nil, ℕ, take_all, refl, fed_next, fed_whole, fed_up_to}
 use Rattle.kd_form.proofs.Streaming.{length-append, well_now, sym, ◌∙◌, arith, take_more, up_to}
 use Rattle.kd_form.proofs.stream.feeding.feed_all.Goals as goal
@@ -26,9 +27,7 @@ pub feed_one-requires-clause-room : goal.feed_one-requires-clause-room
 feed_one-requires-clause-room g c = grind arith
 
 pub returns-clause-fed : goal.returns-clause-fed
-returns-clause-fed g c =
-    fed_whole (take_all c.loop-byte.byte-index c.args.bytes.now (omega (arith, c.loop-byte-test.false)))
-    c.loop-byte.invariant.fed
+returns-clause-fed g c = grind (arith, common_steps, fed_whole, take_all, c.loop-byte-test.false)
 
 pub returns-clause-failed : goal.returns-clause-failed
 returns-clause-failed g c = c.loop-byte.invariant.well ∙ sym (well_now _ _ refl)

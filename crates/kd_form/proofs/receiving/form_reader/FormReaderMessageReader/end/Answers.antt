@@ -1,6 +1,5 @@
-use Rattle.kd_form.proofs.FormSteps.{err_is, next_last, next_refused, IsMessageAnswer-text}
-use Rattle.kd_form.proofs.FormSteps.{IsMessageAnswer-part_fault, IsMessageAnswer-parts_missing, in_stage}
-use Rattle.kd_form.proofs.FormSteps.{ℕ, ap, ArrayVec, ◌∙◌}
+use Rattle.kd_form.proofs.FormSteps.{err_is, next_last, next_refused, IsMessageAnswer-text, IsMessageAnswer-part_fault}
+use Rattle.kd_form.proofs.FormSteps.{IsMessageAnswer-parts_missing, in_stage, ℕ, ap, ArrayVec, ◌∙◌, refl}
 use Rattle.kd_form.proofs.receiving.form_reader.FormReaderMessageReader.end.Goals as goal
 
 pub decipher_into-requires-clause-heading : goal.decipher_into-requires-clause-heading
@@ -9,7 +8,7 @@ decipher_into-requires-clause-heading c = (in_stage c.requires.room.held.is c.in
 pub returns-in-Heading : goal.returns-in-Heading
 returns-in-Heading c = λ form text so_far.
     let found = c.fault_in_heading.ensures _ (in_stage so_far.is c.in-Heading.is).0 in
-    IsMessageAnswer-part_fault so_far.is found c.requires.empty
+    IsMessageAnswer-part_fault so_far.is (λ start. found _ refl refl) c.requires.empty
 
 pub returns-then-body-self : goal.returns-then-body-self
 returns-then-body-self c = λ form text so_far.

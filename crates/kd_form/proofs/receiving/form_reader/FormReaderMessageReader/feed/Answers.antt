@@ -1,14 +1,11 @@
 use Rattle.kd_form.proofs.FormSteps.{err_is, first_longer, goes_on, HasReadSoFar-form, HoldsForm-byte, in_stage}
-use Rattle.kd_form.proofs.FormSteps.{take_kept}
-use Rattle.kd_form.proofs.FormSteps.{IsHeadingFault-IsEarlyFault, IsRefusedForGood-HasFaultForGood}
-use Rattle.kd_form.proofs.FormSteps.{HasFaultForGood-last_part}
-use Rattle.kd_form.proofs.FormSteps.{four_letters}
-use Rattle.kd_form.proofs.FormSteps.{HasFaultForGood-part, HoldsForm-next_part, HasBegunHeading-snoc, not_begun}
-use Rattle.kd_form.proofs.FormSteps.{cut_at_headings-line}
+use Rattle.kd_form.proofs.FormSteps.{take_kept, ThenNext-tested, heading_refused, IsRefusedForGood-HasFaultForGood}
+use Rattle.kd_form.proofs.FormSteps.{GoesOn, HasFault, HasFaultForGood-last_part, four_letters, HasFaultForGood-part}
+use Rattle.kd_form.proofs.FormSteps.{HoldsForm-next_part, HasBegunHeading-snoc, not_begun, cut_at_headings-line}
 use Rattle.kd_form.proofs.FormSteps.{ended_heading, bad_behind, ◌≢◌, take, All-push, All-nil, IsTrue, is_text_byte}
 use Rattle.kd_form.proofs.FormSteps.{IsLineText, line_of, heading_words, [], ◌∷◌, ◌++◌, ◌+◌, ◌-◌, ◌≡◌, ℕ, List, length}
 use Rattle.kd_form.proofs.FormSteps.{length-append, refl, inl, ap, subst, plaintext_bytes, BeginsHeading, NoHeading}
-use Rattle.kd_form.proofs.FormSteps.{BadHeading, BadByte, InBody, arith, sym, ◌∙◌, false≢true}
+use Rattle.kd_form.proofs.FormSteps.{BadHeading, arith, sym, ◌∙◌, false≢true}
 use Rattle.kd_form.specs.declared.receiving.form_reader.FormStage.TheVariants as stages
 use Rattle.kd_form.proofs.receiving.form_reader.FormReaderMessageReader.feed.Goals as goal
 
@@ -48,18 +45,15 @@ returns-then-not-is_text_byte c = λ form text so_far.
     let holds = there.holds in
     let body : List ℕ = there.body ++ c.args.byte ∷ [] in
     let first = first_longer c.args.byte holds.first in
-    let place : c.args.self.now.read + 1 ≡ length h.front + (length (h.last ++ c.args.byte ∷ []) - length body)
-    + length there.body + 1 =
+    let bad = sym c.is_text_byte.ensures ∙ c.if-not-is_text_byte.true in
+    let start : ℕ = length h.front + (length (h.last ++ c.args.byte ∷ []) - length body) + 1 in
+    let place : c.args.self.now.read + 1 ≡ start + length there.body =
     omega (arith, h.counted, ap length h.joined, length-append {A = ℕ}, ap length holds.first.joined) in
     HasFaultForGood-last_part h (c.args.byte ∷ []) (goes_on c.args.byte holds h.alone
     (λ digit. false≢true (sym c.if-not-is_next_heading_digit.true ∙ c.is_next_heading_digit.ensures.1 digit))) (
       (holds.line, body, first),
-      InBody _ body (length there.body) (record {
-        is_heading = holds.is_heading;
-        first = inl (holds.line, first, holds.text);
-      }) there.numbered there.as_expected
-          (bad_behind there.body [] c.args.byte holds.allowed (sym c.is_text_byte.ensures ∙ c.if-not-is_text_byte.true))
-          (ap BadByte place),
+      rw place (GoesOn _ (record { is_heading = holds.is_heading; first = inl (holds.line, first, holds.text) })
+          (GoesOn tt there.due (HasFault _ (bad_behind start there.body [] c.args.byte holds.allowed bad) refl))),
     )
 
 pub returns-then-not-is_next_heading_digit : goal.returns-then-not-is_next_heading_digit
@@ -72,8 +66,7 @@ returns-then-not-is_next_heading_digit c = λ form text so_far.
     (record {
       body = there.body ++ c.args.byte ∷ [];
       holds = c.push.ensures.body _ h.last there.body there.holds;
-      numbered = rw c.push.ensures.heading there.numbered;
-      as_expected = rw c.push.ensures.heading there.as_expected;
+      due = rw c.push.ensures.heading there.due;
     }))
 
 pub overflow_add-self-in-Body : goal.overflow_add-self-in-Body
@@ -91,10 +84,10 @@ pub returns-in_ok-heading-in-Heading : goal.returns-in_ok-heading-in-Heading
 returns-in_ok-heading-in-Heading c = λ form text so_far.
     let h = so_far.is in
     let there = (in_stage h c.in-Heading.is).0 in
-    let found = c.in_ok-heading-in-Heading.ensures in
+    let (found, due) = ThenNext-tested c.in_ok-heading-in-Heading.ensures in
     let told =
     c.heading_of_ended_line-heading.ensures h.last there.unbroken (c.as_slice-in-Heading.ensures.value ∙ there.kept) in
-    let (is_heading, text_is) = rw found.is at told in
+    let (is_heading, text_is) = rw found at told in
     let heads = c.new.ensures.heading in
     rw c.if-byte-ne10.false (HasReadSoFar-form (HoldsForm-byte h (stages.Body c.new.result) _ 10 c.requires.empty
     (cut_at_headings-line h.last 10 there.unbroken) (record {
@@ -116,8 +109,7 @@ returns-in_ok-heading-in-Heading c = λ form text so_far.
         allowed = All-nil (λ b. IsTrue (is_text_byte b));
         kept = c.new.ensures.letters;
       };
-      numbered = rw heads found.numbered;
-      as_expected = rw heads found.as_expected;
+      due = rw heads due;
     })))
 
 pub returns-in_err-heading-in-Heading : goal.returns-in_err-heading-in-Heading
@@ -129,7 +121,7 @@ returns-in_err-heading-in-Heading c = λ form text so_far.
     rw (err_is _ _ c.from_residual.ensures.1, c.if-byte-ne10.false)
     (HasFaultForGood-last_part h (10 ∷ []) (cut_at_headings-line h.last 10 there.unbroken) (
       (h.last, [], record { joined = refl; without = there.unbroken }),
-      IsHeadingFault-IsEarlyFault (length h.front) (grind (arith, ended_heading, ended, there.unbroken))
+      heading_refused (length h.front) _ (grind (arith, ended_heading, ended, there.unbroken))
           c.in_err-heading-in-Heading.ensures,
     ))
 

@@ -1,8 +1,10 @@
-use Rattle.kd_form.proofs.OrderSteps.{head_cut, IsMessageAnswer-order, arith, append-nil, HeadCutShort, text_letters}
+use Rattle.kd_form.proofs.OrderSteps.{IsMessageAnswer-head_cut, IsMessageAnswer-order, text_letters}
 use Rattle.kd_form.proofs.sending.order_reader.OrderReaderMessageReader.end.Goals as goal
 
 pub returns-in-Head : goal.returns-in-Head
-returns-in-Head c = grind (arith, head_cut, HeadCutShort, append-nil)
+returns-in-Head c bytes text held =
+    let here = rw c.in-Head.is at held.is.stage in
+    IsMessageAnswer-head_cut here.0 here.1 c.requires.empty held.is.counted
 
 pub returns-in-Text : goal.returns-in-Text
 returns-in-Text c bytes text held =
