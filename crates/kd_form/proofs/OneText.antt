@@ -218,7 +218,7 @@ pub FailureAgrees-order : (s : Day) (source sink : Port) (read text : List ℕ) 
     → FailureAgrees source sink (is_device answer) × (is_off_key answer ≡ false)
 FailureAgrees-order s source sink read text answer =
     FailureAgrees-answer (order_message s) source sink read text answer
-    (λ fault good. (read_faults s read).are fault (rw append-nil at (good []))) (order_faults s read).are
+    (λ fault good. (read_faults s read).are fault good.found) (order_faults s read).are
 
 pub FailureAgrees-form : (s : Day) (source sink : Port) (read text : List ℕ) (answer : Result (Unit {0}) FormFault)
     → IsStreamAnswer (form_message s) source sink read text answer

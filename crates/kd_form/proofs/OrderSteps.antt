@@ -21,11 +21,11 @@ use Rattle.kd_form.specs.declared.sending.order_reader.{OrderReader.OrderReader,
 pub use Rattle.kd_form.proofs.MadeParts.{pieces-next, pieces-none, size_some}
 use Rattle.kd_form.proofs.Lines.{length-filled, as_form_line, key_first, lines_more, same_line, text_front, text_line}
 use Rattle.kd_form.proofs.Lines.{IsPlain, letters_first, plain_keys, plain_text}
-pub use Rattle.kd_form.proofs.OneOrder.{Shorter, Longer, all_of_the_day, prefixes, HasOneAnswer-read, no_bad_byte}
+pub use Rattle.kd_form.proofs.OneOrder.{Shorter, Longer, all_of_the_day, prefixes, HasOneAnswer-read}
 pub use Rattle.kd_form.proofs.OneOrder.{BeginsWithKeys-append}
-use Rattle.kd_form.proofs.OneOrder.{no_head_fault, one_order}
-use Rattle.kd_form.proofs.Rules.{FaultsAre, FaultsAre-InTurn, FaultsAre-Finds, FaultsAre-ThenNext, FaultsAre-Yields}
-use Rattle.kd_form.proofs.Rules.{ThenNext-tested, bytes_allowed, bad_behind}
+use Rattle.kd_form.proofs.Rules.{InTurn-stays, FaultsAre, FaultsAre-InTurn, FaultsAre-Finds, FaultsAre-ThenNext}
+use Rattle.kd_form.proofs.Rules.{FaultsAre-Yields, ThenNext-tested, ThenNext-stays, ThenNext-first, bytes_allowed}
+use Rattle.kd_form.proofs.Rules.{bad_behind}
 use Rattle.kd_form.specs.declared.sending.pattern_line.PatternFault.TheVariants as patterns
 use Rattle.kd_form.specs.declared.sending.order_reader.OrderStage.TheVariants as stages
 use Rattle.kd_form.specs.SendStream as stream
@@ -171,6 +171,10 @@ pub letters_few : (for_space : Option ℕ) (text : List ℕ) → length (letters
 letters_few for_space [] = omega arith
 letters_few for_space (byte ∷ text) = grind (arith, letters_first, letters_few for_space text, length-append)
 
+-- the same parts, but more text
+abbrev longer : List ℕ → OrderParts → OrderParts
+longer more parts = record parts { text = parts.text ++ more }
+
 module _ {s : Day} where
   pub IsOrder-append : {order head text : List ℕ} {keys : List Keys} (more : List ℕ) → IsOrder s order keys head text
       → IsOrder s (order ++ more) keys head (text ++ more)
@@ -190,43 +194,48 @@ module _ {s : Day} where
         fault.stops byte (drop 1 fault.rest) beyond (grind arith);
   }
 
-  -- ---- a fault for good
+  -- ---- a fault stays
 
   head_right : {order : List ℕ} {parts : OrderParts} → IsOrder s order parts.keys parts.head parts.text
       → InTurn (IsKeysAnswer s) 1 parts.keys (Ok tt) → IsHeadAnswer s order (Ok parts)
   head_right {parts = parts} is suited = GoesOn parts is (GoesOn tt suited refl)
 
+  head_stays : {order : List ℕ} {fault : FormFault} (more : List ℕ)
+      → ((position : ℕ) → fault ≡ BadByte position → position ≤ length order) → IsHeadAnswer s order (Err fault)
+      → IsHeadAnswer s (order ++ more) (Err fault)
+  head_stays more inside = ThenNext-stays (longer more)
+      (λ (position, at, is). (position, IsOrderHeadFault-append more at (inside position is), is))
+      (λ parts is found. (IsOrder-append more is, ThenNext-first (λ unsuited. unsuited) found))
+
+  read_stays : {order : List ℕ} {fault : FormFault} (more : List ℕ)
+      → ((position : ℕ) → fault ≡ BadByte position → position ≤ length order) → IsReadAnswer s order (Err fault)
+      → IsReadAnswer s (order ++ more) (Err fault)
+  read_stays more inside = ThenNext-stays (longer more) (head_stays more inside) (λ parts head found.
+      let (is, suited) = ThenNext-tested head in
+      (head_right (IsOrder-append more is) suited, ThenNext-first (InTurn-stays _ _ parts.text more _) found))
+
+  pub IsOrderFaultForGood-append : {order : List ℕ} {fault : FormFault} (more : List ℕ)
+      → IsOrderFaultForGood s order fault → IsOrderFaultForGood s (order ++ more) fault
+  IsOrderFaultForGood-append {order} more good = record {
+    found = read_stays more good.inside good.found;
+    inside = λ position is. omega (arith, good.inside position is, length-append order more);
+  }
+
   pub HasFaultForGood-order : {order sent : List ℕ} {fault : FormFault} → IsOrderFaultForGood s order fault
       → ((more : List ℕ) → IsSentBeforeEnd s (order ++ more) sent) → HasFaultForGood (order_message s) order sent fault
-  HasFaultForGood-order {fault = fault} good written = record {
-    stands = λ more other. rw append_assoc (good (more ++ other));
-    refused = λ more. HasFault fault (good more) refl;
+  HasFaultForGood-order {fault} good written = record {
+    stands = λ more. IsOrderFaultForGood-append more good;
+    refused = λ more. HasFault fault (IsOrderFaultForGood-append more good).found refl;
     written = written;
   }
 
   -- a fault of the head: nothing is sent
-  pub HasFaultForGood-head : {order sent : List ℕ} {fault : FormFault}
-      → ((more : List ℕ) → IsHeadAnswer s (order ++ more) (Err fault)) → sent ≡ []
+  pub HasFaultForGood-head : {order sent : List ℕ} {fault : FormFault} → IsHeadAnswer s order (Err fault)
+      → ((position : ℕ) → fault ≡ BadByte position → position ≤ length order) → sent ≡ []
       → HasFaultForGood (order_message s) order sent fault
-  HasFaultForGood-head {fault = fault} head nothing = HasFaultForGood-order (λ more. HasFault fault (head more) refl)
-      (λ more. stream.NothingSent fault (head more) nothing)
-
-  -- if an order is just a head, no byte of it is bad
-  no_bad_byte_in : (keys : List Keys) (order : List ℕ) (position : ℕ) → IsOrderHead s keys order
-      → ¬ (IsReadAnswer s order (Err (BadByte position)))
-  no_bad_byte_in keys order position head =
-      let is : IsOrder s order keys order [] = record { joined = sym (append-nil order); is_head = head } in
-      told is where
-        told : IsOrder s order keys order [] → ¬ (IsReadAnswer s order (Err (BadByte position)))
-        told is (HasFault f (HasFault g (at, divided, e) d) c) = no_head_fault s order keys order [] at is divided
-        told is (HasFault f (GoesOn parts divided (HasFault g unsuited d)) c) =
-            (FaultsAre-InTurn (keys_faults s position) 1 parts.keys).are g unsuited (cc)
-        told is (HasFault f (GoesOn parts divided (GoesOn done suited d)) c) = cc
-        told is (GoesOn parts read (HasFault f bad d)) =
-            let same = one_order s order keys parts.keys order parts.head [] parts.text is (ThenNext-tested read).0 in
-            no_bad_byte (length parts.head + 1) parts.text f (rw (← same.2) (All-nil (λ b. IsTrue (is_text_byte b))))
-            bad
-        told is (GoesOn parts read (GoesOn done allowed d)) = cc
+  HasFaultForGood-head {fault} head inside nothing =
+      HasFaultForGood-order (record { found = HasFault fault head refl; inside = inside })
+      (λ more. stream.NothingSent fault (head_stays more inside head) nothing)
 
   -- ---- how far the reader has read
 
@@ -257,10 +266,14 @@ module _ {s : Day} where
     HasFaultForGood-text byte bad =
         let place : length order + 1 ≡ length text.head + 1 + length text.text =
         omega (arith, ap length text.is_order.joined, length-append text.head text.text) in
-        HasFaultForGood-order
-        (λ more. rw (place, append_assoc) (GoesOn _ (head_held (byte ∷ more)) (HasFault _
-        (bad_behind (length text.head + 1) text.text more byte text.allowed bad) refl)))
-        (λ more. rw append_assoc (text_sent (byte ∷ more) (λ other after same. grind arith)))
+        let fault = rw (← place) at (bad_behind (length text.head + 1) text.text [] byte text.allowed bad) in
+        HasFaultForGood-order (record {
+          found = GoesOn _ (head_held (byte ∷ [])) (HasFault _ fault refl);
+          inside = λ position is.
+              let same : length order + 1 ≡ position = cc in omega (arith, length-append order (byte ∷ []));
+        })
+        (λ more. subst (λ o. IsSentBeforeEnd s o sent) (sym (append_assoc order (byte ∷ []) more))
+        (text_sent (byte ∷ more) (λ other after same. grind arith)))
 
   open_yet : (stage : OrderStage) (h : HeadReader) (w : PartWriter) (order sent : List ℕ)
       → HoldsOrderStage s stage h w order sent → IsOpen (order_message s) order sent
@@ -268,16 +281,12 @@ module _ {s : Day} where
       let cut : IsHeadAnswer s order (Err (BadByte (length order + 1))) = HasFault _ (_, head_cut head, refl) refl in
       record {
         unrefused = λ fault good.
-            let same =
-            HasOneAnswer-read s order (Err fault) (Err _) (rw append-nil at (good [])) (HasFault _ cut refl) in
-            let (more, some, (keys, whole)) = goes_on head in
-            let is : fault ≡ BadByte (length order + 1) = cc in
-            no_bad_byte_in keys (order ++ more) (length order + 1) whole (rw is at (good more));
+            let same = HasOneAnswer-read s order (Err fault) (Err _) good.found (HasFault _ cut refl) in
+            omega (arith, good.inside (length order + 1) (cc));
         written = stream.NothingSent _ cut nothing;
       }
   open_yet stages.Text h w order sent text = record {
-    unrefused = λ fault good.
-        let clash = HasOneAnswer-read s order (Ok _) (Err fault) (read_held text) (rw append-nil at (good [])) in cc;
+    unrefused = λ fault good. let clash = HasOneAnswer-read s order (Ok _) (Err fault) (read_held text) good.found in cc;
     written = text_sent_yet text;
   }
 
@@ -317,7 +326,8 @@ module _ {s : Day} where
         });
       })
   text_begins r {order} (Err fault) here size is fresh none nil found =
-      HasFaultForGood-head (λ more. GoesOn _ (IsOrder-append more is) (HasFault fault found refl)) none
+      HasFaultForGood-head (GoesOn _ is (HasFault fault found refl))
+      (λ position same. absurd ((FaultsAre-InTurn (keys_faults s position) 1 r.head.keys.items).are fault found same)) none
 
   -- an order that ends within its head
   pub IsMessageAnswer-head_cut : {keys : List Keys} {line order sent made : List ℕ} {read : ℕ}

@@ -98,6 +98,13 @@ InTurn-append Test number (x ∷ xs) ys v passed next =
     let place : number + length (x ∷ xs) ≡ number + 1 + length xs = omega arith in
     GoesOn tt first.says (InTurn-append Test (number + 1) xs ys v first.next (rw place at next))
 
+-- more items don't change a fault
+pub InTurn-stays : {F X : Type 0} (Test : TurnRule F X) (number : ℕ) (xs ys : List X) (fault : F)
+    → InTurn Test number xs (Err fault) → InTurn Test number (xs ++ ys) (Err fault)
+InTurn-stays Test number [] ys fault = λ none. absurd (cc)
+InTurn-stays Test number (x ∷ xs) ys fault =
+    ThenNext-stays (λ d. d) (λ a. a) (λ done a next. (a, InTurn-stays Test (number + 1) xs ys fault next))
+
 -- each item has passed the test
 pub InTurn-at : {F X : Type 0} (Test : TurnRule F X) (number : ℕ) (xs : List X) (place : ℕ) (d : X)
     → InTurn Test number xs (Ok tt) → place < length xs → Test (number + place) (get_or xs place d) (Ok tt)

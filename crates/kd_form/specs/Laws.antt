@@ -1,10 +1,10 @@
 -- Laws: each order and each form has one result or one fault, and an order's form gives back the order's letters.
-use Rattle.std.specs.Prelude.{ℕ, List, ◌++◌, Result}
+use Rattle.std.specs.Prelude.{ℕ, List, ◌++◌, Result, Err}
 use Rattle.kd_state.specs.AnswerRules.{HasOneAnswer}
 use Rattle.kd_state.specs.SheetDay.{Day, IsLegalDay}
 use Rattle.kd_form.specs.declared.fault.FormFault.{FormFault}
 use Rattle.kd_form.specs.Sending.{IsOrderAnswer, IsFormOf, IsOrderFaultForGood, IsSendFault}
-use Rattle.kd_form.specs.FormText.{IsFormAnswer, IsTextOf, IsRefusedForGood, IsPlaintextOf}
+use Rattle.kd_form.specs.FormText.{IsAnswerAfter, IsFormAnswer, IsTextOf, IsRefusedForGood, IsPlaintextOf}
 
 -- An order has only one right answer: one form, or one fault.
 abbrev pub OrdersHaveOneAnswer : Type 0
@@ -24,11 +24,12 @@ OrdersStayRefused =
 abbrev pub FormsHaveOneAnswer : Type 0
 FormsHaveOneAnswer = (s : Day) (form : List ℕ) → HasOneAnswer (IsFormAnswer s form)
 
--- If a form is refused for good, appending bytes doesn't change the fault.
+-- If a form is refused for good, appending bytes doesn't change the fault: the longer form has this fault, after the same
+-- text, and is refused for good, too.
 abbrev pub FormsStayRefused : Type 0
 FormsStayRefused =
     (s : Day) (form more text : List ℕ) (fault : FormFault) → IsRefusedForGood s form text fault
-    → IsRefusedForGood s (form ++ more) text fault
+    → IsAnswerAfter s (form ++ more) text (Err fault) × IsRefusedForGood s (form ++ more) text fault
 
 -- A form has a right answer: it becomes a text or has a fault.
 abbrev pub FormIsAnswered : Day → List ℕ → Type 0

@@ -1,5 +1,5 @@
 -- What an order becomes: its form, or its first fault. Parts and bytes are counted from 1.
-use Rattle.std.specs.Prelude.{◌≡◌, ◌≢◌, ℕ, ◌+◌, ◌-◌, ◌==◌, List, [], ◌∷◌, ◌++◌, length, filter_map, Ok, Err}
+use Rattle.std.specs.Prelude.{◌≡◌, ◌≢◌, ℕ, ◌+◌, ◌-◌, ◌≤◌, ◌==◌, List, [], ◌∷◌, ◌++◌, length, filter_map, Ok, Err}
 use Rattle.std.specs.Prelude.{IsTrue, Option, Some, None, if◌then◌else◌}
 use Rattle.std.specs.Int.{div_ceil}
 use Rattle.kd_tables.specs.Text.{is_capital, is_text_byte}
@@ -109,6 +109,8 @@ IsFormOf s order form = IsOrderAnswer s order (Ok form)
 abbrev pub IsSendFault : Day → List ℕ → FormFault → Type 0
 IsSendFault s order fault = IsOrderAnswer s order (Err fault)
 
--- The order has `fault`, whatever bytes follow. So the fault is found while the bytes are read, not at the order's end.
-abbrev pub IsOrderFaultForGood : Day → List ℕ → FormFault → Type 0
-IsOrderFaultForGood s order fault = (more : List ℕ) → IsReadAnswer s (order ++ more) (Err fault)
+-- The order has `fault`, and no further bytes can change that: the fault is found while the bytes are read. If it is
+-- `BadByte`, the byte is one of the order's, and isn't missing at the order's end.
+pub record IsOrderFaultForGood (s : Day) (order : List ℕ) (fault : FormFault) : Type 0 where
+  pub found : IsReadAnswer s order (Err fault)
+  pub inside : (position : ℕ) → fault ≡ BadByte position → position ≤ length order

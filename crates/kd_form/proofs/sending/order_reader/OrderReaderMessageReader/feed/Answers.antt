@@ -1,8 +1,8 @@
 use Rattle.kd_form.proofs.Prelude.{common_steps}
 use Rattle.kd_form.proofs.OrderSteps.{counted_on, letters_few, HasReadSoFar-order, HasFaultForGood-head, IsOrder-append}
-use Rattle.kd_form.proofs.OrderSteps.{IsOrderHeadFault-append, HasFaultForGood-text, All-push, is_text_byte, IsTrue}
-use Rattle.kd_form.proofs.OrderSteps.{HasFault, text_begins, length-append, arith, filter_map-append, BadByte, [], ◌∷◌}
-use Rattle.kd_form.proofs.OrderSteps.{◌++◌, ◌+◌, ap, refl, sym, text_letters, ◌∙◌, all_of_the_day}
+use Rattle.kd_form.proofs.OrderSteps.{HasFaultForGood-text, All-push, is_text_byte, IsTrue, HasFault, text_begins}
+use Rattle.kd_form.proofs.OrderSteps.{space_letter, length, length-append, arith, filter_map-append, BadByte, [], ◌∷◌}
+use Rattle.kd_form.proofs.OrderSteps.{◌++◌, ◌+◌, ◌≡◌, ap, refl, sym, text_letters, ◌∙◌, all_of_the_day}
 use Rattle.kd_form.specs.declared.sending.order_reader.OrderStage.TheVariants as stages
 use Rattle.kd_form.proofs.sending.order_reader.OrderReaderMessageReader.feed.Goals as goal
 
@@ -29,11 +29,10 @@ pub returns-in-Bad : goal.returns-in-Bad
 returns-in-Bad c bytes text held =
     let here = rw c.in-Head.is at held.is.stage in
     let fault = c.in-Bad.ensures bytes here.0 in
-    HasFaultForGood-head (λ more. HasFault _ (
-      _,
-      IsOrderHeadFault-append more fault (omega arith),
-      ap BadByte (counted_on bytes c.args.byte held.is.counted),
-    ) refl) here.1
+    HasFaultForGood-head (HasFault _ (_, fault, ap BadByte (counted_on bytes c.args.byte held.is.counted)) refl)
+    (λ position is.
+    let same : c.args.self.now.read + 1 ≡ position = cc in
+    omega (arith, same, counted_on bytes c.args.byte held.is.counted)) here.1
 
 pub returns-in-Text-take : goal.returns-in-Text-take
 returns-in-Text-take c bytes text held =
