@@ -29,12 +29,13 @@ is_priced_setting _ = false
 abbrev pub priced_count : List Setting → ℕ
 priced_count settings = count_by is_priced_setting settings
 
--- The setting changes a cable or a bar, or it lowers the number of loose things by one.
+-- The setting changes a cable or a bar; or, if it is carried out, it lowers the number of loose things by one.
 abbrev pub IsSettingNeeded : Parts → Day → Setting → Type 0
 IsSettingNeeded machine day setting = IsFalse (is_priced_setting setting)
     → IfOk (outcome machine setting) (λ after. loose_count machine day ≡ loose_count after day + 1)
 
--- Each setting is needed when it is carried out, after all settings before it.
+-- Each setting is needed when it is carried out, after all settings before it. Nothing is said of settings after a
+-- refused one.
 abbrev pub AreSettingsNeeded : Parts → Day → List Setting → Type 0
 AreSettingsNeeded machine day [] = Unit {0}
 AreSettingsNeeded machine day (setting ∷ rest) = IsSettingNeeded machine day setting

@@ -9,26 +9,26 @@ use Rattle.kd_state.specs.OnKey.{OnKey, ReadsAs}
 use Rattle.kd_state.specs.TwoCiphers.{IsReady, window_of, physical_cipher, sheet_cipher}
 
 -- The machine is ready and set as the day says, shows the day's letters, and enciphers as the day asks.
-pub record IsSheetsMachine (n : Parts) (s : Day) : Type 0 where
-  pub machine : IsMachine n
-  pub reads : ReadsAs n s
-  pub ready : IsReady n
-  pub enciphers : (text : List ℕ) → physical_cipher n text ≡ sheet_cipher s text
+pub record IsSheetsMachine (after : Parts) (day : Day) : Type 0 where
+  pub machine : IsMachine after
+  pub reads : ReadsAs after day
+  pub ready : IsReady after
+  pub enciphers : (text : List ℕ) → physical_cipher after text ≡ sheet_cipher day text
 
 -- Each setting is legal after the settings before it. Together they lead to the machine that the day asks for.
 abbrev pub LeavesTheSheetsMachine : Parts → Day → List Setting → Type 0
-LeavesTheSheetsMachine m s settings = (n : Parts) × Leads m settings n × IsSheetsMachine n s
+LeavesTheSheetsMachine machine day settings = (after : Parts) × Leads machine settings after × IsSheetsMachine after day
 
 -- Both machines are on the day's key, and they show the same letters.
-pub record AreEquallySet (s : Day) (one other : Parts) : Type 0 where
+pub record AreEquallySet (day : Day) (one other : Parts) : Type 0 where
   pub machine : IsMachine one
   pub other_machine : IsMachine other
-  pub on_key : OnKey one s
-  pub other_on_key : OnKey other s
+  pub on_key : OnKey one day
+  pub other_on_key : OnKey other day
   pub letters : window_of one ≡ window_of other
 
 -- A machine deciphers what another, equally set machine has enciphered.
 abbrev pub EquallySetDecipherOn : Day → Type 0
-EquallySetDecipherOn s =
-    (one other : Parts) (text : List ℕ) → AreEquallySet s one other → All (λ letter. letter < 26) text
+EquallySetDecipherOn day =
+    (one other : Parts) (text : List ℕ) → AreEquallySet day one other → All (λ letter. letter < 26) text
     → physical_cipher other (physical_cipher one text) ≡ text

@@ -38,6 +38,7 @@ pub record WritesCard (machine : Parts) (day : Day) (number : ℕ) (sink : Port)
   pub written : WritesText Device text sink answer
 
 -- The machine and the day are of different models, or a card was written.
-pub data Prints (machine : Parts) (day : Day) (number : ℕ) (sink : Port) (answer : Result (Unit {0}) DeskFault) : Type 0 where
+pub data Prints (machine : Parts) (day : Day) (number : ℕ) (sink : Port)
+    (answer : Result (Unit {0}) DeskFault) : Type 0 where
   Different : model_of machine ≢ day_model day → answer ≡ Err OtherModel → Prints machine day number sink answer
   Card : WritesCard machine day number sink answer → Prints machine day number sink answer

@@ -298,7 +298,9 @@ ReadsPartsTo-append s fault more p (part ∷ next ∷ parts) form letters same
     subst (λ ps. ReadsPartsTo s (IsPartFaultForGood s fault) p ps letters) (sym same)
     (inr (read, left, is, rest, joined))
 
-pub stays_refused : FormsStayRefused
+-- a form that is refused for good is so with more bytes
+pub stays_refused : (s : Day) (form more text : List ℕ) (fault : FormFault) → IsRefusedForGood s form text fault
+    → IsRefusedForGood s (form ++ more) text fault
 stays_refused s form more text fault (NoHeading none empty is) = grind (arith, NoHeading, append_assoc, none, empty)
 stays_refused s form more text fault (AtPart (letters, reads, is)) =
     AtPart (letters, ReadsPartsTo-append s fault more first_part_start (parts_of form) form letters refl reads, is)

@@ -1,4 +1,4 @@
--- Lemmas on wheels and reflectors by their names, and on the slots and places that wheels have.
+-- Lemmas on which wheels and reflectors are the same, and on the slots and places that wheels have.
 use Rattle.kd_state.proofs.Prelude.{place_in_box, same_reflector, same_wheel, AreLegalSeats}
 use Rattle.kd_state.proofs.Prelude.{IsSeatedAt, ShowsWindow, Day}
 use Rattle.kd_state.proofs.Prelude.{OfPins, PinDay, AllByRecursion, All-from_recursion, recursion_from_All}

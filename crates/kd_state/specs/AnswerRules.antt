@@ -14,7 +14,7 @@ pub data ThenNext {F X Y : Type 0} (First : Result X F → Type 0) (Next : X →
   HasFault : (fault : F) → First (Err fault) → answer ≡ Err fault → ThenNext First Next answer
   GoesOn : (x : X) → First (Ok x) → Next x answer → ThenNext First Next answer
 
--- The rule for a step by the rule `says`, and then a step by the rule `next x` for the value `x` that was found.
+-- A rule for two steps: the first by `says`; the second by `next x`, where `x` is the value that the first found.
 infixl 10 ◌>>=◌
 abbrev pub ◌>>=◌ : {F X Y : Type 0} → AnswerRule F X → (X → AnswerRule F Y) → AnswerRule F Y
 says >>= next = ThenNext says next

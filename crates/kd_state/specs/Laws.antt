@@ -1,5 +1,8 @@
 -- Laws of settings, lists, machines and days.
 use Rattle.std.specs.Prelude.{◌≡◌, ℕ, ◌+◌, ◌<◌, List, ◌++◌, length, All}
+use Rattle.std.specs.Bool.{Decides}
+use Rattle.kd_tables.specs.declared.{reflector.Reflector.Reflector, wheel.Wheel.Wheel}
+use Rattle.kd_state.specs.SameParts.{same_reflector, same_wheel}
 use Rattle.kd_state.specs.declared.machine.parts.Parts.{Parts}
 use Rattle.kd_state.specs.declared.setting.Setting.{Setting}
 use Rattle.kd_state.specs.declared.setting.list.ListFault.{ListFault}
@@ -10,6 +13,12 @@ use Rattle.kd_state.specs.SheetDay.{Day, IsLegalDay}
 use Rattle.kd_state.specs.OnKey.{OnKey, ReadsAs}
 use Rattle.kd_state.specs.TwoCiphers.{EngineKey, cipher, engine_key_after, key_with_window, IsWindow, IsReady}
 use Rattle.kd_state.specs.TwoCiphers.{window_of, physical_key, physical_cipher, sheet_key, sheet_cipher, IsTurnedTo}
+
+-- Wheels, and reflectors, are compared as what they are: `==` is true exactly if the two are the same.
+abbrev pub SamePartsAreEqual : Type 0
+SamePartsAreEqual =
+    ((wheel other : Wheel) → Decides (same_wheel wheel other) (wheel ≡ other))
+    × ((reflector other : Reflector) → Decides (same_reflector reflector other) (reflector ≡ other))
 
 -- ---- The laws of settings and lists of settings.
 

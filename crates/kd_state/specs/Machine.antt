@@ -67,8 +67,9 @@ HasLugsInOrder bar = IsBefore bar.0 bar.1
 -- own rule.
 -- Code: `Machine` has these rules as its invariant.
 
--- The parts are those of a rotor machine of its model. The model takes the wheels and the reflector. Each wheel of the
--- box has a ring and a window letter, and no letter is plugged twice.
+-- The parts make a rotor machine. Each slot is empty or has a wheel that the model allows there, no wheel is in two
+-- slots, and the reflector is one of the model's. Each wheel of the box has a ring and a window letter. There are 13
+-- cables, and no letter is in them twice.
 pub record IsLegalRotor (machine : RotorParts) : Type 0 where
   pub seats : AreLegalSeats machine.model machine.slots
   pub reflector : Contains (reflectors_of machine.model) machine.reflector
@@ -76,15 +77,15 @@ pub record IsLegalRotor (machine : RotorParts) : Type 0 where
   pub letters : AreLetters (length (box_of machine.model)) machine.letters
   pub cables : AreCables machine.cables
 
--- The parts are those of a Converter: a pin for each letter of each wheel, a letter of each wheel in its window, and 27
--- bars, on each of which the left lug is left of the right lug.
+-- The parts make a Converter. Each pin wheel has a pin for each of its letters, and shows one of its letters. On each of
+-- the 27 bars, the left lug is left of the right lug.
 pub record IsLegalPin (machine : PinParts) : Type 0 where
   pub pins : HasAllPins machine.pins
   pub letters : AreOnWheels machine.letters
   pub bars : length machine.bars ≡ 27
   pub apart : All HasLugsInOrder machine.bars
 
--- The parts are those of a machine: of a rotor machine or a Converter.
+-- The parts make a rotor machine or a Converter.
 abbrev pub IsLegal : Parts → Type 0
 IsLegal (Rotor machine) = IsLegalRotor machine
 IsLegal (Pin machine) = IsLegalPin machine

@@ -41,7 +41,7 @@ OnKey (Rotor machine) (OfRotors day) = IsRotorOnKey machine day
 OnKey (Pin machine) (OfPins day) = (machine.pins ≡ day.pins) × IsPermutation (map reading_of machine.bars) day.rows
 OnKey _ _ = ⊥
 
--- The machine shows the day's letters: each wheel of the day in its window, or the six pin wheels.
+-- Each of the day's wheels has the day's window letter; on a Converter, the six pin wheels show the day's letters.
 abbrev pub ShowsWindow : Parts → Day → Type 0
 ShowsWindow (Rotor machine) (OfRotors day) = All (λ w. letter_at machine w.wheel ≡ Some w.letter) day.wheels
 ShowsWindow (Pin machine) (OfPins day) = machine.letters ≡ day.window

@@ -65,13 +65,13 @@ abbrev pub seat_without : Wheel → Option Wheel → Option Wheel
 seat_without wheel seated = if option_map_or (same_wheel wheel) seated false then None else seated
 
 -- ---- What a setting makes of a machine.
--- Source: this desk's own rules; which wheels and reflectors a model takes, is in the tables.
+-- Source: this desk's own rules. The tables say which wheels and reflectors a model takes.
 -- Code: `carry` changes the machine in place.
 -- Test: kd_trials/src/state/carrying.rt
 
--- The machine after the setting; or, if the machine refuses the setting, the first reason to refuse it. The reasons
--- are tested in this order. A wheel that is put into a slot leaves its old slot, and the wheel that was in the new slot
--- goes to the box; both keep their rings and window letters.
+-- The machine after the setting; or, if it is refused, the first reason, in the order of the lines. `Seat` empties the
+-- slot in which the wheel was. The wheel that was in the new slot goes to the box. Both keep their rings and window
+-- letters.
 abbrev pub outcome : Parts → Setting → Result Parts Why
 outcome (Rotor machine) (Pull cable letter) = do
   held ← ok_or (numbered_item machine.cables cable) NoSuchCable

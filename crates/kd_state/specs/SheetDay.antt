@@ -47,7 +47,7 @@ rotor_day_of day model reflector wheels pairs groups = record {
 abbrev pub pin_day_of : ℕ → List (ℕ × ℕ) → PinSet → List ℕ → List ℕ → PinDay
 pin_day_of day rows pins window list = record { day = day; rows = rows; pins = pins; window = window; list = list }
 
--- The values of a day, of a rotor machine or of a Converter.
+-- A day's values: a rotor machine's or a Converter's.
 pub data Day : Type 0 where
   OfRotors : RotorDay → Day
   OfPins : PinDay → Day
@@ -108,7 +108,7 @@ abbrev pub day_number : Day → ℕ
 day_number (OfRotors values) = values.day
 day_number (OfPins values) = values.day
 
--- the model for which the day is
+-- the model that the day is for
 abbrev pub day_model : Day → Model
 day_model (OfRotors values) = values.model
 day_model (OfPins values) = M209

@@ -18,12 +18,12 @@ use Rattle.kd_state.specs.declared.machine.parts.Parts.TheVariants.{Rotor, Pin}
 use Rattle.kd_state.specs.Machine.{cable_letters, ring_at, letter_at, AreLetters, AreOnWheels}
 use Rattle.kd_state.specs.SheetDay.{Day, OfRotors, OfPins}
 
--- The key of an engine: of wheels, reflector and plugboard, or of a Converter's drum.
+-- An engine's key: for wheels, reflector and plugboard, or for a Converter's drum.
 pub data EngineKey : Type 0 where
   OfWheels : RotorKey → EngineKey
   OfDrum : PinKey → EngineKey
 
--- the ciphertext that an engine with this key makes of a text; the letters are below 26
+-- the ciphertext of a text by an engine with this key, for letters below 26
 abbrev pub cipher : EngineKey → List ℕ → List ℕ
 cipher (OfWheels key) text = enigma_cipher key text
 cipher (OfDrum key) text = converter_cipher key text

@@ -1,12 +1,17 @@
 //! Laws of machines, settings and days.
 ghost use Rattle.kd_state.specs.Laws.{LinesDetermineSettings, TextsDetermineLists, ListsHaveNoFault};
 ghost use Rattle.kd_state.specs.Laws.{OneListFault, SettingsKeepMachines, ListsKeepMachines};
-ghost use Rattle.kd_state.specs.Laws.{ListsHaveOneResult};
+ghost use Rattle.kd_state.specs.Laws.{ListsHaveOneResult, SamePartsAreEqual};
 ghost use Rattle.kd_state.specs.Laws.{EngineEnciphersAsMachine};
 ghost use Rattle.kd_state.specs.Laws.{TurnedEngineEnciphersAsMachine, ReadsAsDayIsReady, ReadsAsDayEnciphersAsDay};
 ghost use Rattle.kd_state.specs.Laws.{OnKeyIsReady, OnKeyEnciphersByDaysKey, TurnedStaysOnKey};
 ghost use Rattle.kd_state.specs.Laws.{TurningChangesOnlyLetters, TurnedEnciphersByDaysKey, MachinesCanBeTurned};
 ghost use Rattle.kd_state.specs.Laws.{EquallySetDecipher, DaysEngineDeciphersItself, CipherOfChunks, KeyAfterChunks};
+
+/// Wheels are compared by which wheels they are, and reflectors likewise.
+pub fn same_parts_are_equal()
+    ensures { SamePartsAreEqual }
+{}
 
 /// Different settings have different lines, and different lists have different texts.
 ///

@@ -1,3 +1,4 @@
+use Rattle.std.proofs.Common.{◌++◌}
 use Rattle.kd_form.proofs.OneText.{refused_after, stays_refused}
 use Rattle.kd_form.proofs.laws.forms_stay_refused.Goals as goal
 
