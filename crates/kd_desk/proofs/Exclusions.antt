@@ -1,5 +1,5 @@
 -- Bytes are one list of settings or have one fault; settings that lead to a machine have no refused line.
-use Rattle.kd_desk.proofs.Prelude.{arith, ◌≡◌, Bool, List, [], ◌∷◌, ◌++◌, Some, sym, subst, Parts, Setting, Refuses}
+use Rattle.kd_desk.proofs.Prelude.{arith, Bool, List, [], ◌∷◌, ◌++◌, sym, subst, Parts, Setting, Refuses}
 use Rattle.kd_desk.proofs.Prelude.{Leads, IsTrue, IsFalse, ap, ◌∙◌, OfCard, OfList, InCard, InList}
 use Rattle.kd_state.specs.declared.setting.why.Why.{Why}
 use Rattle.kd_state.proofs.Lines.{lists_have_no_fault, one_list_fault, texts_determine_lists}

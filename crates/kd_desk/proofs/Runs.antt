@@ -7,12 +7,12 @@ use Rattle.kd_desk.{proofs.SaidCommands.same_command, specs.CommandLine.desk_gra
 use Rattle.kd_host.proofs.Failing.{err_is}
 use Rattle.kd_host.specs.declared.file_fault.FileFault.TheVariants as files
 use Rattle.{kd_host.specs.declared.file_fault.FileFault.FileFault, std.proofs.Common.arith}
-use Rattle.kd_desk.proofs.Prelude.{◌≡◌, ℕ, Bool, true, false, List, [], ◌∷◌, ◌++◌, Option, Some, None, IfSome}
-use Rattle.kd_desk.proofs.Prelude.{IsErr, IsSomeAnd, Result, Ok, Err, IsErrAnd, IsTrue, refl, sym, ap, ◌∙◌, subst}
-use Rattle.kd_desk.proofs.Prelude.{inl, inr, append_assoc, Row, subcommand_of, Stop, Unread, NamedCommand, IsCommandOf}
+use Rattle.kd_desk.proofs.Prelude.{◌≡◌, ℕ, Bool, true, false, List, [], Option, Some, None, IfSome}
+use Rattle.kd_desk.proofs.Prelude.{IsErr, IsSomeAnd, Result, Ok, Err, IsErrAnd, IsTrue, refl, sym, ◌∙◌, subst}
+use Rattle.kd_desk.proofs.Prelude.{inl, inr, Row, subcommand_of, Stop, Unread, NamedCommand, IsCommandOf}
 use Rattle.kd_desk.proofs.Prelude.{IsCommandLineOf, KnownCommand, known_command, AreAskedFor, AsksFor, AskedName}
-use Rattle.kd_desk.proofs.Prelude.{MissesOne, asked_and_had, asked_and_missed, is_ok, CarriesOut, IsCommandDone}
-use Rattle.kd_desk.proofs.Prelude.{AgreesOrNoMemory, KnownFile, Port, map, ◌≢◌, Usage}
+use Rattle.kd_desk.proofs.Prelude.{CarriesOut, IsCommandDone}
+use Rattle.kd_desk.proofs.Prelude.{AgreesOrNoMemory, KnownFile, Port, ◌≢◌, Usage}
 
 -- the bytes of each file by its name, or `None` if they aren't known
 abbrev KnownFiles : Type 0

@@ -1,12 +1,11 @@
 -- The grammar of the desk's command line: the six commands with their arguments, without options or help.
 -- Code: `grammar` builds the grammar by calls of the library `clap`.
 -- Test: refuses_other_words
-use Rattle.std.specs.Prelude.{codes, decimal, ◌≡◌, ℕ, true, false, List, [], ◌∷◌, ◌++◌, map, fold, Option, Some, None}
+use Rattle.std.specs.Prelude.{codes, decimal, ◌≡◌, ℕ, true, false, List, [], ◌∷◌, ◌++◌, map, Option, Some, None}
 use Rattle.std.specs.Prelude.{IsSomeAnd}
 use Rattle.std.specs.Borrow.{Bor}
-use Rattle.clap.specs.declared.builder.command.Command.{Command as Grammar, out-Command}
-use Rattle.clap.specs.Words.{App, app_of, Row, Shape, first_of, fault_of, new_rule, subcommand_of}
-use Rattle.clap.specs.Simple.{new_shape, with_subcommand}
+use Rattle.clap.specs.Words.{App, Row, Shape, first_of, fault_of, new_rule, subcommand_of}
+use Rattle.clap.specs.Simple.{new_shape}
 use Rattle.kd_state.specs.SheetDay.{IsDayNumber}
 use Rattle.kd_desk.specs.declared.command.Command.{Command}
 use Rattle.kd_desk.specs.declared.command.Action.{Action}

@@ -1,5 +1,5 @@
 -- What the contracts of inner functions say. No public contract cites these definitions.
-use Rattle.std.specs.Prelude.{◌≡◌, ℕ, Bool, true, false, List, [], ◌∷◌, map, fold, Option, Result, Ok, IfSome, IsTrue}
+use Rattle.std.specs.Prelude.{◌≡◌, ℕ, Bool, false, List, [], map, fold, Option, Result, Ok, IfSome, IsTrue}
 use Rattle.std.specs.Borrow.{Bor}
 use Rattle.clap.specs.declared.builder.command.Command.{Command as Grammar, out-Command}
 use Rattle.clap.specs.Words.{App, app_of, Row, Shape}

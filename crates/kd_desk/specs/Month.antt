@@ -7,7 +7,7 @@ use Rattle.kd_tables.specs.declared.model.Model.{Model}
 use Rattle.kd_tables.specs.Ports.{Port}
 use Rattle.kd_state.specs.declared.machine.parts.Parts.{Parts}
 use Rattle.kd_state.specs.declared.setting.Setting.{Setting}
-use Rattle.kd_state.specs.SheetDay.{Day, day_model, day_number}
+use Rattle.kd_state.specs.SheetDay.{Day, day_model}
 use Rattle.kd_card.specs.Months.{IsProvedCard}
 use Rattle.kd_card.specs.Proving.{IsShortest}
 use Rattle.kd_plan.specs.Spares.{SparesStayFree}

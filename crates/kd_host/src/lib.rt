@@ -1,4 +1,4 @@
-//! What both programs need of the host: files, standard streams, and how a program ends.
+//! What a program needs of its host: files, standard streams, and how it ends.
 #![tactic(auto)]
 
 mod asked_names;

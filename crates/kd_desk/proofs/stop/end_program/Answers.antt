@@ -1,7 +1,6 @@
-use Rattle.kd_desk.proofs.Prelude.{[], port, subst, sym}
+use Rattle.kd_desk.proofs.Prelude.{port, subst, sym}
 use Rattle.kd_desk.specs.Ending.{EndsAs}
 use Rattle.kd_host.proofs.Endings.{ends_without_line}
-use Rattle.kd_host.specs.Ending.{EndsWithLine}
 use Rattle.kd_desk.proofs.stop.end_program.Goals as goal
 
 pub returns-in_default : goal.returns-in_default
