@@ -1,0 +1,11 @@
+pub mod Answers
+pub mod CommandLines
+pub mod DayPlans
+pub mod DaysNamed
+pub mod Drawn
+pub mod Grammars
+pub mod HandOrders
+pub mod PlannedOrder
+pub mod Prelude
+pub mod Runs
+pub mod Writings

@@ -1,0 +1,13 @@
+pub mod Booklet
+pub mod Chain
+pub mod CommandLine
+pub mod DayPlan
+pub mod Days
+pub mod Ending
+pub mod HandList
+pub mod HandOrder
+pub mod MachineAndSheet
+pub mod Program
+pub mod Refusals
+pub mod RunList
+pub mod RunPage
