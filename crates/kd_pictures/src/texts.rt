@@ -81,16 +81,17 @@ circle.in{fill:var(--in)}
 @media screen and (max-width:700px){
 body{font-size:16px}
 main{padding:10px}
-.pins td{font-size:13px;vertical-align:bottom}
+.pins td{font-size:min(13px,3.5vw);vertical-align:bottom}
 .pins br{display:none}
 .pins .set input,.pins td small{display:block;margin:auto;line-height:1}
-.drum td,.drum th{font-size:14px}
-.drum thead th{width:5.2%}
+.pins td small{font-size:min(.75em,2.2vw)}
+.drum td,.drum th{font-size:min(14px,5vw - 5.5px)}
+.drum thead th{width:5.2%;font-size:min(12px,3vw)}
 .drum thead th:first-child{width:8%}
 .drum input{margin-right:.2em}
 .drum code{display:block;margin-left:2em}
-.letters code{font-size:.55em}
-.letters td,.letters th{padding-right:.5em}
+.letters code{font-size:.55em;white-space:normal}
+.letters td,.letters th{padding-right:.3em}
 .letters input{margin-right:.1em}
 }
 @media print{
