@@ -1,7 +1,7 @@
 #!/usr/bin/env python3
 """Draws the page of each of these days by itself, for a comparison with the pages that curator writes. It was written before
-curator, by another hand, from the rules for the page's looks, and shares no code with it. The environment's DESK names the built desk, which
-makes the cards, carries them out, and types the tests. STYLE names a file with the style sheet.
+curator, by another hand, from the rules for the page's looks, and shares no code with it. The environment's DESK names the
+built desk, which makes the cards, carries them out, and types the tests. STYLE names a file with the style sheet.
 
     page_oracle.py MACHINE SHEET DAY..
 """
@@ -297,10 +297,11 @@ def page(machine_file, sheet, day, folder):
         'The machine has to stand as shown; only windows may differ.'
     shown = ' '.join(after['letters']) if is_converter else ', '.join(named(after['letter'][w]) for w in after['slots'])
     test = ('<p>%s</p>\n<pre>%s\n<b>%s</b></pre>\n<p>Then set the windows to <b>%s</b> again.</p>\n'
+            '<p class=fields><span>%s when put away</span></p>\n'
             '<p class=note>No shorter list leads to this day. Differences in %s: %d. Least number of %s to move, by the prices’ sum: %d. Together: %d.</p>\n') % (
         'Set the knob to C, and encipher 26 times A. The machine has to print the second line:' if is_converter else
         'Type the alphabet. The lamps have to give the second line:',
-        in_fives(keys), in_fives(lamps), shown,
+        in_fives(keys), in_fives(lamps), shown, 'Letters' if is_converter else 'Windows',
         'pins and letters' if is_converter else 'rings, slots, reflector and windows', len(settings) - total,
         'lugs' if is_converter else 'plugs', total, len(settings))
     out = '<article id=day-%s>\n<header>\n<h1>%s <small>%s</small></h1>\n<p class=fields><span>Machine</span><span>Date</span><span>Done by</span></p>\n<p>%s</p>\n</header>\n%s%s</article>\n' % (

@@ -215,10 +215,14 @@ static int begin(enum kind kind, long number, int from_there_on, int byte_by_byt
     return 0;
 }
 
+/* Of a longer answer, written byte by byte, each 61st write is refused. */
+#define MOST_WRITES 8000
+
 /* Refuses the calls of a kind one after another, from the first that is named to one that never comes. True in a child. */
 static int refuse_each(enum kind kind, long first, int from_there_on, int byte_by_byte)
 {
-    for (long number = first;; number++) {
+    long step = kind == WRITE && byte_by_byte && own->out > MOST_WRITES ? 61 : 1;
+    for (long number = first;; number += step) {
         if (begin(kind, number, from_there_on, byte_by_byte)) return 1;
         if (!has_refused()) break;
         judge(is_right(run), "another answer than is due");
