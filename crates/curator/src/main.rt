@@ -1,22 +1,23 @@
 //! The program `curator`: hands the host's command line, files and streams to `run_curator`.
 #![tactic(auto)]
 
-use kd_curator::{BufferedSink, Stop, end_program, run_curator};
+use kd_curator::{Stop, end_program, run_curator};
 use kd_host::{FileFault, HostFiles, WriterSink};
 use std::process::ExitCode;
 
 fn main(rt: HostRuntime) -> ExitCode {
     let mut errors = WriterSink::new(rt.stderr());
-    ExitCode::from(match words(&rt) {
-        Ok(words) => run_curator(
-            rt.alloc(),
-            words.as_slice(),
-            &mut HostFiles::new(&rt),
-            &mut BufferedSink::new(WriterSink::new(rt.stdout())),
-            &mut errors,
-        ),
+    let status = match words(&rt) {
+        Ok(words) => {
+            let mut files = HostFiles::new(&rt);
+            let output = WriterSink::new(rt.stdout());
+            let (status, _) =
+                run_curator(rt.alloc(), words.as_slice(), &mut files, output, &mut errors);
+            status
+        }
         Err(stop) => end_program(&Err(stop), &mut errors),
-    })
+    };
+    ExitCode::from(status)
 }
 
 /// The command line: the program's own name, then the arguments.

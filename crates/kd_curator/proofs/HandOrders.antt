@@ -1,6 +1,6 @@
 -- A list of settings in an order for the hand leads to the same machine.
 use Rattle.std.proofs.Common.{◌≡◌, ℕ, Bool, true, false, not, ◌&&◌, List, [], ◌∷◌, ◌++◌, filter, arith, refl, subst}
-use Rattle.std.proofs.Common.{ap₂, ◌∙◌, IsTrue, None, append_assoc, length, ◌+◌}
+use Rattle.std.proofs.Common.{ap₂, ◌∙◌, IsTrue, Result, Ok, Err, append_assoc, length, ◌+◌}
 use Rattle.std.specs.List.{list_all}
 use Rattle.std.specs.Prelude.{IsPermutation}
 use Rattle.std.proofs.lemmas.Grind.{common_steps}
@@ -10,7 +10,9 @@ use Rattle.std.proofs.lemmas.Bool.{and_parts}
 use Rattle.kd_state.specs.declared.machine.parts.Parts.{Parts}
 use Rattle.kd_state.specs.declared.setting.Setting.{Setting}
 use Rattle.kd_state.specs.declared.setting.Setting.TheVariants.{Seat, RingTo, Turn}
-use Rattle.kd_state.specs.Setting.{Leads, why_refused, machine_after}
+use Rattle.kd_state.specs.declared.setting.why.Why.{Why}
+use Rattle.kd_state.specs.FirstFault.{◌>>=◌}
+use Rattle.kd_state.specs.Setting.{Leads, outcome}
 use Rattle.kd_curator.specs.declared.stages.Stage.TheVariants.{Rings, Parts as Others, Windows}
 use Rattle.kd_curator.specs.HandOrder.{is_at_stage, is_seat, seats_before_turning, HandOrderLeads}
 use Rattle.kd_curator.specs.HandOrder.{HandOrderIsPermutation}
@@ -20,25 +22,26 @@ abbrev pub may_wait : Setting → Setting → Bool
 may_wait x (RingTo wheel letter) = not (is_at_stage Rings x)
 may_wait x y = is_at_stage Windows x && (is_at_stage Others y && not (is_seat y))
 
--- Both settings are carried out, `x` before `y`.
-pub record CarriesBoth (m : Parts) (x y : Setting) (n : Parts) : Type 0 where
-  pub first : why_refused m x ≡ None
-  pub second : why_refused (machine_after m x) y ≡ None
-  pub made : n ≡ machine_after (machine_after m x) y
-
-pub swaps : (m n : Parts) (x y : Setting) → IsTrue (may_wait x y) → CarriesBoth m x y n → CarriesBoth m y x n
+-- Two settings that may change places lead to one machine in both orders.
+pub swaps : (m n : Parts) (x y : Setting) → IsTrue (may_wait x y) → (outcome m x >>= λ k. outcome k y) ≡ Ok n
+    → (outcome m y >>= λ k. outcome k x) ≡ Ok n
 swaps m n x y may both = grind (arith, common_steps)
+
+joined_of : (first : Result Parts Why) (next : Parts → Result Parts Why) (k n : Parts) → first ≡ Ok k → next k ≡ Ok n
+    → (first >>= next) ≡ Ok n
+joined_of first next k n e d = grind (arith, e, d)
+
+parts_of : (first : Result Parts Why) (next : Parts → Result Parts Why) (n : Parts) → (first >>= next) ≡ Ok n
+    → (k : Parts) × (first ≡ Ok k) × (next k ≡ Ok n)
+parts_of (Ok k) next n e = (k, refl, e)
+parts_of (Err why) next n e = absurd (cc)
 
 pub leads_both : (m n : Parts) (x y : Setting) (xs : List Setting) → IsTrue (may_wait x y) → Leads m (x ∷ y ∷ xs) n
     → Leads m (y ∷ x ∷ xs) n
 leads_both m n x y xs may (one, first, (both, second, leads)) =
-    let allowed = subst (λ k. why_refused k y ≡ None) first.made second.allowed in
-    let made = subst (λ k. both ≡ machine_after k y) first.made second.made in
-    let other = swaps m both x y may (record { first = first.allowed; second = allowed; made = made }) in (
-      machine_after m y,
-      record { allowed = other.first; made = refl },
-      (both, record { allowed = other.second; made = other.made }, leads),
-    )
+    let joined = joined_of (outcome m x) (λ k. outcome k y) one both first second in
+    let other = parts_of (outcome m y) (λ k. outcome k x) both (swaps m both x y may joined) in
+    (other.0, other.1, (both, other.2, leads))
 
 -- A setting may be carried out after others, if it may be carried out after each of them.
 pub passes : (m n : Parts) (x : Setting) (ys xs : List Setting) → IsTrue (list_all (may_wait x) ys)

@@ -6,6 +6,8 @@ pub mod Drawn
 pub mod Grammars
 pub mod HandOrders
 pub mod PlannedOrder
+pub mod PlannedPieces
 pub mod Prelude
+pub mod Passing
 pub mod Runs
 pub mod Writings

@@ -1,33 +1,39 @@
--- What becomes of a command line.
-use Rattle.std.proofs.Common.{◌≡◌, ℕ, true, false, List, [], Option, IfSome, IsTrue, Result, Ok, Err}
-use Rattle.clap.specs.Words.{IsAmong, fault_of}
-use Rattle.clap.specs.declared.error.kind.ErrorKind.{ErrorKind}
+-- How a command line is carried out.
+use Rattle.std.proofs.Common.{◌≡◌, ◌||◌, ℕ, Bool, true, false, List, [], Option, IfSome, IsErr, IsTrue, Result, Ok, Err}
+use Rattle.std.proofs.Common.{inl, refl, arith, subst, sym}
 use Rattle.kd_host.specs.declared.file_fault.FileFault.{FileFault}
 use Rattle.kd_host.specs.declared.file_fault.FileFault.TheVariants as files
-use Rattle.kd_tables.specs.Answers.{AgreesOrNoMemory}
 use Rattle.kd_host.specs.Files.{AreAskedFor, AskedName}
-use Rattle.kd_host.specs.Writing.{WritesText}
-use Rattle.kd_curator.specs.CommandLine.{IsCommandLineOf, NamedCommand, curator_grammar, is_help}
-use Rattle.kd_curator.specs.Program.{Carried, DoesTask, FileUnread, IsRun, IsWritten, Shown, known_command, names_of}
-use Rattle.kd_curator.specs.Refusals.{refused_device}
+use Rattle.kd_tables.specs.Answers.{AgreesOrNoMemory}
+use Rattle.kd_tables.specs.Ports.{Port}
+use Rattle.kd_curator.specs.CommandLine.{IsCommandLineOf, NamedCommand}
+use Rattle.kd_curator.specs.Ending.{stop_after}
+use Rattle.kd_curator.specs.Program.{Carried, CarriesOut, DoesTask, EndsTask, IsTold, is_stopped_before_writing}
+use Rattle.kd_curator.specs.Program.{is_stopped_by_device, known_command, names_of}
+use Rattle.kd_curator.specs.Refusals.{is_device, is_device_fault}
 use Rattle.kd_curator.specs.declared.command.Command.{Command}
+use Rattle.kd_curator.specs.declared.fault.Refused.{Refused}
 use Rattle.kd_curator.specs.declared.stop.Stop.{Stop}
 use Rattle.kd_curator.specs.declared.stop.Stop.TheVariants as stops
 
-module _ (words : List (List ℕ)) (known : Option (List ℕ → Option (List ℕ))) (asked : List AskedName)
-    (had has : Option (List ℕ)) (answer : Result (Unit {0}) Stop) where
-  pub file_unread : (command : NamedCommand) (fault : FileFault) → IsCommandLineOf words command
-      → IfSome known (λ held. AgreesOrNoMemory files.NoMemory (known_command held command) (Err fault))
-      → AreAskedFor (names_of command) [] asked false → answer ≡ Err (stops.Unread fault)
-      → IsRun words known asked had has answer
-  file_unread command fault says reads asks is = FileUnread command says fault reads asks is
+ends_after : (told : Result (Unit {0}) Refused) → EndsTask [] told (stop_after told)
+ends_after (Ok done) = inl (refl, refl)
+ends_after (Err refused) = refl
 
-  pub carried : (command : NamedCommand) (read : Command (List ℕ)) → IsCommandLineOf words command
-      → IfSome known (λ held. AgreesOrNoMemory files.NoMemory (known_command held command) (Ok read))
-      → AreAskedFor (names_of command) [] asked true
-      → IsWritten (DoesTask read.task read.machine read.sheet) had has answer → IsRun words known asked had has answer
-  carried command read says reads asks does = Carried command says read reads asks does
+-- the program's answer is a command's answer
+pub told_so : (Does : Result (Unit {0}) Refused → Type 0) (told : Result (Unit {0}) Refused)
+    (answer : Result (Unit {0}) Stop) → Does told → answer ≡ stop_after told → IsTold Does [] answer
+told_so Does told answer does is =
+    record { told = told; does = does; answers = subst (EndsTask [] told) (sym is) (ends_after told) }
 
-  pub shown : (text : List ℕ) (kind : ErrorKind) → IsAmong kind (fault_of curator_grammar words) → IsTrue (is_help kind)
-      → asked ≡ [] → IsWritten (WritesText refused_device text) had has answer → IsRun words known asked had has answer
-  shown text kind among help none does = Shown text kind among help none does
+-- a command that stopped before it wrote anything left the sink as it was
+pub stopped_so : {X : Type 0} (told : Result (Unit {0}) Refused) (answer : Result (Unit {0}) Stop)
+    → answer ≡ stop_after told → (IsErr told → is_device told ≡ false → X) → IsTrue (is_stopped_before_writing answer)
+    → X
+stopped_so (Ok done) answer is holds stopped = absurd (cc)
+stopped_so (Err refused) answer is holds stopped =
+    holds refl (grind (arith, subst (λ a. IsTrue (is_stopped_before_writing a)) is stopped))
+
+pub device_so : (told : Result (Unit {0}) Refused) → is_stopped_by_device (stop_after told) ≡ is_device told
+device_so (Ok done) = refl
+device_so (Err refused) = refl

@@ -34,3 +34,8 @@ status_of (Err _) = 1
 -- The program ends with the text and the exit status for `answer`, or with a prefix of the text if standard error failed.
 abbrev pub EndsAs : Result (Unit {0}) Stop → Port → ℕ → Type 0
 EndsAs answer errors status = EndsWithLine (error_text answer) (status_of answer) errors status
+
+-- the program's answer, given a command's answer
+abbrev pub stop_after : Result (Unit {0}) Refused → Result (Unit {0}) Stop
+stop_after (Ok done) = Ok done
+stop_after (Err refused) = Err (stops.Refused refused)

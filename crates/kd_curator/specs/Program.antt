@@ -1,8 +1,9 @@
 -- The program: what the command line means, which files are read, and what is written.
 -- Code: `carry_words` parses the words, reads the two files, and carries the command out.
 -- Test: carries_each_command_out
-use Rattle.std.specs.Prelude.{◌≡◌, ◌⊎◌, ℕ, Bool, true, false, List, [], ◌∷◌, Option, IfSome, Result, Ok, Err, IsTrue}
-use Rattle.std.specs.Io.KnownBytes.{Keeps}
+use Rattle.std.specs.Prelude.{◌≡◌, ◌⊎◌, ◌≤◌, ◌||◌, not, ℕ, Bool, true, false, List, [], ◌∷◌, length, Option, IfSome}
+use Rattle.std.specs.Prelude.{Result, Ok, Err, IsTrue}
+use Rattle.std.specs.Io.KnownBytes.{append_known}
 use Rattle.clap.specs.Words.{IsAmong, fault_of}
 use Rattle.clap.specs.declared.error.kind.ErrorKind.{ErrorKind}
 use Rattle.kd_host.specs.declared.file_fault.FileFault.{FileFault}
@@ -15,7 +16,7 @@ use Rattle.kd_tables.specs.Ports.{Port}
 use Rattle.kd_curator.specs.CommandLine.{AsksForHelp, IsCommandLineOf, IsNoCommandLine, NamedCommand, curator_grammar, is_help}
 use Rattle.kd_curator.specs.Ending.{EndsAs}
 use Rattle.kd_curator.specs.MachineAndSheet.{IsAnswerOnSheet}
-use Rattle.kd_curator.specs.Refusals.{refused_device}
+use Rattle.kd_curator.specs.Refusals.{is_device_fault, refused_device}
 use Rattle.kd_curator.specs.RunList.{WritesList}
 use Rattle.kd_curator.specs.RunPage.{WritesPages, wanted_days}
 use Rattle.kd_curator.specs.declared.command.Command.{Command}
@@ -45,50 +46,80 @@ DoesTask (tasks.Page days) machine sheet sink answer = IsAnswerOnSheet machine s
 DoesTask (tasks.List day) machine sheet sink answer = IsAnswerOnSheet machine sheet
     (λ m month. WritesList month m day sink answer) answer
 
--- The program's answer, given what a task answered. A task that was carried out is refused if its bytes can't be passed on.
-abbrev pub EndsTask : Result (Unit {0}) Refused → Result (Unit {0}) Stop → Type 0
-EndsTask (Ok done) answer = (answer ≡ Ok tt) ⊎ (answer ≡ Err (stops.Refused refused_device))
-EndsTask (Err refused) answer = answer ≡ Err (stops.Refused refused)
+-- ---- The program's answer.
 
--- Something was written, as `Does` says, and then the bytes that were gathered were passed on. `had` and `has` are the
--- bytes that the sink had taken before and has taken after, with those that are only gathered.
-pub record IsWritten (Does : Port → Result (Unit {0}) Refused → Type 0) (had has : Option (List ℕ))
-    (answer : Result (Unit {0}) Stop) : Type 0 where
-  pub sink : Port
+-- The program's answer, given what a command answered. `left` are bytes that were gathered and that the sink didn't take.
+-- After success there are none. If there are some, the sink has failed.
+abbrev pub EndsTask : List ℕ → Result (Unit {0}) Refused → Result (Unit {0}) Stop → Type 0
+EndsTask left (Ok done) answer =
+    ((answer ≡ Ok tt) × (left ≡ [])) ⊎ ((answer ≡ Err (stops.Refused refused_device)) × (1 ≤ length left))
+EndsTask left (Err refused) answer = answer ≡ Err (stops.Refused refused)
+
+-- A command answered `told`, as `Does` says, and the program answers `answer`.
+pub record IsTold (Does : Result (Unit {0}) Refused → Type 0) (left : List ℕ) (answer : Result (Unit {0}) Stop)
+    : Type 0 where
   pub told : Result (Unit {0}) Refused
-  pub does : Does sink told
-  pub before : sink.had ≡ had
-  pub after : Keeps sink.has has
-  pub answers : EndsTask told answer
+  pub does : Does told
+  pub answers : EndsTask left told answer
 
 -- whether the answer is a text about words that mean no command
 abbrev pub is_usage : Result (Unit {0}) Stop → Bool
 is_usage (Err (stops.Usage text)) = true
 is_usage _ = false
 
--- What becomes of a command line. `Carried`: its command was carried out. `FileUnread`: a file of the command couldn't be
--- read. `Shown`: the words ask for help or for the version. `OtherWords`: the words mean no command. `NoMemory`: memory ran
--- out before a file was asked for.
-pub data IsRun (words : List (List ℕ)) (known : Option (List ℕ → Option (List ℕ))) (asked : List AskedName)
-    (had has : Option (List ℕ)) (answer : Result (Unit {0}) Stop) : Type 0 where
+-- How a command line is carried out. `Carried`: its command was carried out. `FileUnread`: a file of the command couldn't
+-- be read. `Shown`: the words ask for help or for the version. `OtherWords`: the words mean no command. `NoMemory`: memory
+-- ran out before a file was asked for.
+pub data CarriesOut (words : List (List ℕ)) (known : Option (List ℕ → Option (List ℕ))) (asked : List AskedName)
+    (sink : Port) (left : List ℕ) (answer : Result (Unit {0}) Stop) : Type 0 where
   Carried : (command : NamedCommand) → IsCommandLineOf words command → (read : Command (List ℕ))
       → IfSome known (λ held. AgreesOrNoMemory files.NoMemory (known_command held command) (Ok read))
       → AreAskedFor (names_of command) [] asked true
-      → IsWritten (DoesTask read.task read.machine read.sheet) had has answer
-      → IsRun words known asked had has answer
+      → IsTold (DoesTask read.task read.machine read.sheet sink) left answer
+      → CarriesOut words known asked sink left answer
   FileUnread : (command : NamedCommand) → IsCommandLineOf words command → (fault : FileFault)
       → IfSome known (λ held. AgreesOrNoMemory files.NoMemory (known_command held command) (Err fault))
       → AreAskedFor (names_of command) [] asked false → answer ≡ Err (stops.Unread fault)
-      → IsRun words known asked had has answer
+      → CarriesOut words known asked sink left answer
   Shown : (text : List ℕ) (kind : ErrorKind) → IsAmong kind (fault_of curator_grammar words) → IsTrue (is_help kind)
-      → asked ≡ [] → IsWritten (WritesText refused_device text) had has answer
-      → IsRun words known asked had has answer
+      → asked ≡ [] → IsTold (WritesText refused_device text sink) left answer
+      → CarriesOut words known asked sink left answer
   OtherWords : IsNoCommandLine words → ¬ (AsksForHelp words) → asked ≡ [] → IsTrue (is_usage answer)
-      → IsRun words known asked had has answer
-  NoMemory : asked ≡ [] → answer ≡ Err (stops.Unread files.NoMemory) → IsRun words known asked had has answer
+      → CarriesOut words known asked sink left answer
+  NoMemory : asked ≡ [] → answer ≡ Err (stops.Unread files.NoMemory) → CarriesOut words known asked sink left answer
 
--- The program's answer satisfies `IsSo`, and the program ended with the text and the exit status for this answer.
-pub record HasEnded (IsSo : Result (Unit {0}) Stop → Type 0) (errors : Port) (status : ℕ) : Type 0 where
+-- whether the program stopped because a write to standard output failed
+abbrev pub is_stopped_by_device : Result (Unit {0}) Stop → Bool
+is_stopped_by_device (Err (stops.Refused refused)) = is_device_fault refused.fault
+is_stopped_by_device _ = false
+
+-- whether the program stopped before it wrote anything
+abbrev pub is_stopped_before_writing : Result (Unit {0}) Stop → Bool
+is_stopped_before_writing (Ok done) = false
+is_stopped_before_writing (Err (stops.Refused refused)) = not (is_device_fault refused.fault)
+is_stopped_before_writing (Err stop) = true
+
+-- What holds of the program's answer to a command line. `carried`: what was read and written. `untouched`: when nothing
+-- happened to the sink. `failed`: the sink has failed exactly if the program says so, or if it had failed before.
+pub record IsRun (words : List (List ℕ)) (known : Option (List ℕ → Option (List ℕ))) (asked : List AskedName)
+    (sink : Port) (Untouched : Type 0) (left : List ℕ) (answer : Result (Unit {0}) Stop) : Type 0 where
+  pub carried : CarriesOut words known asked sink left answer
+  pub untouched : IsTrue (is_stopped_before_writing answer) → Untouched
+  pub failed : sink.has_failed ≡ (sink.had_failed || is_stopped_by_device answer)
+
+-- a sink before and after a call; bytes that are gathered, and that it hasn't taken, count as taken
+abbrev pub gathering_port : {P : Type 0} → (P → Option (List ℕ)) → (P → Bool) → P → P → List ℕ → Port
+gathering_port bytes failed old new left = record {
+  had = bytes old;
+  has = append_known (bytes new) left;
+  had_failed = failed old;
+  has_failed = failed new;
+}
+
+-- The program's answer satisfies `IsSo`, and the program ended with the text and the exit status for this answer. `left`
+-- are the bytes that the sink didn't take.
+pub record HasEnded (IsSo : List ℕ → Result (Unit {0}) Stop → Type 0) (errors : Port) (status : ℕ) : Type 0 where
+  pub left : List ℕ
   pub answer : Result (Unit {0}) Stop
-  pub is_so : IsSo answer
+  pub is_so : IsSo left answer
   pub ends : EndsAs answer errors status

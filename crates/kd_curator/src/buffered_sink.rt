@@ -28,6 +28,14 @@ impl<W: Sink + Drop> BufferedSink<W> {
         }
     }
 
+    /// Returns the sink to which bytes are passed on; bytes that are only gathered are lost.
+    pub fn into_sink(self) -> W
+        ensures { result ≡ self.sink }
+    {
+        let BufferedSink { sink, .. } = self;
+        sink
+    }
+
     /// Passes on all bytes that are gathered. If the other sink fails, the bytes that it didn't take stay.
     pub fn flush(&mut self) -> Result<(), Failed>
         ensures kept { Keeps (append_known (W.taken self.old.sink) self.old.gathered.items)

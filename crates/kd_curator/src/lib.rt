@@ -24,6 +24,6 @@ pub use day_plan::{DayPlan, plan_day};
 pub use days::{Days, days_of_word};
 pub use fault::{PageFault, Refused};
 pub use hand_list::plan_by_hand;
-pub use program::run_curator;
+pub use program::{run_curator, run_words};
 pub use stages::{Stage, hand_order};
 pub use stop::{Stop, end_program};

@@ -2,7 +2,7 @@
 ghost use Rattle.std.specs.Prelude.{◌≡◌, ◌≤◌, ◌+◌, ◌++◌};
 ghost use Rattle.arrayvec.specs.ArrayString.{array_string_len};
 ghost use Rattle.kd_tables.specs.Ports.{port};
-ghost use Rattle.kd_curator.specs.Ending.{EndsAs, day_prefix, refusal_line};
+ghost use Rattle.kd_curator.specs.Ending.{EndsAs, day_prefix, refusal_line, stop_after};
 
 use crate::fault::Refused;
 use arrayvec::ArrayString;
@@ -75,6 +75,16 @@ impl From<FileFault> for Stop {
 }
 
 impl Stop {
+    /// Turns the result of a command into the program's result: a refusal becomes a `Stop`.
+    pub(crate) fn of_answer(done: Result<(), Refused>) -> Result<(), Stop>
+        ensures { result ≡ stop_after done }
+    {
+        match done {
+            Err(refused) => Err(Stop::Refused(refused)),
+            Ok(()) => Ok(()),
+        }
+    }
+
     /// Why the words of the command line can't be read: no memory, or a word that isn't UTF-8.
     pub fn of_words(alloc: Global, error: &io::Error) -> Stop {
         let text = String::from_str(alloc, "error: a word of the command line isn't UTF-8\n");
