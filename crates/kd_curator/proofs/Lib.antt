@@ -5,9 +5,11 @@ pub mod DaysNamed
 pub mod Drawn
 pub mod Grammars
 pub mod HandOrders
+pub mod PlannedBoxes
 pub mod PlannedOrder
 pub mod PlannedPieces
 pub mod Prelude
 pub mod Passing
+pub mod Ranked
 pub mod Runs
 pub mod Writings

@@ -1,8 +1,10 @@
 -- The boxes of a page, read from the top, and the order in which settings are the page's boxes.
-use Rattle.std.specs.Prelude.{ℕ, ◌<◌, ◌≤◌, List, [], ◌∷◌, ◌++◌, filter, flat_map, ◌≡◌}
+use Rattle.std.specs.Prelude.{ℕ, ◌<◌, ◌≤◌, List, [], ◌∷◌, ◌++◌, filter, flat_map, ◌≡◌, if◌then◌else◌}
+use Rattle.kd_tables.specs.declared.model.Model.{Model}
 use Rattle.kd_tables.specs.Permutation.{alphabet}
 use Rattle.kd_state.specs.declared.setting.Setting.{Setting}
 use Rattle.kd_pictures.specs.declared.numbers.TheConstants.{BARS, CABLES, PIN_WHEELS, SLOTS}
+use Rattle.kd_pictures.specs.Words.{is_converter}
 use Rattle.kd_page.specs.declared.spots.Spot.{Spot}
 use Rattle.kd_page.specs.declared.spots.Step.{Step}
 use Rattle.kd_page.specs.declared.spots.Step.TheVariants.{Rings, Seats, PlugsOut, PlugsIn, Pins, Lugs, Turns}
@@ -29,6 +31,9 @@ rotor_boxes settings =
 
 abbrev pub pin_boxes : List Setting → List Setting
 pin_boxes settings = pin_by_pin settings ++ row_by_row Lugs BARS settings ++ row_by_row Turns PIN_WHEELS settings
+
+abbrev pub page_boxes : Model → List Setting → List Setting
+page_boxes model settings = if is_converter model then pin_boxes settings else rotor_boxes settings
 
 -- ---- The order of a page.
 

@@ -1,7 +1,7 @@
 use Rattle.std.proofs.Common.{rules}
 use Rattle.kd_card.proofs.Months.Shortest.{model_of-list}
 use Rattle.kd_state.specs.Setting.{Leads}
-use Rattle.kd_curator.proofs.DayPlans.{sheets_machine}
+use Rattle.kd_curator.proofs.DayPlans.{settings_boxes, sheets_machine}
 use Rattle.kd_curator.proofs.day_plan.plan_day.Goals as goal
 
 pub returns-clause-plan : goal.returns-clause-plan
@@ -11,6 +11,7 @@ returns-clause-plan c =
     record {
       number = c.day-day.ensures.value;
       by_hand = c.plan_by_hand-settings.ensures;
+      boxes = settings_boxes _ _ _ (search rules) (search rules) c.plan_by_hand-settings.ensures;
       few = rw c.as_slice.ensures.value at c.as_slice.ensures.fits;
       leads = leads;
       sheets = sheets_machine _ _ _ _ (search rules) (search rules) c.plan_by_hand-settings.ensures leads;
