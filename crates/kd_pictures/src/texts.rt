@@ -109,6 +109,9 @@ h2.idle{margin:.2em 0}
 h2 span{display:inline;float:right;font-weight:400;font-size:11pt;color:var(--soft)}
 label{padding-top:.08em;padding-bottom:.08em}
 .plugs label{padding:.04em 0}
+.drum thead th{width:4.4%}
+.drum td{white-space:nowrap}
+.drum code{font-size:.6em}
 .wheels svg{width:110mm}
 article+article{page-break-before:always;break-before:page}
 h2{page-break-after:avoid;break-after:avoid}
