@@ -11,7 +11,7 @@ use Rattle.kd_host.specs.Writing.{WritesText}
 use Rattle.kd_desk.specs.declared.fault.DeskFault.TheVariants.{Device}
 use Rattle.{kd_desk.proofs.Prelude.◌⊎◌, kd_plan.specs.Planned.IsProvedPlannedCard}
 use Rattle.{kd_tables.specs.declared.model.Model.Model}
-use Rattle.kd_desk.specs.{Laws.{MonthsAreFewest, MonthsSetTheMachine}, RunCard.{Prints, WritesCard}}
+use Rattle.kd_desk.specs.{Laws.{MonthsAreFewest, MonthsSetTheMachine}, RunCard.{IsChosenCard, Prints, WritesCard}}
 use Rattle.kd_desk.specs.Month.{AreWritten, CanWriteDays, CardAndFile, SetTheMachine, sink_with}
 use Rattle.kd_desk.specs.Inner.{CanWriteDay}
 use Rattle.kd_desk.specs.Month.{success, AreCardsOf, AreDaysOf, SetTheMachineInTurn}
