@@ -185,11 +185,12 @@ static long passed, failed;
 /* A line for a run that failed; of a command only the first few. */
 static void tell(const char *what)
 {
-    char line[300];
-    int length = snprintf(line, sizeof line, "%s: %s %ld%s refused%s: %s; status %d, %zu bytes, %.*s\n",
+    char line[1000];
+    const char *end = memchr(run->err_bytes, '\n', run->err);
+    int length = snprintf(line, sizeof line, "%.300s: %s %ld%s refused%s: %s; status %d, %zu bytes, %.*s\n",
         getenv("CASE"), names[run->kind], run->number, run->from_there_on ? " and on" : "",
         run->byte_by_byte ? ", a byte at a time" : "", what, run->status, run->out,
-        run->err > 0 ? (int)run->err - 1 : 0, run->err_bytes);
+        end ? (int)(end - run->err_bytes) : 0, run->err_bytes);
     if (failed <= 5) syscall(SYS_write, 1, line, length);
 }
 
