@@ -185,11 +185,12 @@ static long passed, failed;
 /* A line for a run that failed; of a command only the first few. */
 static void tell(const char *what)
 {
-    char line[300];
-    int length = snprintf(line, sizeof line, "%s: %s %ld%s refused%s: %s; status %d, %zu bytes, %.*s\n",
+    char line[1000];
+    const char *end = memchr(run->err_bytes, '\n', run->err);
+    int length = snprintf(line, sizeof line, "%.300s: %s %ld%s refused%s: %s; status %d, %zu bytes, %.*s\n",
         getenv("CASE"), names[run->kind], run->number, run->from_there_on ? " and on" : "",
         run->byte_by_byte ? ", a byte at a time" : "", what, run->status, run->out,
-        run->err > 0 ? (int)run->err - 1 : 0, run->err_bytes);
+        end ? (int)(end - run->err_bytes) : 0, run->err_bytes);
     if (failed <= 5) syscall(SYS_write, 1, line, length);
 }
 
@@ -215,10 +216,14 @@ static int begin(enum kind kind, long number, int from_there_on, int byte_by_byt
     return 0;
 }
 
+/* Of a longer answer, written byte by byte, each 61st write is refused. */
+#define MOST_WRITES 8000
+
 /* Refuses the calls of a kind one after another, from the first that is named to one that never comes. True in a child. */
 static int refuse_each(enum kind kind, long first, int from_there_on, int byte_by_byte)
 {
-    for (long number = first;; number++) {
+    long step = kind == WRITE && byte_by_byte && own->out > MOST_WRITES ? 61 : 1;
+    for (long number = first;; number += step) {
         if (begin(kind, number, from_there_on, byte_by_byte)) return 1;
         if (!has_refused()) break;
         judge(is_right(run), "another answer than is due");

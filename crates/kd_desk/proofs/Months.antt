@@ -11,7 +11,7 @@ use Rattle.kd_host.specs.Writing.{WritesText}
 use Rattle.kd_desk.specs.declared.fault.DeskFault.TheVariants.{Device}
 use Rattle.{kd_desk.proofs.Prelude.◌⊎◌, kd_plan.specs.Planned.IsProvedPlannedCard}
 use Rattle.{kd_tables.specs.declared.model.Model.Model}
-use Rattle.kd_desk.specs.{Laws.{MonthsAreFewest, MonthsSetTheMachine}, RunCard.{Prints, WritesCard}}
+use Rattle.kd_desk.specs.{Laws.{MonthsAreFewest, MonthsSetTheMachine}, RunCard.{IsChosenCard, Prints, WritesCard}}
 use Rattle.kd_desk.specs.Month.{AreWritten, CanWriteDays, CardAndFile, SetTheMachine, sink_with}
 use Rattle.kd_desk.specs.Inner.{CanWriteDay}
 use Rattle.kd_desk.specs.Month.{success, AreCardsOf, AreDaysOf, SetTheMachineInTurn}
@@ -27,8 +27,8 @@ use Rattle.kd_card.specs.declared.card.Card as declared
 
 -- ---- cards and files that are written set the machine
 
-card_printed : (m : Parts) (s : Day) (number : ℕ) (sink : Port) → Prints m s number sink success
-    → WritesCard m s number sink success
+card_printed : (m : Parts) (s : Day) (number : ℕ) (sink : Port) → Prints (IsChosenCard m s) m s number sink success
+    → WritesCard (IsChosenCard m s) number sink success
 card_printed m s number sink prints = grind (arith)
 
 record IsCarried (m : Parts) (bytes : List ℕ) (sink : Port) : Type 0 where
@@ -64,6 +64,7 @@ SetTheMachine-written file sheet number papers are =
     let on = found_on file sheet number _ are.printed in
     let m = on.0.0 in
     let card = card_printed m on.0.1 number (sink_with papers.card) on.2 in
+    let shortest = card.promise.shortest in
     let applies : Applies m papers.card (sink_with papers.file) success ⊎ LacksMemory success =
     subst (λ (r : Result Parts SheetFault).
     IfOk r (λ m. Applies m papers.card (sink_with papers.file) success ⊎ LacksMemory success))
@@ -74,8 +75,8 @@ SetTheMachine-written file sheet number papers are =
     let says = subst (λ bytes. AreSettings bytes card.settings) (sym text)
     (settings_of card.text number card.settings card.prices card.card) in
     let one = one_list papers.card next.settings card.settings next.of_card says in
-    let same = leads_unique m next.n card.leaves.0 card.settings (subst (λ xs. Leads m xs next.n) one next.leads)
-    card.leaves.1 in
+    let same = leads_unique m next.n shortest.leaves.0 card.settings (subst (λ xs. Leads m xs next.n) one next.leads)
+    shortest.leaves.1 in
     let written : papers.file ≡ machine_text next.n = next.written.written.whole in
     record {
       m = m;
@@ -83,17 +84,17 @@ SetTheMachine-written file sheet number papers are =
       found = on.1;
       settings = card.settings;
       of_card = says;
-      shortest = card.shortest;
-      spares = card.spares;
-      n = card.leaves.0;
+      shortest = shortest.shortest;
+      spares = card.promise.spares;
+      n = shortest.leaves.0;
       proved = record {
-        reaches = record { leads = card.leaves.1; reads = card.leaves.2.reads };
+        reaches = record { leads = shortest.leaves.1; reads = shortest.leaves.2.reads };
         prices = card.prices;
         are_prices = card.card.are_prices;
-        proves = card.proves;
+        proves = shortest.proves;
       };
       of_next = ap machine_of written ∙ next.back ∙ ap Ok same;
-      sheets = card.leaves.2;
+      sheets = shortest.leaves.2;
     }
 
 pub months_set_the_machine : MonthsSetTheMachine

@@ -1,7 +1,8 @@
 -- What the contracts promise of a card that was planned and written.
 use Rattle.kd_desk.proofs.Prelude.{Day, DeskFault, IsCard, IsLegalDay, IsMachine, List, Parts, Port, PriceParts, Result}
 use Rattle.{kd_desk.proofs.Prelude.{arith, day_number, subst, sym, ℕ, ◌≡◌}, kd_prices.specs.KindCards.IsByKind}
-use Rattle.{kd_desk.specs.RunCard.{Card, Prints}, kd_plan.specs.Planned.IsProvedPlannedCard}
+use Rattle.kd_desk.specs.RunCard.{Card, Different, IsChosenCard, IsShortestCard, Prints}
+use Rattle.kd_plan.specs.Planned.{IsProvedPlannedCard}
 use Rattle.{kd_host.specs.Writing.WritesText, kd_desk.specs.declared.fault.DeskFault.TheVariants.Device}
 use Rattle.kd_state.proofs.{Keys.{equally_set, reading_cipher, reading_ready}}
 use Rattle.kd_state.proofs.{Carrying.lists_keep_machines}
@@ -25,20 +26,37 @@ module _ (m : Parts) (s : Day) (is_machine : IsMachine m) (legal : IsLegalDay s)
 
     pub printed : (text : List ℕ) (day : ℕ) (sink : Port) (answer : Result (Unit {0}) DeskFault) → day ≡ day_number s
         → IsCard text day card.settings.items card.prices → WritesText Device text sink answer
-        → Prints m s (day_number s) sink answer
+        → Prints (IsChosenCard m s) m s (day_number s) sink answer
     printed text day sink answer number is_card takes =
         let dated = subst (λ d. IsCard text d card.settings.items card.prices) number is_card in
         Card (record {
           settings = card.settings.items;
           prices = card.prices;
-          version = kinds.version;
-          proves = record { numbered = planned.prices; expands = kinds.expands; proves = same.proves };
-          planned = same.planned;
-          shortest = same.shortest;
-          spares = same.spares;
-          leaves = leaves text card.settings.items planned.prices card.prices same dated;
-          deciphers = decipher;
+          promise = record {
+            shortest = record {
+              version = kinds.version;
+              proves = record { numbered = planned.prices; expands = kinds.expands; proves = same.proves };
+              shortest = same.shortest;
+              leaves = leaves text card.settings.items planned.prices card.prices same dated;
+              deciphers = decipher;
+            };
+            planned = same.planned;
+            spares = same.spares;
+          };
           text = text;
           card = dated;
           written = takes;
         })
+
+-- a card that the planner chooses is a shortest card
+pub shortest_printed : (m : Parts) (s : Day) (day : ℕ) (sink : Port) (answer : Result (Unit {0}) DeskFault)
+    → Prints (IsChosenCard m s) m s day sink answer → Prints (IsShortestCard m s) m s day sink answer
+shortest_printed m s day sink answer (Different models told) = Different models told
+shortest_printed m s day sink answer (Card c) = Card (record {
+  settings = c.settings;
+  prices = c.prices;
+  promise = c.promise.shortest;
+  text = c.text;
+  card = c.card;
+  written = c.written;
+})

@@ -17,7 +17,7 @@ use Rattle.kd_desk.specs.declared.fault.DeskFault.{DeskFault}
 use Rattle.kd_state.specs.SheetsMachine.{IsSheetsMachine}
 use Rattle.kd_desk.specs.OnDay.{IsAnswerOnDay, machine_and_day}
 use Rattle.kd_desk.specs.RunApply.{Applies}
-use Rattle.kd_desk.specs.RunCard.{Prints}
+use Rattle.kd_desk.specs.RunCard.{IsChosenCard, Prints}
 use Rattle.kd_desk.specs.CallAnswers.{LacksMemory}
 use Rattle.kd_desk.specs.Settings.{AreSettings}
 
@@ -36,7 +36,8 @@ success = Ok tt
 -- `run_card` writes the card, from the machine file `file` and for day `number`. `run_apply` writes the next
 -- machine file, from `file` and this card.
 pub record AreWritten (file sheet : List ℕ) (number : ℕ) (papers : CardAndFile) : Type 0 where
-  pub printed : IsAnswerOnDay file sheet number (λ m s. Prints m s number (sink_with papers.card) success) success
+  pub printed : IsAnswerOnDay file sheet number
+      (λ m s. Prints (IsChosenCard m s) m s number (sink_with papers.card) success) success
   pub applied : IfOk (machine_of file)
       (λ m. Applies m papers.card (sink_with papers.file) success ⊎ LacksMemory success)
 

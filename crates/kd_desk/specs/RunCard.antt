@@ -20,25 +20,37 @@ use Rattle.kd_desk.specs.Headline.{LeavesTheSheetsMachine, EquallySetDecipherOn}
 use Rattle.kd_tables.specs.Ports.{Port}
 use Rattle.kd_host.specs.Writing.{WritesText}
 
--- A shortest card for day `number` was written, or a prefix of its text if the device failed. The settings lead to the
--- day's machine, and leave spare cables free. The prices, one for each kind, prove that no list is shorter.
-pub record WritesCard (machine : Parts) (day : Day) (number : ℕ) (sink : Port)
+-- A shortest card: its settings lead the machine to the day's machine. Its prices, one for each kind, prove that no
+-- list is shorter. Machines that are equally set for the day decipher each other's texts.
+pub record IsShortestCard (machine : Parts) (day : Day) (settings : List Setting) (prices : PriceParts) : Type 0 where
+  pub version : version_of prices ≡ ByKind
+  pub proves : Proves machine day settings prices
+  pub shortest : IsShortest machine day settings
+  pub leaves : LeavesTheSheetsMachine machine day settings
+  pub deciphers : EquallySetDecipherOn day
+
+-- A card of which `Promise` holds was written for day `number`, or a prefix of its text if the device failed.
+pub record WritesCard (Promise : List Setting → PriceParts → Type 0) (number : ℕ) (sink : Port)
     (answer : Result (Unit {0}) DeskFault) : Type 0 where
   pub settings : List Setting
   pub prices : PriceParts
-  pub version : version_of prices ≡ ByKind
-  pub proves : Proves machine day settings prices
-  pub planned : IsPlannedCard machine day settings proves.numbered
-  pub shortest : IsShortest machine day settings
-  pub spares : SparesStayFree machine day settings
-  pub leaves : LeavesTheSheetsMachine machine day settings
-  pub deciphers : EquallySetDecipherOn day
+  pub promise : Promise settings prices
   pub text : List ℕ
   pub card : IsCard text number settings prices
   pub written : WritesText Device text sink answer
 
--- The machine and the day are of different models, or a card was written.
-pub data Prints (machine : Parts) (day : Day) (number : ℕ) (sink : Port)
+-- The machine and the day are of different models, or a card was written of which `Promise` holds.
+pub data Prints (Promise : List Setting → PriceParts → Type 0) (machine : Parts) (day : Day) (number : ℕ) (sink : Port)
     (answer : Result (Unit {0}) DeskFault) : Type 0 where
-  Different : model_of machine ≢ day_model day → answer ≡ Err OtherModel → Prints machine day number sink answer
-  Card : WritesCard machine day number sink answer → Prints machine day number sink answer
+  Different : model_of machine ≢ day_model day → answer ≡ Err OtherModel
+      → Prints Promise machine day number sink answer
+  Card : WritesCard Promise number sink answer → Prints Promise machine day number sink answer
+
+-- ---- Which shortest card it is.
+
+-- A shortest card, as the planner chooses it: its lines are those of a cheapest assignment, in the planner's order, and
+-- spare cables stay free.
+pub record IsChosenCard (machine : Parts) (day : Day) (settings : List Setting) (prices : PriceParts) : Type 0 where
+  pub shortest : IsShortestCard machine day settings prices
+  pub planned : IsPlannedCard machine day settings shortest.proves.numbered
+  pub spares : SparesStayFree machine day settings

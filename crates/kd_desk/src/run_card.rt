@@ -6,7 +6,7 @@ ghost use Rattle.kd_state.specs.Machine.{IsMachine};
 ghost use Rattle.kd_state.specs.SheetDay.{IsLegalDay, day_number};
 ghost use Rattle.kd_desk.specs.OnDay.{IsAnswerOnDay};
 ghost use Rattle.kd_tables.specs.Ports.{port};
-ghost use Rattle.kd_desk.specs.RunCard.{Prints};
+ghost use Rattle.kd_desk.specs.RunCard.{IsChosenCard, IsShortestCard, Prints};
 ghost use Rattle.kd_desk.specs.CallAnswers.{is_device};
 ghost use Rattle.kd_desk.specs.declared.fault.DeskFault.TheVariants.{Device};
 
@@ -30,8 +30,10 @@ pub fn run_card<W: Sink>(
     number: u8,
     sink: &mut W,
 ) -> Result<(), DeskFault>
-    ensures card { IsAnswerOnDay machine.now sheet.now number
-        (λ m s. Prints m s number (port W.taken W.has_failed sink.old sink.new) result) result }
+    ensures card { IsAnswerOnDay machine.now sheet.now number (λ m s. Prints (IsShortestCard m s) m s number
+        (port W.taken W.has_failed sink.old sink.new) result) result }
+    ensures chosen { IsAnswerOnDay machine.now sheet.now number (λ m s. Prints (IsChosenCard m s) m s number
+        (port W.taken W.has_failed sink.old sink.new) result) result }
     ensures untouched { IsErr result → result ≢ Err Device → sink.new ≡ sink.old }
     ensures failed { W.has_failed sink.new ≡ (W.has_failed sink.old || is_device result) }
 {
@@ -41,7 +43,9 @@ pub fn run_card<W: Sink>(
 
 /// Does what `run_card` does, for a machine and a day that are already read. Allocates nothing.
 pub fn print_card<W: Sink>(machine: &Machine, day: &SheetDay, sink: &mut W) -> Result<(), DeskFault>
-    ensures prints { Prints machine.now day.now (day_number day.now)
+    ensures prints { Prints (IsShortestCard machine.now day.now) machine.now day.now (day_number day.now)
+        (port W.taken W.has_failed sink.old sink.new) result }
+    ensures chosen { Prints (IsChosenCard machine.now day.now) machine.now day.now (day_number day.now)
         (port W.taken W.has_failed sink.old sink.new) result }
     ensures untouched { IsErr result → result ≢ Err Device → sink.new ≡ sink.old }
     ensures failed { W.has_failed sink.new ≡ (W.has_failed sink.old || is_device result) }

@@ -7,6 +7,7 @@ mod ending;
 mod file_fault;
 mod files;
 mod host_files;
+pub mod laws;
 mod memory_files;
 mod reader_source;
 mod writer_sink;

@@ -8,7 +8,7 @@ returns-in-Card-clause-does g c =
       left = nothing_left;
       may = none_failed;
       told = c.run_card.result;
-      does = c.run_card.ensures.card;
+      does = c.run_card.ensures.chosen;
       answers = c.of_answer.ensures;
     })
 

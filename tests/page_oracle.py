@@ -1,0 +1,328 @@
+#!/usr/bin/env python3
+"""Draws the page of each of these days by itself, for a comparison with the pages that curator writes. It was written before
+curator, by another hand, from the rules for the page's looks, and shares no code with it. The environment's DESK names the
+built desk, which makes the cards, carries them out, and types the tests. STYLE names a file with the style sheet.
+
+    page_oracle.py MACHINE SHEET DAY..
+"""
+import os
+import subprocess
+import sys
+import tempfile
+import tomllib
+
+DESK = os.environ['DESK']
+STYLE = os.environ['STYLE']
+
+ABC = 'ABCDEFGHIJKLMNOPQRSTUVWXYZ'
+BOX = ['I', 'II', 'III', 'IV', 'V', 'VI', 'VII', 'VIII', 'Beta', 'Gamma']
+PIN_WHEELS = [ABC, ABC.replace('W', ''), ABC[:22] + 'X', ABC[:21], ABC[:19], ABC[:17]]
+PLACES = ['1', '0L', '2', '3', '4', '5', '0R', '6']
+NAMES = {'Enigma I': 'Enigma I', 'M3': 'Enigma M3', 'M4': 'Enigma M4', 'M-209': 'Converter M-209'}
+SIDES = {3: ['left', 'middle', 'right'], 4: ['Greek', 'left', 'middle', 'right']}
+
+
+# The desk, and what it answers.
+
+def desk(*words, text=''):
+    run = subprocess.run([DESK, *words], input=text, capture_output=True, text=True)
+    if run.returncode:
+        sys.exit(run.stderr.strip())
+    return run.stdout
+
+
+def machine_of(text):
+    m = tomllib.loads(text)
+    if m['model'] != 'M-209':
+        m['ring'] = dict(zip(BOX, m['rings']))
+        m['letter'] = dict(zip(BOX, m['letters']))
+    return m
+
+
+# Words.
+
+def number(letter):
+    return '%02d' % (ABC.index(letter) + 1)
+
+
+def named(letter):
+    return letter + '\u00a0' + number(letter)
+
+
+def count(n):
+    return 'nothing to change' if n == 0 else '1 setting' if n == 1 else '%d settings' % n
+
+
+def in_fives(text):
+    return ' '.join(text[i:i + 5] for i in range(0, len(text), 5))
+
+
+# The page's parts.
+
+def tick(words, card):
+    """A box to tick, the words for the hand, and the card's line."""
+    return '<label><input type=checkbox> %s%s</label>' % (words, ' <code>%s</code>' % card if card else '')
+
+
+def ticks(items):
+    return '<ul>\n%s</ul>\n' % ''.join('<li>%s\n' % item for item in items)
+
+
+def step(title, settings, name, inside):
+    """A step's heading, with its number of settings; `name` is for print alone, where sheets come apart."""
+    small = '' if settings is None else ' <small>%s</small>' % count(settings)
+    return '<section>\n<h2%s>%s%s<span>%s</span></h2>\n%s</section>\n' % (
+        '' if inside else ' class=idle', title, small, name, inside)
+
+
+def svg(width, height, title, inside):
+    return '<svg role="img" viewBox="0 0 %d %d"><title>%s</title>\n%s</svg>\n' % (width, height, title, inside)
+
+
+def text(x, y, size, it, kind):
+    return '<text%s x="%d" y="%d" font-size="%d">%s</text>\n' % (kind and ' class="%s"' % kind, x, y, size, it)
+
+
+def rect(x, y, width, height, kind):
+    return '<rect%s x="%d" y="%d" width="%d" height="%d"/>\n' % (kind and ' class="%s"' % kind, x, y, width, height)
+
+
+def circle(x, y, radius, kind):
+    return '<circle%s cx="%d" cy="%d" r="%d"/>\n' % (kind and ' class="%s"' % kind, x, y, radius)
+
+
+# The picture of the wheels: a band for before and a band for after.
+
+def band(y, m, word, seated, reflected, ringed, turned):
+    """A reflector and its wheels in their slots, from the top y. What the card sets is framed thick, and bold."""
+    frame = lambda is_set: 'set' if is_set else ''
+    bold = lambda is_set: 'bold' if is_set else ''
+    out = text(2, y + 16, 20, word, 'label bold')
+    for label, down in (('wheel', 54), ('ring', 84), ('window', 125)):
+        out += text(2, y + down, 18, label, 'label')
+    out += text(134, y + 16, 18, 'reflector', '') + rect(96, y + 24, 76, 122, frame(reflected))
+    out += text(134, y + 54, 20, m['reflector'], bold(reflected))
+    for slot, wheel in enumerate(m['slots']):
+        x = 184 + 104 * slot
+        out += text(x + 48, y + 16, 18, 'slot %d' % (slot + 1), '') + rect(x, y + 24, 96, 122, frame(slot in seated))
+        if not wheel:
+            out += text(x + 48, y + 54, 20, 'empty', '')
+            continue
+        out += text(x + 48, y + 54, 20, wheel, bold(slot in seated))
+        if wheel in ringed:
+            out += rect(x + 10, y + 64, 76, 28, 'set')
+        out += text(x + 48, y + 85, 20, named(m['ring'][wheel]), bold(wheel in ringed))
+        out += rect(x + 10, y + 99, 40, 40, frame(slot in turned))
+        out += text(x + 30, y + 128, 26, m['letter'][wheel], bold(slot in turned))
+        out += text(x + 70, y + 126, 20, number(m['letter'][wheel]), bold(slot in turned))
+    return out
+
+
+def in_words(m):
+    return 'reflector ' + m['reflector'] + ''.join(
+        '; slot %d: %s' % (slot + 1, 'empty' if not w else 'wheel %s, ring %s, window %s' % (w, m['ring'][w], m['letter'][w]))
+        for slot, w in enumerate(m['slots']))
+
+
+def wheels_picture(before, after, settings):
+    of = lambda word: [s for s in settings if s[0] == word]
+    sets = ({int(s[1]) - 1 for s in of('SEAT')}, bool(of('REFLECTOR')), {s[1] for s in of('RING')},
+            {int(s[1]) - 1 for s in of('TURN')})
+    if not settings:
+        return svg(600, 150, 'The wheels, from the left: %s.' % in_words(after), band(0, after, 'after', *sets))
+    return svg(600, 314, 'The wheels, from the left. Before: %s. After: %s.' % (in_words(before), in_words(after)),
+               band(0, before, 'before', (), False, (), ()) + band(164, after, 'after', *sets))
+
+
+# The picture of the plugboard: sockets in the order of the keyboard; each cable has a lane of its own.
+
+ROWS = ['QWERTZUIO', 'ASDFGHJK', 'PYXCVBNML']
+ROW_X, ROW_Y, EXIT, LETTER_Y = [40, 70, 40], [46, 116, 286], [0, 0, 10], [24, 94, 323]
+
+
+def socket(letter):
+    """Row and centre of a socket."""
+    row = [letter in r for r in ROWS].index(True)
+    return row, ROW_X[row] + 60 * ROWS[row].index(letter), ROW_Y[row]
+
+
+def cable_line(cable, ends, kind):
+    """From the left plug straight to the cable's lane, along the lane, and straight to the right plug."""
+    lane = 139 + 9 * cable
+    points = sorted((socket(end)[1] + EXIT[socket(end)[0]], socket(end)[2]) for end in ends)
+    beside_lane = [lane - 5 if y < lane else lane + 5 for x, y in points]
+    (x, y), near = points[0], beside_lane[0]
+    line = 'M%d %dV%dQ%d %d %d %d' % (x, y, near, x, lane, x + 5, lane)
+    if len(ends) == 1:
+        line += 'H%d' % (x + 20)
+    else:
+        (x, y), near = points[1], beside_lane[1]
+        line += 'H%dQ%d %d %d %dV%d' % (x - 5, x, lane, x, near, y)
+    return '<path%s d="%s"/>\n' % (kind and ' class="%s"' % kind, line)
+
+
+def board(cables, moved, kind, title):
+    """The plugboard with these cables. The plugs at the letters `moved`, and their cables, are of this kind."""
+    out, cable_at = '', {}
+    for i, ends in enumerate(cables):
+        for end in ends:
+            cable_at[end] = i + 1
+        if ends:
+            out += cable_line(i + 1, ends, kind if any(end in moved for end in ends) else '')
+    for letter in ''.join(ROWS):
+        row, x, y = socket(letter)
+        out += text(x, LETTER_Y[row], 22, letter, 'bold' if letter in moved else '')
+        if letter not in cable_at:
+            out += circle(x, y, 4, 'free')
+            continue
+        if letter not in moved:
+            out += circle(x, y, 15, '')
+        elif kind == 'out':
+            out += rect(x - 15, y - 15, 30, 30, 'out')
+        else:
+            out += circle(x, y, 15, 'in')
+        out += text(x, y + 6, 17, cable_at[letter], 'on' if letter in moved and kind == 'in' else '')
+    return svg(560, 336, title, out)
+
+
+def joined(cables):
+    return ', '.join('%d %s' % (i + 1, '-'.join(c)) for i, c in enumerate(cables) if c) or 'none'
+
+
+def plug_table(moves, head):
+    rows = {}
+    for s in moves:
+        rows.setdefault(s[1], []).append('<td>' + tick('<b>%s</b>' % s[2], ' '.join(s)))
+    return '<table class=plugs>\n<tr><th scope=col>Cable<th scope=col colspan=2>%s\n%s</table>\n' % (
+        head, ''.join('<tr><th scope=row>%s%s\n' % (cable, ''.join(row)) for cable, row in rows.items()))
+
+
+def plug_step(title, cables, moves, kind, word, caption, name):
+    """The plugboard, and beside it the plugs to move, cable by cable."""
+    picture = board(cables, {s[2] for s in moves}, kind, 'The plugboard %s. Cables: %s.' % (word.lower(), joined(cables)))
+    inside = '<div class=beside><figure>%s<figcaption>%s. %sCircle: stays. Number: the cable’s.</figcaption></figure>\n%s</div>\n' % (
+        picture, word, caption if moves else '', plug_table(moves, 'take out at' if kind == 'out' else 'put in at') if moves else '')
+    return step(title, len(moves), name, inside if any(cables) and (moves or kind == 'in') else '')
+
+
+# The page of an Enigma.
+
+def enigma(before, after, settings, name):
+    of = lambda word: [s for s in settings if s[0] == word]
+    sides = SIDES[len(after['slots'])]
+    place = lambda w: 'slot %d' % (before['slots'].index(w) + 1) if w in before['slots'] else 'the box'
+    rings = [tick('wheel <b>%s</b>: set the ring to <b>%s</b>' % (s[1], named(s[2])), ' '.join(s)) for s in of('RING')]
+    seats = [tick('slot %s, %s: put in wheel <b>%s</b>, from %s' % (s[1], sides[int(s[1]) - 1], s[2], place(s[2])), ' '.join(s))
+             for s in of('SEAT')]
+    seats += [tick('put in reflector <b>%s</b>' % s[1], ' '.join(s)) for s in of('REFLECTOR')]
+    turns = {int(s[1]) - 1: ' '.join(s) for s in of('TURN')}
+    windows = [tick('slot %d: turn the wheel until <b>%s</b> shows' % (slot + 1, named(after['letter'][w])), turns.get(slot))
+               for slot, w in enumerate(after['slots'])]
+    return '<figure class=wheels>%s</figure>\n' % wheels_picture(before, after, settings) \
+        + step('1 Rings, with the wheels out' if rings else '1 Rings', len(rings), name, ticks(rings) if rings else '') \
+        + step('2 Wheels and reflector', len(seats), name, ticks(seats) if seats else '') \
+        + plug_step('3 Plugs out', before['cables'], of('PULL'), 'out', 'Before', 'Square: take out. ', name) \
+        + plug_step('4 Plugs in', after['cables'], of('PUT'), 'in', 'After', 'Disc: put in. ', name) \
+        + step('5 Windows', len(turns) or None, name, '<p>Set all of them: typing may have turned the wheels.</p>\n' + ticks(windows))
+
+
+# The page of a Converter.
+
+def pin_wheel(i, after, settings):
+    """One wheel: a head, and two rows of letters, A to M and N to Z, each letter in its own column."""
+    moves = {s[2]: s[3] for s in settings if s[0] == 'PIN' and int(s[1]) == i + 1}
+    out = '<tbody>\n<tr><th scope=rowgroup colspan=13>Wheel %d <small>%s</small>%s\n' % (
+        i + 1, count(len(moves)), ' <code>PIN %d</code>' % (i + 1) if moves else '')
+    for half in (ABC[:13], ABC[13:]):
+        out += '<tr>'
+        for letter in half:
+            dot = '●' if letter in after['pins'][i] else '○'
+            if letter not in PIN_WHEELS[i]:
+                out += '<td>'
+            elif letter in moves:
+                out += '<td class=set><label><input type=checkbox><b>%s</b><br>%s<small>%s</small></label>' % (letter, dot, moves[letter])
+            else:
+                out += '<td>%s<br>%s' % (letter, dot)
+        out += '\n'
+    return out
+
+
+def bar_row(i, before, after, settings):
+    """One bar: what stands at its eight places, and the lugs to move, in the card's order."""
+    was, now = before['bars'][i].split('-'), after['bars'][i].split('-')
+    moves = [s for s in settings if s[0] == 'LUG' and int(s[1]) == i + 1]
+    out = '<tr%s><th scope=row>%d' % (' class=set' if moves else '', i + 1)
+    for place in PLACES:
+        out += '<td>' + ('▪' if place in was and place in now else '×' if place in was else '■' if place in now else '')
+    for place in range(2):
+        out += '<td>'
+        if place < len(moves):
+            _, _, lug, to = moves[place]
+            out += tick('%s to <b>%s</b>' % ('left' if lug == 'L' else 'right', to), ' '.join(moves[place]))
+    return out + '\n'
+
+
+def converter(before, after, settings, name):
+    number_of = lambda word: sum(s[0] == word for s in settings)
+    turns = {int(s[1]) - 1: ' '.join(s) for s in settings if s[0] == 'TURN'}
+    pins = '<table class=pins>\n<caption>Pins after: ● effective, ○ not. Framed pins are to change: ON makes a pin effective, OFF not.</caption>\n%s</table>\n' % (
+        ''.join(pin_wheel(i, after, settings) for i in range(6)))
+    drum = '<table class=drum>\n<caption>▪ a lug stays here, × a lug leaves, ■ a lug comes. Move the lugs of a bar in the order shown.</caption>\n<thead>\n<tr><th scope=col>Bar%s<th scope=col colspan=2>Lugs to move\n<tbody>\n%s</table>\n' % (
+        ''.join('<th scope=col>' + place for place in PLACES), ''.join(bar_row(i, before, after, settings) for i in range(27)))
+    letters = '<p>Set all of them: enciphering may have turned the wheels.</p>\n<table class=letters>\n<tr><th scope=row>Wheel%s\n<tr><th scope=row>letter%s\n</table>\n' % (
+        ''.join('<th scope=col>%d' % (i + 1) for i in range(6)),
+        ''.join('<td>' + tick('<b>%s</b>' % letter, turns.get(i)) for i, letter in enumerate(after['letters'])))
+    return step('1 Pins', number_of('PIN'), name, pins) + step('2 Lugs', number_of('LUG'), name, drum) \
+        + step('3 Letters', len(turns) or None, name, letters)
+
+
+# A day, and a file of days.
+
+def page(machine_file, sheet, day, folder):
+    """The day's article, its number of settings, and the file of the machine after it."""
+    card = desk('card', machine_file, sheet, day)
+    card_file, after_file = os.path.join(folder, 'card-' + day), os.path.join(folder, 'day-%s.toml' % day)
+    open(card_file, 'w').write(card)
+    open(after_file, 'w').write(desk('apply', machine_file, card_file))
+    before, after = machine_of(desk('apply', machine_file, '/dev/null')), machine_of(open(after_file).read())
+    card_lines = [line.split() for line in card.splitlines()]
+    settings = card_lines[1:[line[0] for line in card_lines].index('SETTINGS')]
+    total = int(card_lines[-1][1])
+    is_converter = after['model'] == 'M-209'
+    keys = 'A' * 26 if is_converter else ABC
+    lamps = desk('type', after_file, text=keys).strip()
+    name = '%s, day %s' % (NAMES[after['model']], day)
+    first = 'First compare: framed pins the other way, other pins as shown, lugs at ▪ and ×.' if is_converter else \
+        'First compare the machine with <i>before</i>; only windows may differ. Thick frames: to set.' if settings else \
+        'The machine has to stand as shown; only windows may differ.'
+    shown = ' '.join(after['letters']) if is_converter else ', '.join(named(after['letter'][w]) for w in after['slots'])
+    test = ('<p>%s</p>\n<pre>%s\n<b>%s</b></pre>\n<p>Then set the windows to <b>%s</b> again.</p>\n'
+            '<p class=fields><span>%s when put away</span></p>\n'
+            '<p class=note>No shorter list leads to this day. Differences in %s: %d. Least number of %s to move, by the prices’ sum: %d. Together: %d.</p>\n') % (
+        'Set the knob to C, and encipher 26 times A. The machine has to print the second line:' if is_converter else
+        'Type the alphabet. The lamps have to give the second line:',
+        in_fives(keys), in_fives(lamps), shown, 'Letters' if is_converter else 'Windows',
+        'pins and letters' if is_converter else 'rings, slots, reflector and windows', len(settings) - total,
+        'lugs' if is_converter else 'plugs', total, len(settings))
+    out = '<article id=day-%s>\n<header>\n<h1>%s <small>%s</small></h1>\n<p class=fields><span>Machine</span><span>Date</span><span>Done by</span></p>\n<p>%s</p>\n</header>\n%s%s</article>\n' % (
+        day, name, count(len(settings)), first, (converter if is_converter else enigma)(before, after, settings, name),
+        step('4 Test' if is_converter else '6 Test', None, name, test))
+    return out, len(settings), after_file, NAMES[after['model']]
+
+
+def main():
+    machine, sheet, days = sys.argv[1], sys.argv[2], sys.argv[3:]
+    out = nav = ''
+    with tempfile.TemporaryDirectory() as folder:
+        for day in days:
+            article, settings, machine, model = page(machine, sheet, day, folder)
+            out += article
+            nav += '<li><a href="#day-%s">Day %s</a>, %s\n' % (day, day, count(settings))
+    if len(days) > 1:
+        out = '<nav aria-label="Days">\n<ul>\n%s</ul>\n</nav>\n' % nav + out
+    title = '%s, day %s' % (model, days[0]) if len(days) == 1 else '%s, days %s to %s' % (model, days[0], days[-1])
+    sys.stdout.write('<!DOCTYPE html>\n<html lang=en>\n<meta charset=utf-8>\n<meta name=viewport content="width=device-width,initial-scale=1">\n<title>%s</title>\n<style>\n%s</style>\n<body>\n<main>\n%s</main>\n' % (
+        title, open(STYLE).read(), out))
+
+
+main()
