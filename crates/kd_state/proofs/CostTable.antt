@@ -9,7 +9,7 @@ use Rattle.kd_state.proofs.Prelude.{le-leb, length, length-append, length-map, l
 use Rattle.kd_state.proofs.Prelude.{ltb-true, map, nat_eq, nat_tests, option_to_list, range_with_len}
 use Rattle.kd_state.proofs.Prelude.{recursion_from_All, refl, rules, slice_get, suc, sum_by-cons, sum_by_more}
 use Rattle.kd_state.proofs.Prelude.{take, true, unwrap_or, zero, ℕ, ◌&&◌, reading_of}
-use Rattle.kd_state.proofs.{Cables.has_letter-AllByRecursion}
+use Rattle.kd_tables.proofs.DistinctLetters.{has_letter-AllByRecursion}
 use Rattle.kd_state.proofs.{Prelude.{◌++◌, ◌+◌, ◌-◌, ◌<◌, ◌||◌, ◌∙◌, ◌∷◌, ◌≡◌, ◌≢◌, ◌≤◌}}
 use Rattle.kd_state.proofs.SortedAlike.{count_by-cons, one_if}
 use Rattle.kd_state.specs.Costs.{standing_across, lugs_moved, nearest_standing, place_of_pin_wheel}

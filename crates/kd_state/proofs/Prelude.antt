@@ -23,10 +23,8 @@ pub use Rattle.kd_state.specs.Machine.{letters_in_cables, ring_at, machine_ring,
 pub use Rattle.kd_state.specs.OnKey.{IsRotorOnKey, OnKey, ShowsWindow, cable_of_column, cables_of}
 pub use Rattle.kd_state.specs.Pins.{pin_at, pin_set, wheel_pins, with_pin}
 pub use Rattle.kd_state.specs.FirstFault.{◌>>=◌, ◌>>◌, demand}
-pub use Rattle.kd_state.specs.Setting.{Carries, Leads, Refuses, outcome, are_new_and_distinct, cable_with}
-pub use Rattle.kd_state.specs.Setting.{has_loose_end, has_lugs_in_order}
-pub use Rattle.kd_state.specs.Setting.{cable_without, has_letter, is_same_place}
-pub use Rattle.kd_state.specs.Setting.{with_lug, seat_without}
+pub use Rattle.kd_state.specs.Setting.{Carries, Leads, Refuses, outcome, cable_with, cable_without, has_loose_end}
+pub use Rattle.kd_state.specs.Setting.{is_same_place, with_lug, seat_without}
 pub use Rattle.kd_state.specs.SheetDay.{Day, HasWheelLetters, IsLegalDay, IsLegalRotorDay, OfPins, OfRotors, PinDay}
 pub use Rattle.kd_state.specs.SheetDay.{RotorDay, seats_of_wheels}
 pub use Rattle.kd_state.specs.TwoCiphers.{EngineKey, IsReady, OfDrum, OfWheels, cipher}
@@ -41,8 +39,9 @@ pub use Rattle.kd_state.specs.declared.setting.why.Why.TheVariants.{NoLooseEnd, 
 pub use Rattle.kd_state.specs.declared.setting.why.Why.TheVariants.{NotThere, OtherModel, PlaceTaken, SlotEmpty}
 pub use Rattle.kd_state.specs.declared.setting.why.Why.TheVariants.{SocketTaken, WheelNotAllowed, WouldPass}
 pub use Rattle.kd_state.specs.declared.sheet_day.rotor_entry.SheetWheel.{SheetWheel}
-pub use Rattle.kd_tables.specs.{Permutation.alphabet, Permutation.exchange, Rings.place_on}
-pub use Rattle.kd_tables.specs.Places.{IsBefore, IsReading, lug_text, place_number, place_text, places, reading_of}
+pub use Rattle.kd_tables.specs.{Pairs.has_letter, Permutation.alphabet, Permutation.exchange, Rings.place_on}
+pub use Rattle.kd_tables.specs.Places.{IsBefore, IsReading, lug_text, place_number, place_rank, place_text, places}
+pub use Rattle.kd_tables.specs.Places.{reading_of}
 pub use Rattle.kd_tables.specs.Tables.{box_of, reflector_text, reflectors_of, slots_of}
 pub use Rattle.kd_tables.specs.Tables.{wheel_text, wheels_for}
 pub use Rattle.kd_tables.specs.declared.{lug.Lug.Lug, lug.Lug.TheVariants.Left, model.Model.Model, place.Place.Place}

@@ -1,7 +1,8 @@
 -- Lines of words as they are written and split, texts of prices, and what the lines of a card have.
 pub use Rattle.kd_tables.specs.{declared.place.Place.Place, Places.{place_text, reading_text, standing_text}}
 pub use Rattle.std.specs.{Fmt.signed_decimal, Int.Signed.mag, List.{All, AllByRecursion, flat_map, list_all}}
-pub use Rattle.std.{proofs.Common.{[], drop, length, negsuc, unsigned_abs, zero, ◌+ℤ◌, ◌<◌, ◌≢◌}, specs.Result.IsErrAnd}
+pub use Rattle.std.proofs.Common.{[], drop, length, negsuc, unsigned_abs, zero, ◌+ℤ◌, ◌<◌, ◌≢◌}
+pub use Rattle.std.specs.Result.{IsErrAnd, IsOkAnd}
 pub use Rattle.std.proofs.Common.{ap, arith, decimal, false, List, ltb, None, Option, Some, subst, take, true, ℤ, ◌++◌}
 pub use Rattle.std.proofs.Common.{Bool, Bor, Decides, eqb, Err, MatchOption, min, Ok, Result, suc, w16, ◌+◌, ◌^◌, ◌↔◌}
 pub use Rattle.std.proofs.Common.{append_assoc, fold, get_or, is_some, length-append, MatchResult, of_z, ℕ, ◌∙◌, ◌≤◌}
@@ -27,7 +28,8 @@ pub use Rattle.kd_card.specs.CardFault.{AtNothing, BeginsWithWord, IsAllPricesAn
 pub use Rattle.kd_card.specs.CardFault.{BeginsWithKinds, IsDigit, IsGroupsAnswer, IsPriceLineAnswer, IsRestAnswer}
 pub use Rattle.kd_card.specs.CardFault.{EndsGroup, HasLineWords, IsLineAnswer, IsNextKind, IsNumberText, IsValueAnswer}
 pub use Rattle.kd_card.specs.CardFault.{BeginsWithHead, IsCardAnswer, IsSettingsAnswer, IsTablePricesAnswer}
-pub use Rattle.kd_card.specs.CardFault.{AtOther, HasNoNext, IsGroupAnswer, IsListsAnswer, IsNumeral, line_then}
+pub use Rattle.kd_card.specs.CardFault.{AtOther, HasNoNext, IsGroupAnswer, IsListsAnswer, IsNumeral}
+pub use Rattle.kd_state.specs.LineWords.{line_then}
 pub use Rattle.kd_card.specs.CardText.{card_text, head_words, IsCard, lines_text, price_lines}
 pub use Rattle.kd_card.specs.declared.prices.PriceParts.{PriceParts, TheVariants.{BarKinds, Bars, CableKinds, Cables}}
 pub use Rattle.kd_card.specs.declared.{kinds.KindOf.KindOf, prices.Version.{Version, TheVariants.{ByKind, ByNumber}}}
@@ -258,6 +260,16 @@ module _ (number line : ℕ) {words : List (List ℕ)} where
 pub MatchResult-err : {F Y : Type 0} (answer : Result Y F) (fault : F) (Good : Y → Type 0) (Bad : F → Type 0)
     → IsErrAnd answer (λ made. made ≡ fault) → Bad fault → MatchResult answer Good Bad
 MatchResult-err answer fault Good Bad made bad = let is = err_from_is_err_and answer made in rw (is.1, is.2) bad
+
+-- If a step's value is turned into another by a call, and faults are passed on, what holds of the step carries over.
+pub MatchResult-map : {X Y F : Type 0} (step : Result X F) (mapped : Result Y F) (Read : X → Type 0)
+    (Fault : F → Type 0) (Called : X → Y → Type 0) (Good : Y → Type 0) (Bad : F → Type 0) → MatchResult step Read Fault
+    → MatchResult step (λ x. IsOkAnd mapped (Called x)) (λ fault. mapped ≡ Err fault)
+    → ((x : X) (y : Y) → Read x → Called x y → Good y) → ((fault : F) → Fault fault → Bad fault)
+    → MatchResult mapped Good Bad
+MatchResult-map (Ok x) (Ok y) Read Fault Called Good Bad read called good bad = good x y read called
+MatchResult-map (Ok x) (Err fault) Read Fault Called Good Bad read called good bad = absurd called
+MatchResult-map (Err fault) mapped Read Fault Called Good Bad read called good bad = rw called (bad fault read)
 
 -- A test that is false refutes what it decides.
 pub not_from_false : {P : Type 0} {test : Bool} → Decides test P → test ≡ false → ¬ P

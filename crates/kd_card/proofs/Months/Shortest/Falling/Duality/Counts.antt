@@ -40,7 +40,7 @@ pub use Rattle.std.specs.Prelude.{IfOk, IsFalse}
 pub use Rattle.kd_state.specs.{Machine.HasLugsInOrder, Costs.{bar_cost, cable_cost, columns_of, exactly_one}}
 pub use Rattle.kd_state.specs.Costs.{column_letters, cost_table, loose_count, lugs_moved, one_unless}
 pub use Rattle.kd_state.specs.Setting.{Carries, cable_without, outcome, seat_without, with_lug}
-pub use Rattle.kd_state.specs.{Pins.with_pin, Setting.{cable_with, has_letter, Leads}}
+pub use Rattle.{kd_state.specs.{Pins.with_pin, Setting.{cable_with, Leads}}, kd_tables.specs.Pairs.has_letter}
 pub use Rattle.kd_state.specs.{Pins.wheel_pins, SameParts.{numbered_item, place_in_box, same_reflector, same_wheel}}
 pub use Rattle.kd_state.specs.declared.{setting.Setting.TheVariants.LugTo, sheet_day.rotor_entry.SheetWheel.SheetWheel}
 pub use Rattle.kd_state.specs.declared.setting.Setting.TheVariants.{PinTo, Pull, Put, RingTo, Seat, SeatReflector, Turn}
