@@ -8,8 +8,7 @@ use Rattle.kd_state.specs.{declared.setting.Setting.TheVariants.{Pull, Put, LugT
 use Rattle.kd_state.specs.{declared.machine.parts.Parts.TheVariants.{Rotor, Pin}, declared.setting.Setting.Setting}
 use Rattle.kd_state.specs.{Costs.{cost_table, loose_count}, SheetDay.{Day, OfRotors, OfPins, day_model}}
 use Rattle.kd_state.specs.{Setting.{Leads, outcome}, Machine.model_of, OnKey.{ReadsAs, columns_in_order}}
-use Rattle.std.specs.Prelude.{◌≡◌, ℕ, ◌+◌, ◌≤◌, Bool, true, false, List, [], ◌∷◌, length, pos, IfOk, IsFalse}
-use Rattle.std.specs.Prelude.{count_by}
+use Rattle.std.specs.Prelude.{◌≡◌, ℕ, ◌+◌, ◌≤◌, Bool, true, false, List, [], ◌∷◌, length, pos, IfOk, IsFalse, count_by}
 
 -- The prices are by number: one for each cable and each column (rotor machine), or each bar and each row (Converter).
 abbrev pub AreModelPrices : Parts → PriceParts → Type 0

@@ -1,7 +1,6 @@
 //! Reads the text of a card.
-ghost use Rattle.kd_card.specs.CardFault.{BeginsWithHead, HasLineWords, IsValueAnswer, IsGroupsAnswer};
-ghost use Rattle.kd_card.specs.CardFault.{IsListsAnswer, IsAllPricesAnswer, IsTableAnswer, IsTablePricesAnswer};
-ghost use Rattle.kd_card.specs.CardFault.{IsCardFault};
+ghost use Rattle.kd_card.specs.CardFault.{BeginsWithHead, HasLineWords, IsValueAnswer, IsGroupsAnswer, IsListsAnswer};
+ghost use Rattle.kd_card.specs.CardFault.{IsAllPricesAnswer, IsTableAnswer, IsTablePricesAnswer, IsCardFault};
 ghost use Rattle.kd_card.specs.{CardText.IsCard, Reading.IsNoPriceLine};
 ghost use Rattle.kd_state.specs.LineWords.{words_of, IsWithout};
 ghost use Rattle.std.specs.Prelude.{◌≡◌, ◌≢◌, ℕ, ◌<◌, ◌≤◌, ◌∷◌, ◌++◌, List, MatchOption, MatchResult, Ok, Err};

@@ -1,11 +1,10 @@
 -- Pairs of a plugboard: what each letter is exchanged for, and the table of all letters.
-use Rattle.std.proofs.Common.{All, Bool, Contains, List, [], arith, false, get_or, inl, inr, nat_eq}
-use Rattle.std.proofs.Common.{length, refl, rules, slice_index, suc, sym, true, zero, ℕ}
+use Rattle.std.proofs.Common.{All, Bool, Contains, List, [], arith, false, get_or, inl, inr, nat_eq, length, refl}
+use Rattle.std.proofs.Common.{rules, slice_index, suc, sym, true, zero, ℕ, ◌<◌, ◌↔◌, ◌∙◌, ◌∷◌, ◌≡◌, ◌⊎◌}
 use Rattle.kd_enigma.{proofs.Ways.each_letter, specs.Plugs.{HavePairOf, NoLetterTwice, letters_in_pairs}}
 use Rattle.kd_enigma.specs.{Cipher.IsPlugboard, Laws.{PairsExchange, PairsMakeAPlugboard, SamePairsExchangeAlike}}
 use Rattle.kd_tables.proofs.DistinctLetters.{IsDistinct-nil, new_tells}
 use Rattle.kd_tables.specs.{Pairs.has_letter, Permutation.{exchange, exchanged}}
-use Rattle.std.proofs.Common.{◌<◌, ◌↔◌, ◌∙◌, ◌∷◌, ◌≡◌, ◌⊎◌}
 use Rattle.std.proofs.lemmas.Bool.{cases_Bool, cases_eq, eq-eqb, eqb-true, false_from_ne_true, false≢true}
 use Rattle.std.proofs.lemmas.{Bool.Decides.nat_tests, List.Folds.{Any-from_list_any, list_any_at}}
 use Rattle.std.proofs.lemmas.{List.Elements.{All-nil}}

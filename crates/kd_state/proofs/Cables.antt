@@ -1,18 +1,14 @@
 -- Lemmas on the letters in cables, and on cables that are a day's cables in any order.
-use Rattle.kd_state.proofs.Prelude.{option_zip}
-use Rattle.kd_state.proofs.Prelude.{NoLetterTwice, letters_in_pairs, AreCables, cable_letters, letters_in_cables}
-use Rattle.kd_state.proofs.Prelude.{cable_in_order, cable_of_column, cables_of, column_letters, columns_of, cable_with}
-use Rattle.kd_state.proofs.Prelude.{All-map, All-permutation, Bool, IsPermutation-sym, list_any}
-use Rattle.kd_state.proofs.Prelude.{cable_without, has_letter, is_some, cond_both, eq-eqb}
-use Rattle.kd_state.proofs.Prelude.{append_assoc, le-leb, leb-false}
-use Rattle.kd_state.proofs.Prelude.{true≢false, nat_tests, ◌||◌, ◌-◌}
-use Rattle.kd_state.proofs.Prelude.{recursion_from_All, IsPermutation-append, IsPermutation-append_comm}
-use Rattle.kd_state.proofs.Prelude.{IsPermutation-append_left, IsPermutation-append_right, IsPermutation-refl}
-use Rattle.kd_state.proofs.Prelude.{IsPermutation-trans, All, AllByRecursion}
-use Rattle.kd_state.proofs.Prelude.{option_map_or, List, None, Option, Some, [], arith}
-use Rattle.kd_state.proofs.Prelude.{false, filter_map, get_or, length, map, nat_eq, refl, set, slice_get}
-use Rattle.kd_state.proofs.Prelude.{suc, true, zero, ℕ, ◌++◌, ◌↔◌, ◌∙◌, ◌∷◌, ◌≡◌, ◌≢◌}
-use Rattle.kd_state.proofs.Prelude.{IsPermutation, ◌&&◌}
+use Rattle.kd_state.proofs.Prelude.{option_zip, NoLetterTwice, letters_in_pairs, AreCables, cable_letters}
+use Rattle.kd_state.proofs.Prelude.{letters_in_cables, cable_in_order, cable_of_column, cables_of, column_letters}
+use Rattle.kd_state.proofs.Prelude.{columns_of, cable_with, All-map, All-permutation, Bool, IsPermutation-sym, list_any}
+use Rattle.kd_state.proofs.Prelude.{cable_without, has_letter, is_some, cond_both, eq-eqb, append_assoc, le-leb}
+use Rattle.kd_state.proofs.Prelude.{leb-false, true≢false, nat_tests, ◌||◌, ◌-◌, recursion_from_All}
+use Rattle.kd_state.proofs.Prelude.{IsPermutation-append, IsPermutation-append_comm, IsPermutation-append_left}
+use Rattle.kd_state.proofs.Prelude.{IsPermutation-append_right, IsPermutation-refl, IsPermutation-trans, All}
+use Rattle.kd_state.proofs.Prelude.{AllByRecursion, option_map_or, List, None, Option, Some, [], arith, false}
+use Rattle.kd_state.proofs.Prelude.{filter_map, get_or, length, map, nat_eq, refl, set, slice_get, suc, true, zero, ℕ}
+use Rattle.kd_state.proofs.Prelude.{◌++◌, ◌↔◌, ◌∙◌, ◌∷◌, ◌≡◌, ◌≢◌, IsPermutation, ◌&&◌}
 use Rattle.{std.proofs.Common.replicate}
 use Rattle.std.proofs.lemmas.List.{Folds.{Any-from_list_any, list_any_at}, Sorted.list_any-IsPermutation}
 use Rattle.kd_enigma.specs.Plugs as plugs

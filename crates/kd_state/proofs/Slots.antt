@@ -1,11 +1,10 @@
 -- Lemmas on elements counted from 1: slots, and the letters and pins of the pin wheels.
 use Rattle.kd_state.proofs.Prelude.{IsEachOnItsWheel, numbered_item, IsSeatedAt, wheels_for, AreOnWheels, HasAllPins}
-use Rattle.kd_state.proofs.Prelude.{has_letter, place_on, box_of, Model, Wheel, cases_Bool, le-ltb, lt-ltb}
-use Rattle.kd_state.proofs.Prelude.{Decides-eqb, Decides-like, is_member-Decides, get_or_from_slice_get}
-use Rattle.kd_state.proofs.Prelude.{gets, slice_get-get_or, slice_get_within, Decides, is_none, is_some, unwrap_or}
-use Rattle.kd_state.proofs.Prelude.{PinSet, ring_of, Contains, List, Option, Some, arith, false, length, nat_eq, refl}
-use Rattle.kd_state.proofs.Prelude.{set, slice_get, sym, ℕ, ◌+◌, ◌-◌, ◌<◌, ◌≡◌, ◌≢◌, ◌≤◌, common_steps}
-use Rattle.kd_state.proofs.Prelude.{map, range_with_len, suc, zero}
+use Rattle.kd_state.proofs.Prelude.{has_letter, place_on, box_of, Model, Wheel, cases_Bool, le-ltb, lt-ltb, Decides-eqb}
+use Rattle.kd_state.proofs.Prelude.{Decides-like, is_member-Decides, get_or_from_slice_get, gets, slice_get-get_or}
+use Rattle.kd_state.proofs.Prelude.{slice_get_within, Decides, is_none, is_some, unwrap_or, PinSet, ring_of, Contains}
+use Rattle.kd_state.proofs.Prelude.{List, Option, Some, arith, false, length, nat_eq, refl, set, slice_get, sym, ℕ, ◌+◌}
+use Rattle.kd_state.proofs.Prelude.{◌-◌, ◌<◌, ◌≡◌, ◌≢◌, ◌≤◌, common_steps, map, range_with_len, suc, zero}
 use Rattle.{std.proofs.Common.add-one, kd_state.proofs.Wheels.{IsPlaced-from_wheels_for, first_within, first_nowhere}}
 
 -- `x` is element `number`, counted from 1: it is at place `number - 1`

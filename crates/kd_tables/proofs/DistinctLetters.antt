@@ -34,16 +34,16 @@ module _ {Thing : Type 0} (letters : Thing → List ℕ) where
   abbrev all_letters : List Thing → List ℕ
   all_letters things = flat_map letters things
 
-  pub none_differ : (things : List Thing) → length things < 1 → IsDistinct nat_eq (all_letters things)
-  none_differ [] none = IsDistinct-nil
-  none_differ (thing ∷ things) none = absurd (omega arith)
+  pub IsDistinct-none : (things : List Thing) → length things < 1 → IsDistinct nat_eq (all_letters things)
+  IsDistinct-none [] none = IsDistinct-nil
+  IsDistinct-none (thing ∷ things) none = absurd (omega arith)
 
-  pub first_and_rest_differ : (things : List Thing) (first : Thing) → 1 ≤ length things → first ≡ get_or things 0 first
-      → IsDistinct nat_eq (all_letters things)
+  pub IsDistinct-first_and_rest : (things : List Thing) (first : Thing) → 1 ≤ length things
+      → first ≡ get_or things 0 first → IsDistinct nat_eq (all_letters things)
       ↔ ((are_new_and_distinct (letters first) (all_letters (take (length things - 1) (drop 1 things))) ≡ true)
       × IsDistinct nat_eq (all_letters (take (length things - 1) (drop 1 things))))
-  first_and_rest_differ [] first some is = absurd (omega arith)
-  first_and_rest_differ (thing ∷ things) first some is =
+  IsDistinct-first_and_rest [] first some is = absurd (omega arith)
+  IsDistinct-first_and_rest (thing ∷ things) first some is =
       let rest = take (length (thing ∷ things) - 1) (drop 1 (thing ∷ things)) in
       let same : rest ≡ things = take_all (length (thing ∷ things) - 1) things (omega arith) in
       let Told = λ (one : Thing) (others : List Thing). IsDistinct nat_eq (all_letters (thing ∷ things))
