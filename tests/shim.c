@@ -216,13 +216,14 @@ static int begin(enum kind kind, long number, int from_there_on, int byte_by_byt
     return 0;
 }
 
-/* Of a longer answer, written byte by byte, each 61st write is refused. */
+/* Of a longer answer, written byte by byte, only so many writes are refused one by one, with as many between each two. */
 #define MOST_WRITES 8000
+#define FEWER_WRITES 128
 
 /* Refuses the calls of a kind one after another, from the first that is named to one that never comes. True in a child. */
 static int refuse_each(enum kind kind, long first, int from_there_on, int byte_by_byte)
 {
-    long step = kind == WRITE && byte_by_byte && own->out > MOST_WRITES ? 61 : 1;
+    long step = kind == WRITE && byte_by_byte && own->out > MOST_WRITES ? own->out / FEWER_WRITES : 1;
     for (long number = first;; number += step) {
         if (begin(kind, number, from_there_on, byte_by_byte)) return 1;
         if (!has_refused()) break;
