@@ -24,10 +24,10 @@ no_setting x rest = grind arith
 -- ---- what the steps of reading say about the bytes if all succeed
 
 -- `bytes` are the lines of these prices, and then `rest`.
-record AreAllPriceLines (by : Version) (bytes : List ℕ) (prices : PriceParts) (rest : List ℕ) : Type 0 where
+pub record AreAllPriceLines (by : Version) (bytes : List ℕ) (prices : PriceParts) (rest : List ℕ) : Type 0 where
   version : version_of prices ≡ by
   text : bytes ≡ lines_text (price_lines prices) ++ rest
-  are : ArePrices prices
+  pub are : ArePrices prices
 
 -- If two lists of prices are read from `bytes`, these are the lines of the prices, and then the rest; and both lists
 -- are valid.
@@ -57,7 +57,7 @@ pub groups_said : {R X C Y : Type 0} (rows : KindFormat R X) (columns : KindForm
 groups_said {R} {C} rows columns number line {bytes} x says =
     grind (arith, common_steps, ThenNext-Ok, append_assoc, text_of_two, Yields-Ok)
 
-of_table : (version : Version) (table : CostTable) (line : ℕ) {bytes : List ℕ} (x : PriceParts × List ℕ)
+pub of_table : (version : Version) (table : CostTable) (line : ℕ) {bytes : List ℕ} (x : PriceParts × List ℕ)
     → IsTablePricesAnswer version table line bytes (Ok x) → AreAllPriceLines version bytes x.0 x.1
 of_table ByNumber OfCables line {bytes} x says =
     let lists = ThenNext-Ok says in

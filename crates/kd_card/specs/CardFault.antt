@@ -11,7 +11,7 @@ use Rattle.kd_card.specs.Prices.{price_sum, ArePricesInRange}
 use Rattle.kd_card.specs.declared.fault.CardFault.{CardFault}
 use Rattle.kd_state.specs.{AnswerRules.{AnswerRule, ◌>>=◌, Yields, Finds, Demands, FindsAlways}, SheetDay.IsDayNumber}
 use Rattle.kd_state.specs.{Line.{BeginsWithSettingLines, BeginsWithAllSettings}}
-use Rattle.kd_state.specs.{LineWords.{words_of, line_of, IsFirstPart}}
+use Rattle.kd_state.specs.{LineWords.{words_of, line_then, IsFirstPart}}
 use Rattle.kd_state.specs.declared.setting.Setting.{Setting}
 use Rattle.std.specs.Prelude.{codes, decimal, ◌≡◌, ◌≢◌, ℕ, ◌+◌, ◌≤◌, ◌⊎◌, List, [], ◌∷◌, ◌++◌, length, map, All, ℤ}
 use Rattle.std.specs.Prelude.{Bool, true, false, Ok, Err, Option, Some, None}
@@ -19,6 +19,7 @@ use Rattle.std.specs.Fmt.{signed_decimal}
 
 -- ---- numbers and prices as they are written
 
+-- The byte is a decimal digit.
 abbrev pub IsDigit : ℕ → Type 0
 IsDigit byte = (48 ≤ byte) × (byte ≤ 57)
 
@@ -27,7 +28,7 @@ abbrev pub IsNumberText : List ℕ → Type 0
 IsNumberText [] = ⊥
 IsNumberText (digit ∷ digits) = IsDigit digit × All IsDigit digits × ((digit ≡ 48) → (digits ≡ []))
 
--- The text is a decimal number without leading zeros. It may be negative if the Bool is `true`, but isn't `-0`.
+-- The text is a decimal number without leading zeros. If the Bool is `true`, the number may be below 0; `-0` is none.
 abbrev pub IsNumeral : Bool → List ℕ → Type 0
 IsNumeral false text = IsNumberText text
 IsNumeral true text =
@@ -35,17 +36,13 @@ IsNumeral true text =
 
 -- ---- lines
 
--- `words` with a space between two words, then LF, and then `rest`
-abbrev pub line_then : List (List ℕ) → List ℕ → List ℕ
-line_then words rest = line_of words ++ 10 ∷ rest
-
--- The first line of `bytes` ends with LF. Its words, split at each space, are `words`; `rest` follows the LF.
+-- The first line of `bytes` ends with LF. Split at each space, the line is `words`. The bytes after its LF are `rest`.
 pub record HasLineWords (bytes : List ℕ) (words : List (List ℕ)) (rest : List ℕ) : Type 0 where
   pub line : List ℕ
   pub first : IsFirstPart 10 bytes line rest
   pub parts : words_of line ≡ words
 
--- Reading a line such as `SUM 12`, which has `prefix` and then a number. The result is the bytes after the line, or a
+-- The result of reading a line such as `SUM 12`, which is `prefix` and then a number: the bytes after the line, or a
 -- fault. If the line has another form or no LF, the fault is `BadLine`. If its number isn't `due`, the fault is
 -- `CountWrong`.
 abbrev pub IsValueAnswer : Bool → List ℕ → List ℕ → ℕ → List ℕ → AnswerRule CardFault (List ℕ)
@@ -69,6 +66,7 @@ pub record BeginsWithHead (bytes : List ℕ) (version : Version) (day : ℕ) (re
   pub text : bytes ≡ line_then (head_words version day) rest
   pub of_month : IsDayNumber day
 
+-- The result of reading a card's first line: its version, its day and the bytes after the line, or the fault `BadHead`.
 abbrev pub IsHeadAnswer : List ℕ → AnswerRule CardFault (Version × ℕ × List ℕ)
 IsHeadAnswer bytes = Finds (λ (head : Version × ℕ × List ℕ). BeginsWithHead bytes head.0 head.1 head.2) BadHead
 
@@ -127,21 +125,21 @@ pub record BeginsWithWord (word bytes : List ℕ) : Type 0 where
   pub rest : List ℕ
   pub has : HasLineWords bytes (word ∷ behind) rest
 
--- The lines of a group begin with `word`. The group ends before `bytes`: they are empty, or begin with a line that has
--- LF and another first word.
+-- A group of lines that begin with `word` ends before `bytes`: either `bytes` are empty, or their first line ends with
+-- LF and begins with another word.
 pub data EndsGroup (word bytes : List ℕ) : Type 0 where
   AtNothing : bytes ≡ [] → EndsGroup word bytes
   AtOther : (other : List ℕ) → BeginsWithWord other bytes → other ≢ word → EndsGroup word bytes
 
--- `bytes` are the line of `kind`, and then `rest`. The kind is valid. If there is a kind `last`, `kind` comes after it
--- in the order of a card's lines.
+-- `bytes` are the line of the valid kind `kind`, and then `rest`. If there is a kind `last`, `kind` comes after it in
+-- the order of a card's lines.
 pub record IsNextKind {K X : Type 0} (format : KindFormat K X) (last : Option K) (bytes : List ℕ) (kind : K)
     (rest : List ℕ) : Type 0 where
   pub good : IsKind format kind
   pub after : ComesAfter format last kind
   pub line : HasLineWords bytes (kind_words format kind) rest
 
--- No next kind follows: `bytes` don't begin with a valid kind's line, or this kind doesn't come after the kind `last`.
+-- `bytes` don't begin with the line of a valid kind that may follow the kind `last`.
 abbrev pub HasNoNext : {K X : Type 0} → KindFormat K X → Option K → List ℕ → Type 0
 HasNoNext {K} format last bytes = (kind : K) (rest : List ℕ) → ¬ (IsNextKind format last bytes kind rest)
 
@@ -150,8 +148,8 @@ abbrev pub last_of : {K : Type 0} → Option K → List K → Option K
 last_of last [] = last
 last_of last (kind ∷ kinds) = last_of (Some kind) kinds
 
--- `bytes` are the lines of `kinds`, and then `rest`. The kinds are valid and strictly ascending, and come after the
--- kind `last`, if there is one. `rest` doesn't begin with the line of a further kind in this order.
+-- `bytes` are the lines of `kinds`, and then `rest`. The kinds are valid and strictly ascending, after the kind `last`
+-- if there is one. `rest` doesn't begin with the line of a kind that may follow them.
 pub record BeginsWithKinds {K X : Type 0} (format : KindFormat K X) (last : Option K) (bytes : List ℕ) (kinds : List K)
     (rest : List ℕ) : Type 0 where
   pub lines : bytes ≡ kinds_text format kinds ++ rest
@@ -195,6 +193,7 @@ IsTablePricesAnswer ByKind OfBars line bytes = do
   groups ← IsGroupsAnswer bar_format row_format 27 line bytes
   Yields (BarKinds (record { items = groups.0 }) (record { items = groups.1 }), groups.2)
 
+-- The result of reading a card's prices, which begin on line `line`: the prices and the bytes after them, or a fault.
 abbrev pub IsAllPricesAnswer : Version → ℕ → List ℕ → AnswerRule CardFault (PriceParts × List ℕ)
 IsAllPricesAnswer version line bytes = do
   table ← IsTableAnswer version line bytes

@@ -6,6 +6,7 @@ use Rattle.kd_card.specs.declared.fault.CardFault.{CardFault}
 use Rattle.kd_card.specs.declared.fault.CardFault.TheVariants.{BadHead, BadLine, TooMany}
 use Rattle.kd_card.specs.declared.fault.CardFault.TheVariants.{PriceMissing, CountWrong, Trailing}
 
+-- the text of a fault: the refusal's number and name, and for `BadLine` the number of the line
 abbrev pub card_fault_text : CardFault → List ℕ
 card_fault_text BadHead = refusal_name refusals.BadHead
 card_fault_text (BadLine line) = refusal_name refusals.BadLine ++ word_after_space (decimal line)

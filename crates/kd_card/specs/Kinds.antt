@@ -24,16 +24,17 @@ AreEnds None (Some other) = ⊥
 AreEnds (Some one) None = one < 26
 AreEnds (Some one) (Some other) = (one < other) × (other < 26)
 
+-- The column is empty, or the letters of its pair are in alphabetical order.
 abbrev pub IsPairInOrder : Option (ℕ × ℕ) → Type 0
 IsPairInOrder None = Unit {0}
 IsPairInOrder (Some pair) = (pair.0 < pair.1) × (pair.1 < 26)
 
 -- ---- the four sorts of kinds
 
--- How a card writes kinds of cables, columns, bars or rows. `word` begins each line. `kind` splits a kind into its key
--- (letters, standing or reading), count and price. `text` is the text of a key, such as `AB`; a card only has keys that
--- satisfy `InForm`. `order` turns a key into numbers, and lines are sorted by these numbers. The kinds of cables
--- without letters, and of empty columns, come last.
+-- How a card writes one sort of kinds: of cables, columns, bars or rows. Each line begins with `word`. `kind` gives the
+-- key (letters, a standing or a reading), the count and the price of a kind. `text` is how a key is written, such as
+-- `AB`, and `InForm` says which keys a card may have. Lines are sorted by the numbers that `order` makes of their keys,
+-- so that the kinds of empty cables and of empty columns come last.
 pub record KindFormat (K X : Type 0) : Type 1 where
   pub word : List ℕ
   pub kind : K → KindOf X
@@ -41,6 +42,7 @@ pub record KindFormat (K X : Type 0) : Type 1 where
   pub InForm : X → Type 0
   pub order : X → List ℕ
 
+-- how a card writes kinds of cables: by their letters
 abbrev pub cable_format : KindFormat CableKind (Option ℕ × Option ℕ)
 cable_format = record {
   word = codes "CABLE";
@@ -50,6 +52,7 @@ cable_format = record {
   order = λ ends. one_unless (is_some ends.0) ∷ cable_letters ends;
 }
 
+-- how a card writes kinds of columns: by the letters of the pair
 abbrev pub pair_format : KindFormat PairKind (Option (ℕ × ℕ))
 pair_format = record {
   word = codes "PAIR";
@@ -59,6 +62,7 @@ pair_format = record {
   order = λ pair. one_unless (is_some pair) ∷ column_letters pair;
 }
 
+-- how a card writes kinds of bars: by the places of the two lugs
 abbrev pub bar_format : KindFormat BarKind (Place × Place)
 bar_format = record {
   word = codes "BAR";
@@ -68,6 +72,7 @@ bar_format = record {
   order = λ standing. place_rank standing.0 ∷ place_rank standing.1 ∷ [];
 }
 
+-- how a card writes kinds of rows: by the two numbers of the reading
 abbrev pub row_format : KindFormat RowKind (ℕ × ℕ)
 row_format = record {
   word = codes "ROW";
@@ -77,11 +82,12 @@ row_format = record {
   order = λ reading. reading.0 ∷ reading.1 ∷ [];
 }
 
--- two keys (letters, standings or readings), compared in the order of a card's lines
+-- the order of two keys (letters, standings or readings) on a card
 -- Code: `compare` of the trait `Kind` uses the orders of Rust's tuples and options, and the orders that types derive.
 abbrev pub key_cmp : {K X : Type 0} → KindFormat K X → X → X → Ordering
 key_cmp format x y = slice_cmp nat_cmp (format.order x) (format.order y)
 
+-- The first key comes before the second in the order of a card's lines.
 abbrev pub KeyComesBefore : {K X : Type 0} → KindFormat K X → X → X → Type 0
 KeyComesBefore format x y = key_cmp format x y ≡ Less
 
@@ -115,6 +121,7 @@ AreKinds format last [] = Unit {0}
 AreKinds format last (kind ∷ kinds) =
     IsKind format kind × ComesAfter format last kind × AreKinds format (Some kind) kinds
 
+-- how many cables, columns, bars or rows the kinds count together
 abbrev pub total_count : {K X : Type 0} → KindFormat K X → List K → ℕ
 total_count format [] = 0
 total_count format (kind ∷ kinds) = (format.kind kind).count + total_count format kinds
@@ -146,11 +153,13 @@ abbrev pub kind_words : {K X : Type 0} → KindFormat K X → K → List (List �
 kind_words format k = format.word ∷ format.text (format.kind k).key ∷ decimal (format.kind k).count
     ∷ signed_decimal (format.kind k).price ∷ []
 
+-- the lines of the kinds, each with LF at its end
+abbrev pub kinds_text : {K X : Type 0} → KindFormat K X → List K → List ℕ
+kinds_text format kinds = flat_map (λ kind. line_of (kind_words format kind) ++ 10 ∷ []) kinds
+
+-- ---- Reading the words of a kind's line. No public contract cites this definition.
+
 -- The kind is valid, and `words` are the words of its line.
 pub record HasKindWords {K X : Type 0} (format : KindFormat K X) (words : List (List ℕ)) (kind : K) : Type 0 where
   pub good : IsKind format kind
   pub written : kind_words format kind ≡ words
-
--- the lines of the kinds, each with LF at its end
-abbrev pub kinds_text : {K X : Type 0} → KindFormat K X → List K → List ℕ
-kinds_text format kinds = flat_map (λ kind. line_of (kind_words format kind) ++ 10 ∷ []) kinds

@@ -8,9 +8,7 @@ use Rattle.kd_state.specs.{declared.setting.Setting.TheVariants.{Pull, Put, LugT
 use Rattle.kd_state.specs.{declared.machine.parts.Parts.TheVariants.{Rotor, Pin}, declared.setting.Setting.Setting}
 use Rattle.kd_state.specs.{Costs.{cost_table, loose_count}, SheetDay.{Day, OfRotors, OfPins, day_model}}
 use Rattle.kd_state.specs.{Setting.{Leads, outcome}, Machine.model_of, OnKey.{ReadsAs, columns_in_order}}
-use Rattle.std.specs.Prelude.{◌≡◌, ℕ, ◌+◌, ◌≤◌, Bool, true, false, List, [], ◌∷◌, length, pos, IfOk}
-use Rattle.std.specs.Prelude.{IsFalse}
-use Rattle.std.specs.Prelude.{count_by}
+use Rattle.std.specs.Prelude.{◌≡◌, ℕ, ◌+◌, ◌≤◌, Bool, true, false, List, [], ◌∷◌, length, pos, IfOk, IsFalse, count_by}
 
 -- The prices are by number: one for each cable and each column (rotor machine), or each bar and each row (Converter).
 abbrev pub AreModelPrices : Parts → PriceParts → Type 0
@@ -34,8 +32,8 @@ abbrev pub IsSettingNeeded : Parts → Day → Setting → Type 0
 IsSettingNeeded machine day setting = IsFalse (is_priced_setting setting)
     → IfOk (outcome machine setting) (λ after. loose_count machine day ≡ loose_count after day + 1)
 
--- Each setting is needed when it is carried out, after all settings before it. Nothing is said of settings after a
--- refused one.
+-- Each setting is needed at its turn, after the settings before it. A setting that the machine refuses counts as
+-- needed, and so do all settings after it; a list that leads to the day has no such setting.
 abbrev pub AreSettingsNeeded : Parts → Day → List Setting → Type 0
 AreSettingsNeeded machine day [] = Unit {0}
 AreSettingsNeeded machine day (setting ∷ rest) = IsSettingNeeded machine day setting

@@ -1,5 +1,5 @@
--- What the steps of reading a card find. Also, the text with which a card begins, up to the day's number. No contract
--- of a public function cites these definitions.
+-- What the steps of reading a card find, and the text with which a card begins, up to the day's number. No public
+-- contract cites this file.
 use Rattle.kd_card.specs.{declared.prices.Version.TheVariants.{ByNumber, ByKind}, CardFault.IsPriceLineAnswer}
 use Rattle.kd_card.specs.CardFault.{EndsGroup, HasNoNext}
 use Rattle.kd_card.specs.{Kinds.{KindFormat, HasKindWords}, declared.prices.Version.Version}

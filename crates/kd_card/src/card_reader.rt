@@ -1,6 +1,6 @@
 //! Reads the text of a card.
-ghost use Rattle.kd_card.specs.CardFault.{BeginsWithHead, HasLineWords, IsValueAnswer, IsGroupsAnswer};
-ghost use Rattle.kd_card.specs.CardFault.{IsListsAnswer, IsAllPricesAnswer, IsTableAnswer, IsCardFault};
+ghost use Rattle.kd_card.specs.CardFault.{BeginsWithHead, HasLineWords, IsValueAnswer, IsGroupsAnswer, IsListsAnswer};
+ghost use Rattle.kd_card.specs.CardFault.{IsAllPricesAnswer, IsTableAnswer, IsTablePricesAnswer, IsCardFault};
 ghost use Rattle.kd_card.specs.{CardText.IsCard, Reading.IsNoPriceLine};
 ghost use Rattle.kd_state.specs.LineWords.{words_of, IsWithout};
 ghost use Rattle.std.specs.Prelude.{◌≡◌, ◌≢◌, ℕ, ◌<◌, ◌≤◌, ◌∷◌, ◌++◌, List, MatchOption, MatchResult, Ok, Err};
@@ -105,24 +105,42 @@ fn read_prices(text: &[u8], version: Version, line: usize) -> Result<(Prices, &[
         (λ fault. IsAllPricesAnswer version line text.now (Err fault)) }
 {
     let table = read_table(text, version, line)?;
+    let (parts, rest) = read_table_prices(text, version, table, line)?;
+    Ok((Prices::of_parts(parts), rest))
+}
+
+/// Reads the prices for `table`, from line `line` of a card on. Returns the prices, and the text after their lines.
+fn read_table_prices(
+    text: &[u8],
+    version: Version,
+    table: CostTable,
+    line: usize,
+) -> Result<(PriceParts, &[u8]), CardFault>
+    requires { line < 200 }
+    ensures { MatchResult result
+        (λ found. IsTablePricesAnswer version table line text.now (Ok (found.0, found.1.now)))
+        (λ fault. IsTablePricesAnswer version table line text.now (Err fault)) }
+{
     match (version, table) {
-        (Version::ByNumber, CostTable::OfCables) => {
-            let (cables, pairs, rest) = read_lists(text, "CABLES", "PAIRS", line)?;
-            Ok((Prices::of_parts(PriceParts::Cables(cables, pairs)), rest))
-        }
-        (Version::ByNumber, CostTable::OfBars) => {
-            let (bars, rows, rest) = read_lists(text, "BARS", "ROWS", line)?;
-            Ok((Prices::of_parts(PriceParts::Bars(bars, rows)), rest))
-        }
-        (Version::ByKind, CostTable::OfCables) => {
-            let (cables, pairs, rest) = read_groups(text, line)?;
-            let parts = PriceParts::CableKinds(cables, pairs);
-            Ok((Prices::of_parts(parts), rest))
-        }
-        (Version::ByKind, CostTable::OfBars) => {
-            let (bars, rows, rest) = read_groups(text, line)?;
-            Ok((Prices::of_parts(PriceParts::BarKinds(bars, rows)), rest))
-        }
+        (Version::ByNumber, CostTable::OfCables) => read_lists(text, "CABLES", "PAIRS", line).map(|(
+            cables,
+            pairs,
+            rest,
+        )| (PriceParts::Cables(cables, pairs), rest)),
+        (Version::ByNumber, CostTable::OfBars) => read_lists(text, "BARS", "ROWS", line).map(|(
+            bars,
+            rows,
+            rest,
+        )| (PriceParts::Bars(bars, rows), rest)),
+        (Version::ByKind, CostTable::OfCables) => read_groups(text, line).map(|(
+            cables,
+            pairs,
+            rest,
+        )| (PriceParts::CableKinds(cables, pairs), rest)),
+        (Version::ByKind, CostTable::OfBars) => read_groups(text, line).map(|(bars, rows, rest)| (
+            PriceParts::BarKinds(bars, rows),
+            rest,
+        )),
     }
 }
 

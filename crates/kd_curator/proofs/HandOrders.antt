@@ -1,7 +1,7 @@
 -- A list of settings in an order for the hand leads to the same machine.
 use Rattle.std.proofs.Common.{◌≡◌, ℕ, Bool, true, false, not, ◌&&◌, List, [], ◌∷◌, ◌++◌, filter, arith, refl, subst}
 use Rattle.std.proofs.Common.{ap₂, ◌∙◌, IsTrue, Result, Ok, Err, append_assoc, length, ◌+◌, ◌-◌, sym}
-use Rattle.std.specs.Prelude.{ok_or, slice_set}
+use Rattle.std.specs.Prelude.{nat_lt, ok_or, slice_set}
 use Rattle.std.specs.List.{list_all}
 use Rattle.std.specs.Prelude.{IsPermutation}
 use Rattle.std.proofs.lemmas.Grind.{common_steps}
@@ -21,7 +21,8 @@ use Rattle.kd_state.specs.declared.setting.why.Why.TheVariants.{NoSuchBar, NotOn
 use Rattle.kd_state.specs.declared.setting.why.Why.TheVariants.{WouldPass}
 use Rattle.kd_state.specs.FirstFault.{◌>>=◌, ◌>>◌, demand}
 use Rattle.kd_state.specs.SameParts.{numbered_item}
-use Rattle.kd_state.specs.Setting.{Leads, has_letter, has_lugs_in_order, is_same_place, outcome, with_lug}
+use Rattle.kd_state.specs.Setting.{Leads, is_same_place, outcome, with_lug}
+use Rattle.kd_tables.specs.{Pairs.has_letter, Places.place_rank}
 use Rattle.kd_curator.specs.declared.stages.Stage.TheVariants.{Rings, Parts as Others, Windows}
 use Rattle.kd_curator.specs.HandOrder.{is_at_stage, is_seat, seats_before_turning, HandOrderLeads}
 use Rattle.kd_curator.specs.HandOrder.{HandOrderIsPermutation}
@@ -69,7 +70,8 @@ turn_swaps (Pin m) n slot letter (LugTo bar lug place) may both =
     lug_swaps (ok_or (numbered_item m.letters slot) SlotEmpty) (has_letter (ring_of slot) letter)
     (ok_or (numbered_item m.bars bar) NoSuchBar)
     (λ was. not (is_same_place (with_lug lug place was).0 (with_lug lug place was).1))
-    (λ was. has_lugs_in_order (with_lug lug place was)) NotOnWheel PlaceTaken WouldPass
+    (λ was. nat_lt (place_rank (with_lug lug place was).0) (place_rank (with_lug lug place was).1)) NotOnWheel PlaceTaken
+    WouldPass
     (Pin (record m { letters = slice_set m.letters (slot - 1) letter }))
     (λ was. Pin (record m { bars = slice_set m.bars (bar - 1) (with_lug lug place was) }))
     (λ was. Pin (record m {

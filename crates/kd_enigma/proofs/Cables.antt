@@ -1,37 +1,31 @@
 -- Pairs of a plugboard: what each letter is exchanged for, and the table of all letters.
-use Rattle.std.proofs.Common.{All, Bool, Contains, List, [], arith, eqb, false, get_or, inl, inr}
-use Rattle.std.proofs.Common.{length, refl, rules, slice_index, suc, sym, true, zero, ℕ}
+use Rattle.std.proofs.Common.{All, Bool, Contains, List, [], arith, false, get_or, inl, inr, nat_eq, length, refl}
+use Rattle.std.proofs.Common.{rules, slice_index, suc, sym, true, zero, ℕ, ◌<◌, ◌↔◌, ◌∙◌, ◌∷◌, ◌≡◌, ◌⊎◌}
 use Rattle.kd_enigma.{proofs.Ways.each_letter, specs.Plugs.{HavePairOf, NoLetterTwice, letters_in_pairs}}
 use Rattle.kd_enigma.specs.{Cipher.IsPlugboard, Laws.{PairsExchange, PairsMakeAPlugboard, SamePairsExchangeAlike}}
-use Rattle.kd_tables.specs.Permutation.{exchange, exchanged}
-use Rattle.std.proofs.Common.{◌<◌, ◌↔◌, ◌∙◌, ◌∷◌, ◌≡◌, ◌⊎◌}
+use Rattle.kd_tables.proofs.DistinctLetters.{IsDistinct-nil, new_tells}
+use Rattle.kd_tables.specs.{Pairs.has_letter, Permutation.{exchange, exchanged}}
 use Rattle.std.proofs.lemmas.Bool.{cases_Bool, cases_eq, eq-eqb, eqb-true, false_from_ne_true, false≢true}
 use Rattle.std.proofs.lemmas.{Bool.Decides.nat_tests, List.Folds.{Any-from_list_any, list_any_at}}
 use Rattle.std.proofs.lemmas.{List.Elements.{All-nil}}
 use Rattle.std.proofs.lemmas.List.FromFn.{fill_by_all, get_or-map-range_with_len, length-map-range_with_len}
-use Rattle.std.specs.List.{AllByRecursion, IsDistinct, list_any}
 
 -- ---- the letters of pairs
 
-abbrev pub lies_in_pairs : ℕ → List (ℕ × ℕ) → Bool
-lies_in_pairs x pairs = list_any (eqb x) (letters_in_pairs pairs)
+-- whether the letter is in one of the pairs
+abbrev lies_in_pairs : ℕ → List (ℕ × ℕ) → Bool
+lies_in_pairs x pairs = has_letter (letters_in_pairs pairs) x
 
--- No letter occurs in two pairs, or twice in one.
-abbrev pub HaveNoLetterTwice : List (ℕ × ℕ) → Type 0
-HaveNoLetterTwice [] = Unit {0}
-HaveNoLetterTwice (pair ∷ pairs) =
-    (eqb pair.0 pair.1 ≡ false) × (lies_in_pairs pair.0 pairs ≡ false) × (lies_in_pairs pair.1 pairs ≡ false)
-    × HaveNoLetterTwice pairs
+-- The letters of the first pair differ, and aren't in the other pairs, which have no letter twice.
+record IsFirstApart (pair : ℕ × ℕ) (pairs : List (ℕ × ℕ)) : Type 0 where
+  differ : nat_eq pair.1 pair.0 ≡ false
+  one : lies_in_pairs pair.0 pairs ≡ false
+  other : lies_in_pairs pair.1 pairs ≡ false
+  rest : NoLetterTwice pairs
 
-list_any-AllByRecursion : (x : ℕ) (letters : List ℕ)
-    → (list_any (eqb x) letters ≡ false) ↔ AllByRecursion (λ y. eqb x y ≡ false) letters
-list_any-AllByRecursion x [] = (λ _. tt, λ _. refl)
-list_any-AllByRecursion x (y ∷ letters) = grind (arith, nat_tests, list_any-AllByRecursion x letters)
-
-pub apart_tells : (pairs : List (ℕ × ℕ)) → NoLetterTwice pairs ↔ HaveNoLetterTwice pairs
-unfolding IsDistinct
-apart_tells [] = (λ _. tt, λ _. tt)
-apart_tells (pair ∷ pairs) = grind (arith, nat_tests, list_any-AllByRecursion, apart_tells pairs)
+NoLetterTwice-first : (pair : ℕ × ℕ) (pairs : List (ℕ × ℕ)) → NoLetterTwice (pair ∷ pairs) → IsFirstApart pair pairs
+NoLetterTwice-first pair pairs once =
+    let both = (new_tells (pair.0 ∷ pair.1 ∷ []) (letters_in_pairs pairs)).0 once in grind (arith, nat_tests, both)
 
 -- ---- what a letter is exchanged for
 
@@ -44,10 +38,11 @@ exchanged_stays : (pairs : List (ℕ × ℕ)) (x : ℕ) → lies_in_pairs x pair
 exchanged_stays [] x h = h
 exchanged_stays (pair ∷ pairs) x h = grind (arith, nat_tests, exchanged_stays pairs x)
 
-returns_where_it_came_from : (pairs : List (ℕ × ℕ)) (x : ℕ) → HaveNoLetterTwice pairs
+returns_where_it_came_from : (pairs : List (ℕ × ℕ)) (x : ℕ) → NoLetterTwice pairs
     → exchanged pairs (exchanged pairs x) ≡ x
 returns_where_it_came_from [] x h = refl
 returns_where_it_came_from (pair ∷ pairs) x h =
+    let first = NoLetterTwice-first pair pairs h in
     grind (arith, nat_tests, exchanged_stays pairs x, exchanged_free pairs x, returns_where_it_came_from pairs x)
 
 -- ---- where a letter leads
@@ -79,14 +74,17 @@ record AreExchanged (pairs : List (ℕ × ℕ)) (x y : ℕ) : Type 0 where
   first : lies_in_pairs x pairs ≡ true
   second : lies_in_pairs y pairs ≡ true
 
-cable_at : (pairs : List (ℕ × ℕ)) (v : ℕ × ℕ) (k : ℕ) → HaveNoLetterTwice pairs → k < length pairs
+cable_at : (pairs : List (ℕ × ℕ)) (v : ℕ × ℕ) (k : ℕ) → NoLetterTwice pairs → k < length pairs
     → get_or pairs k v ≡ v
     → AreExchanged pairs v.0 v.1
 cable_at [] v k h lt e = absurd (omega arith)
-cable_at (pair ∷ pairs) v zero h lt e = grind arith
-cable_at (pair ∷ pairs) v (suc k) h lt e = grind (arith, cable_at pairs v k (grind arith) (omega arith) e)
+cable_at (pair ∷ pairs) v zero h lt e =
+    let first = NoLetterTwice-first pair pairs h in grind (arith, nat_tests)
+cable_at (pair ∷ pairs) v (suc k) h lt e =
+    let first = NoLetterTwice-first pair pairs h in
+    grind (arith, nat_tests, cable_at pairs v k first.rest (omega arith) e)
 
-HavePairOf-exchanged : (pairs : List (ℕ × ℕ)) (x y : ℕ) → HaveNoLetterTwice pairs → HavePairOf pairs x y
+HavePairOf-exchanged : (pairs : List (ℕ × ℕ)) (x y : ℕ) → NoLetterTwice pairs → HavePairOf pairs x y
     → exchanged pairs x ≡ y
 HavePairOf-exchanged pairs x y e d = grind (arith, cable_at)
 
@@ -94,15 +92,15 @@ exchanged-cases : (pairs : List (ℕ × ℕ)) (x y : ℕ) → exchanged pairs x 
     → HavePairOf pairs x y ⊎ ((x ≡ y) × ¬ Contains (letters_in_pairs pairs) x)
 exchanged-cases pairs x y e = grind (arith, cases_Bool, exchanged-HavePairOf, exchanged_free, list_any_at, eq-eqb)
 
-exchanged_by : (pairs : List (ℕ × ℕ)) (x y : ℕ) → HaveNoLetterTwice pairs
+exchanged_by : (pairs : List (ℕ × ℕ)) (x y : ℕ) → NoLetterTwice pairs
     → HavePairOf pairs x y ⊎ ((x ≡ y) × ¬ Contains (letters_in_pairs pairs) x) → exchanged pairs x ≡ y
 exchanged_by pairs x y h (inl j) = HavePairOf-exchanged pairs x y h j
 exchanged_by pairs x y h (inr left) = search (rules, exchanged_free, false_from_ne_true, Any-from_list_any, eqb-true)
 
 pub pairs_exchange : PairsExchange
-pairs_exchange pairs x y once = (exchanged-cases pairs x y, exchanged_by pairs x y ((apart_tells pairs).0 once))
+pairs_exchange pairs x y once = (exchanged-cases pairs x y, exchanged_by pairs x y once)
 
-exchanged_alike : (ps qs : List (ℕ × ℕ)) (x : ℕ) → HaveNoLetterTwice ps → HaveNoLetterTwice qs
+exchanged_alike : (ps qs : List (ℕ × ℕ)) (x : ℕ) → NoLetterTwice ps → NoLetterTwice qs
     → ((y : ℕ) → HavePairOf ps x y ↔ HavePairOf qs x y) → exchanged ps x ≡ exchanged qs x
 exchanged_alike ps qs x hp hq same = elim (exchanged-cases ps x (exchanged ps x) refl) [
   | inl there ↦ sym (HavePairOf-exchanged qs x (exchanged ps x) hq ((same (exchanged ps x)).0 there))
@@ -130,7 +128,7 @@ exchange_is table pairs size each = fill_by_all (exchanged pairs) table 26 0 siz
 pub same_pairs_exchange_alike : SamePairsExchangeAlike
 same_pairs_exchange_alike ps qs once also same =
     exchange_is (exchange ps) qs (exchange-size ps) (λ x lt. exchange-at ps x lt
-    ∙ exchanged_alike ps qs x ((apart_tells ps).0 once) ((apart_tells qs).0 also) (same x))
+    ∙ exchanged_alike ps qs x once also (same x))
 
 exchanged_within : (pairs : List (ℕ × ℕ)) (x : ℕ) → All (λ letter. letter < 26) (letters_in_pairs pairs) → x < 26
     → exchanged pairs x < 26
@@ -140,7 +138,6 @@ exchanged_within (pair ∷ pairs) x h lt =
 
 pub pairs_make_a_plugboard : PairsMakeAPlugboard
 pairs_make_a_plugboard pairs once letters =
-    let apart = (apart_tells pairs).0 once in
     let within : (x : ℕ) → x < 26 → slice_index (exchange pairs) x < 26 =
     λ x lt. omega (arith, exchange-at pairs x lt, exchanged_within pairs x letters lt) in
     let back : (x : ℕ) → x < 26 → slice_index (exchange pairs) (slice_index (exchange pairs) x) ≡ x =
@@ -154,4 +151,4 @@ pairs_make_a_plugboard pairs once letters =
     }
 
 pub no_cables : IsPlugboard (exchange [])
-no_cables = pairs_make_a_plugboard [] ((apart_tells []).1 tt) (All-nil (λ letter. letter < 26))
+no_cables = pairs_make_a_plugboard [] IsDistinct-nil (All-nil (λ letter. letter < 26))

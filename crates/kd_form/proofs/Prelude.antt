@@ -44,7 +44,7 @@ pub use Rattle.kd_form.specs.PartMaking.{rotor_letters}
 pub use Rattle.kd_form.specs.Order.{BeginsWithKeys, IsPatternFault, IsAnyOrderHead, IsLineWithEnd, IsOrderHead}
 pub use Rattle.kd_form.specs.Order.{IsOrderHeadFault, IsKeyLine, IsOrder}
 pub use Rattle.kd_form.specs.Part.{Part, words_after_spaces, body_text, fraction_text, letter_groups, heading_words}
-pub use Rattle.kd_form.specs.Part.{indicator_words, part_text, pieces, line_then}
+pub use Rattle.kd_form.specs.Part.{indicator_words, part_text, pieces}
 pub use Rattle.kd_form.specs.Patterns.{AreLettersAppended, IsFilledLine, IsPatternLine, blank_count, filled_pattern}
 pub use Rattle.kd_form.specs.Patterns.{fits_mark, letters_for_mark}
 pub use Rattle.kd_form.specs.BodyCipher.{HasIndicator, HasIndicatorsAround, IsLettersAnswer, group_of_body}
@@ -80,11 +80,7 @@ pub use Rattle.kd_state.proofs.OneAnswer.{HasOneAnswer-Demands, HasOneAnswer-Fin
 pub use Rattle.kd_state.proofs.OneAnswer.{HasOneAnswer-Yields, ThenNext-Ok, Yields-Ok}
 pub use Rattle.kd_state.specs.SheetDay.{Day, IsLegalDay, OfPins, OfRotors, pin_day}
 pub use Rattle.kd_state.specs.TwoCiphers.{IsWindow, cipher, physical_cipher, sheet_key}
-pub use Rattle.kd_state.specs.LineWords.{IsFirstPart, IsWithout, line_of, words_of}
+pub use Rattle.kd_state.specs.LineWords.{IsFirstPart, IsWithout, line_of, line_then, words_of}
+pub use Rattle.kd_tables.proofs.Failing.{err_is}
 pub use Rattle.kd_tables.specs.{Ports.EndAgrees, Ports.FailureAgrees, Ports.KeepsFailureFlag, Ports.Port, Ports.port}
 pub use Rattle.kd_tables.specs.{Ports.read_limit, Text.is_text_byte, Text.letters_text, Writing.TakesPrefix}
-
--- an answer that is an error, as `?` returns it, and whose error is `fault`, is `Err fault`
-pub err_is : {T E : Type 0} (answer : Result T E) (fault : E) → IsErrAnd answer (λ made. made ≡ fault)
-    → answer ≡ Err fault
-err_is answer fault e = grind arith

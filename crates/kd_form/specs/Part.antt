@@ -5,7 +5,7 @@ use Rattle.std.specs.List.{flat_map}
 use Rattle.std.specs.Int.{div_ceil}
 use Rattle.std.specs.Simd.{first_chunks}
 use Rattle.kd_tables.specs.Text.{letters_text}
-use Rattle.kd_state.specs.LineWords.{line_of}
+use Rattle.kd_state.specs.LineWords.{line_then}
 use Rattle.kd_form.specs.declared.heading.Heading.{Heading}
 use Rattle.kd_form.specs.declared.heading.Indicator.{Indicator}
 
@@ -25,10 +25,6 @@ indicator_words None = []
 -- the words of a heading line
 abbrev pub heading_words : Heading → List (List ℕ)
 heading_words h = codes "PART" ∷ fraction_text h.part h.parts ∷ decimal h.letters ∷ indicator_words h.indicator
-
--- the line of the words `words`, then LF, and then `rest`
-abbrev pub line_then : List (List ℕ) → List ℕ → List ℕ
-line_then words rest = line_of words ++ 10 ∷ rest
 
 -- the words of a line of a body: groups of five letters; the last group may be shorter
 abbrev pub letter_groups : List ℕ → List (List ℕ)

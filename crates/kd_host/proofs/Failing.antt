@@ -2,6 +2,7 @@
 use Rattle.std.proofs.Common.{arith, ◌≡◌, ℕ, Bool, true, false, ◌||◌, List, Result, Ok, Err, IsErrAnd, inr, refl, sym}
 use Rattle.std.proofs.Common.{subst}
 use Rattle.std.specs.Io.KnownBytes.{Appends}
+pub use Rattle.kd_tables.proofs.Failing.{err_is}
 use Rattle.{kd_tables.specs.Ports.{Port, KeepsFailureFlag, FailureAgrees}, kd_tables.specs.Writing.TakesPrefix}
 use Rattle.kd_host.specs.Writing.{WritesText}
 
@@ -14,11 +15,6 @@ pub FailureAgrees-sink : (source sink : Port) (failed : Bool) → KeepsFailureFl
     → sink.has_failed ≡ (sink.had_failed || failed) → FailureAgrees source sink failed
 FailureAgrees-sink source sink false well is = (well, has_failed-same sink.had_failed sink.has_failed is)
 FailureAgrees-sink source sink true well is = inr (record { failed = grind arith; well = well })
-
--- an answer that is an error, as `?` returns it, and whose error is `fault`, is `Err fault`
-pub err_is : {T F : Type 0} (answer : Result T F) (fault : F)
-    → IsErrAnd answer (λ made. made ≡ fault) → answer ≡ Err fault
-err_is answer fault e = grind arith
 
 -- what holds of `Err fault`, as `?` returns it, holds of the answer
 pub err-holds : {T F : Type 0} (answer : Result T F) (fault : F) (P : Result T F → Type 0)

@@ -7,7 +7,7 @@ use Rattle.std.specs.List.{list_any}
 use Rattle.std.specs.Option.{option_map_or}
 use Rattle.kd_state.specs.declared.machine.parts.Parts.{Parts}
 use Rattle.kd_state.specs.Machine.{cable_letters, machine_cable}
-use Rattle.kd_state.specs.Setting.{has_letter}
+use Rattle.kd_tables.specs.Pairs.{has_letter}
 use Rattle.kd_pictures.specs.declared.board.Plugs.{Plugs}
 use Rattle.kd_pictures.specs.declared.board.Plugs.TheVariants.{In, Out}
 use Rattle.kd_pictures.specs.declared.numbers.TheConstants.{CABLES}

@@ -4,7 +4,7 @@ use Rattle.std.specs.Prelude.{codes, ℕ, ◌+◌, ◌*◌, ◌<◌, ◌==◌, �
 use Rattle.std.specs.Prelude.{List, ◌++◌}
 use Rattle.std.specs.List.{position_or_len}
 use Rattle.kd_tables.specs.Tables.{letters_of}
-use Rattle.kd_state.specs.Setting.{has_letter}
+use Rattle.kd_tables.specs.Pairs.{has_letter}
 
 abbrev pub upper_row : List ℕ
 upper_row = letters_of (codes "QWERTZUIO")

@@ -23,7 +23,7 @@ SparesStayFree (Rotor machine) (OfRotors day) settings =
 SparesStayFree (Pin machine) (OfPins day) settings = Unit {0}
 SparesStayFree _ _ settings = ⊥
 
--- ---- Assignments that give pairs to cables in use first. No contract of a public function cites these definitions.
+-- ---- Assignments that give pairs to cables in use first. No public contract cites these definitions.
 
 -- whether the cable at `place`, counted from 0, is spare
 abbrev pub is_spare_at : List (Option ℕ × Option ℕ) → ℕ → Bool

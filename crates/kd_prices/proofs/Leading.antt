@@ -1,10 +1,9 @@
 -- Lists of settings that lead from one machine to another, split and joined.
 use Rattle.kd_card.{proofs.Months.Shortest.Falling.model_of-changed, specs.Proving.is_priced_setting}
 use Rattle.kd_prices.proofs.Prelude.{AreSettingsNeeded, IsSettingNeeded, proving_cards_are_shortest, take-append-drop}
-use Rattle.kd_prices.proofs.Prelude.{Day, Err, Ok, [], drop, sym, take, ℕ, ◌++◌, ◌+◌, ◌<◌, ◌∙◌, ◌∷◌, ◌≡◌}
-use Rattle.kd_prices.proofs.Prelude.{Doubt, Leads, List, Parts, Setting, arith, get_or, length, subst, take_more}
-use Rattle.kd_prices.proofs.Prelude.{IsNeededAnswer, NeedlessLine, RestIsShortest, Result, if_carried, length-append}
-use Rattle.kd_prices.proofs.Prelude.{when_carried}
+use Rattle.kd_prices.proofs.Prelude.{Day, Err, Ok, [], drop, sym, take, ℕ, ◌++◌, ◌+◌, ◌<◌, ◌∙◌, ◌∷◌, ◌≡◌, Doubt, Leads}
+use Rattle.kd_prices.proofs.Prelude.{List, Parts, Setting, arith, get_or, length, subst, take_more, IsNeededAnswer}
+use Rattle.kd_prices.proofs.Prelude.{NeedlessLine, RestIsShortest, Result, if_carried, length-append, when_carried}
 use Rattle.kd_prices.proofs.Prelude.{day_model, leads_join, leads_next, length-drop, length-take, model_of}
 use Rattle.kd_state.specs.{Costs.loose_count, Setting.Carries}
 use Rattle.std.proofs.{Math.Seq.drop-cons, lemmas.List.length-take-le}

@@ -1,10 +1,10 @@
 -- The definitions and lemmas that most proofs of this crate use.
 pub use Rattle.kd_card.proofs.Months.Shortest.{no_rotors, proving_cards_are_shortest, proving_prices_are_tight}
 pub use Rattle.kd_card.specs.{Kinds.IsGroup, Proving.{Expanded, Expands, Proves, Same, priced_count}}
-pub use Rattle.kd_card.specs.Kinds.{AreEnds, AreKinds, IsKind, expansion, row_format}
-pub use Rattle.kd_card.specs.Kinds.{AreKindsOf, IsPairInOrder, KindFormat, bar_format, cable_format, pair_format}
-pub use Rattle.kd_card.specs.Prices.{ArePrices, PricesFit, cost_at, price_sum, table_size, version_of}
-pub use Rattle.kd_card.specs.Prices.{ArePricesInRange, ArePricesTight, PricesFitAt, column_prices, price_at, row_prices}
+pub use Rattle.kd_card.specs.Kinds.{AreEnds, AreKinds, IsKind, expansion, row_format, AreKindsOf, IsPairInOrder}
+pub use Rattle.kd_card.specs.Kinds.{KindFormat, bar_format, cable_format, pair_format}
+pub use Rattle.kd_card.specs.Prices.{ArePrices, PricesFit, cost_at, price_sum, table_size, version_of, ArePricesInRange}
+pub use Rattle.kd_card.specs.Prices.{ArePricesTight, PricesFitAt, column_prices, price_at, row_prices}
 pub use Rattle.kd_card.specs.Proving.{AreExpanded, AreModelPrices, AreSettingsNeeded, IsSettingNeeded}
 pub use Rattle.kd_state.specs.OnKey.{columns_in_order, pair_in_order}
 pub use Rattle.kd_card.specs.declared.kinds.{BarKind.BarKind, CableKind.CableKind, PairKind.PairKind, RowKind.RowKind}
@@ -21,10 +21,8 @@ pub use Rattle.kd_prices.specs.declared.doubt.Doubt.TheVariants.{NeedlessLine, N
 pub use Rattle.kd_state.proofs.{Carrying.{if_carried, leads_join, leads_next, leads_unique, when_carried}}
 pub use Rattle.kd_state.proofs.CostTable.{columns_are_the_pairs, thirteen_columns}
 pub use Rattle.kd_state.specs.{Costs.{bar_cost, cable_cost, columns_of, cost_table}, OneModel.IsOneModelOf}
-pub use Rattle.kd_state.specs.AnswerRules.{GoesOn, HasFault}
-pub use Rattle.kd_state.specs.AnswerRules.{HasOneAnswer}
-pub use Rattle.kd_state.proofs.OneAnswer.{HasOneAnswer-Demands, HasOneAnswer-Finds}
-pub use Rattle.kd_state.proofs.OneAnswer.{HasOneAnswer-ThenNext, ThenNext-Ok}
+pub use Rattle.kd_state.specs.AnswerRules.{GoesOn, HasFault, HasOneAnswer}
+pub use Rattle.kd_state.proofs.OneAnswer.{HasOneAnswer-Demands, HasOneAnswer-Finds, HasOneAnswer-ThenNext, ThenNext-Ok}
 pub use Rattle.kd_state.specs.Machine.{IsMachine, cable_in_order, letters_in_cables, model_of}
 pub use Rattle.kd_state.specs.declared.setting.{Setting.Setting, why.Why.Why}
 pub use Rattle.kd_state.specs.Setting.{Leads, Refuses, outcome}

@@ -1,4 +1,4 @@
--- Lists of prices that fit a table of costs. No contract of a public function cites these definitions.
+-- Lists of prices that fit a table of costs. No public contract cites this file.
 use Rattle.std.specs.Prelude.{ℕ, ◌<◌, List, slice_index, ℤ, pos, ◌+ℤ◌, ◌≤ℤ◌}
 use Rattle.kd_card.specs.Prices.{cost_at, price_at}
 

@@ -1,5 +1,5 @@
 -- Grouping keys with prices into kinds, and finding the price of a key in the kinds. A key is the letters of a cable,
--- the pair of a column, a standing or a reading. No contract of a public function cites these definitions.
+-- the pair of a column, a standing or a reading. No public contract cites this file.
 use Rattle.std.specs.Prelude.{IsPermutation, List, Option, replicate, unsigned_abs, ◌++◌}
 use Rattle.std.specs.{List.{Contains, Sorted.IsSorted}, Prelude.{All, map, ℤ, ◌∷◌, ◌≡◌, ◌≢◌, ◌≤◌}}
 use Rattle.kd_card.specs.{Kinds.{AreKinds, ComesAfter, KindFormat, expansion, key_cmp}, declared.kinds.KindOf.KindOf}

@@ -9,13 +9,14 @@ use Rattle.kd_prices.specs.Alike.{ReadAlike, StandAlike}
 use Rattle.kd_prices.specs.Doubt.{IsDoubt}
 use Rattle.kd_prices.specs.declared.doubt.Doubt.{Doubt}
 
--- If a card proves itself, there is no doubt about it. `OneDoubt`: no card has two different first doubts.
+-- If a card proves itself, there is no doubt about it.
 abbrev pub ProvingCardsAreInNoDoubt : Type 0
 ProvingCardsAreInNoDoubt =
     (machine : Parts) (day : Day) (settings : List Setting) (prices : PriceParts) (doubt : Doubt)
     → Proves machine day settings prices
     → ¬ (IsDoubt machine day settings prices doubt)
 
+-- No card has two different first doubts.
 abbrev pub OneDoubt : Type 0
 OneDoubt =
     (machine : Parts) (day : Day) (settings : List Setting) (prices : PriceParts) (doubt other : Doubt)

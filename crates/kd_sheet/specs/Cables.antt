@@ -6,7 +6,7 @@ use Rattle.std.specs.List.{flat_map}
 use Rattle.std.specs.Option.{option_map_or}
 use Rattle.toml.specs.Data.{Data, Members, get_member}
 use Rattle.kd_state.specs.Machine.{letters_in_cables}
-use Rattle.kd_state.specs.Setting.{are_new_and_distinct}
+use Rattle.kd_tables.specs.Pairs.{are_new_and_distinct}
 use Rattle.kd_sheet.specs.Document.{◌>>=◌, ◌>>◌, demand, value_at, from_text, read_array}
 use Rattle.kd_sheet.specs.Key.{key_name}
 use Rattle.kd_sheet.specs.Letters.{capital_letters}

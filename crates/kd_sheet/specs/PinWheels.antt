@@ -8,7 +8,7 @@ use Rattle.kd_tables.specs.Rings.{ring_of}
 use Rattle.kd_tables.specs.Text.{letters_text}
 use Rattle.kd_pins.specs.declared.pin_set.PinSet.{PinSet}
 use Rattle.kd_state.specs.Pins.{pin_set}
-use Rattle.kd_state.specs.Setting.{has_letter, are_new_and_distinct}
+use Rattle.kd_tables.specs.Pairs.{has_letter, are_new_and_distinct}
 use Rattle.kd_sheet.specs.Document.{◌>>=◌, ◌>>◌, demand, value_at, from_text, read_array, read_items}
 use Rattle.kd_sheet.specs.Letters.{letters_at}
 use Rattle.kd_sheet.specs.declared.key.Key.{Key}

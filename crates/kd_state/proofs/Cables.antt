@@ -1,44 +1,17 @@
 -- Lemmas on the letters in cables, and on cables that are a day's cables in any order.
-use Rattle.kd_state.proofs.Prelude.{option_zip}
-use Rattle.kd_state.proofs.Prelude.{NoLetterTwice, letters_in_pairs, AreCables, cable_letters, letters_in_cables}
-use Rattle.kd_state.proofs.Prelude.{cable_in_order, cable_of_column, cables_of, column_letters, columns_of, cable_with}
-use Rattle.kd_state.proofs.Prelude.{All-map, All-permutation, Bool, IsPermutation-sym, are_new_and_distinct, list_any}
-use Rattle.kd_state.proofs.Prelude.{cable_without, has_letter, is_some, and_from, and_parts, cond_both, eq-eqb}
-use Rattle.kd_state.proofs.Prelude.{append_assoc, drop_more, le-leb, leb-false, not-true, or_from, or_parts}
-use Rattle.kd_state.proofs.Prelude.{true≢false, nat_tests, ◌||◌, ◌-◌}
-use Rattle.kd_state.proofs.Prelude.{recursion_from_All, IsPermutation-append, IsPermutation-append_comm}
-use Rattle.kd_state.proofs.Prelude.{IsPermutation-append_left, IsPermutation-append_right, IsPermutation-refl}
-use Rattle.kd_state.proofs.Prelude.{IsPermutation-trans, All, AllByRecursion}
-use Rattle.kd_state.proofs.Prelude.{option_map_or, Contains, List, None, Option, Some, [], arith, drop}
-use Rattle.kd_state.proofs.Prelude.{false, filter_map, get_or, length, map, nat_eq, refl, set, slice_get}
-use Rattle.kd_state.proofs.Prelude.{suc, true, zero, ℕ, ◌++◌, ◌+◌, ◌<◌, ◌↔◌, ◌∙◌, ◌∷◌, ◌≡◌, ◌≢◌, IsDistinct}
-use Rattle.kd_state.proofs.Prelude.{IsPermutation, ◌&&◌}
+use Rattle.kd_state.proofs.Prelude.{option_zip, NoLetterTwice, letters_in_pairs, AreCables, cable_letters}
+use Rattle.kd_state.proofs.Prelude.{letters_in_cables, cable_in_order, cable_of_column, cables_of, column_letters}
+use Rattle.kd_state.proofs.Prelude.{columns_of, cable_with, All-map, All-permutation, Bool, IsPermutation-sym, list_any}
+use Rattle.kd_state.proofs.Prelude.{cable_without, has_letter, is_some, cond_both, eq-eqb, append_assoc, le-leb}
+use Rattle.kd_state.proofs.Prelude.{leb-false, true≢false, nat_tests, ◌||◌, ◌-◌, recursion_from_All}
+use Rattle.kd_state.proofs.Prelude.{IsPermutation-append, IsPermutation-append_comm, IsPermutation-append_left}
+use Rattle.kd_state.proofs.Prelude.{IsPermutation-append_right, IsPermutation-refl, IsPermutation-trans, All}
+use Rattle.kd_state.proofs.Prelude.{AllByRecursion, option_map_or, List, None, Option, Some, [], arith, false}
+use Rattle.kd_state.proofs.Prelude.{filter_map, get_or, length, map, nat_eq, refl, set, slice_get, suc, true, zero, ℕ}
+use Rattle.kd_state.proofs.Prelude.{◌++◌, ◌↔◌, ◌∙◌, ◌∷◌, ◌≡◌, ◌≢◌, IsPermutation, ◌&&◌}
 use Rattle.{std.proofs.Common.replicate}
 use Rattle.std.proofs.lemmas.List.{Folds.{Any-from_list_any, list_any_at}, Sorted.list_any-IsPermutation}
 use Rattle.kd_enigma.specs.Plugs as plugs
-
-pub eqb_flips : (x y : ℕ) → nat_eq x y ≡ nat_eq y x
-eqb_flips x y = grind (arith, nat_tests)
-
--- `has_letter` is false exactly if the letter differs from each of the letters
-pub has_letter-AllByRecursion : (letters : List ℕ) (letter : ℕ)
-    → (has_letter letters letter ≡ false) ↔ AllByRecursion (λ other. nat_eq letter other ≡ false) letters
-has_letter-AllByRecursion [] letter = (λ _. tt, λ _. refl)
-has_letter-AllByRecursion (other ∷ letters) letter = grind
-    (arith, or_parts, or_from, eqb_flips, has_letter-AllByRecursion letters letter)
-
--- all of `letters` and `others` are different exactly if `others` are all different, and `are_new_and_distinct` is true
--- for `letters` and `others`
-pub new_tells : (letters others : List ℕ)
-    → IsDistinct nat_eq (letters ++ others) ↔ ((are_new_and_distinct letters others ≡ true) × IsDistinct nat_eq others)
-unfolding IsDistinct
-new_tells [] others = (λ h. (refl, h), λ h. h.1)
-new_tells (letter ∷ letters) others = grind
-    (arith, and_parts, and_from, not-true, has_letter-AllByRecursion, new_tells letters others)
-
-pub IsDistinct-nil : IsDistinct nat_eq []
-unfolding IsDistinct
-IsDistinct-nil = tt
 
 -- putting the letters of a cable in order only permutes them
 pub ordered_moves : (one other : Option ℕ)
@@ -118,16 +91,6 @@ set_moves out into (first ∷ cables) (suc place) cable new here moves =
     (IsPermutation-trans _ _ _ (IsPermutation-append_right (cable_letters first) _ _ rest)
     (IsPermutation-append_swap (cable_letters first) into (letters_in_cables (set cables place new))))
 
--- the letters in the cables from `place` on are all different exactly if two things hold: the letters of
--- `cable`, the cable at `place`, are different and in no cable after it; and the letters in the cables after
--- it are all different
-pub distinct_from : (cables : List (Option ℕ × Option ℕ)) (place : ℕ) (cable : Option ℕ × Option ℕ)
-    → place < length cables → cable ≡ get_or cables place cable
-    → IsDistinct nat_eq (letters_in_cables (drop place cables))
-    ↔ ((are_new_and_distinct (cable_letters cable) (letters_in_cables (drop (place + 1) cables)) ≡ true)
-    × IsDistinct nat_eq (letters_in_cables (drop (place + 1) cables)))
-distinct_from cables place cable within is = grind (arith, drop_more, new_tells)
-
 -- ---- the pairs that cables with two letters exchange
 
 abbrev pub pairs_of : List (Option ℕ × Option ℕ) → List (ℕ × ℕ)
@@ -142,9 +105,6 @@ letters_of_pairs (cable ∷ cables) h = grind (arith, letters_of_pairs cables)
 pub no_letter_twice : (cables : List (Option ℕ × Option ℕ)) → AreCables cables
     → All (λ cable. length (cable_letters cable) ≢ 1) cables → NoLetterTwice (pairs_of cables)
 no_letter_twice cables h whole = grind (arith, letters_of_pairs, recursion_from_All)
-
-pub of_one : (a x : ℕ) → Contains (a ∷ []) x → x ≡ a
-of_one a x e = grind arith
 
 -- ---- cables that are the day's cables, in any order
 

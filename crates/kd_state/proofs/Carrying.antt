@@ -1,59 +1,37 @@
 -- Lemmas on carrying out settings: a machine stays a machine, and a list of settings has one result.
-use Rattle.kd_state.proofs.Prelude.{numbered_item, place_in_box}
-use Rattle.kd_state.proofs.Prelude.{SettingsKeepMachines, IsSettingInRange}
-use Rattle.kd_state.proofs.Prelude.{AreLegalSeats, AreLetters, AreOnWheels, IsLegalPin, IsLegalRotor}
-use Rattle.kd_state.proofs.Prelude.{IsMachine, IsSeatedAt, with_cables_in_order}
-use Rattle.kd_state.proofs.Prelude.{cable_in_order, letters_in_cables, pin_set, wheel_pins, with_pin}
-use Rattle.kd_state.proofs.Prelude.{cable_with, cable_without}
-use Rattle.kd_state.proofs.Prelude.{seat_without, Parts, Pin}
-use Rattle.kd_state.proofs.Prelude.{Rotor, PinParts, RotorParts, Setting, LugTo, PinTo, Pull, Put, RingTo, Seat}
-use Rattle.kd_state.proofs.Prelude.{SeatReflector, Turn, Why, place_on, box_of, reflectors_of}
-use Rattle.kd_state.proofs.Prelude.{wheels_for, Wheel, both_ways, cases_Bool, cases_eq}
-use Rattle.kd_state.proofs.Prelude.{length-map, length-set}
-use Rattle.kd_state.proofs.Prelude.{map-set, All-cons, All-set, All-tail}
-use Rattle.kd_state.proofs.Prelude.{position-Some, All-permutation}
-use Rattle.kd_state.proofs.Prelude.{none-some, same_Some, slice_get-map, slice_get_within, All}
-use Rattle.kd_state.proofs.Prelude.{is_none, option_map, option_or}
-use Rattle.kd_state.proofs.Prelude.{unwrap_or, pins_of, PinSet, Bool, List, None, Option, Some, [], ap}
-use Rattle.kd_state.proofs.Prelude.{arith, false, inl, inr, length, map, nat_eq, refl, rules, set}
-use Rattle.kd_state.proofs.Prelude.{subst, sym, true, ℕ, ◌+◌, ◌-◌, ◌<◌, ◌∙◌, ◌∷◌, ◌≡◌, ◌≢◌}
-use Rattle.kd_state.proofs.Prelude.{◌⊎◌, common_steps, IsDistinct}
-use Rattle.kd_state.proofs.Slots.{numbered_here, numbered_other, has_letter-Decides, place_there}
+use Rattle.kd_state.proofs.Prelude.{numbered_item, place_in_box, SettingsKeepMachines, IsSettingInRange, AreLegalSeats}
+use Rattle.kd_state.proofs.Prelude.{AreLetters, AreOnWheels, IsLegalPin, IsLegalRotor, IsMachine, IsSeatedAt}
+use Rattle.kd_state.proofs.Prelude.{with_cables_in_order, cable_in_order, letters_in_cables, pin_set, wheel_pins}
+use Rattle.kd_state.proofs.Prelude.{with_pin, cable_with, cable_without, seat_without, Parts, Pin, Rotor, PinParts}
+use Rattle.kd_state.proofs.Prelude.{RotorParts, Setting, LugTo, PinTo, Pull, Put, RingTo, Seat, SeatReflector, Turn}
+use Rattle.kd_state.proofs.Prelude.{Why, place_on, box_of, reflectors_of, wheels_for, Wheel, both_ways, cases_Bool}
+use Rattle.kd_state.proofs.Prelude.{cases_eq, length-map, length-set, map-set, All-cons, All-set, All-tail}
+use Rattle.kd_state.proofs.Prelude.{position-Some, All-permutation, none-some, same_Some, slice_get-map}
+use Rattle.kd_state.proofs.Prelude.{slice_get_within, All, is_none, option_map, option_or, unwrap_or, pins_of, PinSet}
+use Rattle.kd_state.proofs.Prelude.{Bool, List, Option, Some, [], ap, arith, false, inl, inr, length, map, nat_eq, refl}
+use Rattle.kd_state.proofs.Prelude.{rules, set, subst, sym, true, ℕ, ◌+◌, ◌-◌, ◌<◌, ◌∙◌, ◌∷◌, ◌≡◌, ◌≢◌, ◌⊎◌}
+use Rattle.kd_state.proofs.Prelude.{common_steps, IsDistinct, Carries, Leads, Refuses, ListsHaveOneResult}
+use Rattle.kd_state.proofs.Prelude.{ListsKeepMachines, ltb-true, not-true, All-head, take, get_or, ◌++◌, HasLugsInOrder}
+use Rattle.kd_state.proofs.Prelude.{NoSuchBar, SlotEmpty, with_lug, NoSuchCable, NotThere, NoLooseEnd, SocketTaken}
+use Rattle.kd_state.proofs.Prelude.{PlaceTaken, WouldPass, WheelNotAllowed, NotOnWheel, Reflector, Contains, list_any}
+use Rattle.kd_state.proofs.Prelude.{same_wheel, same_reflector, has_letter, cable_letters, has_loose_end, is_same_place}
+use Rattle.kd_state.proofs.Prelude.{not, place_rank, is_some, ◌&&◌, Lug, Place}
+use Rattle.kd_state.proofs.Slots.{numbered_here, numbered_other, has_letter-Decides, place_there, is_numbered}
+use Rattle.kd_state.proofs.Slots.{IsNumbered}
 use Rattle.kd_state.proofs.{Prelude.IsPermutation, Slots.{IsNumbered-not_none, set_here, set_other}}
 use Rattle.std.proofs.lemmas.Map.Keys.{IsDistinct-IsPermutation, IsDistinct-tail, IsDistinct-cons}
 use Rattle.kd_state.proofs.Cables.{all_ordered, all_ordered_move, all_ordered_again, ordered_again, without_ordered}
-use Rattle.kd_state.proofs.Cables.{without_moves, with_moves, set_moves, eqb_flips, has_letter-AllByRecursion}
-use Rattle.kd_state.proofs.Wheels.{has_wheel-Decides, has_reflector-Decides}
-use Rattle.kd_state.proofs.Wheels.{same_wheel-Decides}
+use Rattle.kd_state.proofs.{Cables.{without_moves, with_moves, set_moves}, FirstFault.{found-Ok, demand-Ok}}
+use Rattle.kd_tables.proofs.DistinctLetters.{eqb_flips, has_letter-AllByRecursion}
+use Rattle.kd_state.proofs.Wheels.{has_wheel-Decides, has_reflector-Decides, same_wheel-Decides}
 use Rattle.kd_state.proofs.Wheels.{IsPlaced-from_wheels_for}
 unfoldable use Rattle.kd_state.proofs.Prelude.{ring_of}
-use Rattle.kd_state.proofs.Prelude.{◌>>=◌, ◌>>◌, demand, Carries, Leads, Refuses, ListsHaveOneResult}
-use Rattle.kd_state.proofs.Prelude.{ListsKeepMachines, ltb-true, not-true, All-head, take, get_or, ◌++◌, HasLugsInOrder}
-use Rattle.kd_state.proofs.Prelude.{NoSuchBar, SlotEmpty, with_lug, NoSuchCable, NotThere, NoLooseEnd, SocketTaken}
-use Rattle.kd_state.proofs.Prelude.{PlaceTaken, WouldPass}
-use Rattle.kd_state.proofs.Prelude.{WheelNotAllowed, NotOnWheel, Reflector, Contains, list_any, same_wheel}
-use Rattle.kd_state.proofs.Prelude.{same_reflector}
-use Rattle.kd_state.proofs.Prelude.{has_letter, cable_letters, has_loose_end, has_lugs_in_order, is_same_place, not}
-use Rattle.kd_state.proofs.Prelude.{is_some, ◌&&◌, Lug, Place}
-use Rattle.kd_state.proofs.Slots.{is_numbered, IsNumbered}
 use Rattle.kd_state.specs.Laws.{LeadsOrRefuses}
 use Rattle.kd_state.specs.Setting.{IsFirstIllegal}
-use Rattle.std.specs.Prelude.{ok_or, Result, Ok, IfOk}
+use Rattle.std.specs.Prelude.{nat_lt, Result, Ok, IfOk}
 use Rattle.std.proofs.{Math.Seq.drop-cons, lemmas.List.{length-take-le, take-append-drop, take_more}}
 
--- ---- steps of a `do`
-
--- If a thing is looked for and the next step succeeds, the thing was found, and the next step succeeds with it.
-pub found-Ok : {A B F : Type 0} (found : Option A) (fault : F) (next : A → Result B F) {after : B}
-    → (ok_or found fault >>= next) ≡ Ok after → (x : A) × (found ≡ Some x) × (next x ≡ Ok after)
-found-Ok (Some x) fault next e = (x, refl, e)
-found-Ok None fault next e = absurd (cc)
-
--- If a test and the next step succeed, the test is true.
-pub demand-Ok : {B F : Type 0} (test : Bool) (fault : F) (next : Result B F) {after : B}
-    → (demand test fault >> next) ≡ Ok after → (test ≡ true) × (next ≡ Ok after)
-demand-Ok true fault next e = (refl, e)
-demand-Ok false fault next e = absurd (cc)
+-- ---- results
 
 abbrev carried_out : Parts → Result Parts Why
 carried_out machine = Ok machine
@@ -238,7 +216,7 @@ lug_moved m bar lug place after e =
     let (old, there, tested) = found-Ok (numbered_item m.bars bar) NoSuchBar _ e in
     let new = with_lug lug place old in
     let (apart, more) = demand-Ok (not (is_same_place new.0 new.1)) PlaceTaken _ tested in
-    let (before, made) = demand-Ok (has_lugs_in_order new) WouldPass _ more in
+    let (before, made) = demand-Ok (nat_lt (place_rank new.0) (place_rank new.1)) WouldPass _ more in
     record {
       old = old;
       there = is_numbered m.bars bar old there;

@@ -1,19 +1,16 @@
 -- Lemmas on costs: counting letters, the columns of a day, and the standings of a row.
-use Rattle.kd_state.proofs.Prelude.{All, AllByRecursion, AllPass-from_list_all, Bool}
-use Rattle.kd_state.proofs.Prelude.{IsBefore, IsDistinct, IsReading, List}
-use Rattle.kd_state.proofs.Prelude.{None, Option, Place, Some, []}
-use Rattle.kd_state.proofs.Prelude.{alphabet, ap, arith, bar_cost, cable_cost, cable_letters, cases_eq, column_letters}
+use Rattle.kd_state.proofs.Prelude.{All, AllByRecursion, AllPass-from_list_all, Bool, IsBefore, IsDistinct, IsReading}
+use Rattle.kd_state.proofs.Prelude.{List, None, Option, Place, Some, [], alphabet, ap, arith, bar_cost, cable_cost}
+use Rattle.kd_state.proofs.Prelude.{cable_letters, cases_eq, column_letters, columns_of, common_steps, count_by}
+use Rattle.kd_state.proofs.Prelude.{exactly_one, find, get_or, has_letter, inl, inr, le-leb, length, length-append}
+use Rattle.kd_state.proofs.Prelude.{length-map, length-replicate, letters_in_pairs, ltb-true, map, nat_eq, nat_tests}
+use Rattle.kd_state.proofs.Prelude.{option_to_list, range_with_len, recursion_from_All, refl, rules, slice_get, suc}
+use Rattle.kd_state.proofs.Prelude.{sum_by-cons, sum_by_more, take, true, unwrap_or, zero, ℕ, ◌&&◌, reading_of}
 use Rattle.std.specs.Prelude.{slice_index_or}
-use Rattle.kd_state.proofs.Prelude.{columns_of, common_steps, count_by, exactly_one, find, get_or, has_letter, inl, inr}
-use Rattle.kd_state.proofs.Prelude.{le-leb, length, length-append, length-map, length-replicate, letters_in_pairs}
-use Rattle.kd_state.proofs.Prelude.{ltb-true, map, nat_eq, nat_tests, option_to_list, range_with_len}
-use Rattle.kd_state.proofs.Prelude.{recursion_from_All, refl, rules, slice_get, suc, sum_by-cons, sum_by_more}
-use Rattle.kd_state.proofs.Prelude.{take, true, unwrap_or, zero, ℕ, ◌&&◌, reading_of}
-use Rattle.kd_state.proofs.{Cables.has_letter-AllByRecursion}
+use Rattle.kd_tables.proofs.DistinctLetters.{has_letter-AllByRecursion}
 use Rattle.kd_state.proofs.{Prelude.{◌++◌, ◌+◌, ◌-◌, ◌<◌, ◌||◌, ◌∙◌, ◌∷◌, ◌≡◌, ◌≢◌, ◌≤◌}}
 use Rattle.kd_state.proofs.SortedAlike.{count_by-cons, one_if}
-use Rattle.kd_state.specs.Costs.{standing_across, lugs_moved, nearest_standing, place_of_pin_wheel}
-use Rattle.kd_state.specs.Costs.{standings_as}
+use Rattle.kd_state.specs.Costs.{standing_across, lugs_moved, nearest_standing, place_of_pin_wheel, standings_as}
 use Rattle.kd_tables.specs.{Places.{place_rank, standings}, declared.place.Place.TheVariants.{ZeroLeft, ZeroRight}}
 use Rattle.std.{proofs.Common.{cond, fold, min, nat_lt, replicate, sum_by}, specs.Prelude.nat_le}
 use Rattle.std.proofs.lemmas.List.{Elements.{All-filter, filter_passes}, FromFn.get_or-range_with_len}

@@ -7,5 +7,6 @@ pub mod CostTable
 pub mod Keys
 mod WheelsInSlots
 pub mod SortedAlike
+pub mod FirstFault
 pub mod Carrying
 pub mod OneAnswer

@@ -1,37 +1,30 @@
 -- Names from other crates, and of this crate's definitions, that the proofs of this crate use.
 pub use Rattle.kd_drum.specs.Converter.{IsEachOnItsWheel, PinKey, is_acting_after, bars_met, converter_cipher}
 pub use Rattle.kd_enigma.specs.Plugs.{NoLetterTwice, letters_in_pairs}
-pub use Rattle.kd_state.specs.SameParts.{numbered_item, place_in_box, same_reflector}
-pub use Rattle.kd_state.specs.SameParts.{same_wheel}
+pub use Rattle.kd_state.specs.SameParts.{numbered_item, place_in_box, same_reflector, same_wheel}
 pub use Rattle.kd_state.specs.Costs.{bar_cost, cable_cost, column_letters, columns_of, costs_by, exactly_one}
-pub use Rattle.kd_state.specs.Laws.{CipherOfChunks}
-pub use Rattle.kd_state.specs.Laws.{EngineEnciphersAsMachine, EquallySetDecipher}
-pub use Rattle.kd_state.specs.Laws.{KeyAfterChunks, ListsHaveNoFault, MachinesCanBeTurned, OnKeyEnciphersByDaysKey}
-pub use Rattle.kd_state.specs.Laws.{OnKeyIsReady, OneListFault, ReadsAsDayEnciphersAsDay}
-pub use Rattle.kd_state.specs.Laws.{ReadsAsDayIsReady}
-pub use Rattle.kd_state.specs.Laws.{SettingsKeepMachines, ListsKeepMachines, ListsHaveOneResult}
-pub use Rattle.kd_state.specs.Laws.{TextsDetermineLists, DaysEngineDeciphersItself}
-pub use Rattle.kd_state.specs.Laws.{TurnedEngineEnciphersAsMachine, TurningChangesOnlyLetters, TurnedEnciphersByDaysKey}
-pub use Rattle.kd_state.specs.Laws.{TurnedStaysOnKey}
+pub use Rattle.kd_state.specs.Laws.{CipherOfChunks, EngineEnciphersAsMachine, EquallySetDecipher, KeyAfterChunks}
+pub use Rattle.kd_state.specs.Laws.{ListsHaveNoFault, MachinesCanBeTurned, OnKeyEnciphersByDaysKey, OnKeyIsReady}
+pub use Rattle.kd_state.specs.Laws.{OneListFault, ReadsAsDayEnciphersAsDay, ReadsAsDayIsReady, SettingsKeepMachines}
+pub use Rattle.kd_state.specs.Laws.{ListsKeepMachines, ListsHaveOneResult, TextsDetermineLists}
+pub use Rattle.kd_state.specs.Laws.{DaysEngineDeciphersItself, TurnedEngineEnciphersAsMachine}
+pub use Rattle.kd_state.specs.Laws.{TurningChangesOnlyLetters, TurnedEnciphersByDaysKey, TurnedStaysOnKey}
 pub use Rattle.kd_state.specs.Line.{BeginsWithSettingLines, BeginsWithSettingLine, BeginsWithNoSetting}
 pub use Rattle.kd_state.specs.Line.{IsSettingInRange, IsListText, IsSettingOfWords, list_text, on_off_text}
 pub use Rattle.kd_state.specs.Line.{setting_line, setting_words}
-pub use Rattle.kd_state.specs.Machine.{AreLegalSeats, AreCables, AreLetters, AreOnWheels, HasAllPins}
-pub use Rattle.kd_state.specs.Machine.{HasLugsInOrder, IsLegalPin, IsLegalRotor, IsMachine, IsSeatedAt, cable_letters}
+pub use Rattle.kd_state.specs.Machine.{AreLegalSeats, AreCables, AreLetters, AreOnWheels, HasAllPins, HasLugsInOrder}
+pub use Rattle.kd_state.specs.Machine.{IsLegalPin, IsLegalRotor, IsMachine, IsSeatedAt, cable_letters}
 pub use Rattle.kd_state.specs.Machine.{with_cables_in_order, letter_at, machine_letter, model_of, cable_in_order}
 pub use Rattle.kd_state.specs.Machine.{letters_in_cables, ring_at, machine_ring, machine_slot, machine_standing}
 pub use Rattle.kd_state.specs.OnKey.{IsRotorOnKey, OnKey, ShowsWindow, cable_of_column, cables_of}
 pub use Rattle.kd_state.specs.Pins.{pin_at, pin_set, wheel_pins, with_pin}
 pub use Rattle.kd_state.specs.FirstFault.{◌>>=◌, ◌>>◌, demand}
-pub use Rattle.kd_state.specs.Setting.{Carries, Leads, Refuses, outcome, are_new_and_distinct, cable_with}
-pub use Rattle.kd_state.specs.Setting.{has_loose_end, has_lugs_in_order}
-pub use Rattle.kd_state.specs.Setting.{cable_without, has_letter, is_same_place}
-pub use Rattle.kd_state.specs.Setting.{with_lug, seat_without}
+pub use Rattle.kd_state.specs.Setting.{Carries, Leads, Refuses, outcome, cable_with, cable_without, has_loose_end}
+pub use Rattle.kd_state.specs.Setting.{is_same_place, with_lug, seat_without}
 pub use Rattle.kd_state.specs.SheetDay.{Day, HasWheelLetters, IsLegalDay, IsLegalRotorDay, OfPins, OfRotors, PinDay}
 pub use Rattle.kd_state.specs.SheetDay.{RotorDay, seats_of_wheels}
-pub use Rattle.kd_state.specs.TwoCiphers.{EngineKey, IsReady, OfDrum, OfWheels, cipher}
-pub use Rattle.kd_state.specs.TwoCiphers.{key_with_window, physical_cipher, physical_key, seated_wheels}
-pub use Rattle.kd_state.specs.TwoCiphers.{sheet_key, window_of}
+pub use Rattle.kd_state.specs.TwoCiphers.{EngineKey, IsReady, OfDrum, OfWheels, cipher, key_with_window}
+pub use Rattle.kd_state.specs.TwoCiphers.{physical_cipher, physical_key, seated_wheels, sheet_key, window_of}
 pub use Rattle.kd_state.specs.declared.machine.parts.Parts.{Parts, TheVariants.Pin, TheVariants.Rotor}
 pub use Rattle.kd_state.specs.declared.machine.{pin_parts.PinParts.PinParts, rotor_parts.RotorParts.RotorParts}
 pub use Rattle.kd_state.specs.declared.{setting.Setting.Setting, setting.why.Why.Why}
@@ -41,10 +34,10 @@ pub use Rattle.kd_state.specs.declared.setting.why.Why.TheVariants.{NoLooseEnd, 
 pub use Rattle.kd_state.specs.declared.setting.why.Why.TheVariants.{NotThere, OtherModel, PlaceTaken, SlotEmpty}
 pub use Rattle.kd_state.specs.declared.setting.why.Why.TheVariants.{SocketTaken, WheelNotAllowed, WouldPass}
 pub use Rattle.kd_state.specs.declared.sheet_day.rotor_entry.SheetWheel.{SheetWheel}
-pub use Rattle.kd_tables.specs.{Permutation.alphabet, Permutation.exchange, Rings.place_on}
-pub use Rattle.kd_tables.specs.Places.{IsBefore, IsReading, lug_text, place_number, place_text, places, reading_of}
-pub use Rattle.kd_tables.specs.Tables.{box_of, reflector_text, reflectors_of, slots_of}
-pub use Rattle.kd_tables.specs.Tables.{wheel_text, wheels_for}
+pub use Rattle.kd_tables.specs.{Pairs.has_letter, Permutation.alphabet, Permutation.exchange, Rings.place_on}
+pub use Rattle.kd_tables.specs.Places.{IsBefore, IsReading, lug_text, place_number, place_rank, place_text, places}
+pub use Rattle.kd_tables.specs.Places.{reading_of}
+pub use Rattle.kd_tables.specs.Tables.{box_of, reflector_text, reflectors_of, slots_of, wheel_text, wheels_for}
 pub use Rattle.kd_tables.specs.declared.{lug.Lug.Lug, lug.Lug.TheVariants.Left, model.Model.Model, place.Place.Place}
 pub use Rattle.kd_tables.specs.declared.{model.Model.TheVariants.M209, place.Place.TheVariants.One}
 pub use Rattle.kd_tables.specs.declared.{reflector.Reflector.Reflector, wheel.Wheel.Wheel}
@@ -73,7 +66,8 @@ pub use Rattle.std.proofs.lemmas.List.Sums.{sum_by-le, sum_by_more}
 pub use Rattle.std.proofs.lemmas.Map.Made.{Contains-tail, is_member-Decides}
 pub use Rattle.std.proofs.lemmas.Option.{get_or_from_slice_get, gets, none-some, same_Some, slice_get-get_or}
 pub use Rattle.std.proofs.lemmas.Option.{slice_get-map, slice_get_cases, slice_get_past, slice_get_within}
-pub use Rattle.std.specs.{Bool.Decides, Bool.then_some, Str.Parse.ParsesUnsigned}
+pub use Rattle.std.specs.{Bool.Decides, Bool.then_some, Str.Parse.ParsesUnsigned, Ordering.is_lt, Ordering.nat_cmp}
+pub use Rattle.std.specs.{Prelude.IsPermutation, Prelude.take, Prelude.◌&&◌}
 pub use Rattle.std.specs.Cmp.Lexicographic.{options_total, pointwise_decides}
 pub use Rattle.std.specs.Cmp.{IsStrictWeakOrder, nat_cmp_total, on_total, then_total}
 pub use Rattle.std.specs.List.{All, AllByRecursion, AllWithin, cons_option, count_by, enumerate_from, list_all}
@@ -86,5 +80,4 @@ pub use Rattle.std.proofs.Common.{Bool, Contains, List, MatchOption, None, Optio
 pub use Rattle.std.proofs.Common.{filter_map, find, get_or, inl, inr, length, map, nat_eq, not, refl, rules, set}
 pub use Rattle.std.proofs.Common.{slice_get, subst, suc, sym, true, zero, ℕ, ◌++◌, ◌+◌, ◌-◌, ◌<◌, ◌||◌, ◌↔◌, ◌∙◌, ◌∷◌}
 pub use Rattle.std.proofs.Common.{◌≡◌, ◌≢◌, ◌≤◌, ◌⊎◌}
-pub use Rattle.std.specs.{Ordering.is_lt, Ordering.nat_cmp, Prelude.IsPermutation, Prelude.take, Prelude.◌&&◌}
 pub use lib.Pointwise.{pointwise}

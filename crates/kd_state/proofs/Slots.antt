@@ -1,11 +1,10 @@
 -- Lemmas on elements counted from 1: slots, and the letters and pins of the pin wheels.
 use Rattle.kd_state.proofs.Prelude.{IsEachOnItsWheel, numbered_item, IsSeatedAt, wheels_for, AreOnWheels, HasAllPins}
-use Rattle.kd_state.proofs.Prelude.{has_letter, place_on, box_of, Model, Wheel, cases_Bool, eqb-true, le-ltb, lt-ltb}
-use Rattle.kd_state.proofs.Prelude.{Decides-eqb, Decides-like, position-Some, is_member-Decides, get_or_from_slice_get}
-use Rattle.kd_state.proofs.Prelude.{gets, slice_get-get_or, slice_get_within, Decides, is_none, is_some, unwrap_or}
-use Rattle.kd_state.proofs.Prelude.{PinSet, ring_of, Contains, List, Option, Some, arith, false, length, nat_eq, refl}
-use Rattle.kd_state.proofs.Prelude.{set, slice_get, sym, ℕ, ◌+◌, ◌-◌, ◌<◌, ◌∙◌, ◌≡◌, ◌≢◌, ◌≤◌, common_steps}
-use Rattle.kd_state.proofs.Prelude.{map, range_with_len, suc, zero}
+use Rattle.kd_state.proofs.Prelude.{has_letter, place_on, box_of, Model, Wheel, cases_Bool, le-ltb, lt-ltb, Decides-eqb}
+use Rattle.kd_state.proofs.Prelude.{Decides-like, is_member-Decides, get_or_from_slice_get, gets, slice_get-get_or}
+use Rattle.kd_state.proofs.Prelude.{slice_get_within, Decides, is_none, is_some, unwrap_or, PinSet, ring_of, Contains}
+use Rattle.kd_state.proofs.Prelude.{List, Option, Some, arith, false, length, nat_eq, refl, set, slice_get, sym, ℕ, ◌+◌}
+use Rattle.kd_state.proofs.Prelude.{◌-◌, ◌<◌, ◌≡◌, ◌≢◌, ◌≤◌, common_steps, map, range_with_len, suc, zero}
 use Rattle.{std.proofs.Common.add-one, kd_state.proofs.Wheels.{IsPlaced-from_wheels_for, first_within, first_nowhere}}
 
 -- `x` is element `number`, counted from 1: it is at place `number - 1`
@@ -69,13 +68,6 @@ letters_have_places wheel = refl
 pub place_there : (letters : List ℕ) (letter : ℕ) → Contains letters letter
     → place_on letters letter ≡ Some (unwrap_or (place_on letters letter) 0)
 place_there letters letter h = grind (arith, is_some-place_on letters letter, has_letter-Decides letters letter)
-
-pub only_place : (letters : List ℕ) (letter other place : ℕ) → place_on letters letter ≡ Some place
-    → place_on letters other ≡ Some place → other ≡ letter
-only_place letters letter other place e f =
-    let here = position-Some (λ (l : ℕ). nat_eq l letter) letters place 0 e in
-    let there = position-Some (λ (l : ℕ). nat_eq l other) letters place 0 f in
-    sym (eqb-true _ _ there.1) ∙ eqb-true _ _ here.1
 
 -- ---- six letters, each on its wheel
 

@@ -1,19 +1,15 @@
 -- Lemmas on which wheels and reflectors are the same, and on the slots and places that wheels have.
-use Rattle.kd_state.proofs.Prelude.{place_in_box, same_reflector, same_wheel, AreLegalSeats}
-use Rattle.kd_state.proofs.Prelude.{IsSeatedAt, ShowsWindow, Day}
-use Rattle.kd_state.proofs.Prelude.{OfPins, PinDay, AllByRecursion, All-from_recursion, recursion_from_All}
+use Rattle.kd_state.proofs.Prelude.{place_in_box, same_reflector, same_wheel, AreLegalSeats, IsSeatedAt, ShowsWindow}
+use Rattle.kd_state.proofs.Prelude.{Day, OfPins, PinDay, AllByRecursion, All-from_recursion, recursion_from_All}
 use Rattle.kd_state.proofs.Prelude.{seats_of_wheels, Parts, Pin, PinParts, SheetWheel, box_of, reflector_text, slots_of}
-use Rattle.std.specs.Prelude.{AllPairs}
 use Rattle.kd_state.proofs.Prelude.{wheel_text, wheels_for, Model, Reflector, Wheel, I, cases_Bool, eqb-true}
-use Rattle.kd_state.proofs.Prelude.{false_from_ne_true, leb-true, Contains-append_left}
-use Rattle.kd_state.proofs.Prelude.{Contains-append_right, Contains-get_or, passes_at_first, position_or_len_is}
-use Rattle.kd_state.proofs.Prelude.{is_member-Decides, same_Some, slice_get-get_or, slice_get-map, Decides}
-use Rattle.kd_state.proofs.Prelude.{pointwise_decides, All, list_any, position_or_len, option_eq, unwrap_or, Bool}
-use Rattle.kd_state.proofs.Prelude.{Contains, List, Option, [], ap, arith, false, find, get_or, length, refl, rules}
-use Rattle.kd_state.proofs.Prelude.{sym, true, ℕ, ◌<◌, ◌↔◌, ◌∙◌, ◌∷◌, ◌≡◌, ◌≢◌, ◌≤◌, pointwise, ◌&&◌, drop, subst, take}
-use Rattle.kd_state.proofs.Prelude.{◌-◌}
-use Rattle.std.proofs.lemmas.List.{take_all}
-use Rattle.std.specs.Prelude.{nat_le}
+use Rattle.kd_state.proofs.Prelude.{false_from_ne_true, leb-true, Contains-append_left, Contains-append_right}
+use Rattle.kd_state.proofs.Prelude.{Contains-get_or, passes_at_first, position_or_len_is, is_member-Decides, same_Some}
+use Rattle.kd_state.proofs.Prelude.{slice_get-get_or, slice_get-map, Decides, pointwise_decides, All, list_any}
+use Rattle.kd_state.proofs.Prelude.{position_or_len, option_eq, unwrap_or, Bool, Contains, List, Option, [], ap, arith}
+use Rattle.kd_state.proofs.Prelude.{false, find, get_or, length, refl, rules, sym, true, ℕ, ◌<◌, ◌↔◌, ◌∙◌, ◌∷◌, ◌≡◌}
+use Rattle.kd_state.proofs.Prelude.{◌≢◌, ◌≤◌, pointwise, ◌&&◌}
+use Rattle.std.specs.Prelude.{AllPairs, nat_le}
 use Rattle.{kd_tables.specs.contracts.wheel.Wheel.the_type, kd_tables.specs.declared.model.Model.TheVariants.M4}
 use Rattle.{std.proofs.Common.{cond, ◌==◌}, std.specs.Str.bytes_eq}
 use Rattle.kd_tables.specs.contracts.reflector.Reflector as reflector_type
@@ -152,15 +148,6 @@ seat_Decides one other = grind (arith, same_true, same_false, same_Some)
 pub seats_Decides : (slots others : List (Option Wheel))
     → Decides (pointwise (option_eq (sameb the_type)) slots others) (slots ≡ others)
 seats_Decides = grind (arith, pointwise_decides, seat_Decides)
-
--- if the first item has the property `P`, a test of the other items is a test of all items
-pub all_from_first : {X : Type 0} (P : X → Type 0) (xs : List X) (x : X) (b : Bool) → 1 ≤ length xs
-    → x ≡ get_or xs 0 x → P x → Decides b (AllByRecursion P (take (length xs - 1) (drop 1 xs)))
-    → Decides b (AllByRecursion P xs)
-all_from_first P [] x b some e here others = absurd (omega arith)
-all_from_first P (first ∷ xs) x b some e here others =
-    let all : take (length xs) xs ≡ xs = take_all (length xs) xs (omega arith) in
-    grind (arith, all, subst P e here)
 
 -- if `b` decides whether all elements of `xs` satisfy `P`, it also decides this for an equal list `ys`
 pub all_tested : {X : Type 0} (P : X → Type 0) (xs ys : List X) (b : Bool) → Decides b (AllByRecursion P xs) → xs ≡ ys

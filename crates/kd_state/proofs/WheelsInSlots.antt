@@ -1,12 +1,11 @@
 -- Lemmas on the wheels in the slots: their rings and letters, and turning them to any window.
-use Rattle.kd_state.proofs.Prelude.{place_in_box, MachinesCanBeTurned, AreLetters, IsLegalRotor}
-use Rattle.kd_state.proofs.Prelude.{IsSeatedAt, letter_at, ring_at, seats_of_wheels, IsReady, OfWheels}
-use Rattle.kd_state.proofs.Prelude.{physical_key, seated_wheels, Pin, Rotor, RotorParts, SheetWheel}
-use Rattle.kd_state.proofs.Prelude.{exchange, box_of, Model, Wheel, false≢true, get_or-map, length-map, All-map}
-use Rattle.kd_state.proofs.Prelude.{recursion_from_All, none-some, slice_get-get_or, All, AllByRecursion, cons_option}
-use Rattle.kd_state.proofs.Prelude.{IsSome, Contains, List, None, Option, Some, [], ap, arith, filter_map, get_or}
-use Rattle.kd_state.proofs.Prelude.{length, map, refl, set, slice_get, subst, suc, sym, zero, ℕ, ◌+◌, ◌<◌, ◌∙◌, ◌∷◌}
-use Rattle.kd_state.proofs.Prelude.{◌≡◌, ◌≢◌}
+use Rattle.kd_state.proofs.Prelude.{place_in_box, MachinesCanBeTurned, AreLetters, IsLegalRotor, IsSeatedAt, letter_at}
+use Rattle.kd_state.proofs.Prelude.{ring_at, seats_of_wheels, IsReady, OfWheels, physical_key, seated_wheels, Pin}
+use Rattle.kd_state.proofs.Prelude.{Rotor, RotorParts, SheetWheel, exchange, box_of, Model, Wheel, false≢true}
+use Rattle.kd_state.proofs.Prelude.{get_or-map, length-map, All-map, recursion_from_All, none-some, slice_get-get_or}
+use Rattle.kd_state.proofs.Prelude.{All, AllByRecursion, cons_option, IsSome, Contains, List, None, Option, Some, []}
+use Rattle.kd_state.proofs.Prelude.{ap, arith, filter_map, get_or, length, map, refl, set, slice_get, subst, suc, sym}
+use Rattle.kd_state.proofs.Prelude.{zero, ℕ, ◌+◌, ◌<◌, ◌∙◌, ◌∷◌, ◌≡◌, ◌≢◌}
 use Rattle.kd_state.proofs.{Carrying.{letters_set, with_letters}, Slots.set_here}
 use Rattle.kd_state.proofs.{Slots.set_other}
 use Rattle.kd_state.proofs.Cables.{pairs_of}

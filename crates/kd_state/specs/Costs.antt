@@ -7,6 +7,7 @@ use Rattle.std.specs.Prelude.{None, if◌then◌else◌}
 use Rattle.std.specs.Option.{option_map_or}
 use Rattle.kd_tables.specs.declared.place.Place.{Place}
 use Rattle.kd_tables.specs.declared.place.Place.TheVariants.{One, ZeroLeft, Two, Three, Four, Five, Six}
+use Rattle.kd_tables.specs.Pairs.{has_letter}
 use Rattle.kd_tables.specs.Permutation.{alphabet}
 use Rattle.kd_tables.specs.Places.{standings, place_rank, reading_of}
 use Rattle.kd_pins.specs.PinWheels.{pins_of}
@@ -14,7 +15,7 @@ use Rattle.kd_state.specs.declared.machine.parts.Parts.{Parts}
 use Rattle.kd_state.specs.declared.machine.parts.Parts.TheVariants.{Rotor, Pin}
 use Rattle.kd_state.specs.SameParts.{same_wheel, same_reflector}
 use Rattle.kd_state.specs.Machine.{cable_letters, ring_at, letter_at}
-use Rattle.kd_state.specs.Setting.{has_letter, is_same_place}
+use Rattle.kd_state.specs.Setting.{is_same_place}
 use Rattle.kd_state.specs.SheetDay.{Day, OfRotors, OfPins}
 
 -- whether one of the two is true and the other false
@@ -42,14 +43,6 @@ lugs_moved bar other = one_unless (is_same_place bar.0 other.0) + one_unless (is
 unfoldable pub standings_as : ℕ × ℕ → List (Place × Place)
 standings_as row =
     filter (λ bar. let reading = reading_of bar in nat_eq reading.0 row.0 && nat_eq reading.1 row.1) standings
-
--- the place on a bar where this pin wheel acts; for 0, the left one of the two places without a wheel
-abbrev pub place_of_pin_wheel : ℕ → Place
-place_of_pin_wheel wheel = slice_index_or (ZeroLeft ∷ One ∷ Two ∷ Three ∷ Four ∷ Five ∷ Six ∷ []) wheel Six
-
--- the standing whose two lugs are at these two places, given in either order
-abbrev pub standing_across : Place → Place → Place × Place
-standing_across one other = if nat_lt (place_rank one) (place_rank other) then (one, other) else (other, one)
 
 -- The cost of making a bar read as this row: the least number of lugs to move, at most 2.
 abbrev pub bar_cost : Place × Place → ℕ × ℕ → ℕ
@@ -90,3 +83,13 @@ loose_count (Pin machine) (OfPins day) =
     (zip (pins_of machine.pins) (pins_of day.pins)))
     + count_by (λ letter. not (nat_eq letter.0 letter.1)) (zip machine.letters day.window)
 loose_count _ _ = 0
+
+-- ---- How the standings for a row are found. No public contract cites these definitions.
+
+-- the place on a bar where this pin wheel acts; for 0, the left one of the two places without a wheel
+abbrev pub place_of_pin_wheel : ℕ → Place
+place_of_pin_wheel wheel = slice_index_or (ZeroLeft ∷ One ∷ Two ∷ Three ∷ Four ∷ Five ∷ Six ∷ []) wheel Six
+
+-- the standing whose two lugs are at these two places, given in either order
+abbrev pub standing_across : Place → Place → Place × Place
+standing_across one other = if nat_lt (place_rank one) (place_rank other) then (one, other) else (other, one)

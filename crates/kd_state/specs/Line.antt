@@ -44,12 +44,6 @@ IsSettingInRange (Turn slot letter) = (slot < 2 ^ 8) × (letter < 26)
 IsSettingInRange (PinTo wheel letter effective) = (wheel < 2 ^ 8) × (letter < 26)
 IsSettingInRange (LugTo bar lug place) = bar < 2 ^ 8
 
--- The result is the setting whose line has these words, or `None` if no setting's line has them.
-abbrev pub IsSettingOfWords : List (List ℕ) → Option Setting → Type 0
-IsSettingOfWords words result =
-    MatchOption result ((x : Setting) → IsSettingInRange x → setting_words x ≢ words)
-    (λ x. (setting_words x ≡ words) × IsSettingInRange x)
-
 -- ---- The text of a list of settings, and its first fault.
 -- Test: kd_trials/src/state/list.rt
 
@@ -61,11 +55,6 @@ list_text settings = flat_map (λ x. setting_line x ++ 10 ∷ []) settings
 pub record BeginsWithSettingLines (bytes : List ℕ) (settings : List Setting) (rest : List ℕ) : Type 0 where
   pub lines : bytes ≡ list_text settings ++ rest
   pub in_range : All IsSettingInRange settings
-
--- `bytes` are the line of setting `x`, LF, and then `rest`.
-pub record BeginsWithSettingLine (bytes : List ℕ) (x : Setting) (rest : List ℕ) : Type 0 where
-  pub line : bytes ≡ setting_line x ++ 10 ∷ rest
-  pub in_range : IsSettingInRange x
 
 -- The bytes don't begin with a setting's line and its LF.
 abbrev pub BeginsWithNoSetting : List ℕ → Type 0
@@ -93,3 +82,16 @@ pub record IsListText (bytes : List ℕ) (settings : List Setting) : Type 0 wher
   pub text : bytes ≡ list_text settings
   pub in_range : All IsSettingInRange settings
   pub few : length settings ≤ 192
+
+-- ---- Reading one line. No public contract cites these definitions.
+
+-- The result is the setting whose line has these words, or `None` if no setting's line has them.
+abbrev pub IsSettingOfWords : List (List ℕ) → Option Setting → Type 0
+IsSettingOfWords words result =
+    MatchOption result ((x : Setting) → IsSettingInRange x → setting_words x ≢ words)
+    (λ x. (setting_words x ≡ words) × IsSettingInRange x)
+
+-- `bytes` are the line of setting `x`, LF, and then `rest`.
+pub record BeginsWithSettingLine (bytes : List ℕ) (x : Setting) (rest : List ℕ) : Type 0 where
+  pub line : bytes ≡ setting_line x ++ 10 ∷ rest
+  pub in_range : IsSettingInRange x

@@ -77,8 +77,8 @@ pub record IsLegalRotor (machine : RotorParts) : Type 0 where
   pub letters : AreLetters (length (box_of machine.model)) machine.letters
   pub cables : AreCables machine.cables
 
--- The parts make a Converter. Each pin wheel has a pin for each of its letters, and shows one of its letters. On each of
--- the 27 bars, the left lug is left of the right lug.
+-- The parts make a Converter. Each pin wheel has a pin for each of its letters, and shows one of its letters. On each
+-- of the 27 bars, the left lug is left of the right lug.
 pub record IsLegalPin (machine : PinParts) : Type 0 where
   pub pins : HasAllPins machine.pins
   pub letters : AreOnWheels machine.letters
@@ -133,11 +133,12 @@ abbrev pub machine_reflector : Parts → Option Reflector
 machine_reflector (Rotor machine) = Some machine.reflector
 machine_reflector (Pin machine) = None
 
--- the ring of a wheel, if the machine has this wheel; `machine_letter`: its window letter
+-- the ring of a wheel, if the machine has this wheel
 abbrev pub machine_ring : Parts → Wheel → Option ℕ
 machine_ring (Rotor machine) wheel = ring_at machine wheel
 machine_ring (Pin machine) wheel = None
 
+-- the window letter of a wheel, if the machine has this wheel
 abbrev pub machine_letter : Parts → Wheel → Option ℕ
 machine_letter (Rotor machine) wheel = letter_at machine wheel
 machine_letter (Pin machine) wheel = None

@@ -1,7 +1,6 @@
 -- Single settings: what each makes of a machine, and why a machine refuses it.
-use Rattle.std.specs.Prelude.{◌≡◌, ℕ, ◌-◌, nat_eq, nat_lt, ◌+◌, Bool, true, false, not, ◌&&◌, List, [], ◌∷◌, ◌++◌}
-use Rattle.std.specs.Prelude.{map, slice_set, length, Option, Some, None, is_some, ok_or, Result, Ok, Err, ⊤}
-use Rattle.std.specs.Prelude.{MatchResult}
+use Rattle.std.specs.Prelude.{◌≡◌, ℕ, ◌-◌, nat_eq, nat_lt, ◌+◌, Bool, false, not, ◌&&◌, List, [], ◌∷◌, ◌++◌, map}
+use Rattle.std.specs.Prelude.{slice_set, length, Option, Some, None, is_some, ok_or, Result, Ok, Err, ⊤, MatchResult}
 use Rattle.std.specs.Prelude.{if◌then◌else◌}
 use Rattle.std.specs.List.{list_any}
 use Rattle.std.specs.Option.{option_map_or, option_or}
@@ -11,7 +10,7 @@ use Rattle.kd_tables.specs.declared.lug.Lug.{Lug}
 use Rattle.kd_tables.specs.declared.lug.Lug.TheVariants.{Left, Right}
 use Rattle.kd_tables.specs.Tables.{wheels_for, box_of, reflectors_of}
 use Rattle.kd_tables.specs.Rings.{ring_of}
-use Rattle.kd_tables.specs.Places.{place_rank}
+use Rattle.kd_tables.specs.{Pairs.has_letter, Places.place_rank}
 use Rattle.kd_state.specs.Pins.{with_pin}
 use Rattle.kd_state.specs.declared.machine.parts.Parts.{Parts}
 use Rattle.kd_state.specs.declared.machine.parts.Parts.TheVariants.{Rotor, Pin}
@@ -26,15 +25,6 @@ use Rattle.kd_state.specs.FirstFault.{◌>>=◌, ◌>>◌, demand}
 use Rattle.kd_state.specs.SameParts.{same_wheel, same_reflector, place_in_box, numbered_item}
 use Rattle.kd_state.specs.Machine.{cable_letters, letters_in_cables, cable_in_order}
 
--- whether the letter is one of the letters
-abbrev pub has_letter : List ℕ → ℕ → Bool
-has_letter letters letter = list_any (λ other. nat_eq other letter) letters
-
--- whether the letters of the first list differ from each other, and from all letters of the second list
-abbrev pub are_new_and_distinct : List ℕ → List ℕ → Bool
-are_new_and_distinct [] others = true
-are_new_and_distinct (first ∷ rest) others = not (has_letter (rest ++ others) first) && are_new_and_distinct rest others
-
 -- whether two places on a bar are the same
 abbrev pub is_same_place : Place → Place → Bool
 is_same_place place other = nat_eq (place_rank place) (place_rank other)
@@ -42,10 +32,6 @@ is_same_place place other = nat_eq (place_rank place) (place_rank other)
 -- whether an end of the cable is empty
 abbrev pub has_loose_end : Option ℕ × Option ℕ → Bool
 has_loose_end cable = not (is_some cable.0 && is_some cable.1)
-
--- whether the left lug is left of the right lug
-abbrev pub has_lugs_in_order : Place × Place → Bool
-has_lugs_in_order bar = nat_lt (place_rank bar.0) (place_rank bar.1)
 
 -- a bar's standing after the given lug is moved to the given place
 abbrev pub with_lug : Lug → Place → Place × Place → Place × Place
@@ -107,7 +93,7 @@ outcome (Pin machine) (LugTo bar lug place) = do
   standing ← ok_or (numbered_item machine.bars bar) NoSuchBar
   let moved = with_lug lug place standing
   demand (not (is_same_place moved.0 moved.1)) PlaceTaken
-  demand (has_lugs_in_order moved) WouldPass
+  demand (nat_lt (place_rank moved.0) (place_rank moved.1)) WouldPass
   Ok (Pin (record machine { bars = slice_set machine.bars (bar - 1) moved }))
 outcome _ _ = Err OtherModel
 
@@ -122,12 +108,6 @@ Refuses machine setting why = outcome machine setting ≡ Err why
 -- ---- Settings carried out one after another, and the first that is refused.
 -- Code: `carry_all` is a loop that stops at the first setting that is refused.
 -- Test: writes_the_machine_that_stands_then
-
--- The answer to a setting is right. Either the machine has carried the setting out; or the machine is unchanged,
--- and the answer is the first reason to refuse the setting.
-abbrev pub IsCarryAnswer : Parts → Setting → Parts → Result ⊤ Why → Type 0
-IsCarryAnswer machine setting after answer =
-    MatchResult answer (λ _. Carries machine setting after) (λ why. Refuses machine setting why × (after ≡ machine))
 
 -- The settings, carried out in order, turn the first machine into the second.
 abbrev pub Leads : Parts → List Setting → Parts → Type 0
@@ -145,3 +125,11 @@ pub record IsFirstIllegal (machine : Parts) (settings : List Setting) (line : �
   pub number : line ≡ length front + 1
   pub leads : Leads machine front between
   pub refused : Refuses between setting why
+
+-- ---- What `carry` answers for machines of one sort. No public contract cites this definition.
+
+-- The answer to a setting is right. Either the machine has carried the setting out; or the machine is unchanged,
+-- and the answer is the first reason to refuse the setting.
+abbrev pub IsCarryAnswer : Parts → Setting → Parts → Result ⊤ Why → Type 0
+IsCarryAnswer machine setting after answer =
+    MatchResult answer (λ _. Carries machine setting after) (λ why. Refuses machine setting why × (after ≡ machine))

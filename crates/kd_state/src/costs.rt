@@ -4,8 +4,8 @@ pub(crate) mod tables;
 
 ghost use Rattle.std.specs.Prelude.{◌≡◌, ◌≢◌, ◌≤◌, ◌∷◌, Some};
 ghost use Rattle.std.specs.Option.{option_to_list};
-ghost use Rattle.kd_tables.specs.Places.{place_rank};
-ghost use Rattle.kd_state.specs.Setting.{has_letter, is_same_place};
+ghost use Rattle.kd_tables.specs.{Pairs.has_letter, Places.place_rank};
+ghost use Rattle.kd_state.specs.Setting.{is_same_place};
 ghost use Rattle.kd_state.specs.Costs as costs;
 ghost use Rattle.kd_state.specs.Costs.{column_letters};
 

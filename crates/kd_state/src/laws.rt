@@ -1,12 +1,12 @@
 //! Laws of machines, settings and days.
-ghost use Rattle.kd_state.specs.Laws.{LinesDetermineSettings, TextsDetermineLists, ListsHaveNoFault};
-ghost use Rattle.kd_state.specs.Laws.{OneListFault, SettingsKeepMachines, ListsKeepMachines};
-ghost use Rattle.kd_state.specs.Laws.{LeadsOrRefuses, ListsHaveOneResult, SamePartsAreEqual};
-ghost use Rattle.kd_state.specs.Laws.{EngineEnciphersAsMachine};
-ghost use Rattle.kd_state.specs.Laws.{TurnedEngineEnciphersAsMachine, ReadsAsDayIsReady, ReadsAsDayEnciphersAsDay};
-ghost use Rattle.kd_state.specs.Laws.{OnKeyIsReady, OnKeyEnciphersByDaysKey, TurnedStaysOnKey};
-ghost use Rattle.kd_state.specs.Laws.{TurningChangesOnlyLetters, TurnedEnciphersByDaysKey, MachinesCanBeTurned};
-ghost use Rattle.kd_state.specs.Laws.{EquallySetDecipher, DaysEngineDeciphersItself, CipherOfChunks, KeyAfterChunks};
+ghost use Rattle.kd_state.specs.Laws.{LinesDetermineSettings, TextsDetermineLists, ListsHaveNoFault, OneListFault};
+ghost use Rattle.kd_state.specs.Laws.{SettingsKeepMachines, ListsKeepMachines, ListsHaveOneResult, SamePartsAreEqual};
+ghost use Rattle.kd_state.specs.Laws.{EngineEnciphersAsMachine, TurnedEngineEnciphersAsMachine, ReadsAsDayIsReady};
+ghost use Rattle.kd_state.specs.Laws.{ReadsAsDayEnciphersAsDay, OnKeyIsReady, OnKeyEnciphersByDaysKey};
+ghost use Rattle.kd_state.specs.Laws.{TurnedStaysOnKey, TurningChangesOnlyLetters, TurnedEnciphersByDaysKey};
+ghost use Rattle.kd_state.specs.Laws.{MachinesCanBeTurned, EquallySetDecipher, DaysEngineDeciphersItself};
+ghost use Rattle.kd_state.specs.Laws.{CipherOfChunks, KeyAfterChunks};
+ghost use Rattle.kd_state.specs.Laws.{LeadsOrRefuses};
 
 /// Wheels are compared by which wheels they are, and reflectors likewise.
 pub fn same_parts_are_equal()

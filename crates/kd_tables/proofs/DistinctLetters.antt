@@ -1,38 +1,52 @@
--- Pairs in which no letter occurs twice: the first pair is apart from the others, and no letter occurs twice in these.
-use Rattle.std.proofs.Common.{List, [], arith, drop, eqb, false, get_or, length, refl, subst, sym, take, true, ℕ}
-use Rattle.std.proofs.Common.{◌-◌, ◌<◌, ◌≤◌, ◌∷◌, ◌≡◌, ◌↔◌}
-use Rattle.std.proofs.lemmas.{Bool.Decides.{nat_tests}, List.{take_all}}
-use Rattle.std.specs.List.{AllByRecursion, IsDistinct, list_any}
-use Rattle.kd_tables.specs.Pairs.{NoLetterTwice, is_apart, is_in_pairs, letters_in_pairs}
+-- Letters that all differ: the letters of the first thing are new and distinct, and those of the other things differ.
+use Rattle.std.proofs.Common.{List, [], arith, drop, false, get_or, length, nat_eq, refl, subst, sym, take, true, ℕ}
+use Rattle.std.proofs.Common.{◌++◌, ◌-◌, ◌<◌, ◌≤◌, ◌∷◌, ◌≡◌, ◌↔◌}
+use Rattle.std.proofs.lemmas.{Bool.{and_from, and_parts, not-true, or_from, or_parts}, Bool.Decides.{nat_tests}}
+use Rattle.std.proofs.lemmas.{List.{take_all}}
+use Rattle.std.specs.List.{AllByRecursion, IsDistinct, flat_map}
+use Rattle.kd_tables.specs.Pairs.{are_new_and_distinct, has_letter}
 
-list_any-AllByRecursion : (x : ℕ) (letters : List ℕ)
-    → (list_any (λ y. eqb y x) letters ≡ false) ↔ AllByRecursion (λ y. eqb x y ≡ false) letters
-list_any-AllByRecursion x [] = (λ _. tt, λ _. refl)
-list_any-AllByRecursion x (y ∷ letters) = grind (arith, nat_tests, list_any-AllByRecursion x letters)
+pub eqb_flips : (x y : ℕ) → nat_eq x y ≡ nat_eq y x
+eqb_flips x y = grind (arith, nat_tests)
 
-pub NoLetterTwice-cons : (pair : ℕ × ℕ) (pairs : List (ℕ × ℕ))
-    → NoLetterTwice (pair ∷ pairs) ↔ ((is_apart pair pairs ≡ true) × NoLetterTwice pairs)
+-- `has_letter` is false exactly if the letter differs from each of the letters
+pub has_letter-AllByRecursion : (letters : List ℕ) (letter : ℕ)
+    → (has_letter letters letter ≡ false) ↔ AllByRecursion (λ other. nat_eq letter other ≡ false) letters
+has_letter-AllByRecursion [] letter = (λ _. tt, λ _. refl)
+has_letter-AllByRecursion (other ∷ letters) letter = grind
+    (arith, or_parts, or_from, eqb_flips, has_letter-AllByRecursion letters letter)
+
+-- all of `letters` and `others` are different exactly if `others` are all different, and `are_new_and_distinct` is true
+-- for `letters` and `others`
+pub new_tells : (letters others : List ℕ)
+    → IsDistinct nat_eq (letters ++ others) ↔ ((are_new_and_distinct letters others ≡ true) × IsDistinct nat_eq others)
 unfolding IsDistinct
-NoLetterTwice-cons pair pairs =
-    let one : (is_in_pairs pair.0 pairs ≡ false) ↔ AllByRecursion (λ y. eqb pair.0 y ≡ false) (letters_in_pairs pairs) =
-    list_any-AllByRecursion pair.0 (letters_in_pairs pairs) in
-    let other : (is_in_pairs pair.1 pairs ≡ false) ↔ AllByRecursion (λ y. eqb pair.1 y ≡ false) (letters_in_pairs pairs) =
-    list_any-AllByRecursion pair.1 (letters_in_pairs pairs) in
-    grind (arith, nat_tests)
+new_tells [] others = (λ h. (refl, h), λ h. h.1)
+new_tells (letter ∷ letters) others = grind
+    (arith, and_parts, and_from, not-true, has_letter-AllByRecursion, new_tells letters others)
 
-pub NoLetterTwice-nil : (pairs : List (ℕ × ℕ)) → length pairs < 1 → NoLetterTwice pairs
+pub IsDistinct-nil : IsDistinct nat_eq []
 unfolding IsDistinct
-NoLetterTwice-nil [] lt = tt
-NoLetterTwice-nil (pair ∷ pairs) lt = absurd (omega arith)
+IsDistinct-nil = tt
 
--- the same for a list that is split into its first pair and the other pairs
-pub NoLetterTwice-split : (pairs : List (ℕ × ℕ)) (pair : ℕ × ℕ) → 1 ≤ length pairs → pair ≡ get_or pairs 0 pair
-    → NoLetterTwice pairs ↔ ((is_apart pair (take (length pairs - 1) (drop 1 pairs)) ≡ true)
-    × NoLetterTwice (take (length pairs - 1) (drop 1 pairs)))
-NoLetterTwice-split [] pair some is = absurd (omega arith)
-NoLetterTwice-split (first ∷ pairs) pair some is =
-    let rest = take (length (first ∷ pairs) - 1) (drop 1 (first ∷ pairs)) in
-    let same : rest ≡ pairs = take_all (length (first ∷ pairs) - 1) pairs (omega arith) in
-    subst (λ rest. NoLetterTwice (first ∷ pairs) ↔ ((is_apart pair rest ≡ true) × NoLetterTwice rest)) (sym same)
-    (subst (λ p. NoLetterTwice (first ∷ pairs) ↔ ((is_apart p pairs ≡ true) × NoLetterTwice pairs)) (sym is)
-    (NoLetterTwice-cons first pairs))
+-- how letters are tested, thing by thing; `letters` are those of a thing, such as a pair
+module _ {Thing : Type 0} (letters : Thing → List ℕ) where
+  abbrev all_letters : List Thing → List ℕ
+  all_letters things = flat_map letters things
+
+  pub IsDistinct-none : (things : List Thing) → length things < 1 → IsDistinct nat_eq (all_letters things)
+  IsDistinct-none [] none = IsDistinct-nil
+  IsDistinct-none (thing ∷ things) none = absurd (omega arith)
+
+  pub IsDistinct-first_and_rest : (things : List Thing) (first : Thing) → 1 ≤ length things
+      → first ≡ get_or things 0 first → IsDistinct nat_eq (all_letters things)
+      ↔ ((are_new_and_distinct (letters first) (all_letters (take (length things - 1) (drop 1 things))) ≡ true)
+      × IsDistinct nat_eq (all_letters (take (length things - 1) (drop 1 things))))
+  IsDistinct-first_and_rest [] first some is = absurd (omega arith)
+  IsDistinct-first_and_rest (thing ∷ things) first some is =
+      let rest = take (length (thing ∷ things) - 1) (drop 1 (thing ∷ things)) in
+      let same : rest ≡ things = take_all (length (thing ∷ things) - 1) things (omega arith) in
+      let Told = λ (one : Thing) (others : List Thing). IsDistinct nat_eq (all_letters (thing ∷ things))
+      ↔ ((are_new_and_distinct (letters one) (all_letters others) ≡ true) × IsDistinct nat_eq (all_letters others)) in
+      subst (Told first) (sym same)
+      (subst (λ one. Told one things) (sym is) (new_tells (letters thing) (all_letters things)))

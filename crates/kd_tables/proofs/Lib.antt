@@ -5,3 +5,4 @@ pub mod SeveralPuts
 pub mod DistinctLetters
 pub mod Orders
 pub mod Ciphers
+pub mod Failing

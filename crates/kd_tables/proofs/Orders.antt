@@ -8,7 +8,7 @@ use Rattle.std.specs.{Ordering.{ordering_then}, declared.cmp.Ordering.{Ordering}
 pub place_order : (one other : Place) → places.ghosts.cmp one other ≡ nat_cmp (place_rank one) (place_rank other)
 place_order one other = grind arith
 
-then_equal : (first : Ordering) → ordering_then first Equal ≡ first
+pub then_equal : (first : Ordering) → ordering_then first Equal ≡ first
 then_equal first = grind arith
 
 pub standing_order : (one other : Place × Place) → standings.ghosts.cmp one other

@@ -1,7 +1,16 @@
--- Pairs of letters, as a plugboard's cables exchange them, and when all letters in them differ.
+-- Letters that must all differ, such as the letters of the pairs that a plugboard's cables exchange.
 -- Test: no_letter_is_plugged_twice
-use Rattle.std.specs.Prelude.{ℕ, nat_eq, ◌==◌, Bool, not, ◌&&◌, List, [], ◌∷◌}
+use Rattle.std.specs.Prelude.{ℕ, nat_eq, Bool, true, not, ◌&&◌, List, [], ◌∷◌, ◌++◌}
 use Rattle.std.specs.List.{flat_map, list_any, IsDistinct}
+
+-- whether the letter is one of the letters
+abbrev pub has_letter : List ℕ → ℕ → Bool
+has_letter letters letter = list_any (λ other. nat_eq other letter) letters
+
+-- whether the letters of the first list differ from each other, and from all letters of the second list
+abbrev pub are_new_and_distinct : List ℕ → List ℕ → Bool
+are_new_and_distinct [] others = true
+are_new_and_distinct (first ∷ rest) others = not (has_letter (rest ++ others) first) && are_new_and_distinct rest others
 
 -- the letters of all pairs
 abbrev pub letters_in_pairs : List (ℕ × ℕ) → List ℕ
@@ -10,11 +19,3 @@ letters_in_pairs pairs = flat_map (λ pair. pair.0 ∷ pair.1 ∷ []) pairs
 -- No letter is in two pairs, or twice in one pair.
 abbrev pub NoLetterTwice : List (ℕ × ℕ) → Type 0
 NoLetterTwice pairs = IsDistinct nat_eq (letters_in_pairs pairs)
-
--- whether `letter` is in one of the pairs
-abbrev pub is_in_pairs : ℕ → List (ℕ × ℕ) → Bool
-is_in_pairs letter pairs = list_any (λ other. other == letter) (letters_in_pairs pairs)
-
--- whether the letters of `pair` differ from each other, and from all letters in `pairs`
-abbrev pub is_apart : ℕ × ℕ → List (ℕ × ℕ) → Bool
-is_apart pair pairs = not (pair.1 == pair.0) && not (is_in_pairs pair.0 pairs) && not (is_in_pairs pair.1 pairs)

@@ -55,10 +55,6 @@ standings = flat_map (λ l. map (λ r. (l, r)) (filter (λ r. nat_lt (place_rank
 abbrev pub standing_text : Place × Place → List ℕ
 standing_text standing = place_text standing.0 ++ codes "-" ++ place_text standing.1
 
--- The first text is the name of the left lug's place, and the second text the name of the right lug's place.
-abbrev pub ArePlaceNames : Place × Place → List ℕ → List ℕ → Type 0
-ArePlaceNames standing left right = (place_text standing.0 ≡ left) × (place_text standing.1 ≡ right)
-
 -- ---- How a bar reads: the numbers of the wheels at its lugs' places, the smaller one first.
 
 -- the two numbers, the smaller one first
@@ -82,3 +78,9 @@ digit_text number = (number + 48) ∷ []
 -- the text of a reading: its two numbers, with `-` between them
 abbrev pub reading_text : ℕ × ℕ → List ℕ
 reading_text numbers = digit_text numbers.0 ++ codes "-" ++ digit_text numbers.1
+
+-- ---- Reading a standing. No public contract cites this definition.
+
+-- The first text is the name of the left lug's place, and the second text the name of the right lug's place.
+abbrev pub ArePlaceNames : Place × Place → List ℕ → List ℕ → Type 0
+ArePlaceNames standing left right = (place_text standing.0 ≡ left) × (place_text standing.1 ≡ right)

@@ -26,7 +26,7 @@ pub use Rattle.kd_state.specs.{Costs.{exactly_one, loose_count}, declared.sheet_
 pub use Rattle.kd_state.specs.Machine.{AreLegalSeats, AreOnWheels, HasAllPins, IsMachine, IsSeatedAt, model_of, ring_at}
 pub use Rattle.kd_state.specs.SheetDay.{Day, day_model, IsLegalDay, IsLegalRotorDay, PinDay, seats_of_wheels}
 pub use Rattle.kd_state.specs.{Setting.Carries, SheetDay.{IsLegalPinDay, OfPins, OfRotors, RotorDay}}
-pub use Rattle.kd_state.specs.Setting.{has_letter, Leads, seat_without}
+pub use Rattle.{kd_state.specs.Setting.{Leads, seat_without}, kd_tables.specs.Pairs.has_letter}
 pub use Rattle.{kd_pins.specs.{declared.pin_set.PinSet.PinSet, PinWheels.pins_of}, kd_tables.specs.Rings.ring_of}
 pub use Rattle.kd_tables.specs.{declared.model.Model.Model, Rings.place_on, Tables.{box_of, reflectors_of, wheels_for}}
 pub use Rattle.kd_tables.specs.declared.{reflector.Reflector.Reflector, wheel.Wheel.Wheel}

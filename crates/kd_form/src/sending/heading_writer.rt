@@ -1,7 +1,8 @@
 //! Writes the heading line of a part.
 ghost use Rattle.std.specs.Prelude.{◌≡◌, ◌+◌, ◌≤◌, [], ◌++◌};
 ghost use Rattle.arrayvec.specs.ArrayString.{array_string_len};
-ghost use Rattle.kd_form.specs.Part.{heading_words, indicator_words, words_after_spaces, line_then};
+ghost use Rattle.kd_state.specs.LineWords.{line_then};
+ghost use Rattle.kd_form.specs.Part.{heading_words, indicator_words, words_after_spaces};
 
 use super::body_writer::push_letters;
 use crate::heading::{Heading, Indicator};

@@ -67,7 +67,7 @@ pins_in_fit table =
 letters_shown : (key : Key) (table : Members) → SucceedsWith (shown_letters_in key table) AreOnWheels
 unfolding shown_letters_in
 letters_shown key table = SucceedsWith-bind _ _ _ _ (letters_at_are key 6 table) (λ letters are shown e.
-    let tested = demand-Ok _ _ _ shown e in
+    let tested = demand-Ok _ _ _ e in
     subst AreOnWheels (Ok-injective _ _ tested.1) (AreOnWheels-by_test letters are.count tested.0))
 
 -- ---- machines
@@ -156,7 +156,7 @@ unfolding day_for
 IsDayFor-day_for days item day e =
     let table = bind-Ok (ok_or (as_table item) (BadValue keys.Day)) _ day e in
     let number = bind-Ok (read_at keys.Day (number_up_to 31) table.0) _ day table.2 in
-    let new = demand-Ok _ _ _ day number.2 in
+    let new = demand-Ok _ _ _ number.2 in
     let model = bind-Ok (model_in table.0) _ day new.1 in
     let within = day_number_within table.0 number.0 number.1 in
     let is = model_day number.0 model.0 table.0 within day model.2 in

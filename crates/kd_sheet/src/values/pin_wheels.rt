@@ -3,7 +3,7 @@ ghost use Rattle.std.specs.Prelude.{◌≡◌, ◌==◌, ◌+◌, ◌<◌, lengt
 ghost use Rattle.std.specs.List.{enumerate_from, list_all, position};
 ghost use Rattle.toml.specs.View.{view, table_view};
 ghost use Rattle.kd_tables.specs.Rings.{ring_of};
-ghost use Rattle.kd_state.specs.Setting.{has_letter};
+ghost use Rattle.kd_tables.specs.Pairs.{has_letter};
 ghost use Rattle.kd_sheet.specs.Document.{from_text};
 ghost use Rattle.kd_sheet.specs.PinWheels.{shown_letters_in, pins_of_text, pins_of_items, pins_in};
 ghost use Rattle.kd_sheet.specs.declared.fault.SheetFault.TheVariants as faults;

@@ -2,9 +2,9 @@
 ghost use Rattle.std.specs.Prelude.{◌≡◌, ◌↔◌, IsTrue, map, nat_eq};
 ghost use Rattle.std.specs.List.{IsDistinct};
 ghost use Rattle.std.specs.Option.{option_to_list};
-ghost use Rattle.kd_tables.specs.Places.{smaller_first};
+ghost use Rattle.kd_tables.specs.{Pairs.{are_new_and_distinct, has_letter}, Places.smaller_first};
 ghost use Rattle.kd_state.specs.Machine.{cable_letters, letters_in_cables, cable_in_order};
-ghost use Rattle.kd_state.specs.Setting.{has_letter, are_new_and_distinct, cable_without};
+ghost use Rattle.kd_state.specs.Setting.{cable_without};
 
 use kd_tables::Letter;
 
@@ -85,13 +85,10 @@ pub(crate) fn cable_without(cable: &Cable, letter: Letter) -> Cable
 pub(crate) fn have_no_letter_twice(cables: &[Cable]) -> bool
     ensures { IsTrue result ↔ IsDistinct nat_eq (letters_in_cables cables.now) }
 {
-    for (place, cable) in cables.iter().enumerate() {
-        let (_, later) = cables.split_at(place + 1);
-        if !are_new_and_distinct(cable, later) {
-            return false;
-        }
+    match cables {
+        [cable, rest @ ..] => are_new_and_distinct(cable, rest) && have_no_letter_twice(rest),
+        [] => true,
     }
-    true
 }
 
 /// Whether the letters of `cable` differ from each other, and from all letters in `others`.

@@ -1,8 +1,7 @@
 //! The letters and pins of the Converter's six wheels, by wheel number.
 ghost use Rattle.std.specs.Prelude.{◌≡◌, ◌↔◌, ◌≤◌, slice_set, unwrap_or, Contains, IsSome, IsTrue};
-ghost use Rattle.kd_tables.specs.Rings.{ring_of, place_on};
+ghost use Rattle.kd_tables.specs.{Pairs.has_letter, Rings.{ring_of, place_on}};
 ghost use Rattle.kd_state.specs.Pins.{pin_at, wheel_pins, with_pin};
-ghost use Rattle.kd_state.specs.Setting.{has_letter};
 
 use kd_pins::PinSet;
 use kd_tables::{Letter, Ring, place_on_wheel, ring1, ring2, ring3, ring4, ring5, ring6};

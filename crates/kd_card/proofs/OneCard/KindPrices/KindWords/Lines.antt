@@ -1,17 +1,18 @@
 -- Lines of words as they are written and split, texts of prices, and what the lines of a card have.
 pub use Rattle.kd_tables.specs.{declared.place.Place.Place, Places.{place_text, reading_text, standing_text}}
 pub use Rattle.std.specs.{Fmt.signed_decimal, Int.Signed.mag, List.{All, AllByRecursion, flat_map, list_all}}
-pub use Rattle.std.{proofs.Common.{[], drop, length, negsuc, unsigned_abs, zero, ◌+ℤ◌, ◌<◌, ◌≢◌}, specs.Result.IsErrAnd}
-pub use Rattle.std.proofs.Common.{ap, arith, decimal, false, List, ltb, None, Option, Some, subst, take, true, ℤ, ◌++◌}
-pub use Rattle.std.proofs.Common.{Bool, Bor, Decides, eqb, Err, MatchOption, min, Ok, Result, suc, w16, ◌+◌, ◌^◌, ◌↔◌}
-pub use Rattle.std.proofs.Common.{append_assoc, fold, get_or, is_some, length-append, MatchResult, of_z, ℕ, ◌∙◌, ◌≤◌}
-pub use Rattle.std.proofs.Common.{codes, FitsSigned, IsTrue, map, pos, refl, rules, sym, to_z, ◌*◌, ◌∷◌, ◌≡◌}
+pub use Rattle.std.proofs.Common.{[], drop, length, negsuc, unsigned_abs, zero, ◌+ℤ◌, ◌<◌, ◌≢◌, ap, arith, decimal}
+pub use Rattle.std.proofs.Common.{false, List, ltb, None, Option, Some, subst, take, true, ℤ, ◌++◌, Bool, Bor, Decides}
+pub use Rattle.std.proofs.Common.{eqb, Err, MatchOption, min, Ok, Result, suc, w16, ◌+◌, ◌^◌, ◌↔◌, append_assoc, fold}
+pub use Rattle.std.proofs.Common.{get_or, is_some, length-append, MatchResult, of_z, ℕ, ◌∙◌, ◌≤◌, codes, FitsSigned}
+pub use Rattle.std.proofs.Common.{IsTrue, map, pos, refl, rules, sym, to_z, ◌*◌, ◌∷◌, ◌≡◌}
+pub use Rattle.std.specs.Result.{IsErrAnd, IsOkAnd}
 pub use Rattle.std.proofs.lemmas.{Grind.common_steps, Int.{fits_signed_from_abs, to_z-of_z}, Result.err_from_is_err_and}
-pub use Rattle.std.proofs.lemmas.List.{append_cancel_left, Folds.flat_map-map, Sums.AllPass-from_list_all}
+pub use Rattle.std.proofs.lemmas.List.{append_cancel_left, Folds.flat_map-map, Sums.AllPass-from_list_all, get_or-map}
+pub use Rattle.std.proofs.lemmas.List.{get_or_at, length-replicate, take_all, Splits.slice_split_none}
 pub use Rattle.std.proofs.lemmas.List.{append-nil, nil_from_length, Elements.{All-append, All-nil, All-replicate}}
 pub use Rattle.std.proofs.lemmas.List.Elements.{All-cons, All-from_get_or, All-map, All-weaker, recursion_from_All}
 pub use Rattle.std.proofs.lemmas.List.{Elements.All-from_recursion, Splits.{join_with_byte-slice_split, slice_split_at}}
-pub use Rattle.std.proofs.lemmas.List.{get_or-map, get_or_at, length-replicate, take_all, Splits.slice_split_none}
 pub use Rattle.std.proofs.lemmas.{Bool.{ltb-true, Decides.Decides-eqb}, List.{length-map, Concat.flat_map-append}}
 pub use Rattle.std.proofs.lemmas.{Bool.{false≢true, ne_eqb}, Fmt.{decimal_digit, signed_decimal_injective}}
 pub use Rattle.std.proofs.lemmas.Fmt.{decimal_injective, decimal_nonempty, digits_decimal, first_decimal}
@@ -19,15 +20,16 @@ pub use Rattle.std.proofs.{Common.bytes_eq, lemmas.Slice.Eq.bytes_eq-Decides}
 pub use Rattle.std.specs.{Bool.then_some, Result.result_ok, Str.{IsUtf8, Parse.ParsesSigned}}
 pub use Rattle.std.proofs.lemmas.{Fmt.{IsAscii-signed, parse-signed_decimal}, Str.IsUtf8-from_ascii}
 pub use Rattle.kd_card.specs.Kinds.{AreEnds, bar_format, cable_format, ComesAfter, HasText, IsOnlyKey, letters_text}
-pub use Rattle.kd_card.specs.Kinds.{IsGroup, IsKind, KeyComesBefore, KindFormat, pair_format, prices_of_kinds}
-pub use Rattle.kd_card.specs.Kinds.{AreKinds, HasKindWords, kind_words, kinds_text, row_format, total_count}
-pub use Rattle.kd_card.specs.CardFault.{first_text}
+pub use Rattle.kd_card.specs.Kinds.{IsGroup, IsKind, KeyComesBefore, KindFormat, pair_format, prices_of_kinds, AreKinds}
+pub use Rattle.kd_card.specs.Kinds.{HasKindWords, kind_words, kinds_text, row_format, total_count}
+pub use Rattle.kd_card.specs.CardFault.{first_text, AtNothing, BeginsWithWord, IsAllPricesAnswer, IsPricesAnswer}
+pub use Rattle.kd_card.specs.CardFault.{last_of, BeginsWithKinds, IsDigit, IsGroupsAnswer, IsPriceLineAnswer}
+pub use Rattle.kd_card.specs.CardFault.{IsRestAnswer, EndsGroup, HasLineWords, IsLineAnswer, IsNextKind, IsNumberText}
+pub use Rattle.kd_card.specs.CardFault.{IsValueAnswer, BeginsWithHead, IsCardAnswer, IsSettingsAnswer}
+pub use Rattle.kd_card.specs.CardFault.{IsTablePricesAnswer, AtOther, HasNoNext, IsGroupAnswer, IsListsAnswer}
+pub use Rattle.kd_card.specs.CardFault.{IsNumeral}
 pub use Rattle.kd_card.specs.declared.prices.CostTable.{CostTable, TheVariants.{OfBars, OfCables}}
-pub use Rattle.kd_card.specs.CardFault.{AtNothing, BeginsWithWord, IsAllPricesAnswer, IsPricesAnswer, last_of}
-pub use Rattle.kd_card.specs.CardFault.{BeginsWithKinds, IsDigit, IsGroupsAnswer, IsPriceLineAnswer, IsRestAnswer}
-pub use Rattle.kd_card.specs.CardFault.{EndsGroup, HasLineWords, IsLineAnswer, IsNextKind, IsNumberText, IsValueAnswer}
-pub use Rattle.kd_card.specs.CardFault.{BeginsWithHead, IsCardAnswer, IsSettingsAnswer, IsTablePricesAnswer}
-pub use Rattle.kd_card.specs.CardFault.{AtOther, HasNoNext, IsGroupAnswer, IsListsAnswer, IsNumeral, line_then}
+pub use Rattle.kd_state.specs.LineWords.{line_then}
 pub use Rattle.kd_card.specs.CardText.{card_text, head_words, IsCard, lines_text, price_lines}
 pub use Rattle.kd_card.specs.declared.prices.PriceParts.{PriceParts, TheVariants.{BarKinds, Bars, CableKinds, Cables}}
 pub use Rattle.kd_card.specs.declared.{kinds.KindOf.KindOf, prices.Version.{Version, TheVariants.{ByKind, ByNumber}}}
@@ -37,15 +39,13 @@ pub use Rattle.kd_card.specs.{Laws.TextsDetermineCards, Reading.{EndsKindsAt, he
 pub use Rattle.kd_card.specs.Reading.{IsKindOfWords, IsPriceText}
 pub use Rattle.kd_card.specs.Prices.{ArePrices, column_prices, IsPriceList, price_sum, table_size, version_of}
 pub use Rattle.{kd_card.specs.Prices.{ArePricesInRange, row_prices}, kd_state.specs.SheetDay.IsDayNumber}
-pub use Rattle.kd_state.specs.AnswerRules.{HasOneAnswer}
+pub use Rattle.kd_state.specs.AnswerRules.{HasOneAnswer, Demands, GoesOn, HasFault, ThenNext, Yields}
 pub use Rattle.kd_state.proofs.OneAnswer.{HasOneAnswer-Demands, HasOneAnswer-Finds, HasOneAnswer-Yields}
 pub use Rattle.kd_state.proofs.OneAnswer.{HasOneAnswer-FindsAlways, HasOneAnswer-ThenNext, ThenNext-Ok, Yields-Ok}
-pub use Rattle.kd_state.specs.AnswerRules.{Demands, GoesOn, HasFault, ThenNext, Yields}
-pub use Rattle.kd_state.specs.{Costs.column_letters, declared.setting.Setting.Setting}
+pub use Rattle.kd_state.specs.{Costs.column_letters, declared.setting.Setting.Setting, Machine.cable_letters}
 pub use Rattle.kd_state.{proofs.Lines.IsWord, specs.LineWords.{IsWithout, line_of, words_of}}
 pub use Rattle.kd_state.specs.{Line.{BeginsWithAllSettings, BeginsWithSettingLines, setting_line}}
 pub use Rattle.kd_state.specs.{LineWords.IsFirstPart, Line.{BeginsWithNoSetting, list_text, setting_words}}
-pub use Rattle.kd_state.specs.{Machine.cable_letters}
 pub use Rattle.kd_state.proofs.Lines.{lines_split_into_words, not_longer, same_end, word_by_test, words_make_one_line}
 pub use Rattle.kd_state.proofs.Lines.{IsNumeralModel-digits, numbers_are_words, ok_part, texts_determine_first_parts}
 pub use Rattle.kd_state.proofs.Lines.{word_by_bytes}
@@ -258,6 +258,16 @@ module _ (number line : ℕ) {words : List (List ℕ)} where
 pub MatchResult-err : {F Y : Type 0} (answer : Result Y F) (fault : F) (Good : Y → Type 0) (Bad : F → Type 0)
     → IsErrAnd answer (λ made. made ≡ fault) → Bad fault → MatchResult answer Good Bad
 MatchResult-err answer fault Good Bad made bad = let is = err_from_is_err_and answer made in rw (is.1, is.2) bad
+
+-- If a step's value is turned into another by a call, and faults are passed on, what holds of the step carries over.
+pub MatchResult-map : {X Y F : Type 0} (step : Result X F) (mapped : Result Y F) (Read : X → Type 0)
+    (Fault : F → Type 0) (Called : X → Y → Type 0) (Good : Y → Type 0) (Bad : F → Type 0) → MatchResult step Read Fault
+    → MatchResult step (λ x. IsOkAnd mapped (Called x)) (λ fault. mapped ≡ Err fault)
+    → ((x : X) (y : Y) → Read x → Called x y → Good y) → ((fault : F) → Fault fault → Bad fault)
+    → MatchResult mapped Good Bad
+MatchResult-map (Ok x) (Ok y) Read Fault Called Good Bad read called good bad = good x y read called
+MatchResult-map (Ok x) (Err fault) Read Fault Called Good Bad read called good bad = absurd called
+MatchResult-map (Err fault) mapped Read Fault Called Good Bad read called good bad = rw called (bad fault read)
 
 -- A test that is false refutes what it decides.
 pub not_from_false : {P : Type 0} {test : Bool} → Decides test P → test ≡ false → ¬ P

@@ -31,11 +31,12 @@ pub use Rattle.kd_sheet.specs.{Laws.{DaysAreTheEntries, LegalPartsAreReadBack}}
 pub use Rattle.{kd_sheet.specs.{Numbers.{number_up_to}}, kd_state.specs.SameParts.same_wheel}
 pub use Rattle.kd_sheet.specs.{MachineText.file_version, declared.key.Key.Key}
 pub use Rattle.kd_sheet.specs.declared.fault.SheetFault.{TheVariants.{BadValue, NotToml, UnknownModel}, SheetFault}
-pub use Rattle.kd_state.proofs.{Cables.{eqb_flips, new_tells, IsDistinct-nil}, Slots.numbered_other}
+pub use Rattle.kd_state.proofs.{FirstFault.demand-Ok, Slots.numbered_other}
+pub use Rattle.kd_tables.proofs.DistinctLetters.{eqb_flips, new_tells, IsDistinct-nil}
 pub use Rattle.kd_state.proofs.Wheels.{has_reflector-Decides, has_wheel-Decides, same_wheel-Decides}
 pub use Rattle.kd_state.specs.Machine.{IsLegalRotor, IsSeatedAt, cable_letters, with_cables_in_order, cable_in_order}
 pub use Rattle.kd_state.specs.Machine.{letters_in_cables}
-pub use Rattle.kd_state.specs.{Setting.{are_new_and_distinct, has_letter}}
+pub use Rattle.kd_tables.specs.Pairs.{are_new_and_distinct, has_letter}
 pub use Rattle.kd_state.specs.{declared.sheet_day.rotor_entry.SheetWheel.SheetWheel}
 pub use Rattle.kd_state.specs.SheetDay.{IsLegalRotorDay, OfPins, OfRotors, PinDay, RotorDay, day_number}
 pub use Rattle.kd_state.specs.SheetDay.{seats_of_wheels}
@@ -114,11 +115,6 @@ Ok-injective x y e = cc
 pub bind-Ok : {A B : Type 0} (first : Result A SheetFault) (next : A → Result B SheetFault) (value : B)
     → (first >>= next) ≡ Ok value → (x : A) × (first ≡ Ok x) × (next x ≡ Ok value)
 bind-Ok first next value e = grind arith
-
--- if a step that comes after a test succeeds, the test is true, and the step alone has the same value
-pub demand-Ok : {B : Type 0} (test : Bool) (fault : SheetFault) (next : Result B SheetFault) (value : B)
-    → (demand test fault >> next) ≡ Ok value → (test ≡ true) × (next ≡ Ok value)
-demand-Ok test fault next value e = grind arith
 
 -- if the step succeeds, its value satisfies `P`
 abbrev pub SucceedsWith : {A : Type 0} → Result A SheetFault → (A → Type 0) → Type 0

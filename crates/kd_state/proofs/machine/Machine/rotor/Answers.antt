@@ -1,5 +1,4 @@
-use Rattle.kd_state.proofs.{Carrying.ordered_parts, Prelude.IsMachine, Prelude.subst}
-use Rattle.kd_state.proofs.{Prelude.sym}
+use Rattle.kd_state.proofs.{Carrying.ordered_parts, Prelude.IsMachine, Prelude.subst, Prelude.sym}
 use Rattle.kd_state.proofs.machine.Machine.rotor.Goals as goal
 
 pub invariant_of-result : goal.invariant_of-result

@@ -12,11 +12,10 @@ pub use Rattle.std.proofs.lemmas.List.Elements.{All-from_get_or, All-head, All-s
 pub use Rattle.std.proofs.lemmas.List.{map-id, Elements.recursion_from_All}
 pub use Rattle.std.proofs.lemmas.List.{get_or_default, Sums.{fold-append, sum-map, sum_by-cons}}
 pub use Rattle.std.proofs.{Common.pos, lemmas.List.{get_or-map, length-map, length-set}}
-pub use Rattle.std.proofs.Common.{Bool, Contains, inr, is_none, length, List, None, refl, Some, unwrap_or, ℕ, ◌++◌}
-pub use Rattle.std.proofs.Common.{[], AllPairs, Any, ap, false, nat_eq, set, slice_get, subst, true, ◌≢◌, ◌≤ℤ◌}
-pub use Rattle.std.proofs.Common.{arith, cond, fold, get_or, inl, map, suc, zero, zip, ◌+ℤ◌, ◌+◌, ◌-◌, ◌≡◌, ◌≤◌}
-pub use Rattle.std.proofs.Common.{count_by, is_some, IsPermutation, min, not, rules, sum, sym, ℤ, ◌&&◌, ◌<◌, ◌∙◌}
-pub use Rattle.std.proofs.Common.{◌∷◌, ◌⊎◌}
+pub use Rattle.std.proofs.Common.{Bool, Contains, inr, is_none, length, List, None, refl, Some, unwrap_or, ℕ, ◌++◌, []}
+pub use Rattle.std.proofs.Common.{AllPairs, Any, ap, false, nat_eq, set, slice_get, subst, true, ◌≢◌, ◌≤ℤ◌, arith, cond}
+pub use Rattle.std.proofs.Common.{fold, get_or, inl, map, suc, zero, zip, ◌+ℤ◌, ◌+◌, ◌-◌, ◌≡◌, ◌≤◌, count_by, is_some}
+pub use Rattle.std.proofs.Common.{IsPermutation, min, not, rules, sum, sym, ℤ, ◌&&◌, ◌<◌, ◌∙◌, ◌∷◌, ◌⊎◌}
 pub use Rattle.std.{proofs.Common.Option, specs.List.{All, AllByRecursion, AllZip, IsDistinct, sum_by}}
 pub use Rattle.std.specs.{Option.option_map_or, Str.bytes_eq}
 pub use Rattle.kd_pins.specs.{declared.pin_set.PinSet.PinSet, PinWheels.pins_of}
@@ -34,13 +33,13 @@ pub use Rattle.kd_state.proofs.Wheels.{days_wheels_have_their_places, same_refle
 pub use Rattle.{kd_tables.specs.Permutation.alphabet}
 pub use Rattle.kd_state.proofs.{Cables.column_is, Slots.IsNumbered-not_none, SortedAlike.count_by-cons}
 pub use Rattle.kd_state.proofs.{CostTable.thirteen_columns, Slots.set_other, Slots.IsNumbered}
-pub use Rattle.kd_state.proofs.Carrying.{if_carried, lug_moved, pin_made, pulled, reflector_made, ring_made}
-pub use Rattle.kd_state.proofs.Carrying.{seat_made, six_lists, turn_made, was_put, wheel_turn_made, when_carried}
+pub use Rattle.kd_state.proofs.Carrying.{if_carried, lug_moved, pin_made, pulled, reflector_made, ring_made, seat_made}
+pub use Rattle.kd_state.proofs.Carrying.{six_lists, turn_made, was_put, wheel_turn_made, when_carried}
 pub use Rattle.std.specs.Prelude.{IfOk, IsFalse}
 pub use Rattle.kd_state.specs.{Machine.HasLugsInOrder, Costs.{bar_cost, cable_cost, columns_of, exactly_one}}
 pub use Rattle.kd_state.specs.Costs.{column_letters, cost_table, loose_count, lugs_moved, one_unless}
 pub use Rattle.kd_state.specs.Setting.{Carries, cable_without, outcome, seat_without, with_lug}
-pub use Rattle.kd_state.specs.{Pins.with_pin, Setting.{cable_with, has_letter, Leads}}
+pub use Rattle.{kd_state.specs.{Pins.with_pin, Setting.{cable_with, Leads}}, kd_tables.specs.Pairs.has_letter}
 pub use Rattle.kd_state.specs.{Pins.wheel_pins, SameParts.{numbered_item, place_in_box, same_reflector, same_wheel}}
 pub use Rattle.kd_state.specs.declared.{setting.Setting.TheVariants.LugTo, sheet_day.rotor_entry.SheetWheel.SheetWheel}
 pub use Rattle.kd_state.specs.declared.setting.Setting.TheVariants.{PinTo, Pull, Put, RingTo, Seat, SeatReflector, Turn}
