@@ -2,9 +2,9 @@
 #![tactic(auto)]
 
 #[cfg(test)]
-mod days;
-#[cfg(test)]
 mod command;
+#[cfg(test)]
+mod days;
 #[cfg(test)]
 mod lists;
 #[cfg(test)]

@@ -7,7 +7,7 @@ use Rattle.kd_prices.proofs.Prelude.{Bars, Cables, Doubt, Expands, GoesOn, OfPin
 use Rattle.kd_prices.proofs.Prelude.{Day, Err, List, None, Pin, Same, Some, refl, sym, ◌∙◌, ◌≡◌}
 use Rattle.kd_prices.{proofs.{Prelude.{Ok, PricesSuitMachine, ap}, Runs.prices_alike}}
 use Rattle.kd_prices.{specs.Doubt.{ArePricesFound, IsByNumberAnswer}}
-use Rattle.std.specs.Option.{ok_or, option_zip}
+use Rattle.std.specs.{Option.{ok_or, option_zip}, Result.MatchResult}
 
 -- ---- prices by kind
 
@@ -50,14 +50,14 @@ are_numbered m s prices numbered expands belong = grind arith
 
 module _ (m : Parts) (s : Day) (settings : List Setting) (prices : PriceParts) (make : List ℤ → List ℤ → PriceParts)
     (model : model_of m ≡ day_model s) where
-  pub by_found : (found : List ℤ × List ℤ) (answer : Result (Unit {0}) Doubt)
+  by_found : (found : List ℤ × List ℤ) (answer : Result (Unit {0}) Doubt)
       → ArePricesFound m s prices make (Ok found) → IsByNumberAnswer m s settings (make found.0 found.1) answer
       → IsCheckedAnswer m s settings prices answer
   by_found found answer (HasFault fault none e) says = absurd (cc)
   by_found found answer (GoesOn x belong expands) says =
       GoesOn tt model (GoesOn x belong (GoesOn (make found.0 found.1) expands says))
 
-  pub by_fault : ((numbered : PriceParts) → AreModelPrices m numbered
+  by_fault : ((numbered : PriceParts) → AreModelPrices m numbered
       → make (row_prices numbered) (column_prices numbered) ≡ numbered) → (doubt : Doubt)
       → ArePricesFound m s prices make (Err doubt) → IsCheckedAnswer m s settings prices (Err doubt)
   by_fault made doubt (HasFault fault none e) = GoesOn tt model (HasFault fault none (cc))
@@ -69,6 +69,16 @@ module _ (m : Parts) (s : Day) (settings : List Setting) (prices : PriceParts) (
             expands)),
         refl,
       ) (ap Err none.1)))
+
+  -- what is right once the prices were found, or once they weren't, is right for the check of the card
+  pub by_prices : ((numbered : PriceParts) → AreModelPrices m numbered
+      → make (row_prices numbered) (column_prices numbered) ≡ numbered) → (found : Result (List ℤ × List ℤ) Doubt)
+      → (answer : Result (Unit {0}) Doubt) → ArePricesFound m s prices make found
+      → MatchResult found (λ lists. IsByNumberAnswer m s settings (make lists.0 lists.1) answer)
+      (λ doubt. answer ≡ Err doubt)
+      → IsCheckedAnswer m s settings prices answer
+  by_prices made (Ok lists) answer found says = by_found lists answer found says
+  by_prices made (Err doubt) answer found says = rw says (by_fault made doubt found)
 
 -- ---- prices of kinds
 

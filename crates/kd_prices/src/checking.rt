@@ -1,5 +1,5 @@
 //! Checks whether a card proves itself, or finds the first doubt about the card.
-ghost use Rattle.std.specs.Prelude.{◌≡◌, ◌↔◌, ◌≤◌, length, IsOk, IfOk, IfErr};
+ghost use Rattle.std.specs.Prelude.{◌≡◌, ◌↔◌, ◌≤◌, length, IsOk, IfOk, IfErr, MatchResult, Err};
 ghost use Rattle.kd_state.specs.{Costs.{cost_table}, Entry.{rotor_values, pin_values}};
 ghost use Rattle.kd_state.specs.{Machine.{IsMachine, model_of}, SheetDay.{day_model, IsLegalDay, OfRotors, OfPins}};
 ghost use Rattle.kd_state.specs.declared.machine.parts.Parts.TheVariants.{Rotor, Pin};
@@ -43,14 +43,14 @@ fn first_doubt(machine: &Machine, day: &SheetDay, card: &Card) -> Result<(), Dou
     match machine.of_one_model(day) {
         None => Err(Doubt::OtherModel),
         Some(OneModel::Rotor(parts, entry)) => {
-            let (rows, columns) = cable_prices(parts, entry, card.prices.parts())?;
             let costs = cable_costs(&parts.cables, entry.pairs.as_slice());
-            check_by_prices(machine, day, settings, &costs, &rows, &columns)
+            let prices = cable_prices(parts, entry, card.prices.parts());
+            check_by_prices(machine, day, settings, &costs, prices)
         }
         Some(OneModel::Pin(parts, entry)) => {
-            let (rows, columns) = bar_prices(parts, entry, card.prices.parts())?;
             let costs = bar_costs(&parts.bars, &entry.rows);
-            check_by_prices(machine, day, settings, &costs, &rows, &columns)
+            let prices = bar_prices(parts, entry, card.prices.parts());
+            check_by_prices(machine, day, settings, &costs, prices)
         }
     }
 }
@@ -98,32 +98,35 @@ fn bar_prices(
     }
 }
 
-/// Finds the first doubt about a card's `settings`, given a price for each row and column of the table of costs.
+/// Finds the first doubt about a card's `settings`, by the prices of the rows and columns of the table of costs.
+///
+/// If the prices weren't found, the result is the doubt in `prices`.
 fn check_by_prices<const N: usize>(
     machine: &Machine,
     day: &SheetDay,
     settings: &[Setting],
     costs: &[[u8; N]; N],
-    rows: &[i16; N],
-    columns: &[i16; N],
+    prices: Result<([i16; N], [i16; N]), Doubt>,
 ) -> Result<(), Doubt>
     requires model { model_of machine.now ≡ day_model day.now }
     requires costs { costs.now ≡ cost_table machine.now day.now }
     requires few { length settings.now ≤ 192 }
     requires size { N ≤ 27 }
-    requires rows { ArePricesInRange rows.now }
-    requires columns { ArePricesInRange columns.now }
-    ensures { IsByPricesAnswer machine.now day.now settings.now N rows.now columns.now result }
+    requires reach { IfOk prices (λ found. ArePricesInRange found.0 × ArePricesInRange found.1) }
+    ensures { MatchResult prices.entry
+        (λ found. IsByPricesAnswer machine.now day.now settings.now N found.0 found.1 result)
+        (λ doubt. result ≡ Err doubt) }
 {
+    let (rows, columns) = prices?;
     let carried = carry_settings(machine, day, settings)?;
     if !carried.reached.reads_as(day) {
         return Err(Doubt::NotTheSheet);
     }
-    if let Some((row, column)) = first_too_high(costs, rows, columns) {
+    if let Some((row, column)) = first_too_high(costs, &rows, &columns) {
         return Err(Doubt::PriceTooHigh(row as u8 + 1, column as u8 + 1));
     }
     let priced = settings.iter().filter(|x| is_priced_setting(x)).count();
-    if sum_of_prices(rows, columns) != priced as i32 {
+    if sum_of_prices(&rows, &columns) != priced as i32 {
         return Err(Doubt::SumDiffers);
     }
     carried.need_result

@@ -5,15 +5,16 @@ use Rattle.kd_prices.proofs.Prelude.{of_z, pos, refl, rules, sym, to_z, w32, ℕ
 use Rattle.kd_prices.proofs.checking.check_by_prices.Goals as goal
 
 pub returns-in_err-carried : goal.returns-in_err-carried
-returns-in_err-carried g c = λ prices row column many.
-    let is = err_from_is_err_and c.from_residual.result c.from_residual.ensures.1 in
-    rw (is.1, is.2) (HasFault _ c.in_err-carried.ensures.refused refl)
+returns-in_err-carried g c = rw c.in_ok-rows.was (λ prices row column many.
+    let is =
+    err_from_is_err_and c.from_residual-in_err-carried.result c.from_residual-in_err-carried.ensures.1 in
+    rw (is.1, is.2) (HasFault _ c.in_err-carried.ensures.refused refl))
 
 pub returns-then-not-reads_as : goal.returns-then-not-reads_as
-returns-then-not-reads_as g c = λ prices row column many.
+returns-then-not-reads_as g c = rw c.in_ok-rows.was (λ prices row column many.
     GoesOn c.in_ok-carried.carried.reached c.in_ok-carried.ensures.leads
     (HasFault NotTheSheet ((λ same reads. false≢true (sym c.if-not-reads_as.true ∙ c.reads_as.ensures.1 reads)), refl)
-    refl)
+    refl))
 
 too_high : (prices : PriceParts) (costs : List (List ℕ)) (rows columns : List ℤ) (n i j : ℕ) → table_size prices ≡ n
     → row_prices prices ≡ rows → column_prices prices ≡ columns → IsFirstWithout (ListsFitAt costs rows columns) n i j
@@ -21,7 +22,7 @@ too_high : (prices : PriceParts) (costs : List (List ℕ)) (rows columns : List 
 too_high prices costs rows columns n i j many row column first = grind (arith, first.here, first.before)
 
 pub returns-in-Some : goal.returns-in-Some
-returns-in-Some g c = λ prices row column many.
+returns-in-Some g c = rw c.in_ok-rows.was (λ prices row column many.
     GoesOn c.in_ok-carried.carried.reached c.in_ok-carried.ensures.leads
     (GoesOn tt (c.reads_as.ensures.0 c.if-not-reads_as.false)
     (HasFault (PriceTooHigh (c.in-Some.row + 1) (c.in-Some.column + 1)) (
@@ -30,23 +31,23 @@ returns-in-Some g c = λ prices row column many.
       refl,
       refl,
       too_high prices _ _ _ _ _ _ many row column (rw c.requires.costs at c.in-Some.ensures),
-    ) refl))
+    ) refl)))
 
 -- A sum and a count that are equal in 32 bits are equal.
 same_sum : (sum : ℤ) (count : ℕ) → SFits w32 sum → count < 2 ^ 31 → of_z w32 sum ≡ count → sum ≡ pos count
 same_sum sum count small few e = sym (to_z-of_z w32 sum small) ∙ ap (to_z w32) e ∙ to_z_pos w32 count few
 
 pub returns-then-sum_of_prices-priced : goal.returns-then-sum_of_prices-priced
-returns-then-sum_of_prices-priced g c = λ prices row column many.
+returns-then-sum_of_prices-priced g c = rw c.in_ok-rows.was (λ prices row column many.
     let is : c.sum_of_prices.result ≡ price_sum prices = rw (row, column) c.sum_of_prices.ensures in
     let differs : price_sum prices ≢ pos (priced_count c.args.settings.now) = search rules in
     GoesOn c.in_ok-carried.carried.reached c.in_ok-carried.ensures.leads
     (GoesOn tt (c.reads_as.ensures.0 c.if-not-reads_as.false)
     (GoesOn tt (rw (row, column, many) (rw c.requires.costs at c.in_default.ensures))
-    (HasFault SumDiffers ((λ same sum. differs sum), refl) refl)))
+    (HasFault SumDiffers ((λ same sum. differs sum), refl) refl))))
 
 pub returns : goal.returns
-returns g c = λ prices row column many.
+returns g c = rw c.in_ok-rows.was (λ prices row column many.
     let value : c.count-priced.result ≡ priced_count c.args.settings.now = search rules in
     let few : c.count-priced.result < 2 ^ 31 = search rules in
     let same =
@@ -55,4 +56,4 @@ returns g c = λ prices row column many.
     GoesOn c.in_ok-carried.carried.reached c.in_ok-carried.ensures.leads
     (GoesOn tt (c.reads_as.ensures.0 c.if-not-reads_as.false)
     (GoesOn tt (rw (row, column, many) (rw c.requires.costs at c.in_default.ensures))
-    (GoesOn tt (sym is ∙ same ∙ ap pos value) c.in_ok-carried.ensures.needed)))
+    (GoesOn tt (sym is ∙ same ∙ ap pos value) c.in_ok-carried.ensures.needed))))

@@ -1,43 +1,27 @@
-use Rattle.kd_prices.proofs.Found.{by_fault, by_found}
-use Rattle.kd_prices.proofs.Prelude.{Bars, Cables, HasFault, OtherModel, arith, err_from_is_err_and, refl}
+use Rattle.kd_prices.proofs.Found.{by_prices}
+use Rattle.kd_prices.proofs.Prelude.{Bars, Cables, HasFault, OtherModel, arith, refl}
+use Rattle.std.proofs.lemmas.Result.{MatchResult-weaker}
 use Rattle.kd_prices.proofs.checking.first_doubt.Goals as goal
 
 pub returns-in-None-clause-answer : goal.returns-in-None-clause-answer
 returns-in-None-clause-answer c = HasFault OtherModel ((λ same model. c.in-None.ensures.parted model), refl) refl
 
-pub returns-in_err-rows-in-Some-Rotor-clause-answer : goal.returns-in_err-rows-in-Some-Rotor-clause-answer
-returns-in_err-rows-in-Some-Rotor-clause-answer c =
+pub returns-in-Some-Rotor-clause-answer : goal.returns-in-Some-Rotor-clause-answer
+returns-in-Some-Rotor-clause-answer c =
     let apart = rw c.in-Some-Rotor.field-0-is at c.in-Some-Rotor.ensures.parted in
-    let is = err_from_is_err_and c.from_residual.result c.from_residual.ensures.1 in
-    rw (is.1, is.2, apart.0, apart.1)
-    (by_fault _ _ _ _ _ apart.2 (λ numbered are. grind arith) _
-    (rw c.parts.ensures.value at c.in_err-rows-in-Some-Rotor.ensures.found))
-
-pub returns-in_err-rows-in-Some-Pin-clause-answer : goal.returns-in_err-rows-in-Some-Pin-clause-answer
-returns-in_err-rows-in-Some-Pin-clause-answer c =
-    let apart = rw c.in-Some-Pin.field-0-is at c.in-Some-Pin.ensures.parted in
-    let is = err_from_is_err_and c.from_residual-in_err-rows-in-Some-Pin.result
-    c.from_residual-in_err-rows-in-Some-Pin.ensures.1 in
-    rw (is.1, is.2, apart.0, apart.1)
-    (by_fault _ _ _ _ _ refl (λ numbered are. grind arith) _
-    (rw c.parts-in-Some-Pin.ensures.value at c.in_err-rows-in-Some-Pin.ensures.found))
-
-pub returns-in_ok-rows-in-Some-Rotor-clause-answer : goal.returns-in_ok-rows-in-Some-Rotor-clause-answer
-returns-in_ok-rows-in-Some-Rotor-clause-answer c =
-    let apart = rw c.in-Some-Rotor.field-0-is at c.in-Some-Rotor.ensures.parted in
-    let found = c.in_ok-rows-in-Some-Rotor in
     rw (apart.0, apart.1)
-    (by_found _ _ _ _ _ apart.2 (found.rows, found.columns) _
-    (rw c.parts.ensures.value at found.ensures.found)
-    (rw (apart.0, apart.1, c.as_slice-settings.ensures.value)
-    at (c.check_by_prices.ensures (Cables found.rows found.columns) refl refl refl)))
+    (by_prices _ _ _ _ _ apart.2 (λ numbered are. grind arith) _ _
+    (rw c.parts.ensures.value at c.cable_prices-prices.ensures.found)
+    (MatchResult-weaker c.cable_prices-prices.result
+    (rw (apart.0, apart.1, c.as_slice-settings.ensures.value) at c.check_by_prices.ensures)
+    (λ lists says. says (Cables lists.0 lists.1) refl refl refl) (λ doubt same. same)))
 
-pub returns-in_ok-rows-in-Some-Pin-clause-answer : goal.returns-in_ok-rows-in-Some-Pin-clause-answer
-returns-in_ok-rows-in-Some-Pin-clause-answer c =
+pub returns-in-Some-Pin-clause-answer : goal.returns-in-Some-Pin-clause-answer
+returns-in-Some-Pin-clause-answer c =
     let apart = rw c.in-Some-Pin.field-0-is at c.in-Some-Pin.ensures.parted in
-    let found = c.in_ok-rows-in-Some-Pin in
     rw (apart.0, apart.1)
-    (by_found _ _ _ _ _ refl (found.rows, found.columns) _
-    (rw c.parts-in-Some-Pin.ensures.value at found.ensures.found)
-    (rw (apart.0, apart.1, c.as_slice-settings.ensures.value)
-    at (c.check_by_prices-in-Some-Pin.ensures (Bars found.rows found.columns) refl refl refl)))
+    (by_prices _ _ _ _ _ refl (λ numbered are. grind arith) _ _
+    (rw c.parts-in-Some-Pin.ensures.value at c.bar_prices-prices.ensures.found)
+    (MatchResult-weaker c.bar_prices-prices.result
+    (rw (apart.0, apart.1, c.as_slice-settings.ensures.value) at c.check_by_prices-in-Some-Pin.ensures)
+    (λ lists says. says (Bars lists.0 lists.1) refl refl refl) (λ doubt same. same)))
