@@ -1,0 +1,3 @@
+pub mod Checks
+pub mod Begun
+pub mod SheetAnswers

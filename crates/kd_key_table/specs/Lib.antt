@@ -1,0 +1,6 @@
+pub mod Words
+pub mod Days
+pub mod MonthTable
+pub mod KeyList
+pub mod TableFile
+pub mod RunTable

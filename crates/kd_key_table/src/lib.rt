@@ -1,0 +1,13 @@
+//! Key sheets as printed tables: a table for each rotor model, and a key list for each day of a Converter.
+#![tactic(auto)]
+
+mod days;
+mod fault;
+mod key_list;
+mod month_table;
+pub mod run_table;
+mod table_file;
+pub mod texts;
+mod words;
+
+pub use fault::TableFault;
