@@ -1,3 +1,4 @@
 pub mod Checks
 pub mod Begun
 pub mod SheetAnswers
+pub mod PlainWords

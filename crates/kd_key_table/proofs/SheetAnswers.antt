@@ -1,5 +1,5 @@
 -- The answer for a sheet that is read, and for one that isn't.
-use Rattle.std.proofs.Common.{arith, ◌≡◌, ◌⊎◌, ℕ, List, Option, Result, Ok, Err, IsErrAnd, MatchResult, inl, inr, subst}
+use Rattle.std.proofs.Common.{arith, ◌≡◌, ℕ, List, Option, Result, Ok, Err, IsErrAnd, MatchResult, inl, inr, subst}
 use Rattle.kd_tables.specs.Answers.{AgreesOrNoMemory}
 use Rattle.kd_tables.specs.Ports.{Port}
 use Rattle.kd_host.proofs.Failing.{err_is}

@@ -4,3 +4,4 @@ pub mod MonthTable
 pub mod KeyList
 pub mod TableFile
 pub mod RunTable
+pub mod Plain

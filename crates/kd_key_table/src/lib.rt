@@ -4,6 +4,7 @@
 mod days;
 mod fault;
 mod key_list;
+pub mod laws;
 mod month_table;
 pub mod run_table;
 mod table_file;
