@@ -53,7 +53,7 @@ key_list day =
     filled texts.KEY_LIST.now (model_name M209 ∷ decimal day.day ∷ []) ++ letters_text day.list
     ++ texts.KEY_LIST_COLUMNS.now ++ flat_map (bar_line day.pins) (enumerate_from 0 day.rows)
     ++ texts.CHECK.now ++ fives_from 0 (check_of day)
-    ++ texts.CHECK_END.now ++ words_text (λ letter. letter ∷ []) day.window ++ texts.KEY_LIST_END.now
+    ++ texts.CHECK_END.now ++ words_text letter_text day.window ++ texts.KEY_LIST_END.now
 
 -- the key list of a Converter's day
 abbrev pub key_list_of : Option Day → List ℕ

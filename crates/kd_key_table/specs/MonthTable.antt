@@ -2,20 +2,20 @@
 use Rattle.std.specs.Prelude.{decimal, ℕ, Bool, true, false, if◌then◌else◌, List, [], ◌∷◌, ◌++◌, flat_map, Option, Some, None}
 use Rattle.kd_tables.specs.declared.model.Model.{Model}
 use Rattle.kd_tables.specs.declared.model.Model.TheVariants.{EnigmaI, M3, M4, M209}
-use Rattle.kd_tables.specs.Tables.{reflector_text, slots_of, wheel_text}
+use Rattle.kd_tables.specs.Tables.{reflector_text, slots_of}
 use Rattle.kd_state.specs.declared.sheet_day.rotor_entry.SheetWheel.{SheetWheel}
 use Rattle.kd_state.specs.SheetDay.{Day, OfRotors, OfPins, RotorDay}
 use Rattle.kd_sheet.specs.Sheet.{day_of}
-use Rattle.kd_pictures.specs.Template.{filled, letter_text, ordinal_text}
+use Rattle.kd_pictures.specs.Template.{filled}
 use Rattle.kd_pictures.specs.Words.{model_name}
 use Rattle.kd_key_table.specs.declared.texts.TheConstants as texts
 use Rattle.kd_key_table.specs.Days.{days_of, first_of}
-use Rattle.kd_key_table.specs.Words.{words_text}
+use Rattle.kd_key_table.specs.Words.{ground_text, group_text, name_text, pair_text, ring_text, words_text}
 
 -- ---- The row of a day.
 
 abbrev pub wheel_cell : SheetWheel → List ℕ
-wheel_cell wheel = filled texts.WHEEL.now (wheel_text wheel.wheel ∷ [])
+wheel_cell wheel = filled texts.WHEEL.now (name_text wheel ∷ [])
 
 -- whether the model's sheets have a number for a ring, not a letter
 abbrev pub has_numbered_rings : Model → Bool
@@ -25,8 +25,7 @@ has_numbered_rings M4 = false
 has_numbered_rings M209 = false
 
 abbrev pub ring_cell : Bool → SheetWheel → List ℕ
-ring_cell is_number wheel =
-    filled texts.RING.now ((if is_number then ordinal_text wheel.ring else letter_text wheel.ring) ∷ [])
+ring_cell is_number wheel = filled texts.RING.now (ring_text is_number wheel ∷ [])
 
 -- the day, the reflector, the wheels and their rings, from the left
 abbrev pub setting_cells : RotorDay → List ℕ
@@ -37,9 +36,8 @@ setting_cells day =
 -- the cables, the ground, which has a window letter for each wheel, and the groups
 abbrev pub word_cells : RotorDay → List ℕ
 word_cells day =
-    texts.CELL.now ++ words_text (λ pair. pair.0 ∷ pair.1 ∷ []) day.pairs
-    ++ texts.CELL.now ++ words_text (λ wheel. wheel.letter ∷ []) day.wheels
-    ++ texts.CELL.now ++ words_text (λ group. group) day.groups ++ texts.ROW_END.now
+    texts.CELL.now ++ words_text pair_text day.pairs ++ texts.CELL.now ++ words_text ground_text day.wheels
+    ++ texts.CELL.now ++ words_text group_text day.groups ++ texts.ROW_END.now
 
 unfoldable pub row_text : RotorDay → List ℕ
 row_text day = setting_cells day ++ word_cells day

@@ -12,7 +12,7 @@ use crate::texts::{
     BAR, BAR_BELOW_TEN, CHECK, CHECK_END, EFFECTIVE, INEFFECTIVE, KEY_LIST, KEY_LIST_COLUMNS,
     KEY_LIST_END, NO_PIN, ROW_END,
 };
-use crate::words::{draw_letters, draw_words};
+use crate::words::{Whole, draw_letters, draw_words};
 use kd_pictures::draw;
 use kd_pictures::fives::draw_fives;
 use kd_pictures::template::{Value, fill};
@@ -64,7 +64,7 @@ fn draw_list<W: Sink>(sink: &mut W, entry: &PinEntry, check: &[Letter; 26])
     draw(sink, CHECK);
     draw_fives(sink, 0, check);
     draw(sink, CHECK_END);
-    draw_words(sink, &entry.window);
+    draw_words::<Whole, W, Letter>(sink, &entry.window);
     draw(sink, KEY_LIST_END);
 }
 

@@ -1,6 +1,7 @@
 //! Key sheets as printed tables: a table for each rotor model, and a key list for each day of a Converter.
 #![tactic(auto)]
 
+mod csv_table;
 mod days;
 mod fault;
 mod key_list;
@@ -12,3 +13,4 @@ pub mod texts;
 mod words;
 
 pub use fault::TableFault;
+pub use table_file::TableForm;

@@ -10,12 +10,12 @@ use crate::days::{days_of, first_of};
 use crate::texts::{
     CELL, COLUMNS, FIRST_TO_LAST, MONTH, MONTH_END, ONE_DAY, RING, ROW, ROW_END, WHEEL,
 };
-use crate::words::draw_words;
+use crate::words::{Ground, Whole, draw_words};
 use kd_pictures::draw;
 use kd_pictures::template::{Value, fill};
 use kd_sheet::Sheet;
 use kd_state::{Entry, RotorEntry, SheetDay, SheetWheel};
-use kd_tables::{Model, Sink};
+use kd_tables::{Letter, Model, Sink};
 
 /// Writes the table of the days that the sheet has for `model`; nothing if it has none.
 #[tactic(auto, unfolding(crate::specs::MonthTable::month_table))]
@@ -132,11 +132,11 @@ fn draw_word_cells<W: Sink>(sink: &mut W, entry: &RotorEntry)
     ensures { Draws W.taken W.has_failed sink.old sink.new (word_cells (rotor_values entry.now)) }
 {
     draw(sink, CELL);
-    draw_words(sink, entry.pairs.as_slice());
+    draw_words::<Whole, W, (Letter, Letter)>(sink, entry.pairs.as_slice());
     draw(sink, CELL);
-    draw_words(sink, entry.wheels.as_slice());
+    draw_words::<Ground, W, SheetWheel>(sink, entry.wheels.as_slice());
     draw(sink, CELL);
-    draw_words(sink, entry.groups.as_slice());
+    draw_words::<Whole, W, [Letter; 3]>(sink, entry.groups.as_slice());
     draw(sink, ROW_END);
 }
 
@@ -150,7 +150,7 @@ fn draw_wheels<W: Sink>(sink: &mut W, wheels: &[SheetWheel])
 }
 
 /// Whether the model's sheets have a number for a ring, not a letter.
-fn has_numbered_rings(model: Model) -> bool
+pub(crate) fn has_numbered_rings(model: Model) -> bool
     ensures { result ≡ has_numbered_rings model }
 {
     match model {

@@ -131,3 +131,18 @@ pub const CHECK_END: &str =
     "</b></pre>\n<p class=note>Wheels at A A A A A A, knob at C: 26 times A prints the check. Letters of the day: ";
 
 pub const KEY_LIST_END: &str = ".</p>\n</article>\n";
+
+/// The names of the columns of a spreadsheet's table, and of the columns for key lists.
+pub const COLUMN_NAMES: &str = "day,model,reflector,wheels,rings,plugs,window,groups";
+
+pub const LIST_COLUMN_NAMES: &str = ",list,pins 1,pins 2,pins 3,pins 4,pins 5,pins 6,bars";
+
+/// What ends a cell of a spreadsheet's table; and the cells of key lists in the row of a rotor machine's day.
+pub const COMMA: &str = ",";
+
+pub const NO_LIST: &str = ",,,,,,,,";
+
+/// The cells of a Converter's day before its window: the day, and empty cells. After the window: no groups.
+pub const PIN_DAY: &str = "~,M-209,,,,,";
+
+pub const NO_GROUPS: &str = ",,";

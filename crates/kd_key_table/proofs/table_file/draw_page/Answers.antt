@@ -1,6 +1,6 @@
 use Rattle.kd_pictures.proofs.Drawings.{both}
 unfoldable use Rattle.kd_key_table.specs.TableFile.{table_text}
-use Rattle.kd_key_table.proofs.table_file.draw_file.Goals as goal
+use Rattle.kd_key_table.proofs.table_file.draw_page.Goals as goal
 
 pub returns : goal.returns
 unfolding table_text
