@@ -33,7 +33,8 @@ pin_shown (Some letter) effective =
 
 -- the cell of the pin at `place` of wheel `wheel`
 abbrev pub pin_cell : PinSet → ℕ → ℕ → List ℕ
-pin_cell pins place wheel = pin_shown (slice_get (ring_of wheel) place) (is_effective (pins_on (pins_of pins) wheel) place)
+pin_cell pins place wheel =
+    pin_shown (slice_get (ring_of wheel) place) (is_effective (pins_on (pins_of pins) wheel) place)
 
 -- the cells of all six wheels
 unfoldable pub pin_cells : PinSet → ℕ → List ℕ

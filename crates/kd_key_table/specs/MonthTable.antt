@@ -1,5 +1,5 @@
 -- The table of a rotor model: a row for each day, the last day on top, so that a used day is cut off below.
-use Rattle.std.specs.Prelude.{decimal, ℕ, Bool, true, false, if◌then◌else◌, List, [], ◌∷◌, ◌++◌, flat_map, Option, Some, None}
+use Rattle.std.specs.Prelude.{decimal, ℕ, Bool, true, false, List, [], ◌∷◌, ◌++◌, flat_map, Option, Some, None}
 use Rattle.kd_tables.specs.declared.model.Model.{Model}
 use Rattle.kd_tables.specs.declared.model.Model.TheVariants.{EnigmaI, M3, M4, M209}
 use Rattle.kd_tables.specs.Tables.{reflector_text, slots_of}

@@ -15,8 +15,8 @@ is_device (Ok done) = false
 is_device (Err Device) = true
 is_device (Err (Sheet fault)) = false
 
--- The tables of the sheet's month were written in this form, or a prefix of them if the sink failed. Or the answer is the sheet's first
--- fault. Or memory ran out; no clause says that it really did.
+-- The tables of the sheet's month were written in this form, or a prefix of them if the sink failed. Or the answer is
+-- the sheet's first fault. Or memory ran out; no clause says that it really did.
 abbrev pub IsTableAnswer : TableForm → List ℕ → Port → Result (Unit {0}) TableFault → Type 0
 IsTableAnswer form sheet sink answer =
     MatchResult (sheet_of sheet) (λ month. WritesText Device (file_text form month) sink answer)

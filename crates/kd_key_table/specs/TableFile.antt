@@ -26,8 +26,8 @@ tables_of month =
 -- the whole page
 unfoldable pub table_text : List (Option Day) → List ℕ
 table_text month =
-    HEAD.now ++ TITLE.now ++ STYLE.now ++ TABLE_STYLE.now ++ WIDE_BODY.now ++ no_days (has_days month) ++ tables_of month
-    ++ FOOT.now
+    HEAD.now ++ TITLE.now ++ STYLE.now ++ TABLE_STYLE.now ++ WIDE_BODY.now ++ no_days (has_days month)
+    ++ tables_of month ++ FOOT.now
 
 -- the file in this form
 abbrev pub file_text : TableForm → List (Option Day) → List ℕ

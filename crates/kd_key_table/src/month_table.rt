@@ -3,8 +3,9 @@ ghost use Rattle.std.specs.Prelude.{◌≡◌, flat_map, option_copied, Some};
 ghost use Rattle.kd_pictures.specs.Drawing.{Draws};
 ghost use Rattle.kd_sheet.specs.Sheet.{day_of};
 ghost use Rattle.kd_state.specs.Entry.{rotor_values, values_of};
-ghost use Rattle.kd_key_table.specs.MonthTable.{has_numbered_rings, month_head, month_table, ring_cell, row_of, row_text};
-ghost use Rattle.kd_key_table.specs.MonthTable.{setting_cells, span_text, table_of_days, table_text, wheel_cell, word_cells};
+ghost use Rattle.kd_key_table.specs.MonthTable.{has_numbered_rings, month_head, month_table, ring_cell};
+ghost use Rattle.kd_key_table.specs.MonthTable.{row_of, row_text, setting_cells, span_text, table_of_days};
+ghost use Rattle.kd_key_table.specs.MonthTable.{table_text, wheel_cell, word_cells};
 
 use crate::days::{days_of, first_of};
 use crate::texts::{

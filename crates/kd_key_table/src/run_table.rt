@@ -12,8 +12,8 @@ use std::alloc::Global;
 
 /// Writes the tables of the key sheet `sheet`.
 ///
-/// A page has a table for each rotor model, with the last day on top, and a key list for each day of a Converter. A table
-/// for a spreadsheet has a row for each day, from the first day on.
+/// A page has a table for each rotor model, with the last day on top, and a key list for each day of a Converter. A
+/// table for a spreadsheet has a row for each day, from the first day on.
 ///
 /// For a fault of the sheet, nothing is written. For `Device`, only a prefix of the file is written.
 pub fn run_table<W: Sink>(

@@ -7,4 +7,5 @@ use Rattle.kd_key_table.proofs.csv_table.draw_rotor_line.Goals as goal
 pub returns : goal.returns
 unfolding rotor_line
 returns g c =
-    joined (both (both c.draw_day_cells.ensures c.draw_key_cells.ensures) c.draw_list_cells.ensures) c.draw.ensures (grind (arith, common_steps))
+    joined (both (both c.draw_day_cells.ensures c.draw_key_cells.ensures) c.draw_list_cells.ensures)
+    c.draw.ensures (grind (arith, common_steps))

@@ -5,4 +5,5 @@ use Rattle.kd_key_table.proofs.key_list.+draw_lines.Goals as goal
 
 pub returns-in-len1-up : goal.returns-in-len1-up
 returns-in-len1-up g t c =
-    joined (both (both c.draw_bar.ensures c.draw_pins.ensures) c.draw.ensures) c.draw_lines.ensures (grind (arith, common_steps))
+    joined (both (both c.draw_bar.ensures c.draw_pins.ensures) c.draw.ensures) c.draw_lines.ensures (grind
+    (arith, common_steps))

@@ -7,4 +7,5 @@ use Rattle.kd_key_table.proofs.key_list.draw_pins.Goals as goal
 pub returns : goal.returns
 unfolding pin_cells
 returns g c =
-    joined (both (both (both (both c.draw_pin.ensures c.draw_pin-2.ensures) c.draw_pin-3.ensures) c.draw_pin-4.ensures) c.draw_pin-5.ensures) c.draw_pin-6.ensures (grind (arith, common_steps))
+    joined (both (both (both (both c.draw_pin.ensures c.draw_pin-2.ensures) c.draw_pin-3.ensures)
+    c.draw_pin-4.ensures) c.draw_pin-5.ensures) c.draw_pin-6.ensures (grind (arith, common_steps))

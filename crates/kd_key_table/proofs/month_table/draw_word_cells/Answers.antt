@@ -5,4 +5,8 @@ use Rattle.kd_key_table.proofs.month_table.draw_word_cells.Goals as goal
 
 pub returns : goal.returns
 returns g c =
-    joined (both (both (both (both (both c.draw.ensures c.draw_words.ensures) c.draw-2.ensures) c.draw_words-2.ensures) c.draw-3.ensures) c.draw_words-3.ensures) c.draw-4.ensures (grind (arith, common_steps))
+    joined (both (both (both (both (both c.draw.ensures c.draw_words.ensures) c.draw-2.ensures)
+    c.draw_words-2.ensures) c.draw-3.ensures) c.draw_words-3.ensures) c.draw-4.ensures (grind (
+      arith,
+      common_steps,
+    ))
