@@ -100,13 +100,18 @@ main{padding:0;max-width:none}
 nav{display:none}
 h1{font-size:1.5em}
 figure{margin:.3em 0}
-h2{margin:.6em 0 .2em}
-p{margin:.2em 0}
+h2{margin:.5em 0 .15em}
+p{margin:.1em 0}
+pre{line-height:1.25;margin:.15em 0}
 .fields span{margin-top:.7em}
+section .fields span{margin:.5em .6em .1em 0}
 h2.idle{margin:.2em 0}
 h2 span{display:inline;float:right;font-weight:400;font-size:11pt;color:var(--soft)}
 label{padding-top:.08em;padding-bottom:.08em}
 .plugs label{padding:.04em 0}
+.drum thead th{width:4.4%}
+.drum td{white-space:nowrap}
+.drum code{font-size:.6em}
 .wheels svg{width:110mm}
 article+article{page-break-before:always;break-before:page}
 h2{page-break-after:avoid;break-after:avoid}
