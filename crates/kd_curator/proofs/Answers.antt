@@ -10,8 +10,8 @@ use Rattle.kd_host.proofs.Failing.{err_is}
 use Rattle.kd_curator.specs.MachineAndSheet.{IsAnswerOnSheet, LacksMemory, machine_and_month}
 use Rattle.kd_curator.specs.declared.fault.Refused.{Refused}
 
-pub is_meant : {A : Type 0} (fault : SheetFault) (meant : Result A SheetFault) → AgreesOrNoMemory files.NoMemory meant (Err fault)
-    → (fault ≡ files.NoMemory) ⊎ (meant ≡ Err fault)
+pub is_meant : {A : Type 0} (fault : SheetFault) (meant : Result A SheetFault)
+    → AgreesOrNoMemory files.NoMemory meant (Err fault) → (fault ≡ files.NoMemory) ⊎ (meant ≡ Err fault)
 is_meant fault meant is = grind (arith)
 
 pub ruleset finding = (is_meant, err_is)

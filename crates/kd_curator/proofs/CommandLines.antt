@@ -2,7 +2,8 @@
 use Rattle.kd_curator.proofs.Prelude.{◌≡◌, ◌≢◌, ℕ, List, Option, Some, None, Bor, decimal, option_map, sym, ap, ◌∙◌}
 use Rattle.kd_curator.proofs.Prelude.{Result, IfSome, true, false, [], ◌∷◌, refl, subst, App, FailsBy}
 use Rattle.kd_curator.proofs.Prelude.{HasKind, HasMatchesOf, IsAmong, Row, fault_of, first_of, first_value, is_simple}
-use Rattle.kd_curator.proofs.Prelude.{is_simple_and_free, kind_of, rows_of, subcommand_of, subcommand_rows_of, same_Some}
+use Rattle.kd_curator.proofs.Prelude.{is_simple_and_free, kind_of, rows_of, subcommand_of, subcommand_rows_of}
+use Rattle.kd_curator.proofs.Prelude.{same_Some}
 use Rattle.kd_curator.proofs.Prelude.{inl, inr, IsDayNumber, NamedCommand, IsCommandLineOf, IsNoCommandLine, arith}
 use Rattle.kd_curator.proofs.Prelude.{AsksForHelp, HasNoCommand, IsToldAs, is_help, Error, ErrorKind, OutOfMemory}
 use Rattle.kd_curator.proofs.Prelude.{AreDays, IsMeant, IsTaskOf, codes}
@@ -95,7 +96,8 @@ no_help_taken words taken (asked, only, help) = cc
 -- clap refused the words
 pub refused_words : (words : List (List ℕ)) (error : Error) (told : NoCommand)
     → HasKind (fault_of curator_grammar words) error → IsToldAs (kind_of error) told → HasNoCommand words told
-refused_words words error (Asked text) (inl memory) told = absurd (let help : is_help OutOfMemory ≡ true = ap is_help (sym memory) ∙ told in cc)
+refused_words words error (Asked text) (inl memory) told =
+    absurd (let help : is_help OutOfMemory ≡ true = ap is_help (sym memory) ∙ told in cc)
 refused_words words error (Asked text) (inr among) told = (kind_of error, among, told)
 refused_words words error (Usage text) (inl memory) told = absurd (told.1 memory)
 refused_words words error (Usage text) (inr among) told =
@@ -109,7 +111,7 @@ other_days words kind (Asked text) taken none other told = absurd (let wrong : t
 other_days words kind (Usage text) taken none other told = (none, no_help_taken words taken)
 other_days words kind NoMemory taken none other told = tt
 
-first_differs : ◌≡◌ {A = ℕ} 112 108 → ⊥
+pub first_differs : ◌≡◌ {A = ℕ} 112 108 → ⊥
 first_differs wrong = omega (arith, wrong)
 
 -- a word that names no days is no task of `page`

@@ -1,5 +1,6 @@
 -- Days that are read one by one, and range by range.
-use Rattle.std.proofs.Common.{◌≡◌, ◌≢◌, ℕ, ◌+◌, ◌-◌, ◌<◌, ◌≤◌, Bool, true, false, cond, List, [], ◌∷◌, ◌++◌, length, arith}
+use Rattle.std.proofs.Common.{◌≡◌, ◌≢◌, ℕ, ◌+◌, ◌-◌, ◌<◌, ◌≤◌, Bool, true, false, cond, List, [], ◌∷◌, ◌++◌, length}
+use Rattle.std.proofs.Common.{arith}
 use Rattle.std.proofs.Common.{Option, Some, None, MatchOption, decimal, refl, sym, ap, ◌∙◌, subst}
 use Rattle.std.proofs.Common.{append-nil, find, length-append, zero, suc}
 use Rattle.std.specs.List.{range_with_len, position_or_len, slice_split, before_first, after_first}
@@ -50,7 +51,8 @@ day_named-is text None other = sym (finds_none (λ day. bytes_eq (decimal day) t
     ((bytes_eq-Decides (decimal k) text).0 same))))
 day_named-is text (Some day) is = sym (finds_one (λ day. bytes_eq (decimal day) text) 1 31 day
     (omega (arith, is.1.first)) (omega (arith, is.1.last)) ((bytes_eq-Decides (decimal day) text).1 is.0)
-    (λ k within same. decimal_injective k day (omega (arith, is.1.last)) (omega (arith, is.1.last)) ((bytes_eq-Decides (decimal k) text).0 same ∙ sym is.0)))
+    (λ k within same. decimal_injective k day (omega (arith, is.1.last)) (omega (arith, is.1.last))
+    ((bytes_eq-Decides (decimal k) text).0 same ∙ sym is.0)))
 
 -- ---- days one after another
 

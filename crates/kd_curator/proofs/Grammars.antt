@@ -1,6 +1,7 @@
 -- The program's grammar as it is built, argument by argument and command by command.
 use Rattle.kd_curator.proofs.Prelude.{arith, ◌≡◌, ◌∙◌, [], ◌∷◌, ◌++◌, ℕ, List, false, ap, ap₂, sym, subst, App}
-use Rattle.kd_curator.proofs.Prelude.{app_of, rule_of, app_of_fields, Arg, Bor, Rule, Shape, IsMadeOf, Some, Result, Ok, Err, IfOk}
+use Rattle.kd_curator.proofs.Prelude.{app_of, rule_of, app_of_fields, Arg, Bor, Rule, Shape, IsMadeOf, Some, Result}
+use Rattle.kd_curator.proofs.Prelude.{Ok, Err, IfOk}
 use Rattle.clap.specs.{Built.AddsArg, Built.AddsSubcommand, Simple.new_app, Simple.with_subcommand, Simple.new_shape}
 use Rattle.clap.specs.declared.builder.command.Command.{Command, TheOpen.Command-F, TheViews.out-Command}
 

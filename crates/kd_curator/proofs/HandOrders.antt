@@ -1,18 +1,27 @@
 -- A list of settings in an order for the hand leads to the same machine.
 use Rattle.std.proofs.Common.{◌≡◌, ℕ, Bool, true, false, not, ◌&&◌, List, [], ◌∷◌, ◌++◌, filter, arith, refl, subst}
-use Rattle.std.proofs.Common.{ap₂, ◌∙◌, IsTrue, Result, Ok, Err, append_assoc, length, ◌+◌}
+use Rattle.std.proofs.Common.{ap₂, ◌∙◌, IsTrue, Result, Ok, Err, append_assoc, length, ◌+◌, ◌-◌, sym}
+use Rattle.std.specs.Prelude.{ok_or, slice_set}
 use Rattle.std.specs.List.{list_all}
 use Rattle.std.specs.Prelude.{IsPermutation}
 use Rattle.std.proofs.lemmas.Grind.{common_steps}
-use Rattle.std.proofs.lemmas.List.Sorted.{IsPermutation-refl, IsPermutation-cons, IsPermutation-trans, IsPermutation-sym, IsPermutation-middle}
+use Rattle.std.proofs.lemmas.List.Sorted.{IsPermutation-refl, IsPermutation-cons, IsPermutation-trans}
+use Rattle.std.proofs.lemmas.List.Sorted.{IsPermutation-sym, IsPermutation-middle}
 use Rattle.std.proofs.lemmas.List.Folds.{list_all-append}
 use Rattle.std.proofs.lemmas.Bool.{and_parts}
 use Rattle.kd_state.specs.declared.machine.parts.Parts.{Parts}
 use Rattle.kd_state.specs.declared.setting.Setting.{Setting}
-use Rattle.kd_state.specs.declared.setting.Setting.TheVariants.{Seat, RingTo, Turn}
+use Rattle.kd_state.specs.declared.setting.Setting.TheVariants.{LugTo, PinTo, Pull, Put, Seat, SeatReflector, RingTo}
+use Rattle.kd_state.specs.declared.setting.Setting.TheVariants.{Turn}
+use Rattle.kd_state.specs.declared.machine.parts.Parts.TheVariants.{Pin, Rotor}
+use Rattle.kd_tables.specs.declared.wheel.Wheel.{Wheel}
+use Rattle.kd_tables.specs.Rings.{ring_of}
 use Rattle.kd_state.specs.declared.setting.why.Why.{Why}
-use Rattle.kd_state.specs.FirstFault.{◌>>=◌}
-use Rattle.kd_state.specs.Setting.{Leads, outcome}
+use Rattle.kd_state.specs.declared.setting.why.Why.TheVariants.{NoSuchBar, NotOnWheel, PlaceTaken, SlotEmpty}
+use Rattle.kd_state.specs.declared.setting.why.Why.TheVariants.{WouldPass}
+use Rattle.kd_state.specs.FirstFault.{◌>>=◌, ◌>>◌, demand}
+use Rattle.kd_state.specs.SameParts.{numbered_item}
+use Rattle.kd_state.specs.Setting.{Leads, has_letter, has_lugs_in_order, is_same_place, outcome, with_lug}
 use Rattle.kd_curator.specs.declared.stages.Stage.TheVariants.{Rings, Parts as Others, Windows}
 use Rattle.kd_curator.specs.HandOrder.{is_at_stage, is_seat, seats_before_turning, HandOrderLeads}
 use Rattle.kd_curator.specs.HandOrder.{HandOrderIsPermutation}
@@ -22,10 +31,60 @@ abbrev pub may_wait : Setting → Setting → Bool
 may_wait x (RingTo wheel letter) = not (is_at_stage Rings x)
 may_wait x y = is_at_stage Windows x && (is_at_stage Others y && not (is_seat y))
 
+-- A ring can be set before a setting as well as after it.
+ring_swaps : (m n : Parts) (x : Setting) (wheel : Wheel) (ring : ℕ) → is_at_stage Rings x ≡ false
+    → (outcome m x >>= λ k. outcome k (RingTo wheel ring)) ≡ Ok n
+    → (outcome m (RingTo wheel ring) >>= λ k. outcome k x) ≡ Ok n
+ring_swaps (Rotor m) n (Pull cable letter) wheel ring other both = grind arith
+ring_swaps (Rotor m) n (Put cable letter) wheel ring other both = grind arith
+ring_swaps (Rotor m) n (Seat slot seated) wheel ring other both = grind arith
+ring_swaps (Rotor m) n (SeatReflector reflector) wheel ring other both = grind arith
+ring_swaps (Rotor m) n (Turn slot letter) wheel ring other both = grind arith
+ring_swaps (Rotor m) n x wheel ring other both = absurd (cc)
+ring_swaps (Pin m) n x wheel ring other both = grind arith
+
+-- Two rows of tests, and what each makes of a machine, in both orders. The second row tests a bar.
+lug_swaps : {A B : Type 0} (shown : Result A Why) (has : Bool) (standing : Result B Why) (apart before : B → Bool)
+    (off taken passed : Why) (turned : Parts) (moved made : B → Parts) (lug turn : Parts → Result Parts Why) (n : Parts)
+    → lug turned ≡ (standing >>= λ bar. demand (apart bar) taken >> (demand (before bar) passed >> Ok (made bar)))
+    → ((bar : B) → turn (moved bar) ≡ (shown >>= λ letter. demand has off >> Ok (made bar)))
+    → ((shown >>= λ letter. demand has off >> Ok turned) >>= lug) ≡ Ok n
+    → ((standing >>= λ bar. demand (apart bar) taken >> (demand (before bar) passed >> Ok (moved bar))) >>= turn) ≡ Ok n
+lug_swaps (Err why) has standing apart before off taken passed turned moved made lug turn n e d both = absurd (cc)
+lug_swaps (Ok x) false standing apart before off taken passed turned moved made lug turn n e d both = absurd (cc)
+lug_swaps (Ok x) true (Err why) apart before off taken passed turned moved made lug turn n e d both =
+    absurd (let wrong : Err why ≡ Ok n = sym e ∙ both in cc)
+lug_swaps (Ok x) true (Ok bar) apart before off taken passed turned moved made lug turn n e d both =
+    grind (arith, e, d bar)
+
+-- A window can be turned after a setting as well as before it, unless the setting puts a wheel into a slot.
+turn_swaps : (m n : Parts) (slot letter : ℕ) (y : Setting) → (is_at_stage Others y && not (is_seat y)) ≡ true
+    → (outcome m (Turn slot letter) >>= λ k. outcome k y) ≡ Ok n
+    → (outcome m y >>= λ k. outcome k (Turn slot letter)) ≡ Ok n
+turn_swaps (Rotor m) n slot letter (Pull cable other) may both = grind arith
+turn_swaps (Rotor m) n slot letter (Put cable other) may both = grind arith
+turn_swaps (Rotor m) n slot letter (SeatReflector reflector) may both = grind arith
+turn_swaps (Pin m) n slot letter (PinTo wheel other effective) may both = grind arith
+turn_swaps (Pin m) n slot letter (LugTo bar lug place) may both =
+    lug_swaps (ok_or (numbered_item m.letters slot) SlotEmpty) (has_letter (ring_of slot) letter)
+    (ok_or (numbered_item m.bars bar) NoSuchBar)
+    (λ was. not (is_same_place (with_lug lug place was).0 (with_lug lug place was).1))
+    (λ was. has_lugs_in_order (with_lug lug place was)) NotOnWheel PlaceTaken WouldPass
+    (Pin (record m { letters = slice_set m.letters (slot - 1) letter }))
+    (λ was. Pin (record m { bars = slice_set m.bars (bar - 1) (with_lug lug place was) }))
+    (λ was. Pin (record m {
+      letters = slice_set m.letters (slot - 1) letter;
+      bars = slice_set m.bars (bar - 1) (with_lug lug place was);
+    }))
+    (λ k. outcome k (LugTo bar lug place)) (λ k. outcome k (Turn slot letter)) n refl (λ was. refl) both
+turn_swaps m n slot letter y may both = grind arith
+
 -- Two settings that may change places lead to one machine in both orders.
 pub swaps : (m n : Parts) (x y : Setting) → IsTrue (may_wait x y) → (outcome m x >>= λ k. outcome k y) ≡ Ok n
     → (outcome m y >>= λ k. outcome k x) ≡ Ok n
-swaps m n x y may both = grind (arith, common_steps)
+swaps m n x (RingTo wheel ring) may both = ring_swaps m n x wheel ring (grind (arith, may)) both
+swaps m n (Turn slot letter) y may both = turn_swaps m n slot letter y (grind (arith, may)) both
+swaps m n x y may both = absurd (cc)
 
 joined_of : (first : Result Parts Why) (next : Parts → Result Parts Why) (k n : Parts) → first ≡ Ok k → next k ≡ Ok n
     → (first >>= next) ≡ Ok n

@@ -1,4 +1,5 @@
 pub mod Answers
+pub mod Chains
 pub mod CommandLines
 pub mod DayPlans
 pub mod DaysNamed
@@ -9,6 +10,7 @@ pub mod PlannedBoxes
 pub mod PlannedOrder
 pub mod PlannedPieces
 pub mod Prelude
+pub mod OneCommand
 pub mod Passing
 pub mod Ranked
 pub mod Runs

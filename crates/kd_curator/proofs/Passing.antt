@@ -1,5 +1,6 @@
 -- What was written to a sink that gathers bytes is written to the sink to which it passes them on.
-use Rattle.std.proofs.Common.{◌≡◌, ◌⊎◌, ◌≤◌, ◌||◌, ℕ, Bool, false, List, [], Option, Result, Ok, Err, IsErr, IsOk, IsTrue}
+use Rattle.std.proofs.Common.{◌≡◌, ◌⊎◌, ◌≤◌, ◌||◌, ℕ, Bool, false, List, [], Option, Result, Ok, Err, IsErr, IsOk}
+use Rattle.std.proofs.Common.{IsTrue}
 use Rattle.std.proofs.Common.{MatchResult, inl, inr, is_err, length, refl, sym, subst, arith, ◌∙◌, ap, None, Some}
 use Rattle.std.proofs.Common.{append-nil}
 use Rattle.std.proofs.KnownBytes.{Appends-kept}
@@ -82,8 +83,8 @@ module _ (one other : Port) (before : one.had ≡ other.had) (after : Keeps one.
 
 ends_on : (left : List ℕ) (told : Result (Unit {0}) Refused) (done answer : Result (Unit {0}) Stop)
     → EndsTask [] told done → EndsRun left done answer → EndsTask left told answer
-ends_on left (Ok yes) done answer (inl (is, none)) ends = subst (λ d. EndsRun left d answer) is ends
-ends_on left (Ok yes) done answer (inr (is, some)) ends = absurd (omega (arith, some))
+ends_on left (Ok fine) done answer (inl (is, none)) ends = subst (λ d. EndsRun left d answer) is ends
+ends_on left (Ok fine) done answer (inr (is, some)) ends = absurd (omega (arith, some))
 ends_on left (Err refused) done answer is ends = subst (λ d. EndsRun left d answer) is ends
 
 module _ (left : List ℕ) (done answer : Result (Unit {0}) Stop) (ends : EndsRun left done answer) where
@@ -100,25 +101,25 @@ module _ (left : List ℕ) (done answer : Result (Unit {0}) Stop) (ends : EndsRu
 
 usage_on : (left : List ℕ) (done answer : Result (Unit {0}) Stop) → EndsRun left done answer → IsTrue (is_usage done)
     → IsTrue (is_usage answer)
-usage_on left (Ok yes) answer ends usage = absurd (cc)
+usage_on left (Ok fine) answer ends usage = absurd (cc)
 usage_on left (Err stop) answer ends usage = subst (λ a. IsTrue (is_usage a)) (sym ends) usage
 
-failed_on : (left : List ℕ) (done answer : Result (Unit {0}) Stop) (before between after : Bool)
+pub failed_on : (left : List ℕ) (done answer : Result (Unit {0}) Stop) (before between after : Bool)
     → EndsRun left done answer → between ≡ (before || is_stopped_by_device done)
     → (IsErr done → after ≡ between) → (IsOk done → after ≡ (between || is_err answer))
     → after ≡ (before || is_stopped_by_device answer)
-failed_on left (Ok yes) answer before between after (inl (is, none)) failed same passed = grind (arith, passed)
-failed_on left (Ok yes) answer before between after (inr (is, some)) failed same passed = grind (arith, passed)
+failed_on left (Ok fine) answer before between after (inl (is, none)) failed same passed = grind (arith, passed)
+failed_on left (Ok fine) answer before between after (inr (is, some)) failed same passed = grind (arith, passed)
 failed_on left (Err stop) answer before between after is failed same passed = grind (arith, same)
 
-stopped_on : {X : Type 0} (left : List ℕ) (done answer : Result (Unit {0}) Stop) → EndsRun left done answer
+pub stopped_on : {X : Type 0} (left : List ℕ) (done answer : Result (Unit {0}) Stop) → EndsRun left done answer
     → (IsErr done → IsTrue (is_stopped_before_writing done) → X) → IsTrue (is_stopped_before_writing answer) → X
-stopped_on left (Ok yes) answer (inl (is, none)) holds stopped = absurd (cc)
-stopped_on left (Ok yes) answer (inr (is, some)) holds stopped = absurd (cc)
+stopped_on left (Ok fine) answer (inl (is, none)) holds stopped = absurd (cc)
+stopped_on left (Ok fine) answer (inr (is, some)) holds stopped = absurd (cc)
 stopped_on left (Err stop) answer is holds stopped =
     holds refl (subst (λ a. IsTrue (is_stopped_before_writing a)) is stopped)
 
-none_gathered : (had : Option (List ℕ)) → append_known had [] ≡ had
+pub none_gathered : (had : Option (List ℕ)) → append_known had [] ≡ had
 none_gathered None = refl
 none_gathered (Some bytes) = ap Some (append-nil bytes)
 

@@ -1,7 +1,9 @@
 -- The boxes of a page, read from the top, are a planned list in an order for the hand.
-use Rattle.std.proofs.Common.{◌≡◌, ◌≢◌, ℕ, ◌+◌, ◌<◌, ◌≤◌, Bool, true, false, not, ◌&&◌, List, [], ◌∷◌, ◌++◌, length, arith, suc}
-use Rattle.std.proofs.Common.{filter, flat_map, nat_eq, subst, sym, refl, ap, ap₂, ◌∙◌, zip, map, append_assoc, append-nil}
-use Rattle.std.proofs.Common.{None as Nothing, Contains}
+use Rattle.std.proofs.Common.{◌≡◌, ◌≢◌, ℕ, ◌+◌, ◌<◌, ◌≤◌, Bool, true, false, not, ◌&&◌, List, [], ◌∷◌, ◌++◌, length}
+use Rattle.std.proofs.Common.{arith, suc}
+use Rattle.std.proofs.Common.{filter, flat_map, nat_eq, subst, sym, refl, ap, ap₂, ◌∙◌, zip, map, append_assoc}
+use Rattle.std.proofs.Common.{append-nil}
+use Rattle.std.proofs.Common.{None as Nothing, Some, Contains, zero}
 use Rattle.std.specs.List.{list_all}
 use Rattle.std.specs.Prelude.{Option, if◌then◌else◌, nat_le, nat_lt, slice_index_or}
 use Rattle.std.proofs.lemmas.Bool.{and_parts, leb-true, ltb-true}
@@ -20,7 +22,8 @@ use Rattle.kd_state.specs.declared.machine.parts.Parts.TheVariants.{Rotor, Pin}
 use Rattle.kd_state.specs.declared.machine.pin_parts.PinParts.{PinParts}
 use Rattle.kd_state.specs.declared.machine.rotor_parts.RotorParts.{RotorParts}
 use Rattle.kd_state.specs.declared.setting.Setting.{Setting}
-use Rattle.kd_state.specs.declared.setting.Setting.TheVariants.{Pull, Put, Seat, SeatReflector, RingTo, Turn, PinTo, LugTo}
+use Rattle.kd_state.specs.declared.setting.Setting.TheVariants.{Pull, Put, Seat, SeatReflector, RingTo, Turn, PinTo}
+use Rattle.kd_state.specs.declared.setting.Setting.TheVariants.{LugTo}
 use Rattle.kd_state.specs.declared.sheet_day.rotor_entry.SheetWheel.{SheetWheel}
 use Rattle.kd_state.specs.Costs.{columns_of}
 use Rattle.kd_state.specs.Machine.{IsMachine, model_of}
@@ -29,8 +32,7 @@ use Rattle.kd_state.specs.SheetDay.{Day, IsLegalDay, OfRotors, OfPins, RotorDay,
 use Rattle.kd_card.specs.Loose.{setting_unless, lines_from, slot_seat_line, slot_turn_line, wheel_ring_line}
 use Rattle.kd_card.specs.Loose.{pin_line, wheel_pin_lines, pin_wheel_turn_line}
 use Rattle.kd_card.proofs.Months.Shortest.{no_rotors}
-use Rattle.kd_plan.specs.Moves.{bar_moves, cable_moves, planned_lines, with_columns}
-use Rattle.kd_plan.specs.declared.cable_lines.CableMove.TheVariants.{In, Out}
+use Rattle.kd_plan.specs.Moves.{bar_moves, planned_lines, with_columns}
 use Rattle.kd_pictures.specs.Words.{is_converter}
 use Rattle.kd_page.specs.declared.spots.Step.{Step}
 use Rattle.kd_page.specs.declared.spots.Step.TheVariants.{Rings, Seats, PlugsOut, PlugsIn, Pins, Lugs, Turns}
@@ -41,7 +43,7 @@ use Rattle.kd_curator.specs.declared.stages.Stage.{Stage}
 use Rattle.kd_curator.specs.declared.stages.Stage.TheVariants.{Rings as First, Parts as Between, Windows as Last}
 use Rattle.kd_curator.specs.HandOrder.{in_hand_order, is_at_stage, is_same_stage, stage_of}
 use Rattle.kd_curator.proofs.PlannedPieces.{all_flat, all_lines, all_unless, in_moves, lug_moves, out_moves}
-use Rattle.kd_curator.proofs.PlannedPieces.{pin_lines, ring_line, seat_line, turn_line, wheel_turn_line}
+use Rattle.kd_curator.proofs.PlannedPieces.{pin_lines, pulls, puts, ring_line, seat_line, turn_line, wheel_turn_line}
 use Rattle.kd_curator.proofs.Ranked.{AllAre, all_are, filter_by, filter_all, filter_none, ranked_after, ranked_from}
 use Rattle.kd_curator.proofs.Ranked.{ranked_lines, zip_within}
 
@@ -84,7 +86,19 @@ stepped step number xs all =
     filter_by step_number (is_at (step_spot step)) (nat_eq number (step_rank step)) number
     (λ x e. both_true (nat_eq (step_number x) (step_rank step)) ∙ ap (λ n. nat_eq n (step_rank step)) e) xs all
 
+abbrev if_stage : Stage → ℕ → List Setting → List Setting
+if_stage stage number xs = if is_same_stage (stage_of_step number) stage then xs else []
+
+abbrev if_step : Step → ℕ → List Setting → List Setting
+if_step step number xs = if nat_eq number (step_rank step) then xs else []
+
 -- ---- lists in six pieces, of a rotor machine
+
+six_joined : {a b c d e f k l m n o p : List Setting} → a ≡ k → b ≡ l → c ≡ m → d ≡ n → e ≡ o → f ≡ p
+    → a ++ (b ++ (c ++ (d ++ (e ++ f)))) ≡ k ++ (l ++ (m ++ (n ++ (o ++ p))))
+six_joined first second third fourth fifth sixth =
+    ap₂ (λ x y. x ++ y) first (ap₂ (λ x y. x ++ y) second (ap₂ (λ x y. x ++ y) third
+    (ap₂ (λ x y. x ++ y) fourth (ap₂ (λ x y. x ++ y) fifth sixth))))
 
 -- Six pieces of a list: wheels and reflector to put in, rings, windows, plugs to take out and to put in.
 record AreSix (s f r t o i : List Setting) : Type 0 where
@@ -104,34 +118,55 @@ module _ (s f r t o i : List Setting) (six : AreSix s f r t o i) where
       ++ (filter (is_at_stage stage) t ++ (filter (is_at_stage stage) o ++ filter (is_at_stage stage) i))))
   six_staged stage = rw (filter-append, filter-append, filter-append, filter-append, filter-append) refl
 
-  pub six_by_hand : in_hand_order (s ++ (f ++ (r ++ (t ++ (o ++ i))))) ≡ six_in_order
+  -- the pieces that are of the stage
+  six_at_stage : (stage : Stage) → filter (is_at_stage stage) (s ++ (f ++ (r ++ (t ++ (o ++ i)))))
+      ≡ if_stage stage 1 s ++ (if_stage stage 1 f ++ (if_stage stage 0 r
+      ++ (if_stage stage 6 t ++ (if_stage stage 2 o ++ if_stage stage 3 i))))
+  six_at_stage stage =
+      six_staged stage
+      ∙ six_joined (staged stage 1 s six.seats) (staged stage 1 f six.reflector) (staged stage 0 r six.rings)
+      (staged stage 6 t six.turns) (staged stage 2 o six.outs) (staged stage 3 i six.ins)
+
+  six_by_hand : in_hand_order (s ++ (f ++ (r ++ (t ++ (o ++ i))))) ≡ six_in_order
   six_by_hand =
-      grind (arith, common_steps, six_staged, staged, append_assoc, append-nil, six.seats, six.reflector, six.rings,
-      six.turns, six.outs, six.ins)
+      ap₂ (λ a b. a ++ b) (six_at_stage First ∙ append-nil r)
+      (ap₂ (λ a b. a ++ b) (six_at_stage Between) (six_at_stage Last ∙ append-nil t))
+      ∙ ap (λ l. r ++ l) (append_assoc s (f ++ (o ++ i)) t
+      ∙ ap (λ l. s ++ l) (append_assoc f (o ++ i) t ∙ ap (λ l. f ++ l) (append_assoc o i t)))
 
   six_stepped : (step : Step) → settings_at (step_spot step) six_in_order
       ≡ settings_at (step_spot step) r ++ (settings_at (step_spot step) s ++ (settings_at (step_spot step) f
       ++ (settings_at (step_spot step) o ++ (settings_at (step_spot step) i ++ settings_at (step_spot step) t))))
   six_stepped step = rw (filter-append, filter-append, filter-append, filter-append, filter-append) refl
 
+  -- the pieces that are of the step
+  six_at_step : (step : Step) → settings_at (step_spot step) six_in_order
+      ≡ if_step step 0 r ++ (if_step step 1 s ++ (if_step step 1 f
+      ++ (if_step step 2 o ++ (if_step step 3 i ++ if_step step 6 t))))
+  six_at_step step =
+      six_stepped step
+      ∙ six_joined (stepped step 0 r six.rings) (stepped step 1 s six.seats) (stepped step 1 f six.reflector)
+      (stepped step 2 o six.outs) (stepped step 3 i six.ins) (stepped step 6 t six.turns)
+
   six_ranked : IsRanked step_number 0 7 six_in_order
   six_ranked =
       ranked_after step_number 0 7 r _ (omega arith) six.rings (ranked_from step_number 0 1 7 _ (omega arith)
-      (ranked_after step_number 1 7 s _ (omega arith) six.seats (ranked_after step_number 1 7 f _ (omega arith) six.reflector
+      (ranked_after step_number 1 7 s _ (omega arith) six.seats
+      (ranked_after step_number 1 7 f _ (omega arith) six.reflector
       (ranked_from step_number 1 2 7 _ (omega arith) (ranked_after step_number 2 7 o _ (omega arith) six.outs
       (ranked_from step_number 2 3 7 _ (omega arith) (ranked_after step_number 3 7 i _ (omega arith) six.ins
       (ranked_from step_number 3 6 7 _ (omega arith)
       (subst (λ l. IsRanked step_number 6 7 l) (append-nil t)
-      (ranked_after step_number 6 7 t [] (omega arith) six.turns tt)))))))))))
+      (ranked_after step_number 6 7 t [] (omega arith) six.turns tt))))))))))
 
-  pub six_order : IsRanked row_of 1 14 o → IsRanked row_of 1 14 i → IsRanked row_of 1 5 t → IsRotorOrder six_in_order
+  six_order : IsRanked row_of 1 14 o → IsRanked row_of 1 14 i → IsRanked row_of 1 5 t → IsRotorOrder six_in_order
   six_order out inside turned = record {
     steps = six_ranked;
-    no_pins = grind (arith, six_stepped Pins, stepped, six);
-    no_lugs = grind (arith, six_stepped Lugs, stepped, six);
-    out = subst (λ l. IsRanked row_of 1 14 l) (grind (arith, six_stepped PlugsOut, stepped, append-nil)) out;
-    «in» = subst (λ l. IsRanked row_of 1 14 l) (grind (arith, six_stepped PlugsIn, stepped, append-nil)) inside;
-    turns = subst (λ l. IsRanked row_of 1 5 l) (grind (arith, six_stepped Turns, stepped, append-nil)) turned;
+    no_pins = six_at_step Pins;
+    no_lugs = six_at_step Lugs;
+    out = subst (λ l. IsRanked row_of 1 14 l) (sym (six_at_step PlugsOut ∙ append-nil o)) out;
+    «in» = subst (λ l. IsRanked row_of 1 14 l) (sym (six_at_step PlugsIn ∙ append-nil i)) inside;
+    turns = subst (λ l. IsRanked row_of 1 5 l) (sym (six_at_step Turns)) turned;
   }
 
 -- ---- lists in three pieces, of a Converter
@@ -150,12 +185,34 @@ module _ (p t l : List Setting) (three : AreThree p t l) where
       ≡ (filter (is_at_stage stage) p ++ filter (is_at_stage stage) t) ++ filter (is_at_stage stage) l
   three_staged stage = rw (filter-append, filter-append) refl
 
-  pub three_by_hand : in_hand_order ((p ++ t) ++ l) ≡ three_in_order
-  three_by_hand = grind (arith, common_steps, three_staged, staged, append_assoc, append-nil)
+  -- the pieces that are of the stage
+  three_at_stage : (stage : Stage) → filter (is_at_stage stage) ((p ++ t) ++ l)
+      ≡ (if_stage stage 4 p ++ if_stage stage 6 t) ++ if_stage stage 5 l
+  three_at_stage stage =
+      three_staged stage
+      ∙ ap₂ (λ a b. a ++ b) (ap₂ (λ a b. a ++ b) (staged stage 4 p three.pins) (staged stage 6 t three.turns))
+      (staged stage 5 l three.lugs)
+
+  three_left : ((p ++ []) ++ l) ++ (t ++ []) ≡ three_in_order
+  three_left = ap₂ (λ a b. (a ++ l) ++ b) (append-nil p) (append-nil t) ∙ append_assoc p l t
+
+  three_by_hand : in_hand_order ((p ++ t) ++ l) ≡ three_in_order
+  three_by_hand =
+      ap₂ (λ a b. a ++ b) (three_at_stage First)
+      (ap₂ (λ a b. a ++ b) (three_at_stage Between) (three_at_stage Last))
+      ∙ three_left
 
   three_stepped : (step : Step) → settings_at (step_spot step) three_in_order
       ≡ settings_at (step_spot step) p ++ (settings_at (step_spot step) l ++ settings_at (step_spot step) t)
   three_stepped step = rw (filter-append, filter-append) refl
+
+  -- the pieces that are of the step
+  three_at_step : (step : Step) → settings_at (step_spot step) three_in_order
+      ≡ if_step step 4 p ++ (if_step step 5 l ++ if_step step 6 t)
+  three_at_step step =
+      three_stepped step
+      ∙ ap₂ (λ a b. a ++ b) (stepped step 4 p three.pins)
+      (ap₂ (λ a b. a ++ b) (stepped step 5 l three.lugs) (stepped step 6 t three.turns))
 
   three_ranked : IsRanked step_number 4 7 three_in_order
   three_ranked =
@@ -172,16 +229,18 @@ module _ (p t l : List Setting) (three : AreThree p t l) where
 
   three_celled : (wheel : ℕ) → settings_at (row_spot Pins wheel) three_in_order ≡ settings_at (row_spot Pins wheel) p
   three_celled wheel =
-      rw (filter-append, filter-append, no_pin wheel 5 l refl three.lugs, no_pin wheel 6 t refl three.turns, append-nil) refl
+      let lugs = no_pin wheel 5 l refl three.lugs in
+      let turns = no_pin wheel 6 t refl three.turns in
+      rw (filter-append, filter-append, lugs, turns, append-nil) refl
 
-  pub three_order : IsRanked row_of 1 7 p → ((wheel : ℕ) → IsRanked cell_of 0 26 (settings_at (row_spot Pins wheel) p))
+  three_order : IsRanked row_of 1 7 p → ((wheel : ℕ) → IsRanked cell_of 0 26 (settings_at (row_spot Pins wheel) p))
       → IsRanked row_of 1 28 l → IsRanked row_of 1 7 t → IsPinOrder three_in_order
   three_order wheels cells bars turned = record {
     steps = three_ranked;
-    pins = subst (λ xs. IsRanked row_of 1 7 xs) (grind (arith, three_stepped Pins, stepped, append-nil)) wheels;
+    pins = subst (λ xs. IsRanked row_of 1 7 xs) (sym (three_at_step Pins ∙ append-nil p)) wheels;
     cells = λ wheel. subst (λ xs. IsRanked cell_of 0 26 xs) (sym (three_celled wheel)) (cells wheel);
-    lugs = subst (λ xs. IsRanked row_of 1 28 xs) (grind (arith, three_stepped Lugs, stepped, append-nil)) bars;
-    turns = subst (λ xs. IsRanked row_of 1 7 xs) (grind (arith, three_stepped Turns, stepped, append-nil)) turned;
+    lugs = subst (λ xs. IsRanked row_of 1 28 xs) (sym (three_at_step Lugs ∙ append-nil l)) bars;
+    turns = subst (λ xs. IsRanked row_of 1 7 xs) (sym (three_at_step Turns)) turned;
   }
 
 -- ---- the pins of a wheel
@@ -206,7 +265,7 @@ cells_ranked wheel from (letter ∷ letters) (z ∷ zs) ranked =
     cell_first _ wheel from letter z.1 (flat_map (pin_line wheel) (zip letters zs)) ranked.0 ranked.1
     (cells_ranked wheel letter letters zs ranked.2)
 
-is_ranked : ℕ → List ℕ → Bool
+abbrev is_ranked : ℕ → List ℕ → Bool
 is_ranked from [] = true
 is_ranked from (letter ∷ letters) = nat_le from letter && (nat_lt letter 26 && is_ranked letter letters)
 
@@ -219,13 +278,13 @@ ranked_so from (letter ∷ letters) is =
 
 ring_ranked : (wheel : ℕ) → IsRanked itself 0 26 (ring_of wheel)
 unfolding ring_of
-ring_ranked 0 = tt
-ring_ranked 1 = ranked_so 0 (ring_of 1) refl
-ring_ranked 2 = ranked_so 0 (ring_of 2) refl
-ring_ranked 3 = ranked_so 0 (ring_of 3) refl
-ring_ranked 4 = ranked_so 0 (ring_of 4) refl
-ring_ranked 5 = ranked_so 0 (ring_of 5) refl
-ring_ranked 6 = ranked_so 0 (ring_of 6) refl
+ring_ranked zero = tt
+ring_ranked (suc zero) = ranked_so 0 (ring_of 1) refl
+ring_ranked (suc (suc zero)) = ranked_so 0 (ring_of 2) refl
+ring_ranked (suc (suc (suc zero))) = ranked_so 0 (ring_of 3) refl
+ring_ranked (suc (suc (suc (suc zero)))) = ranked_so 0 (ring_of 4) refl
+ring_ranked (suc (suc (suc (suc (suc zero))))) = ranked_so 0 (ring_of 5) refl
+ring_ranked (suc (suc (suc (suc (suc (suc zero)))))) = ranked_so 0 (ring_of 6) refl
 ring_ranked (suc (suc (suc (suc (suc (suc (suc more))))))) = tt
 
 wheel_ranked : (wheel : ℕ) (z : List Bool × List Bool) → IsRanked cell_of 0 26 (wheel_pin_lines wheel z)
@@ -292,7 +351,8 @@ not_converter M3 reflector has = refl
 not_converter M4 reflector has = refl
 not_converter M209 reflector has = absurd (no_rotors M209 reflector refl has)
 
-module _ (m : RotorParts) (s : RotorDay) (to : List ℕ) (legal : IsMachine (Rotor m)) (day : IsLegalDay (OfRotors s)) where
+module _ (m : RotorParts) (s : RotorDay) (to : List ℕ) (legal : IsMachine (Rotor m))
+    (day : IsLegalDay (OfRotors s)) where
   abbrev cables : List ((Option ℕ × Option ℕ) × Option (ℕ × ℕ))
   cables = with_columns m.cables (columns_of s.pairs) Nothing to
 
@@ -309,10 +369,10 @@ module _ (m : RotorParts) (s : RotorDay) (to : List ℕ) (legal : IsMachine (Rot
   turns = lines_from (slot_turn_line (Rotor m)) 1 s.wheels
 
   abbrev outs : List Setting
-  outs = lines_from (cable_moves Out) 1 cables
+  outs = lines_from pulls 1 cables
 
   abbrev ins : List Setting
-  ins = lines_from (cable_moves In) 1 cables
+  ins = lines_from puts 1 cables
 
   few_slots : (model : Model) → slots_of model ≤ 4
   few_slots EnigmaI = omega arith
@@ -321,31 +381,41 @@ module _ (m : RotorParts) (s : RotorDay) (to : List ℕ) (legal : IsMachine (Rot
   few_slots M209 = omega arith
 
   few_wheels : 1 + length s.wheels ≤ 5
-  few_wheels = omega (arith, few_slots s.model, day.wheels.count, length-map s.wheels (λ (w : SheetWheel). Some w.wheel))
+  few_wheels = omega (
+    arith,
+    few_slots s.model,
+    day.wheels.count,
+    length-map s.wheels (λ (w : SheetWheel). Some w.wheel),
+  )
 
   few_cables : 1 + length cables ≤ 14
-  few_cables = omega (arith, zip_within m.cables (map (λ j. slice_index_or (columns_of s.pairs) j Nothing) to), legal.legal.cables.count)
+  few_cables = omega (
+    arith,
+    zip_within m.cables (map (λ j. slice_index_or (columns_of s.pairs) j Nothing) to),
+    legal.legal.cables.count,
+  )
 
   rotor_pieces : AreSix seats reflector rings turns outs ins
   rotor_pieces = record {
     seats = all_are step_number 1 seats (all_lines (is_step 1) slot_seat_line 1 (zip m.slots s.wheels)
         (λ n z. seat_line (is_step 1) n z (λ w. refl)));
-    reflector = all_are step_number 1 reflector (all_unless (is_step 1) _ _ refl);
+    reflector = all_are step_number 1 reflector (all_unless (is_step 1) (same_reflector m.reflector s.reflector)
+        (SeatReflector s.reflector) refl);
     rings = all_are step_number 0 rings (all_flat (is_step 0) (wheel_ring_line (Rotor m) s.wheels) (box_of m.model)
         (λ wheel. ring_line (is_step 0) (Rotor m) s.wheels wheel (λ w l. refl)));
     turns = all_are step_number 6 turns (all_lines (is_step 6) (slot_turn_line (Rotor m)) 1 s.wheels
         (λ n w. turn_line (is_step 6) (Rotor m) n w (λ l. refl)));
-    outs = all_are step_number 2 outs (all_lines (is_step 2) (cable_moves Out) 1 cables
+    outs = all_are step_number 2 outs (all_lines (is_step 2) pulls 1 cables
         (λ n z. out_moves (is_step 2) n z (λ l. refl)));
-    ins = all_are step_number 3 ins (all_lines (is_step 3) (cable_moves In) 1 cables
+    ins = all_are step_number 3 ins (all_lines (is_step 3) puts 1 cables
         (λ n z. in_moves (is_step 3) n z (λ l. refl)));
   }
 
   rotor_order : IsRotorOrder (six_in_order seats reflector rings turns outs ins rotor_pieces)
   rotor_order = six_order seats reflector rings turns outs ins rotor_pieces
-      (ranked_lines row_of (cable_moves Out)
+      (ranked_lines row_of pulls
       (λ n z. all_are row_of n _ (out_moves (is_row n) n z (λ l. same_row n))) 1 14 cables few_cables)
-      (ranked_lines row_of (cable_moves In)
+      (ranked_lines row_of puts
       (λ n z. all_are row_of n _ (in_moves (is_row n) n z (λ l. same_row n))) 1 14 cables few_cables)
       (ranked_lines row_of (slot_turn_line (Rotor m))
       (λ n w. all_are row_of n _ (turn_line (is_row n) (Rotor m) n w (λ l. same_row n))) 1 5 s.wheels few_wheels)

@@ -1,5 +1,6 @@
 -- A planned card in an order for the hand leads to the day, and is as short.
-use Rattle.std.proofs.Common.{◌≡◌, ℕ, ◌≤◌, Bool, true, not, List, [], ◌∷◌, ◌++◌, append_assoc, length, refl, subst, sym}
+use Rattle.std.proofs.Common.{◌≡◌, ℕ, ◌≤◌, Bool, true, not, List, [], ◌∷◌, ◌++◌, append_assoc, length, refl, subst}
+use Rattle.std.proofs.Common.{sym}
 use Rattle.std.proofs.Common.{None as Nothing}
 use Rattle.std.specs.List.{list_all, flat_map}
 use Rattle.std.specs.Prelude.{zip}
@@ -18,15 +19,14 @@ use Rattle.kd_state.specs.SheetDay.{Day, OfRotors, OfPins, RotorDay, PinDay}
 use Rattle.kd_card.specs.declared.prices.PriceParts.{PriceParts}
 use Rattle.kd_card.specs.Loose.{setting_unless, lines_from, slot_seat_line, slot_turn_line, wheel_ring_line}
 use Rattle.kd_card.specs.Loose.{wheel_pin_lines, pin_wheel_turn_line}
-use Rattle.kd_plan.specs.Moves.{bar_moves, cable_moves, planned_lines, with_columns}
-use Rattle.kd_plan.specs.declared.cable_lines.CableMove.TheVariants.{In, Out}
+use Rattle.kd_plan.specs.Moves.{bar_moves, planned_lines, with_columns}
 use Rattle.kd_plan.specs.Planned.{IsProvedPlannedCard}
 use Rattle.kd_curator.specs.declared.stages.Stage.TheVariants.{Windows}
 use Rattle.kd_curator.specs.HandOrder.{is_at_stage, in_hand_order, is_seat, seats_before_turning}
 use Rattle.kd_curator.specs.HandList.{IsHandList}
 use Rattle.kd_curator.proofs.HandOrders.{no_seats, hand_order_leads, hand_order_permutes}
 use Rattle.kd_curator.proofs.PlannedPieces.{all_both, all_flat, all_lines, all_unless, in_moves, lug_moves, out_moves}
-use Rattle.kd_curator.proofs.PlannedPieces.{pin_lines, ring_line, seat_line, turn_line, wheel_turn_line}
+use Rattle.kd_curator.proofs.PlannedPieces.{pin_lines, pulls, puts, ring_line, seat_line, turn_line, wheel_turn_line}
 
 abbrev no_turn : Setting → Bool
 no_turn x = not (is_at_stage Windows x)
@@ -48,14 +48,14 @@ rotor_turns_last m s to =
     let reflector = setting_unless (same_reflector m.reflector s.reflector) (SeatReflector s.reflector) in
     let rings = flat_map (wheel_ring_line (Rotor m) s.wheels) (box_of m.model) in
     let turns = lines_from (slot_turn_line (Rotor m)) 1 s.wheels in
-    let outs = lines_from (cable_moves Out) 1 cables in
-    let ins = lines_from (cable_moves In) 1 cables in
+    let outs = lines_from pulls 1 cables in
+    let ins = lines_from puts 1 cables in
     let last : seats_before_turning (turns ++ (outs ++ ins)) ≡ true = no_seats (turns ++ (outs ++ ins))
     (all_both no_seat turns (outs ++ ins)
     (all_lines no_seat (slot_turn_line (Rotor m)) 1 s.wheels (λ n w. turn_line no_seat (Rotor m) n w (λ l. refl)))
     (all_both no_seat outs ins
-    (all_lines no_seat (cable_moves Out) 1 cables (λ n z. out_moves no_seat n z (λ l. refl)))
-    (all_lines no_seat (cable_moves In) 1 cables (λ n z. in_moves no_seat n z (λ l. refl))))) in
+    (all_lines no_seat pulls 1 cables (λ n z. out_moves no_seat n z (λ l. refl)))
+    (all_lines no_seat puts 1 cables (λ n z. in_moves no_seat n z (λ l. refl))))) in
     let first = skips seats (reflector ++ (rings ++ (turns ++ (outs ++ ins))))
     (all_lines no_turn slot_seat_line 1 (zip m.slots s.wheels) (λ n z. seat_line no_turn n z (λ w. refl)))
     (skips reflector (rings ++ (turns ++ (outs ++ ins))) (all_unless no_turn _ _ refl)

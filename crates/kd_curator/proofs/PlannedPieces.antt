@@ -24,8 +24,15 @@ use Rattle.kd_state.specs.Setting.{is_same_place}
 use Rattle.kd_card.specs.Loose.{setting_unless, lines_from, slot_seat_line, slot_turn_line, wheel_ring_line}
 use Rattle.kd_card.specs.Loose.{pin_line, wheel_pin_lines, pin_wheel_turn_line}
 unfoldable use Rattle.kd_plan.specs.Moves.{bar_moves}
-use Rattle.kd_plan.specs.Moves.{cable_moves, letters_outside}
-use Rattle.kd_plan.specs.declared.cable_lines.CableMove.TheVariants.{In, Out}
+use Rattle.kd_plan.specs.Moves.{letters_outside}
+
+-- the settings PULL and PUT of a cable, as the planner gives them
+abbrev pub pulls : ℕ → (Option ℕ × Option ℕ) × Option (ℕ × ℕ) → List Setting
+pulls cable z = map (λ letter. Pull cable letter) (letters_outside (cable_letters z.0) (column_letters z.1))
+
+abbrev pub puts : ℕ → (Option ℕ × Option ℕ) × Option (ℕ × ℕ) → List Setting
+puts cable z =
+    map (λ letter. Put cable letter) (letters_outside (column_letters (pair_in_order z.1)) (cable_letters z.0))
 
 module _ (p : Setting → Bool) where
   pub all_unless : (so : Bool) (x : Setting) → p x ≡ true → list_all p (setting_unless so x) ≡ true
@@ -78,12 +85,12 @@ module _ (p : Setting → Bool) where
   turn_line m slot w each = all_unless _ _ (each w.letter)
 
   pub out_moves : (cable : ℕ) (z : (Option ℕ × Option ℕ) × Option (ℕ × ℕ))
-      → ((letter : ℕ) → p (Pull cable letter) ≡ true) → list_all p (cable_moves Out cable z) ≡ true
+      → ((letter : ℕ) → p (Pull cable letter) ≡ true) → list_all p (pulls cable z) ≡ true
   out_moves cable z each =
       all_mapped (λ letter. Pull cable letter) (letters_outside (cable_letters z.0) (column_letters z.1)) each
 
   pub in_moves : (cable : ℕ) (z : (Option ℕ × Option ℕ) × Option (ℕ × ℕ))
-      → ((letter : ℕ) → p (Put cable letter) ≡ true) → list_all p (cable_moves In cable z) ≡ true
+      → ((letter : ℕ) → p (Put cable letter) ≡ true) → list_all p (puts cable z) ≡ true
   in_moves cable z each =
       all_mapped (λ letter. Put cable letter)
       (letters_outside (column_letters (pair_in_order z.1)) (cable_letters z.0)) each

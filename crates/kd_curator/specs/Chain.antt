@@ -56,7 +56,8 @@ abbrev pub day_refusal : Bool → DayFault → Refused
 day_refusal several fault = record { day = if several then Some fault.day else None; fault = fault.fault }
 
 -- The first day that can't be planned is refused.
-pub record IsDayRefusal (model : Model) (month : List (Option Day)) (numbers : List ℕ) (refused : Refused) : Type 0 where
+pub record IsDayRefusal (model : Model) (month : List (Option Day)) (numbers : List ℕ) (refused : Refused)
+    : Type 0 where
   pub fault : DayFault
   pub first : IsFirstFault model month numbers fault
   pub told : refused ≡ day_refusal (nat_lt 1 (length numbers)) fault

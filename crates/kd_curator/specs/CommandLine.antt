@@ -97,6 +97,12 @@ pub record IsCommandLineOf (words : List (List ℕ)) (command : NamedCommand) : 
 abbrev pub IsNoCommandLine : List (List ℕ) → Type 0
 IsNoCommandLine words = (command : NamedCommand) → ¬ (IsCommandLineOf words command)
 
+-- A command line means at most one command.
+abbrev pub CommandLinesMeanOneCommand : Type 0
+CommandLinesMeanOneCommand =
+    (words : List (List ℕ)) (one other : NamedCommand) → IsCommandLineOf words one → IsCommandLineOf words other
+    → one ≡ other
+
 -- ---- What a command line is that is no command.
 
 -- whether the words ask for help or for the version

@@ -10,9 +10,9 @@ use Rattle.kd_page.specs.PageOrder.{page_boxes}
 use Rattle.kd_curator.specs.HandList.{IsHandList}
 use Rattle.kd_curator.specs.declared.day_plan.DayPlan.{DayPlan}
 
--- The settings are a shortest list from machine `m` to day `s`, in an order for the hand: the page's boxes, read from the
--- top, are these settings. They lead from `m` to machine `n`, which is set as the day says, shows the day's letters, and
--- enciphers as the day asks.
+-- The settings are a shortest list from machine `m` to day `s`, in an order for the hand. The page's boxes, read from
+-- the top, are these settings. They lead from `m` to machine `n`, which is set as the day says, shows the day's letters,
+-- and enciphers as the day asks.
 pub record IsDayPlan (m : Parts) (s : Day) (plan : DayPlan) (n : Parts) : Type 0 where
   pub number : plan.day ≡ day_number s
   pub by_hand : IsHandList m s plan.settings.items

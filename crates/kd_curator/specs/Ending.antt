@@ -31,7 +31,8 @@ status_of (Ok done) = 0
 status_of (Err (stops.Usage text)) = 2
 status_of (Err _) = 1
 
--- The program ends with the text and the exit status for `answer`, or with a prefix of the text if standard error failed.
+-- The program ends with the text and the exit status for `answer`, or with a prefix of the text if standard error
+-- failed.
 abbrev pub EndsAs : Result (Unit {0}) Stop → Port → ℕ → Type 0
 EndsAs answer errors status = EndsWithLine (error_text answer) (status_of answer) errors status
 

@@ -13,7 +13,8 @@ use Rattle.kd_host.specs.Files.{AreAskedFor, AskedName, content_of}
 use Rattle.kd_host.specs.Writing.{WritesText}
 use Rattle.kd_state.specs.Machine.{model_of}
 use Rattle.kd_tables.specs.Ports.{Port}
-use Rattle.kd_curator.specs.CommandLine.{AsksForHelp, IsCommandLineOf, IsNoCommandLine, NamedCommand, curator_grammar, is_help}
+use Rattle.kd_curator.specs.CommandLine.{AsksForHelp, IsCommandLineOf, IsNoCommandLine, NamedCommand, curator_grammar}
+use Rattle.kd_curator.specs.CommandLine.{is_help}
 use Rattle.kd_curator.specs.Ending.{EndsAs}
 use Rattle.kd_curator.specs.MachineAndSheet.{IsAnswerOnSheet}
 use Rattle.kd_curator.specs.Refusals.{is_device_fault, refused_device}
@@ -48,8 +49,8 @@ DoesTask (tasks.List day) machine sheet sink answer = IsAnswerOnSheet machine sh
 
 -- ---- The program's answer.
 
--- The program's answer, given what a command answered. `left` are bytes that were gathered and that the sink didn't take.
--- After success there are none. If there are some, the sink has failed.
+-- The program's answer, given what a command answered. `left` are bytes that were gathered and that the sink didn't
+-- take. After success there are none. If the command succeeded and some are left, the program answers `Device`.
 abbrev pub EndsTask : List ℕ → Result (Unit {0}) Refused → Result (Unit {0}) Stop → Type 0
 EndsTask left (Ok done) answer =
     ((answer ≡ Ok tt) × (left ≡ [])) ⊎ ((answer ≡ Err (stops.Refused refused_device)) × (1 ≤ length left))
@@ -67,9 +68,9 @@ abbrev pub is_usage : Result (Unit {0}) Stop → Bool
 is_usage (Err (stops.Usage text)) = true
 is_usage _ = false
 
--- How a command line is carried out. `Carried`: its command was carried out. `FileUnread`: a file of the command couldn't
--- be read. `Shown`: the words ask for help or for the version. `OtherWords`: the words mean no command. `NoMemory`: memory
--- ran out before a file was asked for.
+-- How a command line is carried out. `Carried`: its command was carried out. `FileUnread`: a file of the command
+-- couldn't be read. `Shown`: the words ask for help or for the version. `OtherWords`: the words mean no command.
+-- `NoMemory`: memory ran out before a file was asked for.
 pub data CarriesOut (words : List (List ℕ)) (known : Option (List ℕ → Option (List ℕ))) (asked : List AskedName)
     (sink : Port) (left : List ℕ) (answer : Result (Unit {0}) Stop) : Type 0 where
   Carried : (command : NamedCommand) → IsCommandLineOf words command → (read : Command (List ℕ))
@@ -116,8 +117,8 @@ gathering_port bytes failed old new left = record {
   has_failed = failed new;
 }
 
--- The program's answer satisfies `IsSo`, and the program ended with the text and the exit status for this answer. `left`
--- are the bytes that the sink didn't take.
+-- The program's answer satisfies `IsSo`, and the program ended with the text and the exit status for this answer.
+-- `left` are the gathered bytes that the sink didn't take.
 pub record HasEnded (IsSo : List ℕ → Result (Unit {0}) Stop → Type 0) (errors : Port) (status : ℕ) : Type 0 where
   pub left : List ℕ
   pub answer : Result (Unit {0}) Stop

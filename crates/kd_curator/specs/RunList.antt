@@ -12,8 +12,8 @@ use Rattle.kd_curator.specs.declared.chain.DayFault.{DayFault}
 use Rattle.kd_curator.specs.declared.day_plan.DayPlan.{DayPlan}
 use Rattle.kd_curator.specs.declared.fault.Refused.{Refused}
 
--- The answer is why the day can't be planned. Or the settings of the day's page were written, in their order, or a prefix
--- of them if the device failed. They lead from machine `m` to machine `n`.
+-- The answer is why the day can't be planned. Or the settings of the day's page were written, in their order, or a
+-- prefix of them if the device failed. They lead from machine `m` to machine `n`.
 pub data WritesList (month : List (Option Day)) (m : Parts) (number : ℕ) (sink : Port)
     (answer : Result (Unit {0}) Refused) : Type 0 where
   NoList : (fault : DayFault) → IsDayFault (model_of m) month number fault

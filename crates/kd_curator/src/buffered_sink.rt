@@ -1,5 +1,6 @@
 //! A sink that gathers small pieces before it passes them on.
-ghost use Rattle.std.specs.Prelude.{◌≡◌, ◌≤◌, ◌||◌, [], ◌++◌, take, length, nat_lt, Some, OnErr, OnOk, is_err, option_map};
+ghost use Rattle.std.specs.Prelude.{◌≡◌, ◌≤◌, ◌||◌, [], ◌++◌, take, length, nat_lt, Some, OnErr, OnOk, is_err};
+ghost use Rattle.std.specs.Prelude.{option_map};
 ghost use Rattle.std.specs.Io.KnownBytes.{append_known, Appends, Keeps};
 ghost use Rattle.kd_tables.specs.Ports.{Puts};
 

@@ -3,7 +3,8 @@ ghost use Rattle.std.specs.Prelude.{◌≡◌, codes, false, map, IfErr, IfOk, I
 ghost use Rattle.clap.specs.Words.{app_of, found_of, kind_of, rows_of, rule_of, subcommand_rows_of};
 ghost use Rattle.kd_curator.specs.CommandLine.{IsMadeOf, curator_grammar, command_shape, list_shape, page_shape};
 ghost use Rattle.kd_curator.specs.CommandLine.{unborrowed_command, needed, task_name};
-ghost use Rattle.kd_curator.specs.CommandLine.{HasTaskDays, IsCommandLineOf, IsCommandOf, IsMeant, IsTaskOf, NamedCommand};
+ghost use Rattle.kd_curator.specs.CommandLine.{HasTaskDays, IsCommandLineOf, IsCommandOf, IsMeant, IsTaskOf};
+ghost use Rattle.kd_curator.specs.CommandLine.{NamedCommand};
 ghost use Rattle.kd_curator.specs.CommandLine.{HasNoCommand, IsToldAs};
 
 use crate::days::{Days, days_of_word};

@@ -1,5 +1,6 @@
 //! `Days`: the days that the argument DAYS names.
-ghost use Rattle.std.specs.Prelude.{◌≡◌, ◌<◌, ◌≤◌, ◌+◌, [], ◌∷◌, ◌++◌, ℕ, List, Some, MatchOption, length, if◌then◌else◌};
+ghost use Rattle.std.specs.Prelude.{◌≡◌, ◌<◌, ◌≤◌, ◌+◌, [], ◌∷◌, ◌++◌, ℕ, List, Some, MatchOption, length};
+ghost use Rattle.std.specs.Prelude.{if◌then◌else◌};
 ghost use Rattle.std.specs.List.{before_first, after_first};
 ghost use Rattle.kd_curator.specs.Days.{AddsDays, AreDays, day_named, days_from, days_named, is_comma, is_hyphen};
 ghost use Rattle.kd_curator.specs.Days.{range_named};

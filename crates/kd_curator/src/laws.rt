@@ -1,4 +1,5 @@
-//! Laws on the order for the hand.
+//! Laws on the order for the hand, and on command lines.
+ghost use Rattle.kd_curator.specs.CommandLine.{CommandLinesMeanOneCommand};
 ghost use Rattle.kd_curator.specs.HandOrder.{HandOrderIsPermutation, HandOrderLeads};
 
 /// A list in an order for the hand has the same settings.
@@ -7,4 +8,9 @@ ghost use Rattle.kd_curator.specs.HandOrder.{HandOrderIsPermutation, HandOrderLe
 pub fn hand_order_leads_alike()
     ensures same { HandOrderIsPermutation }
     ensures leads { HandOrderLeads }
+{}
+
+/// A command line means at most one command.
+pub fn command_lines_mean_one_command()
+    ensures { CommandLinesMeanOneCommand }
 {}

@@ -8,7 +8,8 @@ ghost use Rattle.kd_host.specs.Writing.{WritesText};
 ghost use Rattle.kd_curator.specs.CommandLine.{unborrowed_command};
 ghost use Rattle.kd_curator.specs.Ending.{stop_after};
 ghost use Rattle.kd_curator.specs.Inner.{EndsRun};
-ghost use Rattle.kd_curator.specs.Program.{CarriesOut, DoesTask, HasEnded, IsRun, gathering_port, known_command, names_of};
+ghost use Rattle.kd_curator.specs.Program.{CarriesOut, DoesTask, HasEnded, IsRun, gathering_port, known_command};
+ghost use Rattle.kd_curator.specs.Program.{names_of};
 ghost use Rattle.kd_curator.specs.Program.{is_stopped_before_writing, is_stopped_by_device};
 ghost use Rattle.kd_curator.specs.Refusals.{is_device, refused_device};
 
@@ -25,9 +26,9 @@ use std::convert::AsStr;
 
 /// Carries out the command line `words`, which begins with the program's own name.
 ///
-/// Returns the exit status and `sink`: 0 for success, 2 for other words than a command's, 1 for a refusal. With status 1
-/// or 2, a text that says why is written to `errors`. Each file is read once, in the order of the command line. If a file
-/// can't be read, no later file is asked for, and nothing is written to `sink`.
+/// Returns the exit status and the sink. The status is 0 for success, 2 for other words than a command's, and 1 for a
+/// refusal. With status 1 or 2, a text that says why is written to `errors`. Each file is read once, in the order of
+/// the command line. If a file can't be read, no later file is asked for, and nothing is written to `sink`.
 pub fn run_curator<'n, S: AsStr, F: Files<'n>, W: Sink + Drop, E: Sink>(
     alloc: Global,
     words: &'n [S],

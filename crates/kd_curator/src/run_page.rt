@@ -19,9 +19,9 @@ use std::alloc::Global;
 
 /// Writes the pages of `days`, from the machine in the file `machine` on, in one HTML file.
 ///
-/// Without `days`, these are all days that the sheet has for the machine's model. Faults are tested in this order: faults
-/// of the machine file, faults of the sheet, and then, day by day, `NoSuchDay` and `OtherModel`. For all of these faults,
-/// nothing is written. For `Device`, only a prefix of the file is written.
+/// Without `days`, these are all days that the sheet has for the machine's model. Faults are tested in this order:
+/// faults of the machine file, faults of the sheet, and then, day by day, `NoSuchDay` and `OtherModel`. For all of these
+/// faults, nothing is written. For `Device`, only a prefix of the file is written.
 pub fn run_page<W: Sink>(
     alloc: Global,
     machine: &[u8],

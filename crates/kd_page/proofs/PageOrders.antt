@@ -1,5 +1,6 @@
 -- The boxes of a page, read from the top, are the settings in their order.
-use Rattle.std.proofs.Common.{◌≡◌, ℕ, zero, suc, ◌+◌, ◌≤◌, Bool, ◌&&◌, List, [], ◌∷◌, ◌++◌, filter, flat_map, arith, refl, ap₂, sym, ◌∙◌}
+use Rattle.std.proofs.Common.{◌≡◌, ℕ, zero, suc, ◌+◌, ◌≤◌, Bool, ◌&&◌, List, [], ◌∷◌, ◌++◌, filter, flat_map, arith}
+use Rattle.std.proofs.Common.{refl, ap₂, sym, ◌∙◌}
 use Rattle.std.proofs.Common.{nat_eq, append_assoc, append-nil}
 use Rattle.kd_tables.specs.Permutation.{alphabet}
 use Rattle.kd_state.specs.declared.setting.Setting.{Setting}
@@ -22,7 +23,8 @@ same_filter : {X : Type 0} (p q : X → Bool) → ((x : X) → p x ≡ q x) → 
 same_filter p q same [] = refl
 same_filter p q same (x ∷ xs) = grind (arith, same x, same_filter p q same xs)
 
-same_flat_map : {X A : Type 0} (f g : X → List A) → ((x : X) → f x ≡ g x) → (xs : List X) → flat_map f xs ≡ flat_map g xs
+same_flat_map : {X A : Type 0} (f g : X → List A) → ((x : X) → f x ≡ g x) → (xs : List X)
+    → flat_map f xs ≡ flat_map g xs
 same_flat_map f g same [] = refl
 same_flat_map f g same (x ∷ xs) = ap₂ (λ a b. a ++ b) (same x) (same_flat_map f g same xs)
 
@@ -38,8 +40,8 @@ parts_are key f xs are zero from = refl
 parts_are key f xs are (suc count) from =
     ap₂ (λ a b. a ++ b) (are from) (parts_are key f xs are count (from + 1))
 
-ranked_parts : {X : Type 0} (key : X → ℕ) (f : ℕ → List X) (xs : List X) → ((number : ℕ) → f number ≡ group key number xs)
-    → (from count end : ℕ) → end ≤ from + count → IsRanked key from end xs → flat_map f (numbers from count) ≡ xs
+ranked_parts : {X : Type 0} (key : X → ℕ) (f : ℕ → List X) (xs : List X)
+    → ((number : ℕ) → f number ≡ group key number xs) → (from count end : ℕ) → end ≤ from + count → IsRanked key from end xs → flat_map f (numbers from count) ≡ xs
 ranked_parts key f xs are from count end within ranked =
     parts_are key f xs are count from ∙ grouped key count from end xs within ranked
 

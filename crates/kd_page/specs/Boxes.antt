@@ -16,7 +16,8 @@ use Rattle.kd_pictures.specs.declared.numbers.TheConstants.{SLOTS}
 use Rattle.kd_page.specs.declared.spots.Spot.{Spot}
 use Rattle.kd_pictures.specs.declared.words.Word.{Word}
 use Rattle.kd_pictures.specs.declared.words.Word.TheVariants.{Greek, Left, Middle, Right}
-use Rattle.kd_pictures.specs.declared.texts.TheConstants.{LUG_LEFT, LUG_RIGHT, PIN_OFF, PIN_ON, PLUG, REFLECTOR, RING, SEAT}
+use Rattle.kd_pictures.specs.declared.texts.TheConstants.{LUG_LEFT, LUG_RIGHT, PIN_OFF, PIN_ON, PLUG, REFLECTOR, RING}
+use Rattle.kd_pictures.specs.declared.texts.TheConstants.{SEAT}
 use Rattle.kd_pictures.specs.declared.texts.TheConstants.{SEAT_FROM, TURN}
 use Rattle.kd_page.specs.Spots.{is_at}
 use Rattle.kd_pictures.specs.Template.{filled, letter_text, ordinal_text}

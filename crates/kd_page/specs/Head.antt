@@ -4,7 +4,8 @@ use Rattle.kd_tables.specs.declared.model.Model.{Model}
 use Rattle.kd_pictures.specs.Template.{count_text, filled}
 use Rattle.kd_pictures.specs.Words.{model_name}
 use Rattle.kd_page.specs.declared.head.ListedDay.{ListedDay}
-use Rattle.kd_pictures.specs.declared.texts.TheConstants.{BODY, FOOT, HEAD, NAV, NAV_DAY, NAV_END, STYLE, TITLE_DAY, TITLE_DAYS}
+use Rattle.kd_pictures.specs.declared.texts.TheConstants.{BODY, FOOT, HEAD, NAV, NAV_DAY, NAV_END, STYLE}
+use Rattle.kd_pictures.specs.declared.texts.TheConstants.{TITLE_DAY, TITLE_DAYS}
 
 -- the last of these days
 abbrev pub last_of : ListedDay → List ListedDay → ListedDay

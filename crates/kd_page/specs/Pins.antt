@@ -1,5 +1,6 @@
 -- The table of a Converter's pins: which are effective after the settings, and which change.
-use Rattle.std.specs.Prelude.{decimal, ℕ, ◌==◌, Bool, false, not, if◌then◌else◌, List, [], ◌∷◌, ◌++◌, flat_map, take, drop}
+use Rattle.std.specs.Prelude.{decimal, ℕ, ◌==◌, Bool, false, not, if◌then◌else◌, List, [], ◌∷◌, ◌++◌, flat_map, take}
+use Rattle.std.specs.Prelude.{drop}
 use Rattle.std.specs.Prelude.{Option, Some, None}
 use Rattle.std.specs.Option.{option_map_or}
 use Rattle.kd_tables.specs.Permutation.{alphabet}
@@ -48,7 +49,8 @@ pin_cell m settings spot letter was (Some effective) = pin_item m settings spot 
 
 abbrev pub pin_cells : Parts → Parts → List Setting → ℕ → List ℕ → List ℕ
 pin_cells m n settings wheel letters = flat_map
-    (λ letter. pin_cell m settings (pin_spot wheel letter) letter (machine_pin m wheel letter) (machine_pin n wheel letter))
+    (λ letter. pin_cell m settings (pin_spot wheel letter) letter (machine_pin m wheel letter)
+    (machine_pin n wheel letter))
     letters
 
 -- the beginning of the lines of a wheel's pins

@@ -1,5 +1,6 @@
 -- The test of the real machine: given keys, and what the machine makes of them. Then the letters to set again.
-use Rattle.std.specs.Prelude.{codes, decimal, ℕ, ◌+◌, ◌-◌, ◌%◌, ◌==◌, Bool, if◌then◌else◌, List, [], ◌∷◌, ◌++◌, length}
+use Rattle.std.specs.Prelude.{codes, decimal, ℕ, ◌+◌, ◌-◌, ◌%◌, ◌==◌, Bool, if◌then◌else◌, List, [], ◌∷◌, ◌++◌}
+use Rattle.std.specs.Prelude.{length}
 use Rattle.std.specs.Prelude.{false, true, replicate, flat_map, Option, Some, None}
 use Rattle.kd_tables.specs.declared.model.Model.{Model}
 use Rattle.kd_tables.specs.Permutation.{alphabet}
@@ -32,7 +33,8 @@ test_text m =
 -- a letter that is to show again, on a rotor machine with its number
 abbrev pub again_text : Bool → ℕ → List ℕ
 again_text has_number letter =
-    if has_number then filled texts.AGAIN_ROTOR.now (letter_text letter ∷ ordinal_text letter ∷ []) else letter_text letter
+    if has_number then filled texts.AGAIN_ROTOR.now (letter_text letter ∷ ordinal_text letter ∷ [])
+    else letter_text letter
 
 -- the letter that a slot or a pin wheel shows, if there is one, after a separator
 abbrev pub again_at : List ℕ → Bool → Option ℕ → List ℕ

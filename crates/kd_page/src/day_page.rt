@@ -3,7 +3,8 @@ ghost use Rattle.std.specs.Prelude.{◌≡◌, ◌≤◌, ◌++◌, length};
 ghost use Rattle.kd_state.specs.Machine.{model_of};
 ghost use Rattle.kd_state.specs.TwoCiphers.{IsReady};
 ghost use Rattle.kd_pictures.specs.Drawing.{Draws};
-ghost use Rattle.kd_page.specs.DayPage.{article_text, day_head, day_text, pin_text, rotor_text, steps_text, wheels_text};
+ghost use Rattle.kd_page.specs.DayPage.{article_text, day_head, day_text, pin_text, rotor_text, steps_text};
+ghost use Rattle.kd_page.specs.DayPage.{wheels_text};
 
 use crate::drum::draw_lugs_step;
 use crate::pins::draw_pins_step;

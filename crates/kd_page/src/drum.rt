@@ -3,7 +3,8 @@ ghost use Rattle.std.specs.Prelude.{◌≡◌, ◌≤◌, ◌++◌, flat_map, le
 ghost use Rattle.kd_tables.specs.Places.{places};
 ghost use Rattle.kd_state.specs.Machine.{machine_standing};
 ghost use Rattle.kd_pictures.specs.Drawing.{Draws};
-ghost use Rattle.kd_page.specs.Drum.{bar_item, bar_end, bar_head, bar_row, cell_mark, has_lug, is_same_standing, lug_cell, lugs_step};
+ghost use Rattle.kd_page.specs.Drum.{bar_item, bar_end, bar_head, bar_row, cell_mark, has_lug, is_same_standing};
+ghost use Rattle.kd_page.specs.Drum.{lug_cell, lugs_step};
 
 use crate::boxes::draw_boxes;
 use crate::spots::{Step, count_at};

@@ -2,7 +2,8 @@
 ghost use Rattle.std.specs.Prelude.{◌≡◌, ◌≤◌, ◌++◌, flat_map, length};
 ghost use Rattle.kd_tables.specs.Permutation.{alphabet};
 ghost use Rattle.kd_pictures.specs.Drawing.{Draws};
-ghost use Rattle.kd_page.specs.Pins.{cell_text, is_same_pin, pin_item, pin_cell, pin_cells, pin_head, pin_inside, pin_lines, pin_shown, pin_spot};
+ghost use Rattle.kd_page.specs.Pins.{cell_text, is_same_pin, pin_item, pin_cell, pin_cells, pin_head, pin_inside};
+ghost use Rattle.kd_page.specs.Pins.{pin_lines, pin_shown, pin_spot};
 ghost use Rattle.kd_page.specs.Pins.{pin_wheel, pins_step};
 
 use crate::boxes::draw_boxes;

@@ -8,7 +8,7 @@ use kd_tables::Letter;
 
 /// The steps in which a hand makes settings.
 #[derive(Clone, Copy)]
-pub(crate) enum Step {
+pub enum Step {
     Rings,
     Seats,
     PlugsOut,
@@ -20,12 +20,12 @@ pub(crate) enum Step {
 
 /// A step of the page, a row of the step's table, or a cell of a row.
 #[derive(Clone, Copy)]
-pub(crate) struct Spot {
-    pub(crate) step: Step,
+pub struct Spot {
+    pub step: Step,
     /// The number of a cable, pin wheel, bar or slot.
-    pub(crate) row: Option<u8>,
+    pub row: Option<u8>,
     /// The letter of a pin.
-    pub(crate) cell: Option<Letter>,
+    pub cell: Option<Letter>,
 }
 
 impl Step {

@@ -2,7 +2,8 @@
 ghost use Rattle.std.specs.Prelude.{◌≡◌, ◌≤◌, ◌++◌, flat_map, length};
 ghost use Rattle.kd_state.specs.Machine.{machine_pin_letter};
 ghost use Rattle.kd_pictures.specs.Drawing.{Draws};
-ghost use Rattle.kd_page.specs.Windows.{letter_item, letter_box, letter_in_slot, letter_shown, letters_step, window_item, window_box, windows_step};
+ghost use Rattle.kd_page.specs.Windows.{letter_item, letter_box, letter_in_slot, letter_shown, letters_step};
+ghost use Rattle.kd_page.specs.Windows.{window_item, window_box, windows_step};
 
 use crate::boxes::draw_boxes;
 use crate::spots::{Step, count_at};

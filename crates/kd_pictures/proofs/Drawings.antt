@@ -71,7 +71,8 @@ pub joined : {W : Type 0} {taken : W → Option (List ℕ)} {failed : W → Bool
 joined one two is = rw is (both one two)
 
 -- A text that isn't empty was drawn, and then the sink has failed: it took a prefix of the text.
-front_before : {W : Type 0} {taken : W → Option (List ℕ)} {failed : W → Bool} {old new : W} {text rest : List ℕ} {byte : ℕ}
+front_before : {W : Type 0} {taken : W → Option (List ℕ)} {failed : W → Bool} {old new : W} {text rest : List ℕ}
+    {byte : ℕ}
     (before : Bool) → failed old ≡ before → text ≡ byte ∷ rest → Draws taken failed old new text → failed new ≡ true
     → TakesPrefix (taken old) (taken new) text
 front_before false well is draws ill = draws.front well ill

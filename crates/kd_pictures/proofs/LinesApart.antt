@@ -22,5 +22,6 @@ each p all letter within =
 
 pub lines_are_apart : LinesAreApart
 lines_are_apart one other small below differ =
-    let clear = each (is_clear one) (each (λ letter. list_all (is_clear letter) alphabet) all_clear one small) other below in
+    let clear =
+    each (is_clear one) (each (λ letter. list_all (is_clear letter) alphabet) all_clear one small) other below in
     grind (arith, clear, differ)

@@ -27,5 +27,6 @@ filled-none template = refl
 pub fills_none : {W : Type 0} (taken : W → Option (List ℕ)) (failed : W → Bool) (old new : W) (template : List ℕ)
     (values : List Value) → length values < 1 → Draws taken failed old new template
     → Draws taken failed old new (filled template (map value_text values))
-fills_none taken failed old new template [] none draws = subst (Draws taken failed old new) (sym (filled-none template)) draws
+fills_none taken failed old new template [] none draws =
+    subst (Draws taken failed old new) (sym (filled-none template)) draws
 fills_none taken failed old new template (value ∷ values) none draws = absurd (omega arith)

@@ -1,6 +1,7 @@
 -- The picture of a plugboard: lines of cables, and sockets. It is drawn twice: before, with the plugs to take out, and
 -- after, with the plugs to put in.
-use Rattle.std.specs.Prelude.{codes, decimal, ℕ, ◌+◌, ◌-◌, ◌*◌, nat_lt, Bool, false, not, ◌||◌, if◌then◌else◌, is_some}
+use Rattle.std.specs.Prelude.{codes, decimal, ℕ, ◌+◌, ◌-◌, ◌*◌, nat_lt, Bool, false, not, ◌||◌, if◌then◌else◌}
+use Rattle.std.specs.Prelude.{is_some}
 use Rattle.std.specs.Prelude.{List, [], ◌∷◌, ◌++◌, flat_map, Option, Some, None, unwrap_or}
 use Rattle.std.specs.List.{list_any}
 use Rattle.std.specs.Option.{option_map_or}

@@ -1,6 +1,7 @@
 -- Where the sockets of the plugboard are in its picture: in three rows, in the order of the keyboard.
 -- Code: two tables have the row and the place of each letter.
-use Rattle.std.specs.Prelude.{codes, ℕ, ◌+◌, ◌*◌, ◌<◌, ◌==◌, ◌≢◌, nat_eq, nat_le, Bool, ◌||◌, if◌then◌else◌, IsTrue, List, ◌++◌}
+use Rattle.std.specs.Prelude.{codes, ℕ, ◌+◌, ◌*◌, ◌<◌, ◌==◌, ◌≢◌, nat_eq, nat_le, Bool, ◌||◌, if◌then◌else◌, IsTrue}
+use Rattle.std.specs.Prelude.{List, ◌++◌}
 use Rattle.std.specs.List.{position_or_len}
 use Rattle.kd_tables.specs.Tables.{letters_of}
 use Rattle.kd_state.specs.Setting.{has_letter}

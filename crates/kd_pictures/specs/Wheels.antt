@@ -45,7 +45,8 @@ slot_words m slot (Some None) = filled texts.EMPTY_WORDS.now (decimal slot ∷ [
 slot_words m slot (Some (Some wheel)) = wheel_words m slot wheel
 
 unfoldable pub machine_words : Parts → List ℕ
-machine_words m = reflector_words (machine_reflector m) ++ flat_map (λ slot. slot_words m slot (machine_slot m slot)) SLOTS
+machine_words m =
+    reflector_words (machine_reflector m) ++ flat_map (λ slot. slot_words m slot (machine_slot m slot)) SLOTS
 
 -- ---- A band at height `y`. What differs from the other machine is marked.
 
@@ -53,7 +54,8 @@ abbrev pub reflector_shown : ℕ → Option Reflector → Option Reflector → L
 reflector_shown y None other = []
 reflector_shown y (Some reflector) other =
     filled
-    (if option_map_or (same_reflector reflector) other false then texts.REFLECTOR_SHOWN.now else texts.NEW_REFLECTOR.now)
+    (if option_map_or (same_reflector reflector) other false then texts.REFLECTOR_SHOWN.now
+    else texts.NEW_REFLECTOR.now)
     (decimal (y + 24) ∷ decimal (y + 54) ∷ reflector_text reflector ∷ [])
 
 -- how far a slot is from the left
@@ -120,4 +122,5 @@ both_bands m n =
     ++ band_text 0 Before m m ++ band_text 164 After n m ++ texts.WHEELS_END.now
 
 unfoldable pub one_band : Parts → List ℕ
-one_band n = texts.WHEELS_ONCE.now ++ machine_words n ++ texts.TITLE_END.now ++ band_text 0 After n n ++ texts.WHEELS_END.now
+one_band n =
+    texts.WHEELS_ONCE.now ++ machine_words n ++ texts.TITLE_END.now ++ band_text 0 After n n ++ texts.WHEELS_END.now

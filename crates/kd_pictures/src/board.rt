@@ -2,8 +2,10 @@
 ghost use Rattle.std.specs.Prelude.{◌≡◌, ◌+◌, ◌*◌, ◌<◌, ◌≤◌, ◌++◌, IsTrue, flat_map, is_some, nat_lt, option_map};
 ghost use Rattle.std.specs.List.{list_all, list_any};
 ghost use Rattle.kd_pictures.specs.Drawing.{Draws};
-ghost use Rattle.kd_pictures.specs.Board.{all_cables, bend, board_head, board_text, cable_line, cable_of, cable_holding};
-ghost use Rattle.kd_pictures.specs.Board.{cable_after, cable_words, cables_after, is_plugged, left_half, open_end, right_half, end_moves, free_socket, has_cables, has_plug, lane};
+ghost use Rattle.kd_pictures.specs.Board.{all_cables, bend, board_head, board_text, cable_line, cable_of};
+ghost use Rattle.kd_pictures.specs.Board.{cable_holding};
+ghost use Rattle.kd_pictures.specs.Board.{cable_after, cable_words, cables_after, is_plugged, left_half, open_end};
+ghost use Rattle.kd_pictures.specs.Board.{right_half, end_moves, free_socket, has_cables, has_plug, lane};
 ghost use Rattle.kd_pictures.specs.Board.{line_between, line_class, line_text, moving_class, moving_plug, open_line};
 ghost use Rattle.kd_pictures.specs.Board.{picture_name, round_plug, socket_holding, socket_text};
 

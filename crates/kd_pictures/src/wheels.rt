@@ -3,8 +3,10 @@ ghost use Rattle.std.specs.Prelude.{◌≡◌, ◌+◌, ◌*◌, ◌<◌, ◌++�
 ghost use Rattle.kd_state.specs.Machine.{machine_slot};
 ghost use Rattle.kd_pictures.specs.Drawing.{Draws};
 ghost use Rattle.kd_pictures.specs.Wheels.{is_seated};
-ghost use Rattle.kd_pictures.specs.Wheels.{band_head, band_text, both_bands, is_same_letter, letter_words, machine_words};
-ghost use Rattle.kd_pictures.specs.Wheels.{one_band, reflector_shown, reflector_words, ring_shown, seated_shown, slot_shown};
+ghost use Rattle.kd_pictures.specs.Wheels.{band_head, band_text, both_bands, is_same_letter, letter_words};
+ghost use Rattle.kd_pictures.specs.Wheels.{machine_words};
+ghost use Rattle.kd_pictures.specs.Wheels.{one_band, reflector_shown, reflector_words, ring_shown, seated_shown};
+ghost use Rattle.kd_pictures.specs.Wheels.{slot_shown};
 ghost use Rattle.kd_pictures.specs.Wheels.{empty_shown, slot_words, slot_x, wheel_shown, wheel_words, window_shown};
 
 use crate::drawing::draw;
