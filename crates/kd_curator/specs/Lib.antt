@@ -12,3 +12,4 @@ pub mod Program
 pub mod Refusals
 pub mod RunList
 pub mod RunPage
+pub mod Tables

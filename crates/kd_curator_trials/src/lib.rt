@@ -2,9 +2,9 @@
 #![tactic(auto)]
 
 #[cfg(test)]
-mod days;
-#[cfg(test)]
 mod command;
+#[cfg(test)]
+mod days;
 #[cfg(test)]
 mod lists;
 #[cfg(test)]
@@ -13,3 +13,5 @@ mod program;
 mod samples;
 #[cfg(test)]
 mod sinks;
+#[cfg(test)]
+mod tables;

@@ -1,9 +1,7 @@
 //! Tests of the lists, which `desk apply` carries out.
-use crate::samples::{
-    DAY_2, DAY_5, DAY_7, DAY_20, DAYS, ENIGMA, M3, M4, M4_DAYS, M209, M209_DAYS,
-};
-use kd_curator::run_list::run_list;
+use crate::samples::{DAY_2, DAY_5, DAY_7, DAY_20, DAYS, ENIGMA, M3, M4, M4_DAYS, M209, M209_DAYS};
 use kd_curator::plan_days;
+use kd_curator::run_list::run_list;
 use kd_desk::run_apply::run_apply;
 use kd_sheet::{read_machine, read_sheet};
 use kd_tables::MemorySink;
@@ -52,7 +50,11 @@ fn plans_one_day_after_another(rt: HostRuntime) {
     let sheet = read_sheet(rt.alloc(), DAYS.as_bytes()).ok();
     let counts = match (&machine, &sheet) {
         (Some(machine), Some(sheet)) => match plan_days(machine, sheet, &[2, 2, 1]) {
-            Ok(plans) => plans.as_slice().iter().map(|plan| plan.settings.len()).sum::<usize>(),
+            Ok(plans) => plans
+                .as_slice()
+                .iter()
+                .map(|plan| plan.settings.len())
+                .sum::<usize>(),
             Err(_) => 0,
         },
         _ => 0,

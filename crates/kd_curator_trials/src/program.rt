@@ -16,12 +16,7 @@ struct Ran {
 }
 
 /// Runs the program on a command line and files, with room for `room` bytes of output.
-fn run<'n, F: Files<'n>>(
-    alloc: Global,
-    words: &'n [&'n str],
-    files: &mut F,
-    room: usize,
-) -> Ran
+fn run<'n, F: Files<'n>>(alloc: Global, words: &'n [&'n str], files: &mut F, room: usize) -> Ran
     requires { F.asked files.old ≡ [] }
 {
     let sink = MemorySink::new(room.min(32768));
@@ -43,22 +38,54 @@ fn files() -> [(&'static str, &'static [u8]); 4] {
 }
 
 /// A command line, the line on standard error, and the exit status.
-static STOPPED: [(&[&str], &str); 15] = [
-    (&["curator", "list", "m", "s", "4"], "refused 39 NoSuchDay\n"),
-    (&["curator", "list", "m", "s", "5"], "refused 5 OtherModel\n"),
-    (&["curator", "page", "m", "s", "4"], "refused 39 NoSuchDay\n"),
-    (&["curator", "page", "m", "s", "5"], "refused 5 OtherModel\n"),
+static STOPPED: [(&[&str], &str); 17] = [
+    (
+        &["curator", "list", "m", "s", "4"],
+        "refused 39 NoSuchDay\n",
+    ),
+    (
+        &["curator", "list", "m", "s", "5"],
+        "refused 5 OtherModel\n",
+    ),
+    (
+        &["curator", "page", "m", "s", "4"],
+        "refused 39 NoSuchDay\n",
+    ),
+    (
+        &["curator", "page", "m", "s", "5"],
+        "refused 5 OtherModel\n",
+    ),
     (&["curator", "page", "c", "s"], "refused 39 NoSuchDay\n"),
-    (&["curator", "page", "m", "s", "1-4"], "day 3: refused 39 NoSuchDay\n"),
-    (&["curator", "page", "m", "s", "2,5,4"], "day 5: refused 5 OtherModel\n"),
-    (&["curator", "page", "m", "s", "1,31"], "day 31: refused 39 NoSuchDay\n"),
-    (&["curator", "page", "bad", "s", "4"], "refused 18 NotToml\n"),
-    (&["curator", "page", "m", "bad", "4"], "refused 18 NotToml\n"),
-    (&["curator", "list", "bad", "bad", "4"], "refused 18 NotToml\n"),
+    (
+        &["curator", "page", "m", "s", "1-4"],
+        "day 3: refused 39 NoSuchDay\n",
+    ),
+    (
+        &["curator", "page", "m", "s", "2,5,4"],
+        "day 5: refused 5 OtherModel\n",
+    ),
+    (
+        &["curator", "page", "m", "s", "1,31"],
+        "day 31: refused 39 NoSuchDay\n",
+    ),
+    (
+        &["curator", "page", "bad", "s", "4"],
+        "refused 18 NotToml\n",
+    ),
+    (
+        &["curator", "page", "m", "bad", "4"],
+        "refused 18 NotToml\n",
+    ),
+    (
+        &["curator", "list", "bad", "bad", "4"],
+        "refused 18 NotToml\n",
+    ),
     (&["curator", "page", "none", "s"], "refused 6 Device\n"),
     (&["curator", "page", "bad", "none"], "refused 6 Device\n"),
     (&["curator", "list", "none", "s", "1"], "refused 6 Device\n"),
     (&["curator", "list", "m", "none", "1"], "refused 6 Device\n"),
+    (&["curator", "table", "bad"], "refused 18 NotToml\n"),
+    (&["curator", "table", "none"], "refused 6 Device\n"),
 ];
 
 #[test]
@@ -74,7 +101,17 @@ fn says_why_it_refuses(rt: HostRuntime) {
 }
 
 /// A command line that writes a page, and texts of the page, from its top.
-static PAGES: [(&[&str], &[&str]); 4] = [
+static PAGES: [(&[&str], &[&str]); 5] = [
+    (
+        &["curator", "table", "s"],
+        &[
+            "<title>Key table</title>",
+            "<h1>Enigma I: key table <small>days 1 to 2</small></h1>",
+            "<tr><th scope=row>2<td>C<td>V<td>IV<td>I<td>01<td>26<td>02<td>-<td>X Y Z<td>-\n<tr><th scope=row>1<td>B<td>I",
+            "<h1>Enigma M3: key table <small>day 5</small></h1>",
+            "</main>\n",
+        ],
+    ),
     (
         &["curator", "page", "m", "s", "2"],
         &[
@@ -161,7 +198,12 @@ fn each_page_starts_where_the_page_before_it_ends(rt: HostRuntime) {
 fn carries_each_command_out(rt: HostRuntime) {
     let files = files();
     let mut files = MemoryFiles::new(&files);
-    let ran = run(rt.alloc(), &["curator", "list", "m", "s", "2"], &mut files, 32768);
+    let ran = run(
+        rt.alloc(),
+        &["curator", "list", "m", "s", "2"],
+        &mut files,
+        32768,
+    );
     assert_eq!(rt; ran.status, 0);
     assert_eq!(rt; ran.sink.taken(), DAY_2.as_bytes());
 }
@@ -171,7 +213,12 @@ fn stops_where_standard_output_fails(rt: HostRuntime) {
     let files = files();
     for room in 0..DAY_2.len() {
         let mut files = MemoryFiles::new(&files);
-        let ran = run(rt.alloc(), &["curator", "list", "m", "s", "2"], &mut files, room);
+        let ran = run(
+            rt.alloc(),
+            &["curator", "list", "m", "s", "2"],
+            &mut files,
+            room,
+        );
         assert_eq!(rt; ran.status, 1);
         assert_eq!(rt; ran.errors.taken(), "refused 6 Device\n".as_bytes());
         assert_eq!(rt; ran.sink.taken(), &DAY_2.as_bytes()[..room]);

@@ -1,5 +1,5 @@
 use Rattle.kd_host.proofs.FileNames.{misses_first, misses_on, misses_so}
-use Rattle.kd_curator.proofs.program.read_files.Goals as goal
+use Rattle.kd_curator.proofs.program.read_task_files.Goals as goal
 
 pub returns-in_err-machine-clause-asked : goal.returns-in_err-machine-clause-asked
 returns-in_err-machine-clause-asked g c =
