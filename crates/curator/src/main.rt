@@ -11,8 +11,13 @@ fn main(rt: HostRuntime) -> ExitCode {
         Ok(words) => {
             let mut files = HostFiles::new(&rt);
             let output = WriterSink::new(rt.stdout());
-            let (status, _) =
-                run_curator(rt.alloc(), words.as_slice(), &mut files, output, &mut errors);
+            let (status, _) = run_curator(
+                rt.alloc(),
+                words.as_slice(),
+                &mut files,
+                output,
+                &mut errors,
+            );
             status
         }
         Err(stop) => end_program(&Err(stop), &mut errors),

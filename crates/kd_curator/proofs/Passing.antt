@@ -12,9 +12,8 @@ use Rattle.kd_host.specs.Writing.{WritesText}
 use Rattle.kd_state.specs.declared.machine.parts.Parts.{Parts}
 use Rattle.kd_state.specs.SheetDay.{Day}
 use Rattle.kd_curator.specs.Ending.{stop_after}
-use Rattle.kd_curator.specs.Inner.{EndsRun}
 use Rattle.kd_curator.specs.MachineAndSheet.{IsAnswerOnSheet}
-use Rattle.kd_curator.specs.Program.{CarriesOut, DoesCommand, DoesTask, EndsTask, IsRun, IsTold, is_stopped_before_writing}
+use Rattle.kd_curator.specs.Program.{CarriesOut, DoesCommand, DoesTask, IsTold, PassesOn, is_stopped_before_writing}
 use Rattle.kd_curator.specs.Program.{Carried, FileUnread, Shown, OtherWords, NoMemory, is_stopped_by_device, is_usage}
 use Rattle.kd_curator.specs.Refusals.{is_device_fault, refused_device, refused_whole}
 use Rattle.kd_curator.specs.Tables.{WritesTables}
@@ -105,38 +104,38 @@ module _ (one other : Port) (before : one.had ≡ other.had) (after : Keeps one.
 
 -- ---- the program's answer
 
-ends_on : (left : List ℕ) (told : Result (Unit {0}) Refused) (done answer : Result (Unit {0}) Stop)
-    → EndsTask [] told done → EndsRun left done answer → EndsTask left told answer
-ends_on left (Ok fine) done answer (inl (is, none)) ends = subst (λ d. EndsRun left d answer) is ends
+ends_on : (left : List ℕ) (first done answer : Result (Unit {0}) Stop) → PassesOn [] first done
+    → PassesOn left done answer → PassesOn left first answer
+ends_on left (Ok fine) done answer (inl (is, none)) ends = subst (λ d. PassesOn left d answer) is ends
 ends_on left (Ok fine) done answer (inr (is, some)) ends = absurd (omega (arith, some))
-ends_on left (Err refused) done answer is ends = subst (λ d. EndsRun left d answer) is ends
+ends_on left (Err stop) done answer is ends = subst (λ d. PassesOn left d answer) is ends
 
-module _ (left : List ℕ) (done answer : Result (Unit {0}) Stop) (ends : EndsRun left done answer) where
+module _ (left : List ℕ) (done answer : Result (Unit {0}) Stop) (ends : PassesOn left done answer) where
   stops_on : (stop : Stop) → done ≡ Err stop → answer ≡ Err stop
-  stops_on stop is = subst (λ d. EndsRun left d answer) is ends
+  stops_on stop is = subst (λ d. PassesOn left d answer) is ends
 
   told_on : (Does Other : Result (Unit {0}) Refused → Type 0)
       → ((told : Result (Unit {0}) Refused) → Does told → Other told) → IsTold Does [] done → IsTold Other left answer
   told_on Does Other more is = record {
     told = is.told;
     does = more is.told is.does;
-    answers = ends_on left is.told done answer is.answers ends;
+    answers = ends_on left (stop_after is.told) done answer is.answers ends;
   }
 
-usage_on : (left : List ℕ) (done answer : Result (Unit {0}) Stop) → EndsRun left done answer → IsTrue (is_usage done)
+usage_on : (left : List ℕ) (done answer : Result (Unit {0}) Stop) → PassesOn left done answer → IsTrue (is_usage done)
     → IsTrue (is_usage answer)
 usage_on left (Ok fine) answer ends usage = absurd (cc)
 usage_on left (Err stop) answer ends usage = subst (λ a. IsTrue (is_usage a)) (sym ends) usage
 
 pub failed_on : (left : List ℕ) (done answer : Result (Unit {0}) Stop) (before between after : Bool)
-    → EndsRun left done answer → between ≡ (before || is_stopped_by_device done)
+    → PassesOn left done answer → between ≡ (before || is_stopped_by_device done)
     → (IsErr done → after ≡ between) → (IsOk done → after ≡ (between || is_err answer))
     → after ≡ (before || is_stopped_by_device answer)
 failed_on left (Ok fine) answer before between after (inl (is, none)) failed same passed = grind (arith, passed)
 failed_on left (Ok fine) answer before between after (inr (is, some)) failed same passed = grind (arith, passed)
 failed_on left (Err stop) answer before between after is failed same passed = grind (arith, same)
 
-pub stopped_on : {X : Type 0} (left : List ℕ) (done answer : Result (Unit {0}) Stop) → EndsRun left done answer
+pub stopped_on : {X : Type 0} (left : List ℕ) (done answer : Result (Unit {0}) Stop) → PassesOn left done answer
     → (IsErr done → IsTrue (is_stopped_before_writing done) → X) → IsTrue (is_stopped_before_writing answer) → X
 stopped_on left (Ok fine) answer (inl (is, none)) holds stopped = absurd (cc)
 stopped_on left (Ok fine) answer (inr (is, some)) holds stopped = absurd (cc)
@@ -148,7 +147,7 @@ none_gathered None = refl
 none_gathered (Some bytes) = ap Some (append-nil bytes)
 
 module _ (words : List (List ℕ)) (known : Option (List ℕ → Option (List ℕ))) (asked : List AskedName)
-    (one other : Port) (left : List ℕ) (done answer : Result (Unit {0}) Stop) (ends : EndsRun left done answer)
+    (one other : Port) (left : List ℕ) (done answer : Result (Unit {0}) Stop) (ends : PassesOn left done answer)
     (before : one.had ≡ other.had) (after : Keeps one.has other.has) where
   pub carried_on : CarriesOut words known asked one [] done → CarriesOut words known asked other left answer
   carried_on (Carried command says read knows asks told) =

@@ -9,7 +9,7 @@ use Rattle.kd_tables.specs.Answers.{AgreesOrNoMemory}
 use Rattle.kd_tables.specs.Ports.{Port}
 use Rattle.kd_curator.specs.CommandLine.{IsCommandLineOf, NamedCommand}
 use Rattle.kd_curator.specs.Ending.{stop_after}
-use Rattle.kd_curator.specs.Program.{Carried, CarriesOut, DoesTask, EndsTask, IsTold, is_stopped_before_writing}
+use Rattle.kd_curator.specs.Program.{Carried, CarriesOut, DoesTask, IsTold, PassesOn, is_stopped_before_writing}
 use Rattle.kd_curator.specs.Program.{is_stopped_by_device, known_command, names_of}
 use Rattle.kd_curator.specs.Refusals.{is_device, is_device_fault, refused_device}
 use Rattle.kd_curator.specs.declared.command.Command.{Command}
@@ -17,7 +17,7 @@ use Rattle.kd_curator.specs.declared.fault.Refused.{Refused}
 use Rattle.kd_curator.specs.declared.stop.Stop.{Stop}
 use Rattle.kd_curator.specs.declared.stop.Stop.TheVariants as stops
 
-ends_after : (told : Result (Unit {0}) Refused) → EndsTask [] told (stop_after told)
+ends_after : (told : Result (Unit {0}) Refused) → PassesOn [] (stop_after told) (stop_after told)
 ends_after (Ok done) = inl (refl, refl)
 ends_after (Err refused) = refl
 
@@ -25,7 +25,7 @@ ends_after (Err refused) = refl
 pub told_so : (Does : Result (Unit {0}) Refused → Type 0) (told : Result (Unit {0}) Refused)
     (answer : Result (Unit {0}) Stop) → Does told → answer ≡ stop_after told → IsTold Does [] answer
 told_so Does told answer does is =
-    record { told = told; does = does; answers = subst (EndsTask [] told) (sym is) (ends_after told) }
+    record { told = told; does = does; answers = subst (PassesOn [] (stop_after told)) (sym is) (ends_after told) }
 
 -- a command that stopped before it wrote anything left the sink as it was
 pub stopped_so : {X : Type 0} (told : Result (Unit {0}) Refused) (answer : Result (Unit {0}) Stop)

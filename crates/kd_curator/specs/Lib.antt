@@ -6,7 +6,6 @@ pub mod Days
 pub mod Ending
 pub mod HandList
 pub mod HandOrder
-pub mod Inner
 pub mod MachineAndSheet
 pub mod Program
 pub mod Refusals

@@ -15,7 +15,7 @@ use Rattle.kd_state.specs.Machine.{model_of}
 use Rattle.kd_tables.specs.Ports.{Port}
 use Rattle.kd_curator.specs.CommandLine.{AsksForHelp, IsCommandLineOf, IsNoCommandLine, NamedCommand, curator_grammar}
 use Rattle.kd_curator.specs.CommandLine.{is_help}
-use Rattle.kd_curator.specs.Ending.{EndsAs}
+use Rattle.kd_curator.specs.Ending.{EndsAs, stop_after}
 use Rattle.kd_curator.specs.MachineAndSheet.{IsAnswerOnSheet}
 use Rattle.kd_curator.specs.Refusals.{is_device_fault, refused_device}
 use Rattle.kd_curator.specs.RunList.{WritesList}
@@ -58,19 +58,19 @@ DoesCommand (commands.Table sheet) sink answer = WritesTables sheet sink answer
 
 -- ---- The program's answer.
 
--- The program's answer, given what a command answered. `left` are bytes that were gathered and that the sink didn't
--- take. After success there are none. If the command succeeded and some are left, the program answers `Device`.
-abbrev pub EndsTask : List ℕ → Result (Unit {0}) Refused → Result (Unit {0}) Stop → Type 0
-EndsTask left (Ok done) answer =
+-- The program's answer, given its answer before the last gathered bytes were passed on. `left` are the bytes that the sink
+-- didn't take. After success there are none. If only they are missing, the program answers `Device`.
+abbrev pub PassesOn : List ℕ → Result (Unit {0}) Stop → Result (Unit {0}) Stop → Type 0
+PassesOn left (Ok done) answer =
     ((answer ≡ Ok tt) × (left ≡ [])) ⊎ ((answer ≡ Err (stops.Refused refused_device)) × (1 ≤ length left))
-EndsTask left (Err refused) answer = answer ≡ Err (stops.Refused refused)
+PassesOn left (Err stop) answer = answer ≡ Err stop
 
 -- A command answered `told`, as `Does` says, and the program answers `answer`.
 pub record IsTold (Does : Result (Unit {0}) Refused → Type 0) (left : List ℕ) (answer : Result (Unit {0}) Stop)
     : Type 0 where
   pub told : Result (Unit {0}) Refused
   pub does : Does told
-  pub answers : EndsTask left told answer
+  pub answers : PassesOn left (stop_after told) answer
 
 -- whether the answer is a text about words that mean no command
 abbrev pub is_usage : Result (Unit {0}) Stop → Bool

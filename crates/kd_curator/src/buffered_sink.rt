@@ -7,19 +7,19 @@ ghost use Rattle.kd_tables.specs.Ports.{Puts};
 use arrayvec::ArrayVec;
 use kd_tables::{Failed, Sink};
 
-/// How many bytes are gathered.
+/// The most bytes that are gathered.
 const ROOM: usize = 4096;
 
 /// A sink that gathers bytes, and passes them on to another sink when there is no room for more, and at `flush`.
 #[derive(Drop)]
-pub struct BufferedSink<W: Sink + Drop> {
+pub(crate) struct BufferedSink<W: Sink + Drop> {
     sink: W,
     gathered: ArrayVec<u8, ROOM>,
 }
 
 impl<W: Sink + Drop> BufferedSink<W> {
     /// Creates a sink that passes its bytes on to `sink`.
-    pub fn new(sink: W) -> Self
+    pub(crate) fn new(sink: W) -> Self
         ensures sink { result.sink ≡ sink }
         ensures gathered { result.gathered.items ≡ [] }
     {
@@ -30,7 +30,7 @@ impl<W: Sink + Drop> BufferedSink<W> {
     }
 
     /// Returns the sink to which bytes are passed on; bytes that are only gathered are lost.
-    pub fn into_sink(self) -> W
+    pub(crate) fn into_sink(self) -> W
         ensures { result ≡ self.sink }
     {
         let BufferedSink { sink, .. } = self;
@@ -38,7 +38,7 @@ impl<W: Sink + Drop> BufferedSink<W> {
     }
 
     /// Passes on all bytes that are gathered. If the other sink fails, the bytes that it didn't take stay.
-    pub fn flush(&mut self) -> Result<(), Failed>
+    pub(crate) fn flush(&mut self) -> Result<(), Failed>
         ensures kept { Keeps (append_known (W.taken self.old.sink) self.old.gathered.items)
             (append_known (W.taken self.new.sink) self.new.gathered.items) }
         ensures passed { OnOk result (self.new.gathered.items ≡ []) }
@@ -77,8 +77,8 @@ impl<W: Sink + Drop> Sink for BufferedSink<W> {
     }
 }
 
-#[tactic(auto, using(kd_tables::proofs::SeveralPuts::takes_more, kd_tables::proofs::SeveralPuts::still_failed))]
 /// Writes as many of `bytes` to `sink` as it takes, and returns how many these are: all, unless it fails.
+#[tactic(auto, using(kd_tables::proofs::SeveralPuts::takes_more, kd_tables::proofs::SeveralPuts::still_failed))]
 fn pass_on<W: Sink>(sink: &mut W, bytes: &[u8]) -> usize
     ensures within { result ≤ length bytes.now }
     ensures taken { Appends (W.taken sink.old) (W.taken sink.new) (take result bytes.now) }

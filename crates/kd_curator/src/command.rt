@@ -17,7 +17,7 @@ use std::convert::AsStr;
 /// The version that `--version` shows.
 const VERSION: &str = "1.0";
 
-/// What is said of a day that is none.
+/// The text of the error for an argument that names no days.
 const NO_DAYS: &str = "days are numbers from 1 to 31, such as 2, 1-31 or 1,4,2";
 
 /// A command, with its files or their names.

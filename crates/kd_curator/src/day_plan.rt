@@ -17,7 +17,7 @@ pub struct DayPlan {
 }
 
 /// Plans a day: a shortest list from `machine` to `day`. Returns also the machine after the list.
-pub fn plan_day(machine: &Machine, day: &SheetDay) -> (DayPlan, Machine)
+pub(crate) fn plan_day(machine: &Machine, day: &SheetDay) -> (DayPlan, Machine)
     requires { model_of machine.now ≡ day_model day.now }
     ensures plan { IsDayPlan machine.now day.now result.0 result.1 }
     ensures model { model_of result.1 ≡ model_of machine.now }

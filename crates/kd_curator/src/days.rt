@@ -88,8 +88,8 @@ fn add_ranges(days: &mut Days, text: &str) -> Option<()>
     }
 }
 
-#[tactic(auto, using(std::proofs::lemmas::Str::Pattern::split_once_first), unfolding(crate::specs::Days::range_named))]
 /// Adds the days of a range: one day, or all from a day to another.
+#[tactic(auto, using(std::proofs::lemmas::Str::Pattern::split_once_first), unfolding(crate::specs::Days::range_named))]
 fn add_range(days: &mut Days, text: &str) -> Option<()>
     ensures { AddsDays (range_named text.now) days.old days.new result }
 {

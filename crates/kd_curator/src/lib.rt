@@ -18,13 +18,10 @@ mod stages;
 mod stop;
 mod tables;
 
-pub use buffered_sink::BufferedSink;
 pub use chain::{DayPlans, plan_days};
 pub use command::{Command, NamedCommand, NoCommand, Task, parse_words};
-pub use day_plan::{DayPlan, plan_day};
+pub use day_plan::DayPlan;
 pub use days::{Days, days_of_word};
 pub use fault::{PageFault, Refused};
-pub use hand_list::plan_by_hand;
-pub use program::{run_curator, run_words};
-pub use stages::{Stage, hand_order};
+pub use program::run_curator;
 pub use stop::{Stop, end_program};

@@ -8,10 +8,10 @@ ghost use Rattle.kd_host.specs.Writing.{WritesText};
 ghost use Rattle.kd_curator.specs.CommandLine.{unborrowed_command};
 ghost use Rattle.kd_curator.specs.Ending.{stop_after};
 ghost use Rattle.kd_curator.specs.declared.command.Command.TheVariants.{OnMachine, Table};
-ghost use Rattle.kd_curator.specs.Inner.{EndsRun};
-ghost use Rattle.kd_curator.specs.Program.{CarriesOut, DoesCommand, DoesTask, HasEnded, IsRun, gathering_port, known_command};
+ghost use Rattle.kd_curator.specs.Program.{CarriesOut, DoesCommand, DoesTask, HasEnded, IsRun};
+ghost use Rattle.kd_curator.specs.Program.{gathering_port, known_command};
 ghost use Rattle.kd_curator.specs.Program.{names_of};
-ghost use Rattle.kd_curator.specs.Program.{is_stopped_before_writing, is_stopped_by_device};
+ghost use Rattle.kd_curator.specs.Program.{PassesOn, is_stopped_before_writing, is_stopped_by_device};
 ghost use Rattle.kd_curator.specs.Refusals.{is_device, refused_device};
 
 use crate::buffered_sink::BufferedSink;
@@ -65,7 +65,7 @@ fn run_gathering<'n, S: AsStr, F: Files<'n>, W: Sink + Drop>(
 }
 
 /// Parses the command line, reads the files that it names, and carries the command out.
-pub fn run_words<'n, S: AsStr, F: Files<'n>, W: Sink>(
+fn run_words<'n, S: AsStr, F: Files<'n>, W: Sink>(
     alloc: Global,
     words: &'n [S],
     files: &mut F,
@@ -204,7 +204,7 @@ fn pass_rest_on<W: Sink + Drop>(
 ) -> Result<(), Stop>
     ensures kept { Keeps (append_known (W.taken sink.old.sink) sink.old.gathered.items)
         (append_known (W.taken sink.new.sink) sink.new.gathered.items) }
-    ensures ends { EndsRun sink.new.gathered.items done result }
+    ensures ends { PassesOn sink.new.gathered.items done result }
     ensures untouched { IsErr done → sink.new ≡ sink.old }
     ensures failed { IsOk done → W.has_failed sink.new.sink ≡ (W.has_failed sink.old.sink || is_err result) }
 {

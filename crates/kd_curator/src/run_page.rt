@@ -86,8 +86,8 @@ fn add_days_of(days: &mut Days, model: Model, sheet: &Sheet, number: u8)
     }
 }
 
-#[tactic(auto, unfolding(crate::specs::RunPage::has_day_of))]
 /// Whether the sheet has day `number`, and the day is of this model.
+#[tactic(auto, unfolding(crate::specs::RunPage::has_day_of))]
 fn has_day_of(model: Model, sheet: &Sheet, number: u8) -> bool
     ensures { result ≡ has_day_of model sheet.now number }
 {

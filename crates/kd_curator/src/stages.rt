@@ -8,7 +8,7 @@ use kd_state::{Setting, Settings};
 
 /// When a setting suits the hand: rings while the wheels are out, then all other parts, and last the windows.
 #[derive(Clone, Copy, PartialEq, Eq)]
-pub enum Stage {
+pub(crate) enum Stage {
     Rings,
     Parts,
     Windows,
@@ -16,7 +16,7 @@ pub enum Stage {
 
 /// `settings` in an order for the hand: rings first, window letters last, and all others in their order.
 #[tactic(auto, using(crate::proofs::HandOrders::few_at_stages))]
-pub fn hand_order(settings: &Settings) -> Settings
+pub(crate) fn hand_order(settings: &Settings) -> Settings
     ensures { result.items ≡ in_hand_order settings.now.items }
 {
     let mut ordered = ArrayVec::new();
