@@ -1,1 +1,5 @@
 pub mod ReadBack
+pub mod Sections
+pub mod Days
+pub mod Writings
+pub mod DayLines

@@ -12,4 +12,5 @@ pub mod MachineFile
 pub mod Sheet
 pub mod SheetFile
 pub mod MachineText
+pub mod SheetText
 pub mod Laws

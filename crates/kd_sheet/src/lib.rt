@@ -1,4 +1,4 @@
-//! Reads machine files and key sheets, and writes machine files.
+//! Reads and writes machine files and key sheets.
 #![tactic(auto)]
 
 mod document;
@@ -9,7 +9,9 @@ mod machine_reader;
 mod machine_writer;
 mod sheet;
 mod sheet_reader;
+mod sheet_writer;
 mod values;
+mod writing;
 
 pub use fault::SheetFault;
 pub use key::Key;
@@ -17,3 +19,4 @@ pub use machine_reader::read_machine;
 pub use machine_writer::write_machine;
 pub use sheet::Sheet;
 pub use sheet_reader::read_sheet;
+pub use sheet_writer::write_sheet;

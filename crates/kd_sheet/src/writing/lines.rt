@@ -1,13 +1,14 @@
-//! Writes the lines of a machine file: each is a key, `=` and a value.
-ghost use Rattle.std.specs.{Prelude.{codes, ◌≡◌, ◌+◌, ◌*◌, ◌≤◌, ◌++◌, map, length}, List.{flat_map, join_by}};
+//! Writes the lines of machine files and key sheets: each is a key, `=` and a value.
+ghost use Rattle.std.specs.{Prelude.{codes, decimal, ◌≡◌, ◌+◌, ◌*◌, ◌≤◌, ◌++◌, map, length}, List.{flat_map, join_by}};
 ghost use Rattle.arrayvec.specs.ArrayString.{array_string_len};
 ghost use Rattle.kd_sheet.specs.{Key.{key_name}, MachineText.{quoted_text, array_text, key_line}};
 
 use super::item_text::ItemText;
 use crate::Key;
 use arrayvec::ArrayString;
+use kd_state::push_number;
 
-/// The text of a machine file, at most 2048 bytes.
+/// The text of a machine file, or of a day of a key sheet, at most 2048 bytes.
 pub type FileString = ArrayString<2048>;
 
 /// Appends `key` and ` = `.
@@ -39,6 +40,17 @@ pub fn push_digit_line(text: &mut FileString, key: Key, value: &str)
 {
     push_key(text, key);
     text.push_str(value);
+    text.push_str("\n");
+}
+
+/// Appends the line of `key` with the number `number`.
+pub fn push_number_line(text: &mut FileString, key: Key, number: u8)
+    requires { array_string_len text.old + 16 ≤ 2048 }
+    ensures bytes { text.new.bytes ≡ text.old.bytes ++ key_line key (decimal number) }
+    ensures len { array_string_len text.new ≤ array_string_len text.old + 16 }
+{
+    push_key(text, key);
+    push_number(text, number);
     text.push_str("\n");
 }
 
