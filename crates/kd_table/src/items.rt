@@ -143,6 +143,7 @@ fn numbered_letter(number: Option<u8>) -> Option<Letter>
 
 impl FromWord for u8 {
     ghost alone = { never };
+
     ghost parse = { number_of };
 
     fn is_alone(_byte: u8) -> bool {
@@ -156,6 +157,7 @@ impl FromWord for u8 {
 
 impl FromWord for Option<Wheel> {
     ghost alone = { never };
+
     ghost parse = { slot_of };
 
     fn is_alone(_byte: u8) -> bool {
@@ -170,6 +172,7 @@ impl FromWord for Option<Wheel> {
 /// A letter: itself, or by its number from 1 (A) to 26 (Z).
 impl FromWord for Letter {
     ghost alone = { is_capital_letter };
+
     ghost parse = { ring_of_word };
 
     fn is_alone(byte: u8) -> bool {
@@ -186,6 +189,7 @@ impl FromWord for Letter {
 
 impl FromWord for (Letter, Letter) {
     ghost alone = { never };
+
     ghost parse = { pair_of };
 
     fn is_alone(_byte: u8) -> bool {
@@ -206,6 +210,7 @@ impl FromWord for (Letter, Letter) {
 
 impl FromWord for [Letter; 3] {
     ghost alone = { never };
+
     ghost parse = { group_of };
 
     fn is_alone(_byte: u8) -> bool {

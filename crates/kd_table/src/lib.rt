@@ -2,5 +2,17 @@
 #![tactic(auto)]
 
 mod columns;
+mod fault;
 mod items;
 mod names;
+mod notes;
+mod options;
+mod quotes;
+mod reading;
+mod rotor_row;
+mod row;
+mod sheet;
+
+pub use fault::TableFault;
+pub use options::TableOptions;
+pub use sheet::run_sheet;
