@@ -20,3 +20,5 @@ pub use machine_writer::write_machine;
 pub use sheet::Sheet;
 pub use sheet_reader::read_sheet;
 pub use sheet_writer::write_sheet;
+pub use values::pin_wheels::pins_of_text;
+pub use values::rows::reading_of_text;
