@@ -3,6 +3,7 @@ pub mod Names
 pub mod Items
 pub mod Columns
 pub mod RotorRow
+pub mod PinRow
 pub mod Row
 pub mod Rows
 pub mod Table

@@ -20,7 +20,8 @@ wheels_with (Some wheel ∷ wheels) (ring ∷ rings) (letter ∷ letters) =
     option_map (λ rest. record { wheel = wheel; ring = ring; letter = letter } ∷ rest) (wheels_with wheels rings letters)
 wheels_with _ _ _ = None
 
--- the values of a row's day; cells that the row or the table lacks may be replaced by options
+-- The values of a row's day. For the reflector and the window, options may stand for cells without anything. The column
+-- of the plugged pairs must be there, so that a slip in its name isn't taken for a day without pairs.
 unfoldable pub rotor_values : TableOptions → Columns → List (List ℕ) → Model → Option RotorDay
 rotor_values options columns row model = do
   number ← number_in (cell_at columns.day row)
@@ -29,6 +30,7 @@ rotor_values options columns row model = do
   rings ← letters_in (cell_at columns.rings row)
   window ← letters_in (cell_or options.window.now columns.window row)
   seated ← wheels_with wheels rings window
-  pairs ← pairs_in (cell_at columns.plugs row)
+  plugs ← columns.plugs
+  pairs ← pairs_in (cell_at (Some plugs) row)
   groups ← groups_in (cell_at columns.groups row)
   Some (rotor_day_of number model reflector seated pairs groups)

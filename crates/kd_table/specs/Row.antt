@@ -9,6 +9,7 @@ use Rattle.kd_state.specs.SheetDay.{Day, OfRotors, OfPins, IsLegalDay}
 use Rattle.kd_table.specs.Columns.{cell_at, cell_or}
 use Rattle.kd_table.specs.Items.{is_blank}
 use Rattle.kd_table.specs.Names.{model_named}
+use Rattle.kd_table.specs.PinRow.{pin_values}
 use Rattle.kd_table.specs.RotorRow.{rotor_values}
 use Rattle.kd_table.specs.Steps.{◌>>=◌}
 use Rattle.kd_table.specs.declared.columns.Columns.{Columns}
@@ -27,7 +28,7 @@ is_blank_row columns row =
 
 -- the values of a row's day of this model
 abbrev pub values_of_model : TableOptions → Columns → List (List ℕ) → Model → Option Day
-values_of_model options columns row M209 = None
+values_of_model options columns row M209 = option_map OfPins (pin_values options columns row)
 values_of_model options columns row model = option_map OfRotors (rotor_values options columns row model)
 
 -- the values of a row's day

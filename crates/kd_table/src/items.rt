@@ -1,16 +1,17 @@
 //! Reads the cells of a table: numbers, wheels, letters, pairs and groups.
-ghost use Rattle.std.specs.Prelude.{◌≡◌, ◌≤◌, ◌+◌, ◌*◌, ◌++◌, ℕ, Bool, List, Option, map, option_map, length};
+ghost use Rattle.std.specs.Prelude.{◌≡◌, ◌≤◌, ◌+◌, ◌*◌, ◌++◌, ◌==◌, not, filter, ℕ, Bool, List, Option, map, option_map, length};
 ghost use Rattle.std.specs.Option.{option_and_then};
 ghost use Rattle.kd_state.specs.LineWords.{words_of};
 ghost use Rattle.kd_table.specs.Items.{is_gap, is_blank, normal, item_text, cell_words, values_of_words, values_in};
 ghost use Rattle.kd_table.specs.Items.{digit_of, number_of, letter_of, pair_of, group_of, slot_of, numbered_letter, ring_of_word};
-ghost use Rattle.kd_table.specs.Items.{never, number_in};
-ghost use Rattle.kd_table.specs.Names.{is_capital_letter};
+ghost use Rattle.kd_table.specs.Items.{Bytes, words, letters, hyphened, number_in, joined};
+ghost use Rattle.kd_sheet.specs.Bars.{reading_of_text};
 
 use crate::names::{capital, is_capital_letter, is_digit, wheel_named};
 use arrayvec::ArrayVec;
+use kd_sheet::reading_of_text;
 use kd_state::split_words;
-use kd_tables::{Letter, Wheel};
+use kd_tables::{Letter, Reading, Wheel};
 
 /// The most bytes, words and values that a cell may have.
 pub const CELL_LIMIT: usize = 192;
@@ -41,15 +42,19 @@ fn normal(byte: u8) -> u8
 
 /// A value that a word of a cell can mean.
 pub trait FromWord {
-    /// Whether a byte is an item by itself.
-    ghost alone: { ℕ → Bool };
+    /// Which gaps words keep, and which bytes are items by themselves.
+    ghost bytes: { Bytes };
 
     /// The value of a word.
     ghost parse: { List ℕ → Option Self };
 
+    /// Whether `byte` is kept as it is.
+    fn is_kept(byte: u8) -> bool
+        ensures { result ≡ bytes.keeps byte };
+
     /// Whether `byte` is an item by itself.
     fn is_alone(byte: u8) -> bool
-        ensures { result ≡ alone byte };
+        ensures { result ≡ bytes.alone byte };
 
     /// Reads a word.
     fn read_word(word: &[u8]) -> Option<Self>
@@ -59,10 +64,11 @@ pub trait FromWord {
 /// Appends the bytes of `cell` in normal form, with a space after each byte that is an item by itself.
 fn push_item_text<T: FromWord>(text: &mut ArrayVec<u8, 384>, cell: &[u8])
     requires { length text.old.items + 2 * length cell.now ≤ 384 }
-    ensures { text.new.items ≡ text.old.items ++ item_text T.alone cell.now }
+    ensures { text.new.items ≡ text.old.items ++ item_text T.bytes cell.now }
 {
     if let [byte, rest @ ..] = cell {
-        let byte = normal(*byte);
+        let byte = *byte;
+        let byte = if T::is_kept(byte) { byte } else { normal(byte) };
         text.push(byte);
         if T::is_alone(byte) {
             text.push(32);
@@ -90,7 +96,7 @@ fn push_values<T: FromWord + Copy + Default>(values: &mut Values<T>, words: &[&[
 
 /// Reads the words of a cell.
 pub fn values_in<T: FromWord + Copy + Default>(cell: &[u8]) -> Option<Values<T>>
-    ensures { option_map (λ values. values.items) result ≡ values_in T.alone T.parse cell.now }
+    ensures { option_map (λ values. values.items) result ≡ values_in T.bytes T.parse cell.now }
 {
     if cell.len() > CELL_LIMIT {
         return None;
@@ -142,9 +148,13 @@ fn numbered_letter(number: Option<u8>) -> Option<Letter>
 }
 
 impl FromWord for u8 {
-    ghost alone = { never };
+    ghost bytes = { words };
 
     ghost parse = { number_of };
+
+    fn is_kept(_byte: u8) -> bool {
+        false
+    }
 
     fn is_alone(_byte: u8) -> bool {
         false
@@ -156,9 +166,13 @@ impl FromWord for u8 {
 }
 
 impl FromWord for Option<Wheel> {
-    ghost alone = { never };
+    ghost bytes = { words };
 
     ghost parse = { slot_of };
+
+    fn is_kept(_byte: u8) -> bool {
+        false
+    }
 
     fn is_alone(_byte: u8) -> bool {
         false
@@ -171,9 +185,13 @@ impl FromWord for Option<Wheel> {
 
 /// A letter: itself, or by its number from 1 (A) to 26 (Z).
 impl FromWord for Letter {
-    ghost alone = { is_capital_letter };
+    ghost bytes = { letters };
 
     ghost parse = { ring_of_word };
+
+    fn is_kept(_byte: u8) -> bool {
+        false
+    }
 
     fn is_alone(byte: u8) -> bool {
         is_capital_letter(byte)
@@ -188,9 +206,13 @@ impl FromWord for Letter {
 }
 
 impl FromWord for (Letter, Letter) {
-    ghost alone = { never };
+    ghost bytes = { words };
 
     ghost parse = { pair_of };
+
+    fn is_kept(_byte: u8) -> bool {
+        false
+    }
 
     fn is_alone(_byte: u8) -> bool {
         false
@@ -209,9 +231,13 @@ impl FromWord for (Letter, Letter) {
 }
 
 impl FromWord for [Letter; 3] {
-    ghost alone = { never };
+    ghost bytes = { words };
 
     ghost parse = { group_of };
+
+    fn is_kept(_byte: u8) -> bool {
+        false
+    }
 
     fn is_alone(_byte: u8) -> bool {
         false
@@ -230,6 +256,25 @@ impl FromWord for [Letter; 3] {
     }
 }
 
+/// A bar's reading: the numbers of two wheels, with a hyphen between.
+impl FromWord for Reading {
+    ghost bytes = { hyphened };
+
+    ghost parse = { reading_of_text };
+
+    fn is_kept(byte: u8) -> bool {
+        byte == b'-'
+    }
+
+    fn is_alone(_byte: u8) -> bool {
+        false
+    }
+
+    fn read_word(word: &[u8]) -> Option<Self> {
+        reading_of_text(word)
+    }
+}
+
 /// Reads a cell that has one number and nothing else.
 pub fn number_in(cell: &[u8]) -> Option<u8>
     ensures { result ≡ number_in cell.now }
@@ -239,4 +284,31 @@ pub fn number_in(cell: &[u8]) -> Option<u8>
         [number] => Some(*number),
         _ => None,
     }
+}
+
+/// Appends the bytes of `cell` in normal form, without the gaps.
+fn push_joined(text: &mut ArrayVec<u8, 192>, cell: &[u8])
+    requires { length text.old.items + length cell.now ≤ 192 }
+    ensures { text.new.items
+        ≡ text.old.items ++ filter (λ byte. not (byte == 32)) (map normal cell.now) }
+{
+    if let [byte, rest @ ..] = cell {
+        let byte = normal(*byte);
+        if byte != 32 {
+            text.push(byte);
+        }
+        push_joined(text, rest);
+    }
+}
+
+/// The letters of `cell`, without the gaps. `None` if the cell is too long.
+pub fn joined(cell: &[u8]) -> Option<ArrayVec<u8, 192>>
+    ensures { option_map (λ text. text.items) result ≡ joined cell.now }
+{
+    if cell.len() > CELL_LIMIT {
+        return None;
+    }
+    let mut text = ArrayVec::new();
+    push_joined(&mut text, cell);
+    Some(text)
 }

@@ -7,6 +7,7 @@ mod items;
 mod names;
 mod notes;
 mod options;
+mod pin_row;
 mod quotes;
 mod reading;
 mod rotor_row;

@@ -76,7 +76,8 @@ pub fn rotor_day(
     let rings = values_in::<Letter>(cell_at(row, columns.rings))?;
     let letters = values_in::<Letter>(cell_or(options.window, row, columns.window))?;
     let wheels = wheels_with(&names, &rings, &letters)?;
-    let pairs = values_in::<(Letter, Letter)>(cell_at(row, columns.plugs))?;
+    let plugs = columns.plugs?;
+    let pairs = values_in::<(Letter, Letter)>(cell_at(row, Some(plugs)))?;
     let groups = values_in::<[Letter; 3]>(cell_at(row, columns.groups))?;
     SheetDay::rotor(
         number,

@@ -9,6 +9,7 @@ use crate::columns::{Columns, cell_at, cell_or};
 use crate::items::is_blank;
 use crate::names::model_named;
 use crate::options::TableOptions;
+use crate::pin_row::pin_day;
 use crate::rotor_row::rotor_day;
 use csv::ByteRecord;
 use kd_state::SheetDay;
@@ -54,7 +55,7 @@ pub fn row_day(options: &TableOptions<'_>, columns: &Columns, row: &ByteRecord) 
 {
     let model = model_named(cell_or(options.model, row, columns.model))?;
     let day = match model {
-        Model::M209 => return None,
+        Model::M209 => pin_day(options, columns, row)?,
         Model::EnigmaI | Model::M3 | Model::M4 => rotor_day(options, columns, row, model)?,
     };
     let _legal = day.model();
