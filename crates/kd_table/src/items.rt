@@ -34,7 +34,7 @@ pub fn is_blank(cell: &[u8]) -> bool
 }
 
 /// A space for a gap, and a capital letter for a small letter.
-fn normal(byte: u8) -> u8
+pub fn normal(byte: u8) -> u8
     ensures { result ≡ normal byte }
 {
     if is_gap(byte) { 32 } else { capital(byte) }
@@ -62,7 +62,7 @@ pub trait FromWord {
 }
 
 /// Appends the bytes of `cell` in normal form, with a space after each byte that is an item by itself.
-fn push_item_text<T: FromWord>(text: &mut ArrayVec<u8, 384>, cell: &[u8])
+pub fn push_item_text<T: FromWord>(text: &mut ArrayVec<u8, 384>, cell: &[u8])
     requires { length text.old.items + 2 * length cell.now ≤ 384 }
     ensures { text.new.items ≡ text.old.items ++ item_text T.bytes cell.now }
 {

@@ -52,7 +52,7 @@ fn ends_cell(separator: u8, byte: u8) -> bool
 
 impl Quoting {
     /// Where the table stands after one more byte.
-    fn after_byte(self, separator: u8, byte: u8) -> Self
+    pub fn after_byte(self, separator: u8, byte: u8) -> Self
         ensures { result ≡ quoting_after_byte separator self byte }
     {
         match self {
@@ -70,7 +70,7 @@ impl Quoting {
     }
 
     /// Whether a table may end here.
-    fn may_end(self) -> bool
+    pub fn may_end(self) -> bool
         ensures { result ≡ may_end self }
     {
         match self {
@@ -82,7 +82,7 @@ impl Quoting {
 
 /// `table` without a byte order mark at its start.
 #[tactic(auto, using(crate::proofs::Marks::mark_stripped, crate::proofs::Marks::mark_absent))]
-fn strip_bom(table: &[u8]) -> &[u8]
+pub fn strip_bom(table: &[u8]) -> &[u8]
     ensures { result.now ≡ strip_bom table.now }
 {
     if table.len() < 3 {

@@ -8,7 +8,7 @@ ghost use Rattle.kd_table.specs.Table.{TableMeans, IsRefusedTable, is_device};
 ghost use Rattle.kd_table.specs.declared.fault.TableFault.TheVariants as faults;
 
 use crate::fault::TableFault;
-use crate::notes::tell_faults;
+use crate::notes::tell_table;
 use crate::options::TableOptions;
 use crate::quotes::{is_well_quoted, separator_of};
 use crate::reading::{Reading, read_rows};
@@ -44,10 +44,23 @@ fn read_days(
     Ok(days)
 }
 
+/// Tells the faults of a table, if it is refused for its faults.
+fn tell_refused<N: Sink>(
+    fault: TableFault,
+    alloc: Global,
+    table: &[u8],
+    options: &TableOptions<'_>,
+    notes: &mut N,
+) {
+    if let TableFault::Refused = fault {
+        tell_table(alloc, table, options, true, notes);
+    }
+}
+
 /// Writes the key sheet that the days of `table` make.
 ///
 /// `Refused` if the table is refused: nothing is written, and `notes` gets a line for each fault. On `Device`, the sink
-/// has taken a prefix of the sheet.
+/// has taken a prefix of the sheet. `notes` gets a line for each column that isn't read, too.
 pub fn run_sheet<W: Sink, N: Sink>(
     alloc: Global,
     table: &[u8],
@@ -67,10 +80,11 @@ pub fn run_sheet<W: Sink, N: Sink>(
     let days = match read_days(alloc, table, options) {
         Ok(days) => days,
         Err(fault) => {
-            tell_faults(alloc, table, options, notes);
+            tell_refused(fault, alloc, table, options, notes);
             return Err(fault);
         }
     };
+    tell_table(alloc, table, options, false, notes);
     match write_sheet(sink, days.as_slice()) {
         Ok(()) => Ok(()),
         Err(Device) => Err(TableFault::Device),
