@@ -1,12 +1,9 @@
--- Bytes are one list of settings or have one fault; settings that lead to a machine have no refused line.
-use Rattle.kd_desk.proofs.Prelude.{arith, Bool, List, [], ◌∷◌, ◌++◌, sym, subst, Parts, Setting, Refuses}
-use Rattle.kd_desk.proofs.Prelude.{Leads, IsTrue, IsFalse, ap, ◌∙◌, OfCard, OfList, InCard, InList}
-use Rattle.kd_state.specs.declared.setting.why.Why.{Why}
+-- Bytes are one list of settings or have one fault.
+use Rattle.kd_desk.proofs.Prelude.{Bool, IsFalse, IsTrue, InCard, InList, OfCard, OfList, ap, sym, ◌∙◌}
 use Rattle.kd_state.proofs.Lines.{lists_have_no_fault, one_list_fault, texts_determine_lists}
-use Rattle.kd_state.proofs.Carrying.{carries_unique}
 use Rattle.kd_card.proofs.OneCard.{cards_have_no_fault, one_card_fault, texts_determine_cards}
 use Rattle.kd_desk.specs.declared.fault.DeskFault.TheVariants as faults
-use Rattle.kd_desk.specs.Laws.{BytesGiveOneList, SettingsHaveNoFault, SettingsHaveOneFault, LeadsOrRefuses}
+use Rattle.kd_desk.specs.Laws.{BytesGiveOneList, SettingsHaveNoFault, SettingsHaveOneFault}
 
 true_and_false : (b : Bool) → IsTrue b → IsFalse b → ⊥
 true_and_false b holds fails = cc
@@ -35,14 +32,3 @@ one_fault bytes fault other (InList unbegun list is told) (InCard begun card are
     absurd (true_and_false _ begun unbegun)
 one_fault bytes fault other (InList unbegun list is told) (InList also same are as_told) =
     told ∙ ap (λ f. faults.List f) (one_list_fault bytes list same is are) ∙ sym as_told
-
-refused_behind : (front rest : List Setting) (x : Setting) (m between n : Parts) (why : Why)
-    → Leads m (front ++ x ∷ rest) n → Leads m front between → Refuses between x why → ⊥
-refused_behind [] rest x m between n why leads at refused = cc (at, leads.1, refused)
-refused_behind (y ∷ front) rest x m between n why leads at refused =
-    let same = carries_unique m leads.0 at.0 y leads.1 at.1 in
-    refused_behind front rest x at.0 between n why
-    (subst (λ k. Leads k (front ++ x ∷ rest) n) same leads.2) at.2 refused
-
-pub lead_or_refuse : LeadsOrRefuses
-lead_or_refuse m n xs line why leads first = grind (arith, refused_behind)

@@ -12,7 +12,7 @@ use Rattle.kd_desk.specs.declared.fault.DeskFault.TheVariants.{Device}
 use Rattle.{kd_desk.proofs.Prelude.◌⊎◌, kd_plan.specs.Planned.IsProvedPlannedCard}
 use Rattle.{kd_tables.specs.declared.model.Model.Model}
 use Rattle.kd_desk.specs.{Laws.{MonthsAreFewest, MonthsSetTheMachine}, RunCard.{Prints, WritesCard}}
-use Rattle.kd_desk.specs.Month.{AreWritten, HasDayOf, CanWriteDays, CardAndFile, SetTheMachine, sink_with}
+use Rattle.kd_desk.specs.Month.{AreWritten, CanWriteDays, CardAndFile, SetTheMachine, sink_with}
 use Rattle.kd_desk.specs.Inner.{CanWriteDay}
 use Rattle.kd_desk.specs.Month.{success, AreCardsOf, AreDaysOf, SetTheMachineInTurn}
 use Rattle.kd_card.{proofs.Months.cards_are_fewest_in_all, specs.Months.{DayAfterDay, IsProvedCard}}
@@ -21,7 +21,7 @@ use Rattle.kd_sheet.proofs.ReadBack.Described.{machine_of-IsMachine, sheet_of-le
 use Rattle.{kd_prices.specs.KindCards.IsByKind}
 use Rattle.{kd_state.proofs.Carrying.{leads_unique, lists_keep_machines}}
 use Rattle.kd_sheet.specs.{Laws.WrittenFilesAreReadBack, MachineText.machine_text, declared.fault.SheetFault.SheetFault}
-use Rattle.{kd_sheet.specs.{Sheet.day_of, SheetFile.sheet_of}, std.proofs.Common.All}
+use Rattle.{kd_sheet.specs.{Sheet.{HasDayOf, day_of}, SheetFile.sheet_of}, std.proofs.Common.All}
 use Rattle.std.proofs.lemmas.List.Elements.{All-cons, All-nil, All-tail}
 use Rattle.kd_card.specs.declared.card.Card as declared
 

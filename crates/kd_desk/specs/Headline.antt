@@ -5,15 +5,9 @@ use Rattle.kd_state.specs.declared.setting.Setting.{Setting}
 use Rattle.kd_state.specs.Machine.{IsMachine}
 use Rattle.kd_state.specs.Setting.{Leads}
 use Rattle.kd_state.specs.SheetDay.{Day}
-use Rattle.kd_state.specs.OnKey.{OnKey, ReadsAs}
-use Rattle.kd_state.specs.TwoCiphers.{IsReady, window_of, physical_cipher, sheet_cipher}
-
--- The machine is ready and set as the day says, shows the day's letters, and enciphers as the day asks.
-pub record IsSheetsMachine (after : Parts) (day : Day) : Type 0 where
-  pub machine : IsMachine after
-  pub reads : ReadsAs after day
-  pub ready : IsReady after
-  pub enciphers : (text : List ℕ) → physical_cipher after text ≡ sheet_cipher day text
+use Rattle.kd_state.specs.OnKey.{OnKey}
+use Rattle.kd_state.specs.SheetsMachine.{IsSheetsMachine}
+use Rattle.kd_state.specs.TwoCiphers.{window_of, physical_cipher}
 
 -- Each setting is legal after the settings before it. Together they lead to the machine that the day asks for.
 abbrev pub LeavesTheSheetsMachine : Parts → Day → List Setting → Type 0

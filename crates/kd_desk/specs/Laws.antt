@@ -3,9 +3,7 @@ use Rattle.std.specs.Prelude.{◌≡◌, ◌≢◌, ◌≤◌, ℕ, List, Option
 use Rattle.kd_tables.specs.declared.model.Model.TheVariants.{M209}
 use Rattle.kd_state.specs.declared.machine.parts.Parts.{Parts}
 use Rattle.kd_state.specs.declared.setting.Setting.{Setting}
-use Rattle.kd_state.specs.declared.setting.why.Why.{Why}
 use Rattle.kd_state.specs.Machine.{model_of}
-use Rattle.kd_state.specs.Setting.{IsFirstIllegal, Leads}
 use Rattle.kd_state.specs.SheetDay.{Day}
 use Rattle.kd_card.specs.Months.{DayAfterDay, ReachesDay, total_length}
 use Rattle.kd_sheet.specs.{MachineFile.machine_of, SheetFile.sheet_of}
@@ -27,11 +25,6 @@ abbrev pub SettingsHaveOneFault : Type 0
 SettingsHaveOneFault =
     (bytes : List ℕ) (fault other : DeskFault) → IsSettingsFault bytes fault → IsSettingsFault bytes other
     → fault ≡ other
-
--- If settings lead from one machine to another, none of them is refused on the way.
-abbrev pub LeadsOrRefuses : Type 0
-LeadsOrRefuses =
-    (m n : Parts) (xs : List Setting) (line : ℕ) (why : Why) → Leads m xs n → ¬ (IsFirstIllegal m xs line why)
 
 -- ---- The laws of a month: its cards set the machine to each day, on an Enigma by the fewest settings in all.
 

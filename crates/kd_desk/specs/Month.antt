@@ -3,11 +3,10 @@
 -- Test: tests/guide
 use Rattle.std.specs.Prelude.{◌≡◌, ◌⊎◌, ℕ, List, [], ◌∷◌, false, Option, Some, Result, Ok, IfOk}
 use Rattle.std.specs.List.{AllZip}
-use Rattle.kd_tables.specs.declared.model.Model.{Model}
 use Rattle.kd_tables.specs.Ports.{Port}
 use Rattle.kd_state.specs.declared.machine.parts.Parts.{Parts}
 use Rattle.kd_state.specs.declared.setting.Setting.{Setting}
-use Rattle.kd_state.specs.SheetDay.{Day, day_model}
+use Rattle.kd_state.specs.SheetDay.{Day}
 use Rattle.kd_card.specs.Months.{IsProvedCard}
 use Rattle.kd_card.specs.Proving.{IsShortest}
 use Rattle.kd_plan.specs.Spares.{SparesStayFree}
@@ -15,7 +14,7 @@ use Rattle.kd_sheet.specs.MachineFile.{machine_of}
 use Rattle.kd_sheet.specs.Sheet.{day_of}
 use Rattle.kd_sheet.specs.SheetFile.{sheet_of}
 use Rattle.kd_desk.specs.declared.fault.DeskFault.{DeskFault}
-use Rattle.kd_desk.specs.Headline.{IsSheetsMachine}
+use Rattle.kd_state.specs.SheetsMachine.{IsSheetsMachine}
 use Rattle.kd_desk.specs.OnDay.{IsAnswerOnDay, machine_and_day}
 use Rattle.kd_desk.specs.RunApply.{Applies}
 use Rattle.kd_desk.specs.RunCard.{Prints}
@@ -78,12 +77,6 @@ AreDaysOf month numbers days = AllZip (λ number s. day_of month number ≡ Some
 -- `cards` has the settings of each card in `papers`, in the same order.
 abbrev pub AreCardsOf : List CardAndFile → List (List Setting) → Type 0
 AreCardsOf papers cards = AllZip (λ paper settings. AreSettings paper.card settings) papers cards
-
--- The month has day `number`, and this day is of `model`.
-pub record HasDayOf (model : Model) (month : List (Option Day)) (number : ℕ) : Type 0 where
-  pub s : Day
-  pub of_month : day_of month number ≡ Some s
-  pub of_model : day_model s ≡ model
 
 -- Cards and machine files for the days `numbers` can be written, one day after another.
 abbrev pub CanWriteDays : Parts → List (Option Day) → List ℕ → Type 0

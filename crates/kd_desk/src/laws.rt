@@ -2,10 +2,11 @@
 ghost use Rattle.std.specs.Prelude.{◌≡◌, All};
 ghost use Rattle.kd_state.specs.Machine.{model_of};
 ghost use Rattle.kd_state.specs.SheetDay.{day_model};
-ghost use Rattle.kd_desk.specs.Laws.{BytesGiveOneList, SettingsHaveNoFault, SettingsHaveOneFault, LeadsOrRefuses};
+ghost use Rattle.kd_desk.specs.Laws.{BytesGiveOneList, SettingsHaveNoFault, SettingsHaveOneFault};
 ghost use Rattle.kd_desk.specs.Laws.{MonthsSetTheMachine, MonthsAreFewest};
 ghost use Rattle.kd_desk.specs.FewCables.{FewCablesServeAMonth};
-ghost use Rattle.kd_desk.specs.{Inner.{CanWriteDay}, Month.{HasDayOf, CanWriteDays}};
+ghost use Rattle.kd_desk.specs.{Inner.{CanWriteDay}, Month.{CanWriteDays}};
+ghost use Rattle.kd_sheet.specs.Sheet.{HasDayOf};
 
 use crate::run_card::with_prices_by_kind;
 use kd_card::write_card;
@@ -15,16 +16,13 @@ use kd_sheet::laws::written_files_are_read_back;
 use kd_state::{Machine, SheetDay, carry_all};
 use kd_tables::MemorySink;
 
+pub use kd_state::laws::settings_lead_or_are_refused;
+
 /// No bytes give two lists of settings, two faults, or a list and a fault.
 pub fn bytes_give_one_list_or_one_fault()
     ensures settings { BytesGiveOneList }
     ensures no_fault { SettingsHaveNoFault }
     ensures one_fault { SettingsHaveOneFault }
-{}
-
-/// If settings lead from one machine to another, none of them is refused on the way.
-pub fn settings_lead_or_are_refused()
-    ensures { LeadsOrRefuses }
 {}
 
 /// Cards and machine files, written for days of a sheet in turn, set the machine to each of these days.

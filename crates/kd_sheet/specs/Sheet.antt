@@ -4,8 +4,9 @@
 use Rattle.std.specs.Prelude.{◌≡◌, ℕ, ◌==◌, List, length, map, find, Option, Some}
 use Rattle.std.specs.List.{range_with_len}
 use Rattle.std.specs.Option.{option_and_then}
+use Rattle.kd_tables.specs.declared.model.Model.{Model}
 use Rattle.kd_state.specs.SameParts.{numbered_item}
-use Rattle.kd_state.specs.SheetDay.{Day, day_number}
+use Rattle.kd_state.specs.SheetDay.{Day, day_model, day_number}
 
 -- for each number from 1 to 31, the first of `days` with this number, if there is one
 abbrev pub month_of : List Day → List (Option Day)
@@ -19,3 +20,9 @@ day_of month number = option_and_then (λ day. day) (numbered_item month number)
 pub record IsMonth (month : List (Option Day)) : Type 0 where
   pub count : length month ≡ 31
   pub each : (number : ℕ) (day : Day) → day_of month number ≡ Some day → day_number day ≡ number
+
+-- The month has day `number`, and this day is of `model`.
+pub record HasDayOf (model : Model) (month : List (Option Day)) (number : ℕ) : Type 0 where
+  pub s : Day
+  pub of_month : day_of month number ≡ Some s
+  pub of_model : day_model s ≡ model

@@ -36,6 +36,7 @@ use Rattle.kd_state.proofs.Prelude.{same_reflector}
 use Rattle.kd_state.proofs.Prelude.{has_letter, cable_letters, has_loose_end, has_lugs_in_order, is_same_place, not}
 use Rattle.kd_state.proofs.Prelude.{is_some, ◌&&◌, Lug, Place}
 use Rattle.kd_state.proofs.Slots.{is_numbered, IsNumbered}
+use Rattle.kd_state.specs.Laws.{LeadsOrRefuses}
 use Rattle.kd_state.specs.Setting.{IsFirstIllegal}
 use Rattle.std.specs.Prelude.{ok_or, Result, Ok, IfOk}
 use Rattle.std.proofs.{Math.Seq.drop-cons, lemmas.List.{length-take-le, take-append-drop, take_more}}
@@ -382,3 +383,16 @@ pub stops_at : (m n : Parts) (xs : List Setting) (place : ℕ) (x : Setting) (wh
     → Leads m (take place xs) n → Refuses n x why → IsFirstIllegal m xs (place + 1) why
 stops_at m n xs place x why within is leads refused =
     grind (arith, take-append-drop place xs, drop-cons xs place x within, within, length-take-le place xs (omega arith))
+
+-- ---- settings that lead to a machine have no refused line
+
+refused_behind : (front rest : List Setting) (x : Setting) (m between n : Parts) (why : Why)
+    → Leads m (front ++ x ∷ rest) n → Leads m front between → Refuses between x why → ⊥
+refused_behind [] rest x m between n why leads at refused = cc (at, leads.1, refused)
+refused_behind (y ∷ front) rest x m between n why leads at refused =
+    let same = carries_unique m leads.0 at.0 y leads.1 at.1 in
+    refused_behind front rest x at.0 between n why
+    (subst (λ k. Leads k (front ++ x ∷ rest) n) same leads.2) at.2 refused
+
+pub lead_or_refuse : LeadsOrRefuses
+lead_or_refuse m n xs line why leads first = grind (arith, refused_behind)

@@ -6,8 +6,9 @@ use Rattle.kd_state.specs.SameParts.{same_reflector, same_wheel}
 use Rattle.kd_state.specs.declared.machine.parts.Parts.{Parts}
 use Rattle.kd_state.specs.declared.setting.Setting.{Setting}
 use Rattle.kd_state.specs.declared.setting.list.ListFault.{ListFault}
+use Rattle.kd_state.specs.declared.setting.why.Why.{Why}
 use Rattle.kd_state.specs.Machine.{IsMachine}
-use Rattle.kd_state.specs.Setting.{Carries, Leads}
+use Rattle.kd_state.specs.Setting.{Carries, IsFirstIllegal, Leads}
 use Rattle.kd_state.specs.Line.{setting_line, IsSettingInRange, IsListText, IsListFault}
 use Rattle.kd_state.specs.SheetDay.{Day, IsLegalDay}
 use Rattle.kd_state.specs.OnKey.{OnKey, ReadsAs}
@@ -40,6 +41,12 @@ abbrev pub ListsHaveOneResult : Type 0
 ListsHaveOneResult =
     (machine after other : Parts) (settings : List Setting) → Leads machine settings after
     → Leads machine settings other → after ≡ other
+
+-- If settings lead from one machine to another, none of them is refused on the way.
+abbrev pub LeadsOrRefuses : Type 0
+LeadsOrRefuses =
+    (machine after : Parts) (settings : List Setting) (line : ℕ) (why : Why) → Leads machine settings after
+    → ¬ (IsFirstIllegal machine settings line why)
 
 -- ---- The laws of lines and lists: a text is the text of at most one list, and has at most one fault.
 

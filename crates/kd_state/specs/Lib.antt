@@ -14,6 +14,7 @@ pub mod Entry
 pub mod OneModel
 pub mod OnKey
 pub mod TwoCiphers
+pub mod SheetsMachine
 pub mod SeatedWheels
 pub mod Engine
 pub mod Costs

@@ -1,7 +1,7 @@
 //! Laws of machines, settings and days.
 ghost use Rattle.kd_state.specs.Laws.{LinesDetermineSettings, TextsDetermineLists, ListsHaveNoFault};
 ghost use Rattle.kd_state.specs.Laws.{OneListFault, SettingsKeepMachines, ListsKeepMachines};
-ghost use Rattle.kd_state.specs.Laws.{ListsHaveOneResult, SamePartsAreEqual};
+ghost use Rattle.kd_state.specs.Laws.{LeadsOrRefuses, ListsHaveOneResult, SamePartsAreEqual};
 ghost use Rattle.kd_state.specs.Laws.{EngineEnciphersAsMachine};
 ghost use Rattle.kd_state.specs.Laws.{TurnedEngineEnciphersAsMachine, ReadsAsDayIsReady, ReadsAsDayEnciphersAsDay};
 ghost use Rattle.kd_state.specs.Laws.{OnKeyIsReady, OnKeyEnciphersByDaysKey, TurnedStaysOnKey};
@@ -34,6 +34,11 @@ pub fn settings_keep_machines()
 #[tactic(auto, using(crate::proofs::Carrying::leads_unique))]
 pub fn lists_have_one_result()
     ensures { ListsHaveOneResult }
+{}
+
+/// If settings lead from one machine to another, none of them is refused on the way.
+pub fn settings_lead_or_are_refused()
+    ensures { LeadsOrRefuses }
 {}
 
 /// An engine made from a machine enciphers as the machine does, also after both are turned to the same letters.

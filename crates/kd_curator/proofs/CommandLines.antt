@@ -1,0 +1,131 @@
+-- Commands, and the values of their arguments as clap finds them.
+use Rattle.kd_curator.proofs.Prelude.{◌≡◌, ◌≢◌, ℕ, List, Option, Some, None, Bor, decimal, option_map, sym, ap, ◌∙◌}
+use Rattle.kd_curator.proofs.Prelude.{Result, IfSome, true, false, [], ◌∷◌, refl, subst, App, FailsBy}
+use Rattle.kd_curator.proofs.Prelude.{HasKind, HasMatchesOf, IsAmong, Row, fault_of, first_of, first_value, is_simple}
+use Rattle.kd_curator.proofs.Prelude.{is_simple_and_free, kind_of, rows_of, subcommand_of, subcommand_rows_of}
+use Rattle.kd_curator.proofs.Prelude.{same_Some}
+use Rattle.kd_curator.proofs.Prelude.{inl, inr, IsDayNumber, NamedCommand, IsCommandLineOf, IsNoCommandLine, arith}
+use Rattle.kd_curator.proofs.Prelude.{AsksForHelp, HasNoCommand, IsToldAs, is_help, Error, ErrorKind, OutOfMemory}
+use Rattle.kd_curator.proofs.Prelude.{AreDays, IsMeant, IsTaskOf, codes}
+use Rattle.std.proofs.Common.{get_or}
+use Rattle.kd_curator.specs.declared.command.Task.{Task}
+use Rattle.kd_curator.specs.declared.command.Task.TheVariants as tasks
+use Rattle.clap.proofs.{OnLiterals.clap_on_literals, WalkLemmas.first_value-rows}
+use Rattle.clap.specs.declared.parser.matches.{ArgMatches.ArgMatches, Found.Found}
+use Rattle.kd_curator.specs.{CommandLine.curator_grammar, declared.command.NoCommand.NoCommand}
+use Rattle.kd_curator.specs.declared.command.NoCommand.TheVariants.{Asked, Usage, NoMemory}
+
+-- clap's getters read the first value that an argument has in the rows of the matches
+pub read_none : (found : Found) (id : List ℕ) (word : Option (Bor (List ℕ)))
+    → option_map (λ s. s.now) word ≡ first_value found id → word ≡ None → first_of id (rows_of found) ≡ None
+read_none found id word reads none = sym (first_value-rows found id) ∙ sym reads ∙ ap (option_map (λ s. s.now)) none
+
+pub read_some : (found : Found) (id : List ℕ) (word : Option (Bor (List ℕ))) (read : Bor (List ℕ))
+    → option_map (λ s. s.now) word ≡ first_value found id → word ≡ Some read
+    → first_of id (rows_of found) ≡ Some read.now
+read_some found id word read reads some =
+    sym (first_value-rows found id) ∙ sym reads ∙ ap (option_map (λ s. s.now)) some
+
+-- an argument that isn't a day's number isn't the text of any day
+pub other_word : (found : Found) (id : List ℕ) (word : Option (Bor (List ℕ))) (read : Bor (List ℕ))
+    → option_map (λ s. s.now) word ≡ first_value found id → word ≡ Some read
+    → ((day : ℕ) → IsDayNumber day → read.now ≢ decimal day) → (day : ℕ) → IsDayNumber day
+    → first_of id (rows_of found) ≢ Some (decimal day)
+other_word found id word read reads some other day within is =
+    other day within (same_Some _ _ (sym (read_some found id word read reads some) ∙ is))
+
+-- the grammar is simple enough that clap's contract says all about it
+pub grammar_is_simple : is_simple_and_free curator_grammar ≡ true
+unfolding clap_on_literals curator_grammar
+grammar_is_simple = refl
+
+pub grammar_is_known : is_simple curator_grammar ≡ true
+unfolding clap_on_literals curator_grammar
+grammar_is_known = refl
+
+-- what clap's contract says of simple grammars holds for the program's grammar
+pub parse_fails_by : (app : App) (words : List (List ℕ)) (result : Result ArgMatches Error) → app ≡ curator_grammar
+    → (is_simple_and_free app ≡ true → FailsBy (fault_of app words) result)
+    → FailsBy (fault_of curator_grammar words) result
+parse_fails_by app words result is fails =
+    subst (λ a. FailsBy (fault_of a words) result) is (fails (ap is_simple_and_free is ∙ grammar_is_simple))
+
+pub parse_enters : (app : App) (words : List (List ℕ)) (m : ArgMatches) → app ≡ curator_grammar
+    → HasMatchesOf app words m → subcommand_rows_of m ≡ subcommand_of curator_grammar words
+parse_enters app words m is has = (subst (λ a. HasMatchesOf a words m) is has grammar_is_known).1
+
+-- the command's name and its rows, known one by one, are known as a pair
+pub name_with_rows : {X : Type 0} (entered : Option X) (name : X → List ℕ) (rows : X → List Row) (n : List ℕ)
+    (r : List Row)
+    → Some n ≡ option_map name entered → Some r ≡ option_map (λ (p : List ℕ × List Row). p.1)
+    (option_map {U = List ℕ × List Row} (λ x. (name x, rows x)) entered)
+    → option_map {U = List ℕ × List Row} (λ x. (name x, rows x)) entered ≡ Some (n, r)
+name_with_rows entered name rows n r is is_rows = grind (arith)
+
+-- the words mean the command that clap's matches mean
+pub said_command : (words : List (List ℕ)) (said : Option (List ℕ × List Row)) → fault_of curator_grammar words ≡ []
+    → said ≡ subcommand_of curator_grammar words → (command : NamedCommand) → IsMeant said command
+    → IsCommandLineOf words command
+said_command words said taken e command is =
+    record { taken = taken; said = subst (λ s. IsMeant s command) e is }
+
+pub no_command_said : (words : List (List ℕ)) (said : Option (List ℕ × List Row))
+    → said ≡ subcommand_of curator_grammar words → ((command : NamedCommand) → IsMeant said command → ⊥)
+    → IsNoCommandLine words
+no_command_said words said e none command says = none command (subst (λ s. IsMeant s command) (sym e) says.said)
+
+-- ---- words that are no command
+
+-- the words mean no command where clap finds a fault
+faults_mean_none : (words : List (List ℕ)) (kind : ErrorKind) → IsAmong kind (fault_of curator_grammar words)
+    → IsNoCommandLine words
+faults_mean_none words kind among command says = rw says.taken at among
+
+among_one : (kind other : ErrorKind) → IsAmong kind (other ∷ []) → kind ≡ other
+among_one kind other among = grind arith
+
+no_help_among : (words : List (List ℕ)) (kind : ErrorKind) → IsAmong kind (fault_of curator_grammar words)
+    → is_help kind ≡ false → AsksForHelp words → ⊥
+no_help_among words kind among other (asked, only, help) =
+    let same = among_one kind asked (rw only at among) in
+    let wrong : true ≡ false = sym help ∙ ap is_help (sym same) ∙ other in cc
+
+no_help_taken : (words : List (List ℕ)) → fault_of curator_grammar words ≡ [] → AsksForHelp words → ⊥
+no_help_taken words taken (asked, only, help) = cc
+
+-- clap refused the words
+pub refused_words : (words : List (List ℕ)) (error : Error) (told : NoCommand)
+    → HasKind (fault_of curator_grammar words) error → IsToldAs (kind_of error) told → HasNoCommand words told
+refused_words words error (Asked text) (inl memory) told =
+    absurd (let help : is_help OutOfMemory ≡ true = ap is_help (sym memory) ∙ told in cc)
+refused_words words error (Asked text) (inr among) told = (kind_of error, among, told)
+refused_words words error (Usage text) (inl memory) told = absurd (told.1 memory)
+refused_words words error (Usage text) (inr among) told =
+    (faults_mean_none words (kind_of error) among, no_help_among words (kind_of error) among told.0)
+refused_words words error NoMemory has told = tt
+
+-- clap took the words, but no day is meant
+pub other_days : (words : List (List ℕ)) (kind : ErrorKind) (told : NoCommand) → fault_of curator_grammar words ≡ []
+    → IsNoCommandLine words → is_help kind ≡ false → IsToldAs kind told → HasNoCommand words told
+other_days words kind (Asked text) taken none other told = absurd (let wrong : true ≡ false = sym told ∙ other in cc)
+other_days words kind (Usage text) taken none other told = (none, no_help_taken words taken)
+other_days words kind NoMemory taken none other told = tt
+
+pub first_differs : ◌≡◌ {A = ℕ} 112 108 → ⊥
+first_differs wrong = omega (arith, wrong)
+
+-- a word that names no days is no task of `page`
+pub other_page : (rows : List Row) (word : List ℕ) → first_of (codes "DAYS") rows ≡ Some word
+    → ((days : List ℕ) → AreDays word days → ⊥) → (task : Task) → IsTaskOf (codes "page", rows) task → ⊥
+other_page rows word is none (tasks.Page None) of = let wrong : Some word ≡ None = sym is ∙ of.days in cc
+other_page rows word is none (tasks.Page (Some days)) of =
+    let same = same_Some word of.days.0 (sym is ∙ of.days.1) in
+    none days (subst (λ w. AreDays w days) (sym same) of.days.2)
+other_page rows word is none (tasks.List day) of =
+    absurd (first_differs (ap (λ l. get_or l 0 0) of.name))
+
+-- what follows from a property of a value, if there is one, holds of the same value
+pub some_also : {T : Type 0} (answer : Option T) (P Q : T → Type 0) → ((x : T) → P x → Q x) → IfSome answer P
+    → IfSome answer Q
+some_also None P Q more holds = tt
+some_also (Some x) P Q more holds = more x holds

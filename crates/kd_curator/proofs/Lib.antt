@@ -1,0 +1,17 @@
+pub mod Answers
+pub mod Chains
+pub mod CommandLines
+pub mod DayPlans
+pub mod DaysNamed
+pub mod Drawn
+pub mod Grammars
+pub mod HandOrders
+pub mod PlannedBoxes
+pub mod PlannedOrder
+pub mod PlannedPieces
+pub mod Prelude
+pub mod OneCommand
+pub mod Passing
+pub mod Ranked
+pub mod Runs
+pub mod Writings

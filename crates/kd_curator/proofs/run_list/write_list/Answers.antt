@@ -1,0 +1,17 @@
+use Rattle.std.proofs.Common.{refl}
+use Rattle.kd_host.proofs.Failing.{in_part, in_whole}
+use Rattle.kd_curator.specs.RunList.{NoList, Settings}
+use Rattle.kd_curator.proofs.run_list.write_list.Goals as goal
+
+pub returns-in-Err-clause-list : goal.returns-in-Err-clause-list
+returns-in-Err-clause-list g c = rw c.refused.ensures (NoList c.in-Err.fault c.in-Err.ensures.fault refl)
+
+pub returns-in_err-put_lines-clause-list : goal.returns-in_err-put_lines-clause-list
+returns-in_err-put_lines-clause-list g c = Settings _ _
+    (record { s = _; of_month = c.in-Ok.ensures.found; plans = c.plan_day-plan.ensures.plan })
+    (in_part _ _ _ _ (rw c.as_slice.ensures.value at c.in_err-put_lines.ensures.text.front) c.from_residual.ensures.1)
+
+pub returns-clause-list : goal.returns-clause-list
+returns-clause-list g c = Settings _ _
+    (record { s = _; of_month = c.in-Ok.ensures.found; plans = c.plan_day-plan.ensures.plan })
+    (in_whole _ _ _ (rw c.as_slice.ensures.value at c.in_ok-put_lines.ensures.text.whole))

@@ -1,0 +1,134 @@
+-- The grammar of the command line: `page` and `list`, with their arguments and with help.
+-- Code: `grammar` builds the grammar by calls of the library `clap`.
+-- Test: refuses_other_words
+use Rattle.std.specs.Prelude.{codes, decimal, ◌≡◌, ◌≢◌, ℕ, Bool, true, false, List, [], ◌∷◌, Option, Some, None}
+use Rattle.std.specs.Prelude.{IsSomeAnd, IsTrue, All}
+use Rattle.std.specs.Borrow.{Bor}
+use Rattle.clap.specs.declared.builder.command.Command.{Command as Grammar, out-Command}
+use Rattle.clap.specs.declared.error.kind.ErrorKind.{ErrorKind}
+use Rattle.clap.specs.declared.error.kind.ErrorKind.TheVariants.{DisplayHelp, DisplayVersion, OutOfMemory}
+use Rattle.clap.specs.Words.{App, app_of, IsAmong, Row, Rule, Shape, first_of, fault_of, new_rule, subcommand_of}
+use Rattle.clap.specs.Simple.{new_shape}
+use Rattle.kd_state.specs.SheetDay.{IsDayNumber}
+use Rattle.kd_curator.specs.Days.{AreDays}
+use Rattle.kd_curator.specs.declared.command.Command.{Command}
+use Rattle.kd_curator.specs.declared.command.NoCommand.{NoCommand}
+use Rattle.kd_curator.specs.declared.command.NoCommand.TheVariants.{Asked, Usage, NoMemory}
+use Rattle.kd_curator.specs.declared.command.Task.{Task}
+use Rattle.kd_curator.specs.declared.command.Task.TheVariants as tasks
+
+-- an argument that each command line must have
+abbrev pub needed : List ℕ → Rule
+needed name = record (new_rule name) { required = true }
+
+abbrev pub command_shape : List ℕ → Rule → Shape
+command_shape name last = record (new_shape name) {
+  rules = needed (codes "MACHINE") ∷ needed (codes "SHEET") ∷ last ∷ [];
+}
+
+abbrev pub page_shape : Shape
+page_shape = command_shape (codes "page") (new_rule (codes "DAYS"))
+
+abbrev pub list_shape : Shape
+list_shape = command_shape (codes "list") (needed (codes "DAY"))
+
+-- the grammar of the program: its two commands
+unfoldable pub curator_grammar : App
+curator_grammar = record {
+  top = record (new_shape (codes "curator")) {
+    disable_help_subcommand = true;
+    has_version = true;
+    subcommand_required = true;
+    arg_required_else_help = true;
+    is_leaf = false;
+  };
+  subs = page_shape ∷ list_shape ∷ [];
+}
+
+-- `grammar` is the command `shape`, and no argument is global.
+pub record IsMadeOf (grammar : Grammar) (shape : Shape) : Type 0 where
+  pub made : app_of grammar ≡ record { top = shape; subs = [] }
+  pub local : (out-Command grammar).has_globals ≡ false
+
+-- ---- Which command a command line means.
+-- Code: `clap` parses the command line; `command_of` makes the command from the arguments that `clap` found.
+-- Test: finds_the_days, refuses_other_words
+
+-- A command that has the names of its files.
+abbrev pub NamedCommand : Type 0
+NamedCommand = Command (List ℕ)
+
+-- the command, with its borrowed file names replaced by the names themselves
+abbrev pub unborrowed_command : Command (Bor (List ℕ)) → NamedCommand
+unborrowed_command command =
+    record { machine = command.machine.now; sheet = command.sheet.now; task = command.task }
+
+abbrev pub task_name : Task → List ℕ
+task_name (tasks.Page days) = codes "page"
+task_name (tasks.List day) = codes "list"
+
+-- The arguments in `rows` give the task's days: DAYS, which `page` may lack, or DAY.
+abbrev pub HasTaskDays : List Row → Task → Type 0
+HasTaskDays rows (tasks.Page None) = first_of (codes "DAYS") rows ≡ None
+HasTaskDays rows (tasks.Page (Some days)) =
+    (word : List ℕ) × (first_of (codes "DAYS") rows ≡ Some word) × AreDays word days
+HasTaskDays rows (tasks.List day) = (first_of (codes "DAY") rows ≡ Some (decimal day)) × IsDayNumber day
+
+-- `said` is a command's name and the values of its arguments. They mean the task `task`.
+pub record IsTaskOf (said : List ℕ × List Row) (task : Task) : Type 0 where
+  pub name : said.0 ≡ task_name task
+  pub days : HasTaskDays said.1 task
+
+-- `said` is a command's name and the values of its arguments. They mean the command `command`.
+pub record IsCommandOf (said : List ℕ × List Row) (command : NamedCommand) : Type 0 where
+  pub machine : first_of (codes "MACHINE") said.1 ≡ Some command.machine
+  pub sheet : first_of (codes "SHEET") said.1 ≡ Some command.sheet
+  pub task : IsTaskOf said command.task
+
+-- What is said, if anything, means the command `command`.
+abbrev pub IsMeant : Option (List ℕ × List Row) → NamedCommand → Type 0
+IsMeant said command = IsSomeAnd said (λ x. IsCommandOf x command)
+
+-- The command line `words` fits the grammar and means `command`. Its first word is the program's own name.
+pub record IsCommandLineOf (words : List (List ℕ)) (command : NamedCommand) : Type 0 where
+  pub taken : fault_of curator_grammar words ≡ []
+  pub said : IsMeant (subcommand_of curator_grammar words) command
+
+abbrev pub IsNoCommandLine : List (List ℕ) → Type 0
+IsNoCommandLine words = (command : NamedCommand) → ¬ (IsCommandLineOf words command)
+
+-- A command line means at most one command.
+abbrev pub CommandLinesMeanOneCommand : Type 0
+CommandLinesMeanOneCommand =
+    (words : List (List ℕ)) (one other : NamedCommand) → IsCommandLineOf words one → IsCommandLineOf words other
+    → one ≡ other
+
+-- ---- What a command line is that is no command.
+
+-- whether the words ask for help or for the version
+abbrev pub is_help : ErrorKind → Bool
+is_help DisplayHelp = true
+is_help DisplayVersion = true
+is_help _ = false
+
+-- The words ask for help, or for the version.
+abbrev pub AsksForHelp : List (List ℕ) → Type 0
+AsksForHelp words = (kind : ErrorKind) × (fault_of curator_grammar words ≡ kind ∷ []) × IsTrue (is_help kind)
+
+-- The words are no command, and don't ask for help.
+pub record AreOtherWords (words : List (List ℕ)) : Type 0 where
+  pub none : IsNoCommandLine words
+  pub no_help : All (λ kind. is_help kind ≡ false) (fault_of curator_grammar words)
+
+-- clap's error of this kind gives this reason.
+abbrev pub IsToldAs : ErrorKind → NoCommand → Type 0
+IsToldAs kind (Asked text) = IsTrue (is_help kind)
+IsToldAs kind (Usage text) = (is_help kind ≡ false) × (kind ≢ OutOfMemory)
+IsToldAs kind NoMemory = Unit {0}
+
+-- Why there is no command. `Asked`: a word asks for help or for the version. `Usage`: the words mean no command.
+abbrev pub HasNoCommand : List (List ℕ) → NoCommand → Type 0
+HasNoCommand words (Asked text) =
+    (kind : ErrorKind) × IsAmong kind (fault_of curator_grammar words) × IsTrue (is_help kind)
+HasNoCommand words (Usage text) = IsNoCommandLine words × ¬ (AsksForHelp words)
+HasNoCommand words NoMemory = Unit {0}

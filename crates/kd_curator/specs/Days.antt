@@ -1,0 +1,53 @@
+-- The days that the argument DAYS names, such as `2`, `1-31` or `1,4,2`.
+-- Code: `days_of_word` adds the days of one range after another to an array of at most 31.
+-- Test: reads_days
+use Rattle.std.specs.Prelude.{decimal, ◌≡◌, ℕ, ◌+◌, ◌-◌, ◌<◌, ◌≤◌, ◌==◌, nat_lt, nat_le, Bool, List, [], ◌∷◌, ◌++◌}
+use Rattle.std.specs.Prelude.{length, find, Option, Some, None, IfSome, option_map, if◌then◌else◌, bytes_eq}
+use Rattle.std.specs.List.{range_with_len, slice_split, position_or_len, before_first, after_first}
+
+abbrev pub is_comma : ℕ → Bool
+is_comma byte = byte == 44
+
+abbrev pub is_hyphen : ℕ → Bool
+is_hyphen byte = byte == 45
+
+-- the day whose number the text is, in decimal
+unfoldable pub day_named : List ℕ → Option ℕ
+day_named text = find (λ day. bytes_eq (decimal day) text) (range_with_len 1 31)
+
+-- all days from `first` to `last`
+abbrev pub days_from : ℕ → ℕ → List ℕ
+days_from first last = range_with_len first (last + 1 - first)
+
+abbrev pub days_between : Option ℕ → Option ℕ → Option (List ℕ)
+days_between (Some first) (Some last) = if nat_le first last then Some (days_from first last) else None
+days_between _ _ = None
+
+-- the days of a range: one day, or all from a day to another, with a hyphen between the two
+unfoldable pub range_named : List ℕ → Option (List ℕ)
+range_named text =
+    if nat_lt (position_or_len is_hyphen text) (length text)
+    then days_between (day_named (before_first is_hyphen text)) (day_named (after_first is_hyphen text))
+    else option_map (λ day. day ∷ []) (day_named text)
+
+abbrev pub both : Option (List ℕ) → Option (List ℕ) → Option (List ℕ)
+both (Some days) (Some more) = Some (days ++ more)
+both _ _ = None
+
+abbrev pub ranges_named : List (List ℕ) → Option (List ℕ)
+ranges_named [] = Some []
+ranges_named (range ∷ ranges) = both (range_named range) (ranges_named ranges)
+
+-- the days of a word: ranges joined by commas
+unfoldable pub days_named : List ℕ → Option (List ℕ)
+days_named word = ranges_named (slice_split is_comma word)
+
+-- The word names these days, in this order. There are at most 31 of them.
+pub record AreDays (word : List ℕ) (days : List ℕ) : Type 0 where
+  pub named : days_named word ≡ Some days
+  pub few : length days ≤ 31
+
+-- `new` is `old` followed by the days `more`. Without an answer, there are no such days, or they are too many.
+abbrev pub AddsDays : Option (List ℕ) → List ℕ → List ℕ → Option (Unit {0}) → Type 0
+AddsDays more old new (Some done) = (option_map (λ days. old ++ days) more ≡ Some new) × (length new ≤ 31)
+AddsDays more old new None = IfSome more (λ days. 31 < length (old ++ days))

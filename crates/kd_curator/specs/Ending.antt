@@ -1,0 +1,42 @@
+-- How the program ends: what it writes to standard error, and its exit status.
+-- Test: ends_with_a_status_and_a_line
+use Rattle.std.specs.Prelude.{codes, decimal, ℕ, List, [], ◌++◌, Option, Some, None, Result, Ok, Err, string_bytes}
+use Rattle.kd_tables.specs.Ports.{Port}
+use Rattle.kd_host.specs.Ending.{EndsWithLine, refused_line}
+use Rattle.kd_host.specs.FileFault.{file_fault_text}
+use Rattle.kd_curator.specs.Refusals.{page_fault_text}
+use Rattle.kd_curator.specs.declared.fault.Refused.{Refused}
+use Rattle.kd_curator.specs.declared.stop.Stop.{Stop}
+use Rattle.kd_curator.specs.declared.stop.Stop.TheVariants as stops
+
+-- the day that a refusal names, if it names one
+abbrev pub day_prefix : Option ℕ → List ℕ
+day_prefix None = []
+day_prefix (Some day) = codes "day " ++ decimal day ++ codes ": "
+
+-- the line on standard error for a refusal
+abbrev pub refusal_line : Refused → List ℕ
+refusal_line refused = day_prefix refused.day ++ refused_line (page_fault_text refused.fault)
+
+-- what is written to standard error: a text for a `Stop`, or no bytes if all went well
+abbrev pub error_text : Result (Unit {0}) Stop → List ℕ
+error_text (Ok done) = []
+error_text (Err (stops.Usage text)) = string_bytes text
+error_text (Err (stops.Unread fault)) = refused_line (file_fault_text fault)
+error_text (Err (stops.Refused refused)) = refusal_line refused
+
+-- the exit status: 0 if all went well, 2 for other words than a command's, 1 for a refusal
+abbrev pub status_of : Result (Unit {0}) Stop → ℕ
+status_of (Ok done) = 0
+status_of (Err (stops.Usage text)) = 2
+status_of (Err _) = 1
+
+-- The program ends with the text and the exit status for `answer`, or with a prefix of the text if standard error
+-- failed.
+abbrev pub EndsAs : Result (Unit {0}) Stop → Port → ℕ → Type 0
+EndsAs answer errors status = EndsWithLine (error_text answer) (status_of answer) errors status
+
+-- the program's answer, given a command's answer
+abbrev pub stop_after : Result (Unit {0}) Refused → Result (Unit {0}) Stop
+stop_after (Ok done) = Ok done
+stop_after (Err refused) = Err (stops.Refused refused)

@@ -1,0 +1,14 @@
+pub mod Booklet
+pub mod Chain
+pub mod CommandLine
+pub mod DayPlan
+pub mod Days
+pub mod Ending
+pub mod HandList
+pub mod HandOrder
+pub mod Inner
+pub mod MachineAndSheet
+pub mod Program
+pub mod Refusals
+pub mod RunList
+pub mod RunPage

@@ -1,0 +1,35 @@
+-- How a machine and a key sheet are found in their files, and what is done with both.
+-- Test: refuses_the_sheet_next
+use Rattle.std.specs.Prelude.{◌≡◌, ◌⊎◌, ℕ, List, Option, Result, Ok, Err, MatchResult}
+use Rattle.std.specs.Result.{result_map_both}
+use Rattle.kd_state.specs.declared.machine.parts.Parts.{Parts}
+use Rattle.kd_state.specs.SheetDay.{Day}
+use Rattle.kd_sheet.specs.declared.fault.SheetFault.{SheetFault}
+use Rattle.kd_sheet.specs.declared.fault.SheetFault.TheVariants.{NoMemory}
+use Rattle.kd_sheet.specs.Document.{◌>>=◌}
+use Rattle.kd_sheet.specs.MachineFile.{machine_of}
+use Rattle.kd_sheet.specs.SheetFile.{sheet_of}
+use Rattle.kd_curator.specs.declared.fault.PageFault.TheVariants.{File}
+use Rattle.kd_curator.specs.declared.fault.Refused.{Refused}
+use Rattle.kd_curator.specs.Refusals.{refused_whole}
+
+-- The answer is `NoMemory`. No clause says that memory really ran out.
+abbrev pub LacksMemory : {A : Type 0} → Result A Refused → Type 0
+LacksMemory answer = answer ≡ Err (refused_whole (File NoMemory))
+
+abbrev pub or_refused : {A : Type 0} → Result A SheetFault → Result A Refused
+or_refused read = result_map_both (λ value. value) (λ fault. refused_whole (File fault)) read
+
+-- the machine of a machine file and the month of a key sheet, or the first fault of these files
+unfoldable pub machine_and_month : List ℕ → List ℕ → Result (Parts × List (Option Day)) Refused
+machine_and_month machine sheet = do
+  m ← or_refused (machine_of machine)
+  month ← or_refused (sheet_of sheet)
+  Ok (m, month)
+
+-- Machine and month satisfy `Holds`; or the answer is the first fault of the files. Or memory ran out.
+abbrev pub IsAnswerOnSheet : List ℕ → List ℕ → (Parts → List (Option Day) → Type 0) → Result (Unit {0}) Refused
+    → Type 0
+IsAnswerOnSheet machine sheet Holds answer =
+    MatchResult (machine_and_month machine sheet) (λ found. Holds found.0 found.1) (λ refused. answer ≡ Err refused)
+    ⊎ LacksMemory answer

@@ -1,0 +1,126 @@
+-- The program: what the command line means, which files are read, and what is written.
+-- Code: `carry_words` parses the words, reads the two files, and carries the command out.
+-- Test: carries_each_command_out
+use Rattle.std.specs.Prelude.{◌≡◌, ◌⊎◌, ◌≤◌, ◌||◌, not, ℕ, Bool, true, false, List, [], ◌∷◌, length, Option, IfSome}
+use Rattle.std.specs.Prelude.{Result, Ok, Err, IsTrue}
+use Rattle.std.specs.Io.KnownBytes.{append_known}
+use Rattle.clap.specs.Words.{IsAmong, fault_of}
+use Rattle.clap.specs.declared.error.kind.ErrorKind.{ErrorKind}
+use Rattle.kd_host.specs.declared.file_fault.FileFault.{FileFault}
+use Rattle.kd_host.specs.declared.file_fault.FileFault.TheVariants as files
+use Rattle.kd_tables.specs.Answers.{AgreesOrNoMemory}
+use Rattle.kd_host.specs.Files.{AreAskedFor, AskedName, content_of}
+use Rattle.kd_host.specs.Writing.{WritesText}
+use Rattle.kd_state.specs.Machine.{model_of}
+use Rattle.kd_tables.specs.Ports.{Port}
+use Rattle.kd_curator.specs.CommandLine.{AsksForHelp, IsCommandLineOf, IsNoCommandLine, NamedCommand, curator_grammar}
+use Rattle.kd_curator.specs.CommandLine.{is_help}
+use Rattle.kd_curator.specs.Ending.{EndsAs}
+use Rattle.kd_curator.specs.MachineAndSheet.{IsAnswerOnSheet}
+use Rattle.kd_curator.specs.Refusals.{is_device_fault, refused_device}
+use Rattle.kd_curator.specs.RunList.{WritesList}
+use Rattle.kd_curator.specs.RunPage.{WritesPages, wanted_days}
+use Rattle.kd_curator.specs.declared.command.Command.{Command}
+use Rattle.kd_curator.specs.declared.command.Task.{Task}
+use Rattle.kd_curator.specs.declared.command.Task.TheVariants as tasks
+use Rattle.kd_curator.specs.declared.fault.Refused.{Refused}
+use Rattle.kd_curator.specs.declared.stop.Stop.{Stop}
+use Rattle.kd_curator.specs.declared.stop.Stop.TheVariants as stops
+
+abbrev pub with_file : {X : Type 0} → Result (List ℕ) FileFault → (List ℕ → Result X FileFault) → Result X FileFault
+with_file (Ok bytes) made = made bytes
+with_file (Err fault) made = Err fault
+
+-- the command with the bytes of its files, or the fault of the first file that can't be read
+abbrev pub known_command : (List ℕ → Option (List ℕ)) → NamedCommand → Result (Command (List ℕ)) FileFault
+known_command held command =
+    with_file (content_of (held command.machine)) (λ machine. with_file (content_of (held command.sheet))
+    (λ sheet. Ok (record { machine = machine; sheet = sheet; task = command.task })))
+
+abbrev pub names_of : NamedCommand → List (List ℕ)
+names_of command = command.machine ∷ command.sheet ∷ []
+
+-- What a task writes, from the bytes of a machine file and of a key sheet.
+abbrev pub DoesTask : Task → List ℕ → List ℕ → Port → Result (Unit {0}) Refused → Type 0
+DoesTask (tasks.Page days) machine sheet sink answer = IsAnswerOnSheet machine sheet
+    (λ m month. WritesPages month m (wanted_days days (model_of m) month) sink answer) answer
+DoesTask (tasks.List day) machine sheet sink answer = IsAnswerOnSheet machine sheet
+    (λ m month. WritesList month m day sink answer) answer
+
+-- ---- The program's answer.
+
+-- The program's answer, given what a command answered. `left` are bytes that were gathered and that the sink didn't
+-- take. After success there are none. If the command succeeded and some are left, the program answers `Device`.
+abbrev pub EndsTask : List ℕ → Result (Unit {0}) Refused → Result (Unit {0}) Stop → Type 0
+EndsTask left (Ok done) answer =
+    ((answer ≡ Ok tt) × (left ≡ [])) ⊎ ((answer ≡ Err (stops.Refused refused_device)) × (1 ≤ length left))
+EndsTask left (Err refused) answer = answer ≡ Err (stops.Refused refused)
+
+-- A command answered `told`, as `Does` says, and the program answers `answer`.
+pub record IsTold (Does : Result (Unit {0}) Refused → Type 0) (left : List ℕ) (answer : Result (Unit {0}) Stop)
+    : Type 0 where
+  pub told : Result (Unit {0}) Refused
+  pub does : Does told
+  pub answers : EndsTask left told answer
+
+-- whether the answer is a text about words that mean no command
+abbrev pub is_usage : Result (Unit {0}) Stop → Bool
+is_usage (Err (stops.Usage text)) = true
+is_usage _ = false
+
+-- How a command line is carried out. `Carried`: its command was carried out. `FileUnread`: a file of the command
+-- couldn't be read. `Shown`: the words ask for help or for the version. `OtherWords`: the words mean no command.
+-- `NoMemory`: memory ran out before a file was asked for.
+pub data CarriesOut (words : List (List ℕ)) (known : Option (List ℕ → Option (List ℕ))) (asked : List AskedName)
+    (sink : Port) (left : List ℕ) (answer : Result (Unit {0}) Stop) : Type 0 where
+  Carried : (command : NamedCommand) → IsCommandLineOf words command → (read : Command (List ℕ))
+      → IfSome known (λ held. AgreesOrNoMemory files.NoMemory (known_command held command) (Ok read))
+      → AreAskedFor (names_of command) [] asked true
+      → IsTold (DoesTask read.task read.machine read.sheet sink) left answer
+      → CarriesOut words known asked sink left answer
+  FileUnread : (command : NamedCommand) → IsCommandLineOf words command → (fault : FileFault)
+      → IfSome known (λ held. AgreesOrNoMemory files.NoMemory (known_command held command) (Err fault))
+      → AreAskedFor (names_of command) [] asked false → answer ≡ Err (stops.Unread fault)
+      → CarriesOut words known asked sink left answer
+  Shown : (text : List ℕ) (kind : ErrorKind) → IsAmong kind (fault_of curator_grammar words) → IsTrue (is_help kind)
+      → asked ≡ [] → IsTold (WritesText refused_device text sink) left answer
+      → CarriesOut words known asked sink left answer
+  OtherWords : IsNoCommandLine words → ¬ (AsksForHelp words) → asked ≡ [] → IsTrue (is_usage answer)
+      → CarriesOut words known asked sink left answer
+  NoMemory : asked ≡ [] → answer ≡ Err (stops.Unread files.NoMemory) → CarriesOut words known asked sink left answer
+
+-- whether the program stopped because a write to standard output failed
+abbrev pub is_stopped_by_device : Result (Unit {0}) Stop → Bool
+is_stopped_by_device (Err (stops.Refused refused)) = is_device_fault refused.fault
+is_stopped_by_device _ = false
+
+-- whether the program stopped before it wrote anything
+abbrev pub is_stopped_before_writing : Result (Unit {0}) Stop → Bool
+is_stopped_before_writing (Ok done) = false
+is_stopped_before_writing (Err (stops.Refused refused)) = not (is_device_fault refused.fault)
+is_stopped_before_writing (Err stop) = true
+
+-- What holds of the program's answer to a command line. `carried`: what was read and written. `untouched`: when nothing
+-- happened to the sink. `failed`: the sink has failed exactly if the program says so, or if it had failed before.
+pub record IsRun (words : List (List ℕ)) (known : Option (List ℕ → Option (List ℕ))) (asked : List AskedName)
+    (sink : Port) (Untouched : Type 0) (left : List ℕ) (answer : Result (Unit {0}) Stop) : Type 0 where
+  pub carried : CarriesOut words known asked sink left answer
+  pub untouched : IsTrue (is_stopped_before_writing answer) → Untouched
+  pub failed : sink.has_failed ≡ (sink.had_failed || is_stopped_by_device answer)
+
+-- a sink before and after a call; bytes that are gathered, and that it hasn't taken, count as taken
+abbrev pub gathering_port : {P : Type 0} → (P → Option (List ℕ)) → (P → Bool) → P → P → List ℕ → Port
+gathering_port bytes failed old new left = record {
+  had = bytes old;
+  has = append_known (bytes new) left;
+  had_failed = failed old;
+  has_failed = failed new;
+}
+
+-- The program's answer satisfies `IsSo`, and the program ended with the text and the exit status for this answer.
+-- `left` are the gathered bytes that the sink didn't take.
+pub record HasEnded (IsSo : List ℕ → Result (Unit {0}) Stop → Type 0) (errors : Port) (status : ℕ) : Type 0 where
+  pub left : List ℕ
+  pub answer : Result (Unit {0}) Stop
+  pub is_so : IsSo left answer
+  pub ends : EndsAs answer errors status

@@ -1,0 +1,31 @@
+-- Why a command is refused, and the text of the refusal.
+-- Test: says_why_it_refuses
+use Rattle.std.specs.Prelude.{ℕ, Bool, true, false, List, None, Result, Ok, Err}
+use Rattle.kd_tables.specs.declared.refusal.Refusal.TheVariants as refusals
+use Rattle.kd_tables.specs.Refusals.{refusal_name}
+use Rattle.kd_sheet.specs.FaultText.{sheet_fault_text}
+use Rattle.kd_curator.specs.declared.fault.PageFault.{PageFault}
+use Rattle.kd_curator.specs.declared.fault.PageFault.TheVariants as faults
+use Rattle.kd_curator.specs.declared.fault.Refused.{Refused}
+
+abbrev pub page_fault_text : PageFault → List ℕ
+page_fault_text (faults.File fault) = sheet_fault_text fault
+page_fault_text faults.NoSuchDay = refusal_name refusals.NoSuchDay
+page_fault_text faults.OtherModel = refusal_name refusals.OtherModel
+page_fault_text faults.Device = refusal_name refusals.Device
+
+-- a refusal that is of no day, or of the only one
+abbrev pub refused_whole : PageFault → Refused
+refused_whole fault = record { day = None; fault = fault }
+
+abbrev pub is_device_fault : PageFault → Bool
+is_device_fault faults.Device = true
+is_device_fault _ = false
+
+abbrev pub refused_device : Refused
+refused_device = refused_whole faults.Device
+
+-- whether a refusal says that a write failed
+abbrev pub is_device : Result (Unit {0}) Refused → Bool
+is_device (Ok done) = false
+is_device (Err refused) = is_device_fault refused.fault

@@ -1,0 +1,22 @@
+-- What `run_list` writes, and when it refuses.
+use Rattle.std.specs.Prelude.{◌≡◌, ℕ, false, List, Option, Result, Err}
+use Rattle.kd_tables.specs.Ports.{Port}
+use Rattle.kd_state.specs.declared.machine.parts.Parts.{Parts}
+use Rattle.kd_state.specs.Line.{list_text}
+use Rattle.kd_state.specs.Machine.{model_of}
+use Rattle.kd_state.specs.SheetDay.{Day}
+use Rattle.kd_host.specs.Writing.{WritesText}
+use Rattle.kd_curator.specs.Chain.{IsDayFault, IsPlanOf, day_refusal}
+use Rattle.kd_curator.specs.Refusals.{refused_device}
+use Rattle.kd_curator.specs.declared.chain.DayFault.{DayFault}
+use Rattle.kd_curator.specs.declared.day_plan.DayPlan.{DayPlan}
+use Rattle.kd_curator.specs.declared.fault.Refused.{Refused}
+
+-- The answer is why the day can't be planned. Or the settings of the day's page were written, in their order, or a
+-- prefix of them if the device failed. They lead from machine `m` to machine `n`.
+pub data WritesList (month : List (Option Day)) (m : Parts) (number : ℕ) (sink : Port)
+    (answer : Result (Unit {0}) Refused) : Type 0 where
+  NoList : (fault : DayFault) → IsDayFault (model_of m) month number fault
+      → answer ≡ Err (day_refusal false fault) → WritesList month m number sink answer
+  Settings : (plan : DayPlan) (n : Parts) → IsPlanOf month m number plan n
+      → WritesText refused_device (list_text plan.settings.items) sink answer → WritesList month m number sink answer

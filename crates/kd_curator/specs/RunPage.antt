@@ -1,0 +1,45 @@
+-- What `run_page` writes, and when it refuses.
+use Rattle.std.specs.Prelude.{◌≡◌, ℕ, Bool, true, false, List, [], ◌∷◌, filter, Option, Some, None, Result, Err}
+use Rattle.std.specs.List.{range_with_len}
+use Rattle.std.specs.Option.{option_map_or}
+use Rattle.kd_tables.specs.declared.model.Model.{Model}
+use Rattle.kd_tables.specs.declared.model.Model.TheVariants.{EnigmaI, M3, M4, M209}
+use Rattle.kd_tables.specs.Ports.{Port}
+use Rattle.kd_state.specs.declared.machine.parts.Parts.{Parts}
+use Rattle.kd_state.specs.Machine.{model_of}
+use Rattle.kd_state.specs.SheetDay.{Day, day_model}
+use Rattle.kd_sheet.specs.Sheet.{day_of}
+use Rattle.kd_host.specs.Writing.{WritesText}
+use Rattle.kd_curator.specs.Booklet.{IsBooklet}
+use Rattle.kd_curator.specs.Chain.{ArePlanned, IsDayRefusal}
+use Rattle.kd_curator.specs.Refusals.{refused_device, refused_whole}
+use Rattle.kd_curator.specs.declared.day_plan.DayPlan.{DayPlan}
+use Rattle.kd_curator.specs.declared.fault.PageFault.TheVariants.{NoSuchDay}
+use Rattle.kd_curator.specs.declared.fault.Refused.{Refused}
+
+abbrev pub is_same_model : Model → Model → Bool
+is_same_model EnigmaI EnigmaI = true
+is_same_model M3 M3 = true
+is_same_model M4 M4 = true
+is_same_model M209 M209 = true
+is_same_model _ _ = false
+
+-- whether the month has day `number`, and the day is of the model
+unfoldable pub has_day_of : Model → List (Option Day) → ℕ → Bool
+has_day_of model month number = option_map_or (λ s. is_same_model (day_model s) model) (day_of month number) false
+
+-- the days that are asked for, or without them all days of the month for the model
+abbrev pub wanted_days : Option (List ℕ) → Model → List (Option Day) → List ℕ
+wanted_days (Some days) model month = days
+wanted_days None model month = filter (has_day_of model month) (range_with_len 1 31)
+
+-- There are no days; or the first day that can't be planned was refused. Or the pages of all days were written, or a
+-- prefix of them if the device failed.
+pub data WritesPages (month : List (Option Day)) (m : Parts) (numbers : List ℕ) (sink : Port)
+    (answer : Result (Unit {0}) Refused) : Type 0 where
+  NoDays : numbers ≡ [] → answer ≡ Err (refused_whole NoSuchDay) → WritesPages month m numbers sink answer
+  NoPage : (refused : Refused) → IsDayRefusal (model_of m) month numbers refused → answer ≡ Err refused
+      → WritesPages month m numbers sink answer
+  Pages : (first : DayPlan) (others : List DayPlan) → ArePlanned month m numbers (first ∷ others)
+      → (text : List ℕ) → IsBooklet m first others text → WritesText refused_device text sink answer
+      → WritesPages month m numbers sink answer

@@ -1,0 +1,95 @@
+//! A sink that gathers small pieces before it passes them on.
+ghost use Rattle.std.specs.Prelude.{◌≡◌, ◌≤◌, ◌||◌, [], ◌++◌, take, length, nat_lt, Some, OnErr, OnOk, is_err};
+ghost use Rattle.std.specs.Prelude.{option_map};
+ghost use Rattle.std.specs.Io.KnownBytes.{append_known, Appends, Keeps};
+ghost use Rattle.kd_tables.specs.Ports.{Puts};
+
+use arrayvec::ArrayVec;
+use kd_tables::{Failed, Sink};
+
+/// How many bytes are gathered.
+const ROOM: usize = 4096;
+
+/// A sink that gathers bytes, and passes them on to another sink when there is no room for more, and at `flush`.
+#[derive(Drop)]
+pub struct BufferedSink<W: Sink + Drop> {
+    sink: W,
+    gathered: ArrayVec<u8, ROOM>,
+}
+
+impl<W: Sink + Drop> BufferedSink<W> {
+    /// Creates a sink that passes its bytes on to `sink`.
+    pub fn new(sink: W) -> Self
+        ensures sink { result.sink ≡ sink }
+        ensures gathered { result.gathered.items ≡ [] }
+    {
+        BufferedSink {
+            sink,
+            gathered: ArrayVec::new(),
+        }
+    }
+
+    /// Returns the sink to which bytes are passed on; bytes that are only gathered are lost.
+    pub fn into_sink(self) -> W
+        ensures { result ≡ self.sink }
+    {
+        let BufferedSink { sink, .. } = self;
+        sink
+    }
+
+    /// Passes on all bytes that are gathered. If the other sink fails, the bytes that it didn't take stay.
+    pub fn flush(&mut self) -> Result<(), Failed>
+        ensures kept { Keeps (append_known (W.taken self.old.sink) self.old.gathered.items)
+            (append_known (W.taken self.new.sink) self.new.gathered.items) }
+        ensures passed { OnOk result (self.new.gathered.items ≡ []) }
+        ensures left { OnErr result (1 ≤ length self.new.gathered.items) }
+        ensures failed { W.has_failed self.new.sink ≡ (W.has_failed self.old.sink || is_err result) }
+    {
+        let BufferedSink { sink, gathered } = self;
+        let done = pass_on(sink, gathered.as_slice());
+        let mut left = ArrayVec::new();
+        left.try_extend_from_slice(&gathered.as_slice()[done..])
+            .unwrap();
+        let is_empty = left.is_empty();
+        *gathered = left;
+        if is_empty { Ok(()) } else { Err(Failed) }
+    }
+}
+
+impl<W: Sink + Drop> Sink for BufferedSink<W> {
+    ghost taken = { λ s. append_known (W.taken s.sink) s.gathered.items };
+
+    ghost has_failed = { λ s. W.has_failed s.sink };
+
+    fn put(&mut self, bytes: &[u8]) -> Result<usize, Failed> {
+        if self.gathered.is_full() {
+            self.flush()?;
+        }
+        let count = bytes.len().min(ROOM - self.gathered.len());
+        self.gathered
+            .try_extend_from_slice(&bytes[..count])
+            .unwrap();
+        Ok(count)
+    }
+
+    fn failed(&self) -> bool {
+        self.sink.failed()
+    }
+}
+
+#[tactic(auto, using(kd_tables::proofs::SeveralPuts::takes_more, kd_tables::proofs::SeveralPuts::still_failed))]
+/// Writes as many of `bytes` to `sink` as it takes, and returns how many these are: all, unless it fails.
+fn pass_on<W: Sink>(sink: &mut W, bytes: &[u8]) -> usize
+    ensures within { result ≤ length bytes.now }
+    ensures taken { Appends (W.taken sink.old) (W.taken sink.new) (take result bytes.now) }
+    ensures failed { W.has_failed sink.new ≡ (W.has_failed sink.old || nat_lt result (length bytes.now)) }
+{
+    let mut done = 0;
+    while done < bytes.len() {
+        match sink.put(&bytes[done..]) {
+            Ok(count) => done += count,
+            Err(Failed) => return done,
+        }
+    }
+    done
+}

@@ -1,0 +1,243 @@
+//! The commands, and the parser of the command line.
+ghost use Rattle.std.specs.Prelude.{◌≡◌, codes, false, map, IfErr, IfOk, IfSome};
+ghost use Rattle.clap.specs.Words.{app_of, found_of, kind_of, rows_of, rule_of, subcommand_rows_of};
+ghost use Rattle.kd_curator.specs.CommandLine.{IsMadeOf, curator_grammar, command_shape, list_shape, page_shape};
+ghost use Rattle.kd_curator.specs.CommandLine.{unborrowed_command, needed, task_name};
+ghost use Rattle.kd_curator.specs.CommandLine.{HasTaskDays, IsCommandLineOf, IsCommandOf, IsMeant, IsTaskOf};
+ghost use Rattle.kd_curator.specs.CommandLine.{NamedCommand};
+ghost use Rattle.kd_curator.specs.CommandLine.{HasNoCommand, IsToldAs};
+
+use crate::days::{Days, days_of_word};
+use clap::error::ErrorKind;
+use clap::{Arg, ArgMatches, Command as Grammar, Error};
+use kd_state::day_of_text;
+use std::alloc::{AllocError, Global};
+use std::convert::AsStr;
+
+/// The version that `--version` shows.
+const VERSION: &str = "1.0";
+
+/// What is said of a day that is none.
+const NO_DAYS: &str = "days are numbers from 1 to 31, such as 2, 1-31 or 1,4,2";
+
+/// A command, with its two files or their names.
+#[derive(Drop)]
+pub struct Command<F> {
+    /// The machine file.
+    pub machine: F,
+    /// The key sheet.
+    pub sheet: F,
+    /// What is written.
+    pub task: Task,
+}
+
+/// What a command writes.
+#[derive(Drop)]
+pub enum Task {
+    /// The pages of these days; without days, of all days that the sheet has for the machine's model.
+    Page(Option<Days>),
+    /// The settings of this day's page, as a list that `desk apply` carries out.
+    List(u8),
+}
+
+/// A command with the names of its files, before any file is read.
+pub type NamedCommand<'a> = Command<&'a str>;
+
+/// Why a command line gives no command.
+#[derive(Drop)]
+pub enum NoCommand {
+    /// The words ask for help or for the version, which is this text.
+    Asked(String),
+    /// The words aren't a command. The text says why.
+    Usage(String),
+    /// Memory ran out.
+    NoMemory,
+}
+
+/// Parses the command line `words`, which begins with the program's own name.
+pub fn parse_words<'a, S: AsStr>(
+    alloc: Global,
+    words: &'a [S],
+) -> Result<NamedCommand<'a>, NoCommand>
+    ensures said { IfOk result
+        (λ command. IsCommandLineOf (map S.text words.entry.now) (unborrowed_command command)) }
+    ensures none { IfErr result (HasNoCommand (map S.text words.entry.now)) }
+{
+    let mut grammar = grammar(alloc)?;
+    let matches = match grammar.try_get_matches_from_mut(words) {
+        Ok(matches) => matches,
+        Err(error) => return Err(no_command(alloc, &error)),
+    };
+    match meant_command(&matches) {
+        Some(command) => Ok(command),
+        None => Err(no_days(alloc, &mut grammar)),
+    }
+}
+
+/// Why there is no command, if clap takes the words, but a word doesn't name days.
+fn no_days(alloc: Global, grammar: &mut Grammar<'_>) -> NoCommand
+    ensures { IsToldAs ErrorKind.InvalidValue result }
+{
+    match grammar.error(ErrorKind::InvalidValue, NO_DAYS) {
+        Ok(error) => no_command(alloc, &error),
+        Err(_) => NoCommand::NoMemory,
+    }
+}
+
+/// Why there is no command, after clap has given `error`.
+fn no_command(alloc: Global, error: &Error) -> NoCommand
+    ensures { IsToldAs (kind_of error.now) result }
+{
+    let Ok(text) = format!(in alloc; "{error}") else {
+        return NoCommand::NoMemory;
+    };
+    match error.kind() {
+        ErrorKind::OutOfMemory => NoCommand::NoMemory,
+        ErrorKind::DisplayHelp | ErrorKind::DisplayVersion => NoCommand::Asked(text),
+        _ => NoCommand::Usage(text),
+    }
+}
+
+impl From<AllocError> for NoCommand {
+    ghost use Rattle.std.specs.Prelude.{◌≡◌};
+    ghost use Rattle.kd_curator.specs.declared.command.NoCommand.TheVariants.{NoMemory};
+
+    ghost from_gives = { λ _ none. none ≡ NoMemory };
+
+    fn from(_: AllocError) -> NoCommand {
+        NoCommand::NoMemory
+    }
+}
+
+/// The command that `matches` mean; `None` if its days aren't days.
+fn meant_command<'a>(matches: &ArgMatches<'a>) -> Option<NamedCommand<'a>>
+    ensures said { IfSome result (λ command.
+        IsMeant (subcommand_rows_of matches.now) (unborrowed_command command)) }
+    ensures none { result ≡ None → (command : NamedCommand)
+        → ¬ (IsMeant (subcommand_rows_of matches.now) command) }
+{
+    let (name, words) = matches.subcommand()?;
+    command_of(name, words)
+}
+
+/// The command named `name`, with the arguments in `words`; `None` if its days aren't days.
+fn command_of<'a>(name: &str, words: &ArgMatches<'a>) -> Option<NamedCommand<'a>>
+    ensures said { IfSome result (λ command.
+        IsCommandOf (name.now, rows_of (found_of words.now)) (unborrowed_command command)) }
+    ensures none { result ≡ None → (command : NamedCommand)
+        → ¬ (IsCommandOf (name.now, rows_of (found_of words.now)) command) }
+{
+    let machine = words.get_str("MACHINE")?;
+    let sheet = words.get_str("SHEET")?;
+    let task = task_of(name, words)?;
+    Some(Command {
+        machine,
+        sheet,
+        task,
+    })
+}
+
+/// The task of the command named `name`, with the days in `words`.
+fn task_of(name: &str, words: &ArgMatches<'_>) -> Option<Task>
+    ensures said { IfSome result (IsTaskOf (name.now, rows_of (found_of words.now))) }
+    ensures none { result ≡ None → (task : Task)
+        → ¬ (IsTaskOf (name.now, rows_of (found_of words.now)) task) }
+{
+    match name {
+        "page" => page_of(words),
+        "list" => list_of(words),
+        _ => None,
+    }
+}
+
+/// The task `page`, with the days in the argument DAYS.
+fn page_of(words: &ArgMatches<'_>) -> Option<Task>
+    ensures said { IfSome result (IsTaskOf (codes "page", rows_of (found_of words.now))) }
+    ensures none { result ≡ None → (task : Task)
+        → ¬ (IsTaskOf (codes "page", rows_of (found_of words.now)) task) }
+{
+    let Some(word) = words.get_str("DAYS") else {
+        return Some(Task::Page(None));
+    };
+    let days = days_of_word(word)?;
+    Some(Task::Page(Some(days)))
+}
+
+/// The task `list`, with the day in the argument DAY.
+fn list_of(words: &ArgMatches<'_>) -> Option<Task>
+    ensures said { IfSome result (IsTaskOf (codes "list", rows_of (found_of words.now))) }
+    ensures none { result ≡ None → (task : Task)
+        → ¬ (IsTaskOf (codes "list", rows_of (found_of words.now)) task) }
+{
+    let day = day_of_text(words.get_str("DAY")?.as_bytes())?;
+    Some(Task::List(day))
+}
+
+/// The grammar of the command line.
+fn grammar<'a>(alloc: Global) -> Result<Grammar<'a>, AllocError>
+    ensures { IfOk result (λ grammar. app_of grammar ≡ curator_grammar) }
+{
+    let page = page_grammar(alloc)?;
+    let list = list_grammar(alloc)?;
+    Grammar::new(alloc, "curator")
+        .about("Writes pages to hang beside a cipher machine: what to set for a day, with pictures")
+        .version(VERSION)
+        .disable_help_subcommand(true)
+        .subcommand_required(true)
+        .arg_required_else_help(true)
+        .subcommand(page)?
+        .subcommand(list)
+}
+
+/// The grammar of `page`.
+fn page_grammar<'a>(alloc: Global) -> Result<Grammar<'a>, AllocError>
+    ensures { IfOk result (λ grammar. IsMadeOf grammar page_shape) }
+{
+    let days = Arg::new(alloc, "DAYS").help(
+        "The days, such as 2, 1-31 or 1,4,2; without it, all days for the machine's model",
+    );
+    command_grammar(
+        alloc,
+        "page",
+        "Writes an HTML page of each day, from the machine as the day before left it",
+        days,
+    )
+}
+
+/// The grammar of `list`.
+fn list_grammar<'a>(alloc: Global) -> Result<Grammar<'a>, AllocError>
+    ensures { IfOk result (λ grammar. IsMadeOf grammar list_shape) }
+{
+    command_grammar(
+        alloc,
+        "list",
+        "Writes the settings of a day's page, as a list that desk apply carries out",
+        needed(alloc, "DAY", "The day, from 1 to 31"),
+    )
+}
+
+/// The grammar of a command with a machine file, a key sheet and `last`.
+fn command_grammar<'a>(
+    alloc: Global,
+    name: &'a str,
+    about: &'a str,
+    last: Arg<'a>,
+) -> Result<Grammar<'a>, AllocError>
+    requires { last.global ≡ false }
+    ensures { IfOk result (λ grammar.
+        IsMadeOf grammar (command_shape name.entry.now (rule_of last.entry))) }
+{
+    Grammar::new(alloc, name)
+        .about(about)
+        .arg(needed(alloc, "MACHINE", "The machine file"))?
+        .arg(needed(alloc, "SHEET", "The key sheet"))?
+        .arg(last)
+}
+
+/// An argument that each command line must have.
+fn needed<'a>(alloc: Global, name: &'a str, help: &'a str) -> Arg<'a>
+    ensures rule { rule_of result ≡ needed name.entry.now }
+    ensures local { result.global ≡ false }
+{
+    Arg::new(alloc, name).required(true).help(help)
+}

@@ -1,0 +1,87 @@
+//! `Refused`: why a command is refused.
+ghost use Rattle.std.specs.Prelude.{◌≡◌};
+ghost use Rattle.kd_curator.specs.Refusals.{page_fault_text};
+
+use kd_sheet::SheetFault;
+use kd_tables::{Device, Refusal, Text};
+
+/// Why there is no page, or no list.
+#[derive(Clone, Copy, Debug, PartialEq, Eq)]
+pub enum PageFault {
+    /// The machine file or the key sheet has this fault, or memory ran out.
+    File(SheetFault),
+    /// The sheet has no such day.
+    NoSuchDay,
+    /// The machine and the sheet's day are of different models.
+    OtherModel,
+    /// A write failed.
+    Device,
+}
+
+impl PageFault {
+    /// Returns the refusal's number and name, followed by the fault's values, such as a key, if it has any.
+    pub fn text(&self) -> Text
+        ensures { result.bytes ≡ page_fault_text self.now }
+    {
+        match self {
+            PageFault::File(fault) => fault.text(),
+            PageFault::NoSuchDay => Refusal::NoSuchDay.text(),
+            PageFault::OtherModel => Refusal::OtherModel.text(),
+            PageFault::Device => Refusal::Device.text(),
+        }
+    }
+}
+
+/// Why a command is refused: the first fault, in the order of testing.
+#[derive(Clone, Copy, Debug, PartialEq, Eq)]
+pub struct Refused {
+    /// The day that has the fault, if several were asked for.
+    pub day: Option<u8>,
+    pub fault: PageFault,
+}
+
+impl From<SheetFault> for PageFault {
+    ghost use Rattle.std.specs.Prelude.{◌≡◌};
+    ghost use Rattle.kd_curator.specs.declared.fault.PageFault.TheVariants.{File};
+
+    ghost from_gives = { λ fault page. page ≡ File fault };
+
+    fn from(fault: SheetFault) -> PageFault {
+        PageFault::File(fault)
+    }
+}
+
+impl From<PageFault> for Refused {
+    ghost use Rattle.std.specs.Prelude.{◌≡◌};
+    ghost use Rattle.kd_curator.specs.Refusals.{refused_whole};
+
+    ghost from_gives = { λ fault refused. refused ≡ refused_whole fault };
+
+    fn from(fault: PageFault) -> Refused {
+        Refused { day: None, fault }
+    }
+}
+
+impl From<SheetFault> for Refused {
+    ghost use Rattle.std.specs.Prelude.{◌≡◌};
+    ghost use Rattle.kd_curator.specs.Refusals.{refused_whole};
+    ghost use Rattle.kd_curator.specs.declared.fault.PageFault.TheVariants.{File};
+
+    ghost from_gives = { λ fault refused. refused ≡ refused_whole (File fault) };
+
+    fn from(fault: SheetFault) -> Refused {
+        Refused::from(PageFault::from(fault))
+    }
+}
+
+impl From<Device> for Refused {
+    ghost use Rattle.std.specs.Prelude.{◌≡◌};
+    ghost use Rattle.kd_curator.specs.Refusals.{refused_whole};
+    ghost use Rattle.kd_curator.specs.declared.fault.PageFault.TheVariants as faults;
+
+    ghost from_gives = { λ _ refused. refused ≡ refused_whole faults.Device };
+
+    fn from(_: Device) -> Refused {
+        Refused::from(PageFault::Device)
+    }
+}

@@ -1,0 +1,29 @@
+//! Pages to hang beside a machine: the days of a key sheet, one after another.
+#![tactic(auto)]
+
+mod buffered_sink;
+mod chain;
+mod command;
+mod day_plan;
+mod days;
+mod fault;
+mod hand_list;
+pub mod laws;
+mod machine_and_sheet;
+mod pages;
+mod program;
+pub mod run_list;
+pub mod run_page;
+mod stages;
+mod stop;
+
+pub use buffered_sink::BufferedSink;
+pub use chain::{DayPlans, plan_days};
+pub use command::{Command, NamedCommand, NoCommand, Task, parse_words};
+pub use day_plan::{DayPlan, plan_day};
+pub use days::{Days, days_of_word};
+pub use fault::{PageFault, Refused};
+pub use hand_list::plan_by_hand;
+pub use program::{run_curator, run_words};
+pub use stages::{Stage, hand_order};
+pub use stop::{Stop, end_program};

@@ -1,0 +1,164 @@
+//! The program: reads the command line and the files, and carries the command out.
+ghost use Rattle.std.specs.Prelude.{◌≡◌, ◌||◌, [], ℕ, List, false, map, IfSome, IsErr, IsOk, IsTrue, is_ok, is_err};
+ghost use Rattle.std.specs.Io.KnownBytes.{Keeps, append_known};
+ghost use Rattle.kd_tables.specs.Answers.{AgreesOrNoMemory};
+ghost use Rattle.kd_tables.specs.Ports.{port};
+ghost use Rattle.kd_host.specs.Files.{AreAskedFor};
+ghost use Rattle.kd_host.specs.Writing.{WritesText};
+ghost use Rattle.kd_curator.specs.CommandLine.{unborrowed_command};
+ghost use Rattle.kd_curator.specs.Ending.{stop_after};
+ghost use Rattle.kd_curator.specs.Inner.{EndsRun};
+ghost use Rattle.kd_curator.specs.Program.{CarriesOut, DoesTask, HasEnded, IsRun, gathering_port, known_command};
+ghost use Rattle.kd_curator.specs.Program.{names_of};
+ghost use Rattle.kd_curator.specs.Program.{is_stopped_before_writing, is_stopped_by_device};
+ghost use Rattle.kd_curator.specs.Refusals.{is_device, refused_device};
+
+use crate::buffered_sink::BufferedSink;
+use crate::command::{Command, NamedCommand, NoCommand, Task, parse_words};
+use crate::fault::{PageFault, Refused};
+use crate::run_list::run_list;
+use crate::run_page::run_page;
+use crate::stop::{Stop, end_program};
+use kd_host::{Content, FileFault, Files};
+use kd_tables::{Failed, Sink, put_all};
+use std::alloc::Global;
+use std::convert::AsStr;
+
+/// Carries out the command line `words`, which begins with the program's own name.
+///
+/// Returns the exit status and the sink. The status is 0 for success, 2 for other words than a command's, and 1 for a
+/// refusal. With status 1 or 2, a text that says why is written to `errors`. Each file is read once, in the order of
+/// the command line. If a file can't be read, no later file is asked for, and nothing is written to `sink`.
+pub fn run_curator<'n, S: AsStr, F: Files<'n>, W: Sink + Drop, E: Sink>(
+    alloc: Global,
+    words: &'n [S],
+    files: &mut F,
+    sink: W,
+    errors: &mut E,
+) -> (u8, W)
+    requires { F.asked files.old ≡ [] }
+    ensures { HasEnded (λ left. IsRun (map S.text words.entry.now) (F.known files.old) (F.asked files.new)
+        (gathering_port W.taken W.has_failed sink result.1 left) (result.1 ≡ sink) left)
+        (port E.taken E.has_failed errors.old errors.new) result.0 }
+{
+    let (answer, sink) = run_gathering(alloc, words, files, sink);
+    (end_program(&answer, errors), sink)
+}
+
+/// Carries the command line out, and gathers what is written before it is passed on to `sink`.
+fn run_gathering<'n, S: AsStr, F: Files<'n>, W: Sink + Drop>(
+    alloc: Global,
+    words: &'n [S],
+    files: &mut F,
+    sink: W,
+) -> (Result<(), Stop>, W)
+    requires { F.asked files.old ≡ [] }
+    ensures { (left : List ℕ) × IsRun (map S.text words.entry.now) (F.known files.old) (F.asked files.new)
+        (gathering_port W.taken W.has_failed sink result.1 left) (result.1 ≡ sink) left result.0 }
+{
+    let mut gathering = BufferedSink::new(sink);
+    let done = run_words(alloc, words, files, &mut gathering);
+    let answer = pass_rest_on(done, &mut gathering);
+    (answer, gathering.into_sink())
+}
+
+/// Parses the command line, reads the files that it names, and carries the command out.
+pub fn run_words<'n, S: AsStr, F: Files<'n>, W: Sink>(
+    alloc: Global,
+    words: &'n [S],
+    files: &mut F,
+    sink: &mut W,
+) -> Result<(), Stop>
+    requires { F.asked files.old ≡ [] }
+    ensures carried { CarriesOut (map S.text words.entry.now) (F.known files.old) (F.asked files.new)
+        (port W.taken W.has_failed sink.old sink.new) [] result }
+    ensures untouched { IsTrue (is_stopped_before_writing result) → sink.new ≡ sink.old }
+    ensures failed { W.has_failed sink.new ≡ (W.has_failed sink.old || is_stopped_by_device result) }
+{
+    match parse_words(alloc, words) {
+        Ok(command) => {
+            let command = read_files(alloc, command, files)?;
+            Stop::of_answer(carry_out(alloc, command, sink))
+        }
+        Err(NoCommand::Asked(text)) => Stop::of_answer(show(text.as_str(), sink)),
+        Err(NoCommand::Usage(text)) => Err(Stop::Usage(text)),
+        Err(NoCommand::NoMemory) => Err(Stop::Unread(FileFault::NoMemory)),
+    }
+}
+
+/// Reads the two files that `command` names.
+fn read_files<'n, F: Files<'n>>(
+    alloc: Global,
+    command: NamedCommand<'n>,
+    files: &mut F,
+) -> Result<Command<Content>, FileFault>
+    requires { F.asked files.old ≡ [] }
+    ensures read { IfSome (F.known files.old) (λ held.
+        AgreesOrNoMemory FileFault.NoMemory (known_command held (unborrowed_command command.entry)) result) }
+    ensures asked { AreAskedFor (names_of (unborrowed_command command.entry)) (F.asked files.old)
+        (F.asked files.new) (is_ok result) }
+{
+    let Command {
+        machine,
+        sheet,
+        task,
+    } = command;
+    let machine = files.read_content(alloc, machine)?;
+    let sheet = files.read_content(alloc, sheet)?;
+    Ok(Command {
+        machine,
+        sheet,
+        task,
+    })
+}
+
+/// Carries out `command`, whose files have been read.
+fn carry_out<W: Sink>(
+    alloc: Global,
+    command: Command<Content>,
+    sink: &mut W,
+) -> Result<(), Refused>
+    ensures does { DoesTask command.task command.machine command.sheet
+        (port W.taken W.has_failed sink.old sink.new) result }
+    ensures untouched { IsErr result → is_device result ≡ false → sink.new ≡ sink.old }
+    ensures failed { W.has_failed sink.new ≡ (W.has_failed sink.old || is_device result) }
+{
+    let Command {
+        machine,
+        sheet,
+        task,
+    } = command;
+    let machine = machine.as_slice();
+    let sheet = sheet.as_slice();
+    match task {
+        Task::Page(days) => run_page(alloc, machine, sheet, days, sink),
+        Task::List(day) => run_list(alloc, machine, sheet, day, sink),
+    }
+}
+
+/// Writes `text`, which the words ask for.
+fn show<W: Sink>(text: &str, sink: &mut W) -> Result<(), Refused>
+    ensures written { WritesText refused_device text.now (port W.taken W.has_failed sink.old sink.new) result }
+    ensures failed { W.has_failed sink.new ≡ (W.has_failed sink.old || is_device result) }
+{
+    put_all(sink, text.as_bytes())?;
+    Ok(())
+}
+
+/// After success, passes on what is gathered. The answer is `Device` if the sink doesn't take all of it.
+fn pass_rest_on<W: Sink + Drop>(
+    done: Result<(), Stop>,
+    sink: &mut BufferedSink<W>,
+) -> Result<(), Stop>
+    ensures kept { Keeps (append_known (W.taken sink.old.sink) sink.old.gathered.items)
+        (append_known (W.taken sink.new.sink) sink.new.gathered.items) }
+    ensures ends { EndsRun sink.new.gathered.items done result }
+    ensures untouched { IsErr done → sink.new ≡ sink.old }
+    ensures failed { IsOk done → W.has_failed sink.new.sink ≡ (W.has_failed sink.old.sink || is_err result) }
+{
+    done?;
+    match sink.flush() {
+        Ok(()) => Ok(()),
+        Err(Failed) => Err(Stop::Refused(Refused::from(PageFault::Device))),
+    }
+}

@@ -1,0 +1,98 @@
+//! The command `page`: writes an HTML page of each day, from the machine as the day before left it.
+ghost use Rattle.std.specs.Prelude.{◌≡◌, ◌||◌, ◌+◌, ◌-◌, ◌≤◌, ◌++◌, filter, false, IsErr, length};
+ghost use Rattle.std.specs.List.{range_with_len};
+ghost use Rattle.kd_state.specs.Machine.{model_of};
+ghost use Rattle.kd_tables.specs.Ports.{port};
+ghost use Rattle.kd_curator.specs.MachineAndSheet.{IsAnswerOnSheet};
+ghost use Rattle.kd_curator.specs.Refusals.{is_device};
+ghost use Rattle.kd_curator.specs.RunPage.{WritesPages, has_day_of, wanted_days};
+
+use crate::chain::plan_days;
+use crate::days::Days;
+use crate::fault::{PageFault, Refused};
+use crate::machine_and_sheet::read_both;
+use crate::pages::write_pages;
+use kd_sheet::Sheet;
+use kd_state::Machine;
+use kd_tables::{Model, Sink};
+use std::alloc::Global;
+
+/// Writes the pages of `days`, from the machine in the file `machine` on, in one HTML file.
+///
+/// Without `days`, these are all days that the sheet has for the machine's model. Faults are tested in this order:
+/// faults of the machine file, faults of the sheet, and then, day by day, `NoSuchDay` and `OtherModel`. For all of these
+/// faults, nothing is written. For `Device`, only a prefix of the file is written.
+pub fn run_page<W: Sink>(
+    alloc: Global,
+    machine: &[u8],
+    sheet: &[u8],
+    days: Option<Days>,
+    sink: &mut W,
+) -> Result<(), Refused>
+    ensures pages { IsAnswerOnSheet machine.now sheet.now
+        (λ m month. WritesPages month m (wanted_days days (model_of m) month)
+        (port W.taken W.has_failed sink.old sink.new) result) result }
+    ensures untouched { IsErr result → is_device result ≡ false → sink.new ≡ sink.old }
+    ensures failed { W.has_failed sink.new ≡ (W.has_failed sink.old || is_device result) }
+{
+    let (machine, sheet) = read_both(alloc, machine, sheet)?;
+    let days = wanted_days(days, machine.model(), &sheet);
+    write_days(&machine, &sheet, &days, sink)
+}
+
+/// Writes the pages of `days`. Allocates nothing.
+fn write_days<W: Sink>(
+    machine: &Machine,
+    sheet: &Sheet,
+    days: &Days,
+    sink: &mut W,
+) -> Result<(), Refused>
+    ensures pages { WritesPages sheet.now machine.now days.now
+        (port W.taken W.has_failed sink.old sink.new) result }
+    ensures untouched { IsErr result → is_device result ≡ false → sink.new ≡ sink.old }
+    ensures failed { W.has_failed sink.new ≡ (W.has_failed sink.old || is_device result) }
+{
+    let plans = plan_days(machine, sheet, days.as_slice())?;
+    let Some((first, others)) = plans.as_slice().split_first() else {
+        return Err(Refused::from(PageFault::NoSuchDay));
+    };
+    write_pages(sink, machine, first, others)?;
+    Ok(())
+}
+
+/// The days, or without `days` all days that the sheet has for the model.
+fn wanted_days(days: Option<Days>, model: Model, sheet: &Sheet) -> Days
+    ensures { result ≡ wanted_days days model sheet.now }
+{
+    match days {
+        Some(days) => days,
+        None => {
+            let mut days = Days::new();
+            add_days_of(&mut days, model, sheet, 1);
+            days
+        }
+    }
+}
+
+/// Adds the days from `number` on that the sheet has for the model.
+fn add_days_of(days: &mut Days, model: Model, sheet: &Sheet, number: u8)
+    requires { length days.old + (32 - number) ≤ 31 }
+    ensures { days.new ≡ days.old ++ filter (has_day_of model sheet.now)
+        (range_with_len number (32 - number)) }
+{
+    if number < 32 {
+        days.add_if(number, has_day_of(model, sheet, number));
+        add_days_of(days, model, sheet, number + 1);
+    }
+}
+
+#[tactic(auto, unfolding(crate::specs::RunPage::has_day_of))]
+/// Whether the sheet has day `number`, and the day is of this model.
+fn has_day_of(model: Model, sheet: &Sheet, number: u8) -> bool
+    ensures { result ≡ has_day_of model sheet.now number }
+{
+    match sheet.day(number) {
+        Some(day) => day.model() == model,
+        None => false,
+    }
+}

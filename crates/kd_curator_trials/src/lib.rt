@@ -1,0 +1,15 @@
+//! Tests of the program `curator`: its command line, its lists and pages, and how it ends.
+#![tactic(auto)]
+
+#[cfg(test)]
+mod days;
+#[cfg(test)]
+mod command;
+#[cfg(test)]
+mod lists;
+#[cfg(test)]
+mod program;
+#[cfg(test)]
+mod samples;
+#[cfg(test)]
+mod sinks;

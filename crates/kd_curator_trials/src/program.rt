@@ -1,0 +1,179 @@
+//! Tests of the whole program, on files in memory.
+ghost use Rattle.std.specs.Prelude.{◌≡◌, []};
+
+use crate::samples::{DAY_2, DAYS, ENIGMA, M209};
+use kd_curator::run_curator;
+use kd_host::{Files, MemoryFiles};
+use kd_tables::MemorySink;
+use std::alloc::Global;
+
+/// The exit status of a run, and what it wrote to its two outputs.
+#[derive(Drop)]
+struct Ran {
+    status: u8,
+    sink: MemorySink<32768>,
+    errors: MemorySink<96>,
+}
+
+/// Runs the program on a command line and files, with room for `room` bytes of output.
+fn run<'n, F: Files<'n>>(
+    alloc: Global,
+    words: &'n [&'n str],
+    files: &mut F,
+    room: usize,
+) -> Ran
+    requires { F.asked files.old ≡ [] }
+{
+    let sink = MemorySink::new(room.min(32768));
+    let mut errors = MemorySink::new(96);
+    let (status, sink) = run_curator(alloc, words, files, sink, &mut errors);
+    Ran {
+        status,
+        sink,
+        errors,
+    }
+}
+
+/// The files that the command lines name: each name, and its text.
+static HELD: [(&str, &str); 4] = [("m", ENIGMA), ("s", DAYS), ("c", M209), ("bad", "x =")];
+
+/// The files in `HELD`.
+fn files() -> [(&'static str, &'static [u8]); 4] {
+    HELD.map(|(name, text)| (name, text.as_bytes()))
+}
+
+/// A command line, the line on standard error, and the exit status.
+static STOPPED: [(&[&str], &str); 15] = [
+    (&["curator", "list", "m", "s", "4"], "refused 39 NoSuchDay\n"),
+    (&["curator", "list", "m", "s", "5"], "refused 5 OtherModel\n"),
+    (&["curator", "page", "m", "s", "4"], "refused 39 NoSuchDay\n"),
+    (&["curator", "page", "m", "s", "5"], "refused 5 OtherModel\n"),
+    (&["curator", "page", "c", "s"], "refused 39 NoSuchDay\n"),
+    (&["curator", "page", "m", "s", "1-4"], "day 3: refused 39 NoSuchDay\n"),
+    (&["curator", "page", "m", "s", "2,5,4"], "day 5: refused 5 OtherModel\n"),
+    (&["curator", "page", "m", "s", "1,31"], "day 31: refused 39 NoSuchDay\n"),
+    (&["curator", "page", "bad", "s", "4"], "refused 18 NotToml\n"),
+    (&["curator", "page", "m", "bad", "4"], "refused 18 NotToml\n"),
+    (&["curator", "list", "bad", "bad", "4"], "refused 18 NotToml\n"),
+    (&["curator", "page", "none", "s"], "refused 6 Device\n"),
+    (&["curator", "page", "bad", "none"], "refused 6 Device\n"),
+    (&["curator", "list", "none", "s", "1"], "refused 6 Device\n"),
+    (&["curator", "list", "m", "none", "1"], "refused 6 Device\n"),
+];
+
+#[test]
+fn says_why_it_refuses(rt: HostRuntime) {
+    let files = files();
+    for (words, told) in &STOPPED {
+        let mut files = MemoryFiles::new(&files);
+        let ran = run(rt.alloc(), words, &mut files, 32768);
+        assert_eq!(rt; ran.status, 1);
+        assert_eq!(rt; ran.errors.taken(), told.as_bytes());
+        assert_eq!(rt; ran.sink.taken(), "".as_bytes());
+    }
+}
+
+/// A command line that writes a page, and texts of the page, from its top.
+static PAGES: [(&[&str], &[&str]); 4] = [
+    (
+        &["curator", "page", "m", "s", "2"],
+        &[
+            "<!DOCTYPE html>\n<html lang=en>\n",
+            "<title>Enigma I, day 2</title>",
+            "<article id=day-2>",
+            "<code>RING I B</code>",
+            "<code>RING IV Z</code>",
+            "<code>SEAT 1 V</code>",
+            "<code>SEAT 2 IV</code>",
+            "<code>SEAT 3 I</code>",
+            "<code>REFLECTOR C</code>",
+            "<code>TURN 1 X</code>",
+            "<code>TURN 2 Y</code>",
+            "<code>TURN 3 Z</code>",
+            "Differences in rings, slots, reflector and windows: 9.",
+            "</main>\n",
+        ],
+    ),
+    (
+        &["curator", "page", "m", "s", "2,1"],
+        &[
+            "<title>Enigma I, days 2 to 1</title>",
+            "<li><a href=\"#day-2\">Day 2</a>, 9 settings",
+            "<li><a href=\"#day-1\">Day 1</a>, 6 settings",
+            "<article id=day-2>",
+            "<code>TURN 3 Z</code>",
+            "<article id=day-1>",
+            "<code>RING I A</code>",
+            "<code>SEAT 1 I</code>",
+            "<code>SEAT 2 II</code>",
+            "<code>SEAT 3 III</code>",
+            "<code>REFLECTOR B</code>",
+            "<code>TURN 1 A</code>",
+            "</main>\n",
+        ],
+    ),
+    (
+        &["curator", "page", "m", "s", "2,2"],
+        &[
+            "<li><a href=\"#day-2\">Day 2</a>, 9 settings",
+            "<li><a href=\"#day-2\">Day 2</a>, nothing to change",
+            "</main>\n",
+        ],
+    ),
+    (
+        &["curator", "page", "m", "s"],
+        &[
+            "<title>Enigma I, days 1 to 2</title>",
+            "<li><a href=\"#day-1\">Day 1</a>, nothing to change",
+            "<li><a href=\"#day-2\">Day 2</a>, 9 settings",
+            "<article id=day-1>",
+            "<article id=day-2>",
+            "</main>\n",
+        ],
+    ),
+];
+
+/// Whether the text has all of `parts`, one after another.
+fn has_in_turn(text: &str, parts: &[&str]) -> bool {
+    let mut rest = text;
+    for part in parts {
+        match rest.split_once(*part) {
+            Some((_, more)) => rest = more,
+            None => return false,
+        }
+    }
+    true
+}
+
+#[test]
+fn each_page_starts_where_the_page_before_it_ends(rt: HostRuntime) {
+    let files = files();
+    for (words, parts) in &PAGES {
+        let mut files = MemoryFiles::new(&files);
+        let ran = run(rt.alloc(), words, &mut files, 32768);
+        assert_eq!(rt; ran.status, 0);
+        let text = str::from_utf8(ran.sink.taken()).unwrap_or("");
+        assert!(rt; has_in_turn(text, *parts));
+    }
+}
+
+#[test]
+fn carries_each_command_out(rt: HostRuntime) {
+    let files = files();
+    let mut files = MemoryFiles::new(&files);
+    let ran = run(rt.alloc(), &["curator", "list", "m", "s", "2"], &mut files, 32768);
+    assert_eq!(rt; ran.status, 0);
+    assert_eq!(rt; ran.sink.taken(), DAY_2.as_bytes());
+}
+
+#[test]
+fn stops_where_standard_output_fails(rt: HostRuntime) {
+    let files = files();
+    for room in 0..DAY_2.len() {
+        let mut files = MemoryFiles::new(&files);
+        let ran = run(rt.alloc(), &["curator", "list", "m", "s", "2"], &mut files, room);
+        assert_eq!(rt; ran.status, 1);
+        assert_eq!(rt; ran.errors.taken(), "refused 6 Device\n".as_bytes());
+        assert_eq!(rt; ran.sink.taken(), &DAY_2.as_bytes()[..room]);
+    }
+}

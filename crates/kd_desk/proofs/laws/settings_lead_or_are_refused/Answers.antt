@@ -1,5 +1,0 @@
-use Rattle.kd_desk.proofs.Exclusions.{lead_or_refuse}
-use Rattle.kd_desk.proofs.laws.settings_lead_or_are_refused.Goals as goal
-
-pub returns : goal.returns
-returns c = lead_or_refuse

@@ -1,0 +1,5 @@
+pub mod Drawings
+pub mod Alphabets
+pub mod Headings
+pub mod Groups
+pub mod PageOrders

@@ -1,0 +1,8 @@
+use Rattle.kd_pictures.proofs.Drawings.{both}
+unfoldable use Rattle.kd_page.specs.DayPage.{pin_text}
+use Rattle.kd_page.proofs.day_page.draw_pin_steps.Goals as goal
+
+pub returns : goal.returns
+unfolding pin_text
+returns g c =
+    both (both (both c.draw.ensures c.draw_pins_step.ensures) c.draw_lugs_step.ensures) c.draw_letters_step.ensures

@@ -1,0 +1,8 @@
+use Rattle.kd_pictures.proofs.Drawings.{both}
+unfoldable use Rattle.kd_page.specs.PlugSteps.{plug_table}
+use Rattle.kd_page.proofs.plug_steps.draw_plug_table.Goals as goal
+
+pub returns : goal.returns
+unfolding plug_table
+returns g c =
+    both (both c.draw.ensures c.draw_plug_rows.ensures) c.draw-2.ensures

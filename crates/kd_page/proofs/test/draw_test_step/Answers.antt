@@ -1,0 +1,11 @@
+use Rattle.std.proofs.Common.{arith}
+use Rattle.std.proofs.lemmas.Grind.{common_steps}
+use Rattle.kd_pictures.proofs.Drawings.{both, joined}
+unfoldable use Rattle.kd_page.specs.Test.{test_step}
+use Rattle.kd_page.proofs.test.draw_test_step.Goals as goal
+
+pub returns : goal.returns
+unfolding test_step
+returns g c =
+    joined (both (both (both c.draw_full_step.ensures c.draw.ensures) c.draw_test.ensures)
+    c.draw_letters_again.ensures) c.draw_note.ensures (grind (arith, common_steps))

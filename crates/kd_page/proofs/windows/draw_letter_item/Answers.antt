@@ -1,0 +1,8 @@
+use Rattle.std.proofs.Common.{arith}
+use Rattle.std.proofs.lemmas.Grind.{common_steps}
+use Rattle.kd_pictures.proofs.Drawings.{both, joined}
+use Rattle.kd_page.proofs.windows.draw_letter_item.Goals as goal
+
+pub returns : goal.returns
+returns g c =
+    joined (both c.fill.ensures c.draw_boxes.ensures) c.draw.ensures (grind (arith, common_steps))

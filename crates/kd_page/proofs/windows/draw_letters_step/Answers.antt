@@ -1,0 +1,11 @@
+use Rattle.std.proofs.Common.{arith}
+use Rattle.std.proofs.lemmas.Grind.{common_steps}
+use Rattle.kd_pictures.proofs.Drawings.{both, joined}
+unfoldable use Rattle.kd_page.specs.Windows.{letters_step}
+use Rattle.kd_page.proofs.windows.draw_letters_step.Goals as goal
+
+pub returns : goal.returns
+unfolding letters_step
+returns g c =
+    joined (both (both c.draw_full_step.ensures c.draw.ensures) c.draw_letter_boxes.ensures) c.draw-2.ensures (grind
+    (arith, common_steps))

@@ -1,0 +1,12 @@
+pub mod Drawing
+pub mod Head
+pub mod Spots
+pub mod Boxes
+pub mod Steps
+pub mod PlugSteps
+pub mod Windows
+pub mod Pins
+pub mod Drum
+pub mod Test
+pub mod DayPage
+pub mod PageOrder

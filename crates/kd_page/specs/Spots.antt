@@ -1,0 +1,67 @@
+-- Where a setting has its box: a step of the page, a row of the step's table, and a cell of the row.
+use Rattle.std.specs.Prelude.{ℕ, nat_eq, Bool, true, ◌&&◌, List, filter, length, Some, None}
+use Rattle.std.specs.Option.{option_map_or}
+use Rattle.kd_state.specs.declared.setting.Setting.{Setting}
+use Rattle.kd_state.specs.declared.setting.Setting.TheVariants as settings
+use Rattle.kd_page.specs.declared.spots.Spot.{Spot}
+use Rattle.kd_page.specs.declared.spots.Step.{Step}
+use Rattle.kd_page.specs.declared.spots.Step.TheVariants.{Rings, Seats, PlugsOut, PlugsIn, Pins, Lugs, Turns}
+
+-- the place of a step among the steps, from the top
+abbrev pub step_rank : Step → ℕ
+step_rank Rings = 0
+step_rank Seats = 1
+step_rank PlugsOut = 2
+step_rank PlugsIn = 3
+step_rank Pins = 4
+step_rank Lugs = 5
+step_rank Turns = 6
+
+abbrev pub step_of : Setting → Step
+step_of (settings.RingTo wheel letter) = Rings
+step_of (settings.Seat slot wheel) = Seats
+step_of (settings.SeatReflector reflector) = Seats
+step_of (settings.Pull cable letter) = PlugsOut
+step_of (settings.Put cable letter) = PlugsIn
+step_of (settings.PinTo wheel letter effective) = Pins
+step_of (settings.LugTo bar lug place) = Lugs
+step_of (settings.Turn slot letter) = Turns
+
+-- the number of the cable, pin wheel, bar or slot, by which the rows of a step's table go
+abbrev pub row_of : Setting → ℕ
+row_of (settings.RingTo wheel letter) = 0
+row_of (settings.Seat slot wheel) = 0
+row_of (settings.SeatReflector reflector) = 0
+row_of (settings.Pull cable letter) = cable
+row_of (settings.Put cable letter) = cable
+row_of (settings.PinTo wheel letter effective) = wheel
+row_of (settings.LugTo bar lug place) = bar
+row_of (settings.Turn slot letter) = slot
+
+-- the letter of the pin, by which the cells of a pin wheel go
+abbrev pub cell_of : Setting → ℕ
+cell_of (settings.RingTo wheel letter) = 0
+cell_of (settings.Seat slot wheel) = 0
+cell_of (settings.SeatReflector reflector) = 0
+cell_of (settings.Pull cable letter) = 0
+cell_of (settings.Put cable letter) = 0
+cell_of (settings.PinTo wheel letter effective) = letter
+cell_of (settings.LugTo bar lug place) = 0
+cell_of (settings.Turn slot letter) = 0
+
+-- a whole step, and a row of its table
+abbrev pub step_spot : Step → Spot
+step_spot step = record { step = step; row = None; cell = None }
+
+abbrev pub row_spot : Step → ℕ → Spot
+row_spot step row = record { step = step; row = Some row; cell = None }
+
+-- whether the setting has its box at this spot: at this step, and if the spot has a row or a cell, in this row or cell
+abbrev pub is_at : Spot → Setting → Bool
+is_at spot x =
+    nat_eq (step_rank (step_of x)) (step_rank spot.step)
+    && (option_map_or (nat_eq (row_of x)) spot.row true && option_map_or (nat_eq (cell_of x)) spot.cell true)
+
+-- how many of the settings have their boxes at the spot
+abbrev pub count_at : Spot → List Setting → ℕ
+count_at spot settings = length (filter (is_at spot) settings)

@@ -1,0 +1,79 @@
+-- The test of the real machine: given keys, and what the machine makes of them. Then the letters to set again.
+use Rattle.std.specs.Prelude.{codes, decimal, ℕ, ◌+◌, ◌-◌, ◌%◌, ◌==◌, Bool, if◌then◌else◌, List, [], ◌∷◌, ◌++◌}
+use Rattle.std.specs.Prelude.{length}
+use Rattle.std.specs.Prelude.{false, true, replicate, flat_map, Option, Some, None}
+use Rattle.kd_tables.specs.declared.model.Model.{Model}
+use Rattle.kd_tables.specs.Permutation.{alphabet}
+use Rattle.kd_state.specs.declared.machine.parts.Parts.{Parts}
+use Rattle.kd_state.specs.declared.setting.Setting.{Setting}
+use Rattle.kd_state.specs.Machine.{model_of}
+use Rattle.kd_state.specs.TwoCiphers.{physical_cipher}
+use Rattle.kd_card.specs.Proving.{priced_count}
+use Rattle.kd_pictures.specs.declared.numbers.TheConstants.{LATER_WHEELS}
+use Rattle.kd_page.specs.declared.steps.Heading.{Heading}
+use Rattle.kd_pictures.specs.declared.words.Word.{Word}
+use Rattle.kd_pictures.specs.declared.words.Word.TheVariants as words
+use Rattle.kd_pictures.specs.declared.texts.TheConstants as texts
+use Rattle.kd_page.specs.Steps.{full_step_text}
+use Rattle.kd_pictures.specs.Template.{filled, letter_text, ordinal_text}
+use Rattle.kd_page.specs.Windows.{letter_shown}
+use Rattle.kd_pictures.specs.Words.{is_converter}
+
+abbrev pub gap_text : Bool → List ℕ
+gap_text ends_group = if ends_group then codes " " else []
+
+-- the letters in groups of five, after this many letters
+abbrev pub fives_from : ℕ → List ℕ → List ℕ
+fives_from place [] = []
+fives_from place (letter ∷ letters) =
+    letter_text letter ++ gap_text (place % 5 == 4) ++ fives_from (place + 1) letters
+
+-- the keys of the test: the alphabet, or on a Converter 26 times A
+abbrev pub test_keys : Parts → List ℕ
+test_keys m = if is_converter (model_of m) then replicate 26 0 else alphabet
+
+-- the keys in groups of five, and below them what the machine makes of them
+unfoldable pub test_text : Parts → List ℕ
+test_text m =
+    fives_from 0 (test_keys m) ++ texts.TEST_LAMPS.now ++ fives_from 0 (physical_cipher m (test_keys m))
+    ++ texts.TEST_END.now
+
+-- a letter that is to show again, on a rotor machine with its number
+abbrev pub again_text : Bool → ℕ → List ℕ
+again_text has_number letter =
+    if has_number then filled texts.AGAIN_ROTOR.now (letter_text letter ∷ ordinal_text letter ∷ [])
+    else letter_text letter
+
+-- the letter that a slot or a pin wheel shows, if there is one, after a separator
+abbrev pub again_at : List ℕ → Bool → Option ℕ → List ℕ
+again_at separator has_number None = []
+again_at separator has_number (Some letter) = separator ++ again_text has_number letter
+
+-- the letters that the machine shows
+unfoldable pub again_all : List ℕ → Bool → Parts → List ℕ
+again_all separator has_number m =
+    again_at [] has_number (letter_shown m 1)
+    ++ flat_map (λ number. again_at separator has_number (letter_shown m number)) LATER_WHEELS
+
+abbrev pub letters_again : Parts → List ℕ
+letters_again m = if is_converter (model_of m) then again_all (codes " ") false m else again_all (codes ", ") true m
+
+-- the numbers of settings; those for cables and bars are as many as the sum of a shortest card's prices
+abbrev pub note_text : Model → List Setting → List ℕ
+note_text model settings =
+    let priced = priced_count settings in
+    filled (if is_converter model then texts.NOTE_PIN.now else texts.NOTE_ROTOR.now)
+    (decimal (length settings - priced) ∷ decimal priced ∷ decimal (length settings) ∷ [])
+
+-- the title of the test, and what to do
+abbrev pub test_title : Model → Word
+test_title model = if is_converter model then words.PrintTest else words.LampTest
+
+abbrev pub test_words : Model → List ℕ
+test_words model = if is_converter model then texts.TEST_PIN.now else texts.TEST_ROTOR.now
+
+-- the step of the test
+unfoldable pub test_step : Heading → Parts → List Setting → List ℕ
+test_step heading m settings =
+    full_step_text heading (test_title heading.model) 0 ++ test_words heading.model ++ test_text m ++ letters_again m
+    ++ note_text heading.model settings

@@ -1,0 +1,53 @@
+-- The letters to set last: all windows of a rotor machine, or all pin wheels, have a box.
+use Rattle.std.specs.Prelude.{decimal, ℕ, List, [], ◌∷◌, ◌++◌, flat_map, Option, Some, None, option_and_then}
+use Rattle.std.specs.Option.{option_or}
+use Rattle.kd_state.specs.declared.machine.parts.Parts.{Parts}
+use Rattle.kd_state.specs.declared.setting.Setting.{Setting}
+use Rattle.kd_state.specs.Machine.{machine_letter, machine_pin_letter, machine_slot}
+use Rattle.kd_pictures.specs.declared.numbers.TheConstants.{PIN_WHEELS, SLOTS}
+use Rattle.kd_page.specs.declared.spots.Step.TheVariants.{Turns}
+use Rattle.kd_page.specs.declared.steps.Heading.{Heading}
+use Rattle.kd_pictures.specs.declared.words.Word.TheVariants as words
+use Rattle.kd_pictures.specs.declared.texts.TheConstants as texts
+use Rattle.kd_page.specs.Boxes.{boxes_at}
+use Rattle.kd_page.specs.Spots.{count_at, row_spot, step_spot}
+use Rattle.kd_page.specs.Steps.{full_step_text}
+use Rattle.kd_pictures.specs.Template.{filled, letter_text, ordinal_text}
+
+-- the letter of the wheel in a slot; `None` if the slot is empty, or the machine lacks the slot
+abbrev pub letter_in_slot : Parts → ℕ → Option ℕ
+letter_in_slot m slot =
+    option_and_then (λ seated. option_and_then (machine_letter m) seated) (machine_slot m slot)
+
+-- the letter that a slot's window or a pin wheel shows
+abbrev pub letter_shown : Parts → ℕ → Option ℕ
+letter_shown m number = option_or (letter_in_slot m number) (machine_pin_letter m number)
+
+-- the box of a window; it has the setting's line, if there is a setting
+abbrev pub window_item : Parts → List Setting → ℕ → ℕ → List ℕ
+window_item m settings slot letter =
+    filled texts.WINDOW_BOX.now (decimal slot ∷ letter_text letter ∷ ordinal_text letter ∷ [])
+    ++ boxes_at m (row_spot Turns slot) settings ++ texts.WINDOW_BOX_END.now
+
+abbrev pub window_box : Parts → List Setting → ℕ → Option ℕ → List ℕ
+window_box m settings slot None = []
+window_box m settings slot (Some letter) = window_item m settings slot letter
+
+unfoldable pub windows_step : Heading → Parts → Parts → List Setting → List ℕ
+windows_step heading m n settings =
+    full_step_text heading words.Windows (count_at (step_spot Turns) settings) ++ texts.WINDOWS.now
+    ++ flat_map (λ slot. window_box m settings slot (letter_in_slot n slot)) SLOTS ++ texts.LIST_END.now
+
+abbrev pub letter_item : Parts → List Setting → ℕ → ℕ → List ℕ
+letter_item m settings wheel letter =
+    filled texts.LETTER_BOX.now (letter_text letter ∷ [])
+    ++ boxes_at m (row_spot Turns wheel) settings ++ texts.LETTER_BOX_END.now
+
+abbrev pub letter_box : Parts → List Setting → ℕ → Option ℕ → List ℕ
+letter_box m settings wheel None = []
+letter_box m settings wheel (Some letter) = letter_item m settings wheel letter
+
+unfoldable pub letters_step : Heading → Parts → Parts → List Setting → List ℕ
+letters_step heading m n settings =
+    full_step_text heading words.Letters (count_at (step_spot Turns) settings) ++ texts.LETTERS.now
+    ++ flat_map (λ wheel. letter_box m settings wheel (machine_pin_letter n wheel)) PIN_WHEELS ++ texts.LETTERS_END.now

@@ -1,0 +1,136 @@
+//! The boxes to tick: for each setting the words for the hand, and the setting's line.
+ghost use Rattle.std.specs.Prelude.{◌≡◌, flat_map};
+ghost use Rattle.kd_state.specs.declared.setting.Setting.TheVariants.{Seat};
+ghost use Rattle.kd_pictures.specs.Drawing.{Draws};
+ghost use Rattle.kd_page.specs.Boxes.{box_at, box_text, boxes_at, lug_template, seat_text, slot_holding, slot_name};
+ghost use Rattle.kd_pictures.specs.declared.numbers.TheConstants.{SLOTS as ALL_SLOTS};
+
+use crate::spots::{Spot, is_at};
+use kd_pictures::draw;
+use kd_pictures::numbers::SLOTS;
+use kd_pictures::template::{Value, fill};
+use kd_pictures::texts::{
+    LUG_LEFT, LUG_RIGHT, PIN_OFF, PIN_ON, PLUG, REFLECTOR, RING, SEAT, SEAT_FROM, TURN,
+};
+use kd_pictures::wheels::is_seated;
+use kd_pictures::words::Word;
+use kd_state::{Machine, Setting};
+use kd_tables::{Lug, Model, Sink, Wheel};
+
+/// Writes the boxes of those of `settings` that have them at `spot`. `before` is the machine before all settings.
+pub(crate) fn draw_boxes<W: Sink>(sink: &mut W, before: &Machine, spot: &Spot, settings: &[Setting])
+    ensures { Draws W.taken W.has_failed sink.old sink.new
+        (boxes_at before.now spot.now settings.now) }
+{
+    if let [setting, rest @ ..] = settings {
+        draw_box_at(sink, before, spot, setting);
+        draw_boxes(sink, before, spot, rest);
+    }
+}
+
+/// Writes the box of `setting`, if it is at `spot`.
+fn draw_box_at<W: Sink>(sink: &mut W, before: &Machine, spot: &Spot, setting: &Setting)
+    ensures { Draws W.taken W.has_failed sink.old sink.new
+        (box_at before.now spot.now setting.now) }
+{
+    if is_at(spot, setting) {
+        draw_box(sink, before, setting);
+    } else {
+        draw(sink, "");
+    }
+}
+
+fn draw_box<W: Sink>(sink: &mut W, before: &Machine, setting: &Setting)
+    ensures { Draws W.taken W.has_failed sink.old sink.new (box_text before.now setting.now) }
+{
+    let line = Value::Line(*setting);
+    match *setting {
+        Setting::Pull { letter, .. } | Setting::Put { letter, .. } => {
+            fill(sink, PLUG, &[Value::Letter(letter), line])
+        }
+        Setting::Seat { slot, wheel } => draw_seat(sink, before, slot, wheel),
+        Setting::SeatReflector { reflector } => {
+            fill(sink, REFLECTOR, &[Value::Reflector(reflector), line])
+        }
+        Setting::RingTo { wheel, letter } => fill(
+            sink,
+            RING,
+            &[
+                Value::Wheel(wheel),
+                Value::Letter(letter),
+                Value::Ordinal(letter),
+                line,
+            ],
+        ),
+        Setting::Turn { .. } => fill(sink, TURN, &[line]),
+        Setting::PinTo {
+            letter,
+            effective,
+            ..
+        } => fill(
+            sink,
+            if effective { PIN_ON } else { PIN_OFF },
+            &[Value::Letter(letter)],
+        ),
+        Setting::LugTo { lug, place, .. } => {
+            fill(sink, lug_template(lug), &[Value::Place(place), line])
+        }
+    }
+}
+
+/// Writes the box of a wheel to be put into a slot. If another slot holds the wheel before, it says so.
+fn draw_seat<W: Sink>(sink: &mut W, before: &Machine, slot: u8, wheel: Wheel)
+    ensures { Draws W.taken W.has_failed sink.old sink.new
+        (seat_text before.now (Seat slot wheel) slot wheel
+        (slot_holding before.now wheel ALL_SLOTS)) }
+{
+    let name = Value::Word(slot_name(before.model(), slot));
+    let line = Value::Line(Setting::Seat { slot, wheel });
+    let number = Value::Number(u16::from(slot));
+    match slot_holding(before, wheel, &SLOTS) {
+        None => fill(sink, SEAT, &[number, name, Value::Wheel(wheel), line]),
+        Some(old) => fill(
+            sink,
+            SEAT_FROM,
+            &[
+                number,
+                name,
+                Value::Wheel(wheel),
+                Value::Number(u16::from(old)),
+                line,
+            ],
+        ),
+    }
+}
+
+/// The name of a slot: right, middle, left, and on the M4 Greek.
+fn slot_name(model: Model, slot: u8) -> Word
+    ensures { result ≡ slot_name model slot }
+{
+    match model.slots().saturating_sub(slot) {
+        0 => Word::Right,
+        1 => Word::Middle,
+        2 => Word::Left,
+        _ => Word::Greek,
+    }
+}
+
+/// Which of `slots` holds the wheel; `None` if the wheel is in the box.
+fn slot_holding(machine: &Machine, wheel: Wheel, slots: &[u8]) -> Option<u8>
+    ensures { result ≡ slot_holding machine.now wheel slots.now }
+{
+    match slots {
+        [slot, ..] if is_seated(machine, *slot, wheel) => Some(*slot),
+        [_, rest @ ..] => slot_holding(machine, wheel, rest),
+        [] => None,
+    }
+}
+
+fn lug_template(lug: Lug) -> &'static str
+    ensures { result.now ≡ lug_template lug }
+{
+    match lug {
+        Lug::Left => LUG_LEFT,
+        Lug::Right => LUG_RIGHT,
+    }
+}

@@ -1,0 +1,167 @@
+//! The table of a Converter's bars: the lugs that stay, leave and come.
+ghost use Rattle.std.specs.Prelude.{◌≡◌, ◌≤◌, ◌++◌, flat_map, length};
+ghost use Rattle.kd_tables.specs.Places.{places};
+ghost use Rattle.kd_state.specs.Machine.{machine_standing};
+ghost use Rattle.kd_pictures.specs.Drawing.{Draws};
+ghost use Rattle.kd_page.specs.Drum.{bar_item, bar_end, bar_head, bar_row, cell_mark, has_lug, is_same_standing};
+ghost use Rattle.kd_page.specs.Drum.{lug_cell, lugs_step};
+
+use crate::boxes::draw_boxes;
+use crate::spots::{Step, count_at};
+use crate::steps::{Heading, draw_step};
+use kd_pictures::draw;
+use kd_pictures::numbers::BARS;
+use kd_pictures::template::{Value, fill};
+use kd_pictures::texts::{
+    BAR, BOXES, COMES, DRUM, DRUM_END, LEAVES, NO_BOXES, NO_LUG, ONE_BOX, SET_BAR, STAYS_HERE,
+};
+use kd_pictures::words::Word;
+use kd_state::{Machine, Setting};
+use kd_tables::{Place, Sink, Standing};
+
+/// Writes the step of the lugs.
+pub(crate) fn draw_lugs_step<W: Sink>(
+    sink: &mut W,
+    heading: Heading,
+    before: &Machine,
+    after: &Machine,
+    settings: &[Setting],
+)
+    requires { length settings.now ≤ 192 }
+    ensures { Draws W.taken W.has_failed sink.old sink.new
+        (lugs_step heading before.now after.now settings.now) }
+{
+    draw_step(
+        sink,
+        heading,
+        Word::Lugs,
+        count_at(&Step::Lugs.spot(), settings),
+    );
+    draw(sink, DRUM);
+    draw_bars(sink, before, after, settings, &BARS);
+    draw(sink, DRUM_END);
+}
+
+fn draw_bars<W: Sink>(
+    sink: &mut W,
+    before: &Machine,
+    after: &Machine,
+    settings: &[Setting],
+    bars: &[u8],
+)
+    requires { length settings.now ≤ 192 }
+    ensures { Draws W.taken W.has_failed sink.old sink.new
+        (flat_map (λ bar. bar_row before.now settings.now bar
+        (machine_standing before.now bar) (machine_standing after.now bar))
+        bars.now) }
+{
+    if let [bar, rest @ ..] = bars {
+        let was = before.standing(*bar);
+        draw_bar(sink, before, settings, *bar, was, after.standing(*bar));
+        draw_bars(sink, before, after, settings, rest);
+    }
+}
+
+/// Writes the row of a bar with its standing before and after.
+fn draw_bar<W: Sink>(
+    sink: &mut W,
+    before: &Machine,
+    settings: &[Setting],
+    bar: u8,
+    was: Option<Standing>,
+    is: Option<Standing>,
+)
+    requires { length settings.now ≤ 192 }
+    ensures { Draws W.taken W.has_failed sink.old sink.new
+        (bar_row before.now settings.now bar was is) }
+{
+    match (was, is) {
+        (Some(was), Some(is)) => draw_bar_item(sink, before, settings, bar, was, is),
+        _ => draw(sink, ""),
+    }
+}
+
+fn draw_bar_item<W: Sink>(
+    sink: &mut W,
+    before: &Machine,
+    settings: &[Setting],
+    bar: u8,
+    was: Standing,
+    is: Standing,
+)
+    requires { length settings.now ≤ 192 }
+    ensures { Draws W.taken W.has_failed sink.old sink.new
+        (bar_item before.now settings.now bar was is) }
+{
+    let spot = Step::Lugs.row(bar);
+    draw_bar_head(sink, bar, was, is);
+    draw_cells(sink, was, is, &Place::all());
+    draw_boxes(sink, before, &spot, settings);
+    draw(sink, bar_end(count_at(&spot, settings)));
+}
+
+fn draw_bar_head<W: Sink>(sink: &mut W, bar: u8, was: Standing, is: Standing)
+    ensures { Draws W.taken W.has_failed sink.old sink.new (bar_head bar was is) }
+{
+    fill(
+        sink,
+        if is_same_standing(was, is) {
+            BAR
+        } else {
+            SET_BAR
+        },
+        &[Value::Number(u16::from(bar))],
+    );
+}
+
+fn is_same_standing(was: Standing, is: Standing) -> bool
+    ensures { result ≡ is_same_standing was is }
+{
+    was.left() == is.left() && was.right() == is.right()
+}
+
+/// The end of a row with this many boxes, which has two cells for them.
+fn bar_end(count: u8) -> &'static str
+    ensures { result.now ≡ bar_end count }
+{
+    match count {
+        0 => NO_BOXES,
+        1 => ONE_BOX,
+        _ => BOXES,
+    }
+}
+
+/// Writes a cell for each of `places` of a bar.
+fn draw_cells<W: Sink>(sink: &mut W, was: Standing, is: Standing, places: &[Place])
+    ensures { Draws W.taken W.has_failed sink.old sink.new
+        (flat_map (lug_cell was is) places.now) }
+{
+    if let [place, rest @ ..] = places {
+        draw_cell(sink, was, is, *place);
+        draw_cells(sink, was, is, rest);
+    }
+}
+
+#[tactic(auto, unfolding(crate::specs::Drum::lug_cell))]
+fn draw_cell<W: Sink>(sink: &mut W, was: Standing, is: Standing, place: Place)
+    ensures { Draws W.taken W.has_failed sink.old sink.new (lug_cell was is place) }
+{
+    draw(sink, cell_mark(has_lug(was, place), has_lug(is, place)));
+}
+
+fn cell_mark(was_here: bool, is_here: bool) -> &'static str
+    ensures { result.now ≡ cell_mark was_here is_here }
+{
+    match (was_here, is_here) {
+        (true, true) => STAYS_HERE,
+        (true, false) => LEAVES,
+        (false, true) => COMES,
+        (false, false) => NO_LUG,
+    }
+}
+
+fn has_lug(standing: Standing, place: Place) -> bool
+    ensures { result ≡ has_lug standing place }
+{
+    standing.left() == place || standing.right() == place
+}

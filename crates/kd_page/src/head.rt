@@ -1,0 +1,106 @@
+//! The head and the foot of a file with the pages of one or more days.
+ghost use Rattle.std.specs.Prelude.{◌≡◌, ◌∷◌, ◌++◌, flat_map};
+ghost use Rattle.kd_pictures.specs.Drawing.{Draws};
+ghost use Rattle.kd_page.specs.Head.{head_text, last_of, list_of_days, listed_text, nav_text, title_text};
+ghost use Rattle.kd_pictures.specs.declared.texts.TheConstants.{FOOT as FOOT_TEXT};
+
+use kd_pictures::draw;
+use kd_pictures::template::{Value, fill};
+use kd_pictures::texts::{FOOT, HEAD, NAV, NAV_DAY, NAV_END, STYLE, TITLE_DAY, TITLE_DAYS};
+use kd_tables::{Model, Sink};
+
+/// A day in the list of days, with its number of settings.
+#[derive(Clone, Copy, Default)]
+pub struct ListedDay {
+    pub day: u8,
+    pub settings: u8,
+}
+
+/// Writes the head of a file with the page of the day `first`, and the pages of the days `others` after it.
+pub fn draw_head<W: Sink>(sink: &mut W, model: Model, first: ListedDay, others: &[ListedDay])
+    ensures { Draws W.taken W.has_failed sink.old sink.new (head_text model first others.now) }
+{
+    draw(sink, HEAD);
+    draw_title(sink, model, first, others);
+    draw(sink, STYLE);
+    draw_nav(sink, first, others);
+}
+
+/// Writes the end of the file.
+pub fn draw_foot<W: Sink>(sink: &mut W)
+    ensures { Draws W.taken W.has_failed sink.old sink.new FOOT_TEXT.now }
+{
+    draw(sink, FOOT);
+}
+
+fn draw_title<W: Sink>(sink: &mut W, model: Model, first: ListedDay, others: &[ListedDay])
+    ensures { Draws W.taken W.has_failed sink.old sink.new (title_text model first others.now) }
+{
+    let name = Value::Model(model);
+    let first = Value::Number(u16::from(first.day));
+    if let [next, rest @ ..] = others {
+        let last = last_of(*next, rest);
+        fill(
+            sink,
+            TITLE_DAYS,
+            &[name, first, Value::Number(u16::from(last.day))],
+        );
+    } else {
+        fill(sink, TITLE_DAY, &[name, first]);
+    }
+}
+
+/// The last of these days, of which the first is `day`.
+fn last_of(day: ListedDay, others: &[ListedDay]) -> ListedDay
+    ensures { result ≡ last_of day others.now }
+{
+    match others {
+        [next, rest @ ..] => last_of(*next, rest),
+        [] => day,
+    }
+}
+
+/// Writes the list of the days, if there are several.
+fn draw_nav<W: Sink>(sink: &mut W, first: ListedDay, others: &[ListedDay])
+    ensures { Draws W.taken W.has_failed sink.old sink.new (nav_text first others.now) }
+{
+    if let [_, ..] = others {
+        draw_list_of_days(sink, first, others);
+    } else {
+        draw(sink, "");
+    }
+}
+
+fn draw_list_of_days<W: Sink>(sink: &mut W, first: ListedDay, others: &[ListedDay])
+    ensures { Draws W.taken W.has_failed sink.old sink.new (list_of_days first others.now) }
+{
+    draw(sink, NAV);
+    draw_listed(sink, first);
+    draw_all_listed(sink, others);
+    draw(sink, NAV_END);
+}
+
+fn draw_all_listed<W: Sink>(sink: &mut W, days: &[ListedDay])
+    ensures { Draws W.taken W.has_failed sink.old sink.new (flat_map listed_text days.now) }
+{
+    if let [day, rest @ ..] = days {
+        draw_listed(sink, *day);
+        draw_all_listed(sink, rest);
+    }
+}
+
+#[tactic(auto, unfolding(crate::specs::Head::listed_text))]
+fn draw_listed<W: Sink>(sink: &mut W, day: ListedDay)
+    ensures { Draws W.taken W.has_failed sink.old sink.new (listed_text day) }
+{
+    let number = Value::Number(u16::from(day.day));
+    fill(
+        sink,
+        NAV_DAY,
+        &[
+            number,
+            Value::Number(u16::from(day.day)),
+            Value::Count(day.settings),
+        ],
+    );
+}

@@ -1,0 +1,19 @@
+//! The page of a day, to hang beside a machine: the settings in an order for the hand, pictures, and a test.
+#![tactic(auto)]
+
+mod boxes;
+mod day_page;
+mod drum;
+mod head;
+pub mod laws;
+mod pins;
+mod plug_steps;
+mod spots;
+mod steps;
+mod test;
+mod windows;
+
+pub use day_page::draw_day;
+pub use head::{ListedDay, draw_foot, draw_head};
+pub use kd_pictures::draw;
+pub use spots::{Spot, Step};

@@ -1,0 +1,228 @@
+//! The test of the real machine: which lamps light up, or which letters are printed, for given keys.
+ghost use Rattle.std.specs.Prelude.{◌≡◌, ◌+◌, ◌%◌, ◌<◌, ◌≤◌, ◌==◌, ◌++◌, flat_map, length};
+ghost use Rattle.kd_state.specs.TwoCiphers.{IsReady, physical_cipher};
+ghost use Rattle.kd_card.specs.Proving.{is_priced_setting, priced_count};
+ghost use Rattle.kd_pictures.specs.Drawing.{Draws};
+ghost use Rattle.kd_page.specs.Test.{again_all, again_at, again_text, fives_from, gap_text, letters_again, note_text};
+ghost use Rattle.kd_page.specs.Test.{test_keys, test_step, test_text, test_title, test_words};
+ghost use Rattle.kd_page.specs.Windows.{letter_shown};
+
+use crate::pins::alphabet;
+use crate::steps::{Heading, draw_full_step};
+use crate::windows::letter_shown;
+use kd_pictures::draw;
+use kd_pictures::numbers::LATER_WHEELS;
+use kd_pictures::template::{Value, draw_letter, fill};
+use kd_pictures::texts::{
+    AGAIN_ROTOR, NOTE_PIN, NOTE_ROTOR, TEST_END, TEST_LAMPS, TEST_PIN, TEST_ROTOR,
+};
+use kd_pictures::words::{Word, is_converter};
+use kd_state::{Machine, Setting};
+use kd_tables::{Letter, Model, Sink};
+
+/// Writes the step of the test of `machine`, to which `settings` lead.
+pub(crate) fn draw_test_step<W: Sink>(
+    sink: &mut W,
+    heading: Heading,
+    machine: &Machine,
+    settings: &[Setting],
+)
+    requires ready { IsReady machine.now }
+    requires few { length settings.now ≤ 192 }
+    ensures { Draws W.taken W.has_failed sink.old sink.new
+        (test_step heading machine.now settings.now) }
+{
+    draw_full_step(sink, heading, test_title(heading.model), 0);
+    draw(sink, test_words(heading.model));
+    draw_test(sink, machine);
+    draw_letters_again(sink, machine);
+    draw_note(sink, heading.model, settings);
+}
+
+fn test_title(model: Model) -> Word
+    ensures { result ≡ test_title model }
+{
+    if is_converter(model) {
+        Word::PrintTest
+    } else {
+        Word::LampTest
+    }
+}
+
+/// What to do to test the machine.
+fn test_words(model: Model) -> &'static str
+    ensures { result.now ≡ test_words model }
+{
+    if is_converter(model) {
+        TEST_PIN
+    } else {
+        TEST_ROTOR
+    }
+}
+
+/// Writes the keys, and what the machine makes of them.
+fn draw_test<W: Sink>(sink: &mut W, machine: &Machine)
+    requires { IsReady machine.now }
+    ensures { Draws W.taken W.has_failed sink.old sink.new (test_text machine.now) }
+{
+    let keys = test_keys(machine);
+    draw_fives(sink, 0, &keys);
+    draw(sink, TEST_LAMPS);
+    draw_fives(sink, 0, &enciphered(machine, keys));
+    draw(sink, TEST_END);
+}
+
+/// The alphabet, or on a Converter 26 times A.
+fn test_keys(machine: &Machine) -> [Letter; 26]
+    ensures { result ≡ test_keys machine.now }
+{
+    if is_converter(machine.model()) {
+        [Letter::A; 26]
+    } else {
+        alphabet()
+    }
+}
+
+/// What the machine makes of these keys.
+#[tactic(auto, using(kd_state::proofs::Keys::engine_cipher))]
+fn enciphered(machine: &Machine, keys: [Letter; 26]) -> [Letter; 26]
+    requires { IsReady machine.now }
+    ensures { result ≡ physical_cipher machine.now keys }
+{
+    let mut engine = machine.engine().unwrap();
+    let mut text = keys;
+    engine.run(&mut text);
+    text
+}
+
+/// Writes letters in groups of five. `place` letters were written before them.
+fn draw_fives<W: Sink>(sink: &mut W, place: u8, letters: &[Letter])
+    requires { place + length letters.now < 200 }
+    ensures { Draws W.taken W.has_failed sink.old sink.new (fives_from place letters.now) }
+{
+    if let [letter, rest @ ..] = letters {
+        draw_letter(sink, *letter);
+        draw_gap(sink, place % 5 == 4);
+        draw_fives(sink, place + 1, rest);
+    }
+}
+
+fn draw_gap<W: Sink>(sink: &mut W, ends_group: bool)
+    ensures { Draws W.taken W.has_failed sink.old sink.new (gap_text ends_group) }
+{
+    if ends_group {
+        draw(sink, " ");
+    } else {
+        draw(sink, "");
+    }
+}
+
+/// Writes the letters that the machine shows.
+fn draw_letters_again<W: Sink>(sink: &mut W, machine: &Machine)
+    ensures { Draws W.taken W.has_failed sink.old sink.new (letters_again machine.now) }
+{
+    if is_converter(machine.model()) {
+        draw_again_all(sink, " ", false, machine);
+    } else {
+        draw_again_all(sink, ", ", true, machine);
+    }
+}
+
+fn draw_again_all<W: Sink>(sink: &mut W, separator: &str, has_number: bool, machine: &Machine)
+    ensures { Draws W.taken W.has_failed sink.old sink.new
+        (again_all separator.now has_number machine.now) }
+{
+    draw_again_at(sink, "", has_number, letter_shown(machine, 1));
+    draw_again_from(sink, separator, has_number, machine, &LATER_WHEELS);
+}
+
+/// Writes the letters that these slots or pin wheels show, each after `separator`.
+fn draw_again_from<W: Sink>(
+    sink: &mut W,
+    separator: &str,
+    has_number: bool,
+    machine: &Machine,
+    numbers: &[u8],
+)
+    ensures { Draws W.taken W.has_failed sink.old sink.new
+        (flat_map (λ number. again_at separator.now has_number (letter_shown machine.now number))
+        numbers.now) }
+{
+    if let [number, rest @ ..] = numbers {
+        draw_again_at(sink, separator, has_number, letter_shown(machine, *number));
+        draw_again_from(sink, separator, has_number, machine, rest);
+    }
+}
+
+fn draw_again_at<W: Sink>(sink: &mut W, separator: &str, has_number: bool, shown: Option<Letter>)
+    ensures { Draws W.taken W.has_failed sink.old sink.new
+        (again_at separator.now has_number shown) }
+{
+    match shown {
+        None => draw(sink, ""),
+        Some(letter) => draw_separated(sink, separator, has_number, letter),
+    }
+}
+
+fn draw_separated<W: Sink>(sink: &mut W, separator: &str, has_number: bool, letter: Letter)
+    ensures { Draws W.taken W.has_failed sink.old sink.new
+        (separator.now ++ again_text has_number letter) }
+{
+    draw(sink, separator);
+    draw_again(sink, has_number, letter);
+}
+
+/// Writes a letter, on a rotor machine with its number.
+fn draw_again<W: Sink>(sink: &mut W, has_number: bool, letter: Letter)
+    ensures { Draws W.taken W.has_failed sink.old sink.new (again_text has_number letter) }
+{
+    if has_number {
+        fill(
+            sink,
+            AGAIN_ROTOR,
+            &[Value::Letter(letter), Value::Ordinal(letter)],
+        );
+    } else {
+        draw_letter(sink, letter);
+    }
+}
+
+/// Writes the numbers of settings.
+fn draw_note<W: Sink>(sink: &mut W, model: Model, settings: &[Setting])
+    requires { length settings.now ≤ 192 }
+    ensures { Draws W.taken W.has_failed sink.old sink.new (note_text model settings.now) }
+{
+    let priced = priced_count(settings);
+    let all = settings.len() as u16;
+    fill(
+        sink,
+        if is_converter(model) {
+            NOTE_PIN
+        } else {
+            NOTE_ROTOR
+        },
+        &[
+            Value::Number(all - priced),
+            Value::Number(priced),
+            Value::Number(all),
+        ],
+    );
+}
+
+/// How many of `settings` change a cable or a bar.
+fn priced_count(settings: &[Setting]) -> u16
+    requires { length settings.now ≤ 192 }
+    ensures value { result ≡ priced_count settings.now }
+    ensures few { result ≤ length settings.now }
+{
+    settings.iter().filter(|x| is_priced(x)).count() as u16
+}
+
+fn is_priced(setting: &Setting) -> bool
+    ensures { result ≡ is_priced_setting setting.now }
+{
+    matches!(
+        setting,
+        Setting::Pull { .. } | Setting::Put { .. } | Setting::LugTo { .. }
+    )
+}

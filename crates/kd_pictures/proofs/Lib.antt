@@ -1,0 +1,5 @@
+pub mod Drawings
+pub mod Templates
+pub mod PlainValues
+pub mod SocketTables
+pub mod LinesApart

@@ -1,0 +1,121 @@
+-- The values of a page have no markup.
+use Rattle.std.proofs.Common.{◌≡◌, ℕ, ◌+◌, ◌<◌, ◌^◌, Bool, true, ◌&&◌, List, [], ◌∷◌, ◌++◌, arith, refl, ap₂, ◌∙◌}
+use Rattle.std.specs.List.{list_all}
+use Rattle.std.specs.Fmt.{decimal}
+use Rattle.std.proofs.lemmas.Fmt.{digits_decimal}
+use Rattle.std.proofs.lemmas.Grind.{common_steps}
+use Rattle.std.proofs.lemmas.List.Elements.{All-from_get_or}
+use Rattle.std.proofs.lemmas.List.Folds.{list_all-append}
+use Rattle.std.proofs.lemmas.List.Sums.{list_all-from_AllPass}
+use Rattle.kd_tables.specs.declared.lug.Lug.{Lug}
+use Rattle.kd_tables.specs.declared.lug.Lug.TheVariants as lugs
+use Rattle.kd_tables.specs.declared.model.Model.{Model}
+use Rattle.kd_tables.specs.declared.model.Model.TheVariants.{EnigmaI}
+use Rattle.kd_tables.specs.declared.place.Place.{Place}
+use Rattle.kd_tables.specs.declared.place.Place.TheVariants.{One}
+use Rattle.kd_tables.specs.declared.reflector.Reflector.{Reflector}
+use Rattle.kd_tables.specs.declared.reflector.Reflector.TheVariants as reflectors
+use Rattle.kd_tables.specs.declared.wheel.Wheel.{Wheel}
+use Rattle.kd_tables.specs.declared.wheel.Wheel.TheVariants.{I}
+use Rattle.kd_tables.specs.{Places.{lug_text, place_text}, Tables.{reflector_text, wheel_text}}
+use Rattle.kd_state.specs.Line.{IsSettingInRange, on_off_text, setting_line, setting_words}
+use Rattle.kd_state.specs.LineWords.{line_of}
+use Rattle.kd_state.specs.declared.setting.Setting.{Setting}
+use Rattle.kd_state.specs.declared.setting.Setting.TheVariants as settings
+use Rattle.kd_state.proofs.Lines.{IsNumeralModel-digits}
+use Rattle.kd_pictures.specs.declared.template.Value.TheVariants as values
+use Rattle.kd_pictures.specs.declared.words.Word.{Word}
+use Rattle.kd_pictures.specs.declared.words.Word.TheVariants.{Rings}
+use Rattle.kd_pictures.specs.Plain.{ValuesArePlain, is_plain}
+use Rattle.kd_pictures.specs.Template.{count_text, letter_text, ordinal_text}
+use Rattle.kd_pictures.specs.Words.{model_name, word_text}
+
+abbrev ArePlain : List ℕ → Type 0
+ArePlain text = list_all is_plain text ≡ true
+
+plain_both : (a b : List ℕ) → ArePlain a → ArePlain b → ArePlain (a ++ b)
+plain_both a b one two = list_all-append is_plain a b ∙ ap₂ (λ x y. x && y) one two
+
+plain_decimal : (number : ℕ) → number < 2 ^ 64 → ArePlain (decimal number)
+plain_decimal number small =
+    let digits = digits_decimal IsNumeralModel-digits number small in
+    list_all-from_AllPass is_plain (decimal number)
+    (All-from_get_or (λ byte. is_plain byte ≡ true) (decimal number) 0 (λ i within. grind (arith, digits i within)))
+
+plain_letter : (letter : ℕ) → ArePlain (letter_text letter)
+plain_letter letter = grind arith
+
+plain_wheel : (wheel : Wheel) → ArePlain (wheel_text wheel)
+plain_wheel I = refl
+plain_wheel _ = refl
+
+plain_reflector : (reflector : Reflector) → ArePlain (reflector_text reflector)
+plain_reflector reflectors.A = refl
+plain_reflector _ = refl
+
+plain_place : (place : Place) → ArePlain (place_text place)
+plain_place One = refl
+plain_place _ = refl
+
+plain_lug : (lug : Lug) → ArePlain (lug_text lug)
+plain_lug lugs.Left = refl
+plain_lug _ = refl
+
+plain_model : (model : Model) → ArePlain (model_name model)
+plain_model EnigmaI = refl
+plain_model _ = refl
+
+plain_word : (word : Word) → ArePlain (word_text word)
+plain_word Rings = refl
+plain_word _ = refl
+
+plain_on_off : (effective : Bool) → ArePlain (on_off_text effective)
+plain_on_off true = refl
+plain_on_off _ = refl
+
+abbrev AllArePlain : List (List ℕ) → Type 0
+AllArePlain [] = Unit {0}
+AllArePlain (word ∷ words) = ArePlain word × AllArePlain words
+
+-- Plain words make a plain line.
+plain_words : (words : List (List ℕ)) → AllArePlain words → ArePlain (line_of words)
+plain_words [] all = refl
+plain_words (word ∷ []) all = all.0
+plain_words (word ∷ next ∷ words) all =
+    plain_both word (32 ∷ line_of (next ∷ words)) all.0 (plain_words (next ∷ words) all.1)
+
+plain_byte : (number : ℕ) → number < 2 ^ 8 → ArePlain (decimal number)
+plain_byte number small = plain_decimal number (omega (arith, small))
+
+words_are_plain : (x : Setting) → IsSettingInRange x → AllArePlain (setting_words x)
+words_are_plain (settings.Pull cable letter) small = (refl, (plain_byte cable small.0, (plain_letter letter, tt)))
+words_are_plain (settings.Put cable letter) small = (refl, (plain_byte cable small.0, (plain_letter letter, tt)))
+words_are_plain (settings.Seat slot wheel) small = (refl, (plain_byte slot small, (plain_wheel wheel, tt)))
+words_are_plain (settings.SeatReflector reflector) small = (refl, (plain_reflector reflector, tt))
+words_are_plain (settings.RingTo wheel letter) small = (refl, (plain_wheel wheel, (plain_letter letter, tt)))
+words_are_plain (settings.Turn slot letter) small = (refl, (plain_byte slot small.0, (plain_letter letter, tt)))
+words_are_plain (settings.PinTo wheel letter effective) small =
+    (refl, (plain_byte wheel small.0, (plain_letter letter, (plain_on_off effective, tt))))
+words_are_plain (settings.LugTo bar lug place) small =
+    (refl, (plain_byte bar small, (plain_lug lug, (plain_place place, tt))))
+
+plain_line : (x : Setting) → IsSettingInRange x → ArePlain (setting_line x)
+plain_line x small = plain_words (setting_words x) (words_are_plain x small)
+
+plain_ordinal : (letter : ℕ) → letter < 26 → ArePlain (ordinal_text letter)
+plain_ordinal letter small = grind (arith, common_steps, list_all-append, plain_decimal (letter + 1) (omega arith))
+
+plain_count : (number : ℕ) → number < 2 ^ 64 → ArePlain (count_text number)
+plain_count number small = grind (arith, common_steps, list_all-append, plain_decimal number small)
+
+pub values_are_plain : ValuesArePlain
+values_are_plain (values.Number number) small = plain_decimal number small
+values_are_plain (values.Letter letter) small = plain_letter letter
+values_are_plain (values.Ordinal letter) small = plain_ordinal letter small
+values_are_plain (values.Wheel wheel) small = plain_wheel wheel
+values_are_plain (values.Reflector reflector) small = plain_reflector reflector
+values_are_plain (values.Place place) small = plain_place place
+values_are_plain (values.Line setting) small = plain_line setting small
+values_are_plain (values.Count number) small = plain_count number small
+values_are_plain (values.Model model) small = plain_model model
+values_are_plain (values.Word word) small = plain_word word

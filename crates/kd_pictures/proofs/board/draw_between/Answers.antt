@@ -1,0 +1,6 @@
+use Rattle.kd_pictures.proofs.Drawings.{both}
+use Rattle.kd_pictures.proofs.board.draw_between.Goals as goal
+
+pub returns : goal.returns
+returns g c =
+    both c.draw_left_half.ensures c.draw_right_half.ensures

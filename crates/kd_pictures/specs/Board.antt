@@ -1,0 +1,163 @@
+-- The picture of a plugboard: lines of cables, and sockets. It is drawn twice: before, with the plugs to take out, and
+-- after, with the plugs to put in.
+use Rattle.std.specs.Prelude.{codes, decimal, ℕ, ◌+◌, ◌-◌, ◌*◌, nat_lt, Bool, false, not, ◌||◌, if◌then◌else◌}
+use Rattle.std.specs.Prelude.{is_some}
+use Rattle.std.specs.Prelude.{List, [], ◌∷◌, ◌++◌, flat_map, Option, Some, None, unwrap_or}
+use Rattle.std.specs.List.{list_any}
+use Rattle.std.specs.Option.{option_map_or}
+use Rattle.kd_state.specs.declared.machine.parts.Parts.{Parts}
+use Rattle.kd_state.specs.Machine.{cable_letters, machine_cable}
+use Rattle.kd_state.specs.Setting.{has_letter}
+use Rattle.kd_pictures.specs.declared.board.Plugs.{Plugs}
+use Rattle.kd_pictures.specs.declared.board.Plugs.TheVariants.{In, Out}
+use Rattle.kd_pictures.specs.declared.numbers.TheConstants.{CABLES}
+use Rattle.kd_pictures.specs.declared.words.Word.{Word}
+use Rattle.kd_pictures.specs.declared.words.Word.TheVariants.{After, Before, InClass, OutClass, Plain}
+use Rattle.kd_pictures.specs.declared.texts.TheConstants as texts
+use Rattle.kd_pictures.specs.Sockets.{keyboard, label_y, line_x, socket_x, socket_y}
+use Rattle.kd_pictures.specs.Template.{filled, letter_text}
+use Rattle.kd_pictures.specs.Words.{word_text}
+
+-- the letters at the ends of a cable of the machine
+abbrev pub cable_of : Parts → ℕ → Option ℕ × Option ℕ
+cable_of m number = unwrap_or (machine_cable m number) (None, None)
+
+-- whether the letter is in the cable
+abbrev pub has_plug : Parts → ℕ → ℕ → Bool
+has_plug m number letter = has_letter (cable_letters (cable_of m number)) letter
+
+-- whether a cable's end, if it has a letter, isn't there on machine `n`
+abbrev pub end_moves : Parts → ℕ → Option ℕ → Bool
+end_moves n number end = option_map_or (λ letter. not (has_plug n number letter)) end false
+
+-- ---- The cables in words, for the picture's title.
+
+abbrev pub cable_words : ℕ → Option ℕ × Option ℕ → List ℕ
+cable_words number (Some one, Some other) =
+    filled texts.CABLE_WORDS.now (decimal number ∷ letter_text one ∷ letter_text other ∷ [])
+cable_words number (Some one, None) = filled texts.LOOSE_WORDS.now (decimal number ∷ letter_text one ∷ [])
+cable_words number (None, other) = []
+
+-- whether the cable has a letter
+abbrev pub is_plugged : Parts → ℕ → Bool
+is_plugged m number = is_some (cable_of m number).0
+
+-- a cable with letters, after a separator
+abbrev pub cable_after : List ℕ → Parts → ℕ → List ℕ
+cable_after separator m number = separator ++ cable_words number (cable_of m number)
+
+-- the cables with letters: the first after this separator, the others after a comma
+abbrev pub cables_after : List ℕ → Parts → List ℕ → List ℕ
+cables_after separator m [] = []
+cables_after separator m (number ∷ numbers) =
+    if is_plugged m number then cable_after separator m number ++ cables_after (codes ", ") m numbers
+    else cables_after separator m numbers
+
+abbrev pub has_cables : Parts → List ℕ → Bool
+has_cables m numbers = list_any (is_plugged m) numbers
+
+unfoldable pub all_cables : Parts → List ℕ
+all_cables m = if has_cables m CABLES then cables_after [] m CABLES else texts.NO_CABLES.now
+
+-- ---- The lines of the cables.
+
+-- how far from the top the cable with this number runs
+abbrev pub lane : ℕ → ℕ
+lane number = 139 + 9 * number
+
+-- where a line from a socket ends, before it turns into its lane
+abbrev pub bend : ℕ → ℕ → ℕ
+bend y lane = if nat_lt y lane then lane - 5 else lane + 5
+
+-- a line from a socket into its lane; along its lane, and to a socket; open
+abbrev pub left_half : Word → ℕ → ℕ → List ℕ
+left_half class lane letter = filled texts.LEFT_HALF.now (
+    word_text class ∷ decimal (line_x letter) ∷ decimal (socket_y letter) ∷ decimal (bend (socket_y letter) lane)
+    ∷ decimal (line_x letter) ∷ decimal lane ∷ decimal (line_x letter + 5) ∷ decimal lane ∷ [])
+
+abbrev pub right_half : ℕ → ℕ → List ℕ
+right_half lane letter = filled texts.RIGHT_HALF.now (
+    decimal (line_x letter - 5) ∷ decimal (line_x letter) ∷ decimal lane
+    ∷ decimal (line_x letter) ∷ decimal (bend (socket_y letter) lane) ∷ decimal (socket_y letter) ∷ [])
+
+abbrev pub open_end : ℕ → List ℕ
+open_end letter = filled texts.OPEN_END.now (decimal (line_x letter + 20) ∷ [])
+
+-- the line of a cable from its left end to its right end: down to its lane, along the lane, and up
+abbrev pub line_between : Word → ℕ → ℕ → ℕ → List ℕ
+line_between class lane left right = left_half class lane left ++ right_half lane right
+
+-- the line of a cable with one plug: it ends open, in its lane
+abbrev pub open_line : Word → ℕ → ℕ → List ℕ
+open_line class lane letter = left_half class lane letter ++ open_end letter
+
+abbrev pub cable_line : Word → ℕ → Option ℕ × Option ℕ → List ℕ
+cable_line class lane (Some one, Some other) =
+    if nat_lt (line_x one) (line_x other) then line_between class lane one other else line_between class lane other one
+cable_line class lane (Some one, None) = open_line class lane one
+cable_line class lane (None, other) = []
+
+abbrev pub moving_class : Plugs → Word
+moving_class Out = OutClass
+moving_class In = InClass
+
+-- thick, if a plug of the cable isn't there on machine `n`
+abbrev pub line_class : Plugs → Parts → ℕ → Option ℕ × Option ℕ → Word
+line_class plugs n number cable =
+    if end_moves n number cable.0 || end_moves n number cable.1 then moving_class plugs else Plain
+
+abbrev pub line_text : Plugs → Parts → Parts → ℕ → List ℕ
+line_text plugs m n number =
+    cable_line (line_class plugs n number (cable_of m number)) (lane number) (cable_of m number)
+
+-- ---- The sockets.
+
+-- the number of the cable with the letter, if there is one
+abbrev pub cable_holding : Parts → ℕ → List ℕ → Option ℕ
+cable_holding m letter [] = None
+cable_holding m letter (number ∷ numbers) =
+    if has_plug m number letter then Some number else cable_holding m letter numbers
+
+-- a plug with a circle round the cable's number
+abbrev pub round_plug : List ℕ → ℕ → ℕ → List ℕ
+round_plug template letter number = filled template (
+    decimal (socket_x letter) ∷ decimal (label_y letter) ∷ letter_text letter
+    ∷ decimal (socket_x letter) ∷ decimal (socket_y letter)
+    ∷ decimal (socket_x letter) ∷ decimal (socket_y letter + 6) ∷ decimal number ∷ [])
+
+-- a plug that moves: to take out, a square; to put in, a disc
+abbrev pub moving_plug : Plugs → ℕ → ℕ → List ℕ
+moving_plug Out letter number = filled texts.GOES_OUT.now (
+    decimal (socket_x letter) ∷ decimal (label_y letter) ∷ letter_text letter
+    ∷ decimal (socket_x letter - 15) ∷ decimal (socket_y letter - 15)
+    ∷ decimal (socket_x letter) ∷ decimal (socket_y letter + 6) ∷ decimal number ∷ [])
+moving_plug In letter number = round_plug texts.GOES_IN.now letter number
+
+abbrev pub free_socket : ℕ → List ℕ
+free_socket letter = filled texts.FREE.now (
+    decimal (socket_x letter) ∷ decimal (label_y letter) ∷ letter_text letter
+    ∷ decimal (socket_x letter) ∷ decimal (socket_y letter) ∷ [])
+
+-- a letter's socket: free, or with a plug of a cable, which moves if it isn't there on machine `n`
+abbrev pub socket_holding : Plugs → Parts → ℕ → Option ℕ → List ℕ
+socket_holding plugs n letter None = free_socket letter
+socket_holding plugs n letter (Some number) =
+    if has_plug n number letter then round_plug texts.STAYS.now letter number else moving_plug plugs letter number
+
+abbrev pub socket_text : Plugs → Parts → Parts → ℕ → List ℕ
+socket_text plugs m n letter = socket_holding plugs n letter (cable_holding m letter CABLES)
+
+-- ---- The picture.
+
+abbrev pub picture_name : Plugs → Word
+picture_name Out = Before
+picture_name In = After
+
+unfoldable pub board_head : Plugs → List ℕ
+board_head plugs = filled texts.BOARD.now (word_text (picture_name plugs) ∷ [])
+
+-- the plugboard of machine `m`, which marks the plugs that aren't there on machine `n`
+unfoldable pub board_text : Plugs → Parts → Parts → List ℕ
+board_text plugs m n =
+    board_head plugs ++ all_cables m ++ texts.TITLE_END.now
+    ++ flat_map (line_text plugs m n) CABLES ++ flat_map (socket_text plugs m n) keyboard ++ texts.BOARD_END.now

@@ -1,0 +1,12 @@
+-- Text that is written to a sink until the sink fails.
+use Rattle.std.specs.Prelude.{◌≡◌, ℕ, Bool, true, false, List, Option}
+use Rattle.std.specs.Io.KnownBytes.{Appends, Keeps}
+use Rattle.kd_tables.specs.Writing.{TakesPrefix}
+
+-- If the sink hasn't failed, it took the whole text. If it failed meanwhile, it took a prefix, but not the whole text.
+-- If it had failed before, it took nothing.
+pub record Draws {W : Type 0} (taken : W → Option (List ℕ)) (failed : W → Bool) (old new : W) (text : List ℕ)
+    : Type 0 where
+  pub whole : failed new ≡ false → (failed old ≡ false) × Appends (taken old) (taken new) text
+  pub front : failed old ≡ false → failed new ≡ true → TakesPrefix (taken old) (taken new) text
+  pub none : failed old ≡ true → (failed new ≡ true) × Keeps (taken old) (taken new)

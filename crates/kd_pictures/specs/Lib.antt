@@ -1,0 +1,7 @@
+pub mod Drawing
+pub mod Words
+pub mod Template
+pub mod Sockets
+pub mod Wheels
+pub mod Board
+pub mod Plain

@@ -1,0 +1,126 @@
+-- The picture of a rotor machine's wheels: a band for the machine before, and a band for the machine after.
+use Rattle.std.specs.Prelude.{decimal, ℕ, ◌+◌, ◌*◌, nat_eq, Bool, false, if◌then◌else◌, List, [], ◌∷◌, ◌++◌, flat_map}
+use Rattle.std.specs.Prelude.{Option, Some, None}
+use Rattle.std.specs.Option.{option_map_or}
+use Rattle.kd_tables.specs.declared.reflector.Reflector.{Reflector}
+use Rattle.kd_tables.specs.declared.wheel.Wheel.{Wheel}
+use Rattle.kd_tables.specs.Tables.{reflector_text, wheel_text}
+use Rattle.kd_state.specs.declared.machine.parts.Parts.{Parts}
+use Rattle.kd_state.specs.Machine.{machine_letter, machine_reflector, machine_ring, machine_slot}
+use Rattle.kd_state.specs.SameParts.{same_reflector, same_wheel}
+use Rattle.kd_pictures.specs.declared.numbers.TheConstants.{SLOTS}
+use Rattle.kd_pictures.specs.declared.words.Word.{Word}
+use Rattle.kd_pictures.specs.declared.words.Word.TheVariants.{After, Before}
+use Rattle.kd_pictures.specs.declared.texts.TheConstants as texts
+use Rattle.kd_pictures.specs.Template.{filled, letter_text, ordinal_text}
+use Rattle.kd_pictures.specs.Words.{word_text}
+
+-- whether the slot of the machine holds the wheel
+abbrev pub is_seated : Parts → ℕ → Wheel → Bool
+is_seated m slot wheel =
+    option_map_or (λ seated. option_map_or (same_wheel wheel) seated false) (machine_slot m slot) false
+
+-- ---- The machine in words, for the picture's title.
+
+abbrev pub reflector_words : Option Reflector → List ℕ
+reflector_words None = []
+reflector_words (Some reflector) = filled texts.REFLECTOR_WORDS.now (reflector_text reflector ∷ [])
+
+-- a letter after the words in this template
+abbrev pub letter_words : List ℕ → Option ℕ → List ℕ
+letter_words template None = []
+letter_words template (Some letter) = filled template (letter_text letter ∷ [])
+
+-- a wheel in its slot, its ring and its window letter
+abbrev pub wheel_words : Parts → ℕ → Wheel → List ℕ
+wheel_words m slot wheel =
+    filled texts.WHEEL_WORDS.now (decimal slot ∷ wheel_text wheel ∷ [])
+    ++ letter_words texts.RING_WORDS.now (machine_ring m wheel)
+    ++ letter_words texts.WINDOW_WORDS.now (machine_letter m wheel)
+
+-- what a slot holds: nothing, or a wheel with its ring and its window letter
+abbrev pub slot_words : Parts → ℕ → Option (Option Wheel) → List ℕ
+slot_words m slot None = []
+slot_words m slot (Some None) = filled texts.EMPTY_WORDS.now (decimal slot ∷ [])
+slot_words m slot (Some (Some wheel)) = wheel_words m slot wheel
+
+unfoldable pub machine_words : Parts → List ℕ
+machine_words m =
+    reflector_words (machine_reflector m) ++ flat_map (λ slot. slot_words m slot (machine_slot m slot)) SLOTS
+
+-- ---- A band at height `y`. What differs from the other machine is marked.
+
+abbrev pub reflector_shown : ℕ → Option Reflector → Option Reflector → List ℕ
+reflector_shown y None other = []
+reflector_shown y (Some reflector) other =
+    filled
+    (if option_map_or (same_reflector reflector) other false then texts.REFLECTOR_SHOWN.now
+    else texts.NEW_REFLECTOR.now)
+    (decimal (y + 24) ∷ decimal (y + 54) ∷ reflector_text reflector ∷ [])
+
+-- how far a slot is from the left
+abbrev pub slot_x : ℕ → ℕ
+slot_x slot = 80 + 104 * slot
+
+-- a wheel; it is marked unless it is in this slot on the other machine
+abbrev pub wheel_shown : ℕ → ℕ → ℕ → Bool → Wheel → List ℕ
+wheel_shown x y slot is_old wheel =
+    filled (if is_old then texts.WHEEL.now else texts.NEW_WHEEL.now) (
+    decimal (x + 48) ∷ decimal (y + 16) ∷ decimal slot ∷ decimal x ∷ decimal (y + 24)
+    ∷ decimal (x + 48) ∷ decimal (y + 54) ∷ wheel_text wheel ∷ [])
+
+abbrev pub is_same_letter : ℕ → Option ℕ → Bool
+is_same_letter letter other = option_map_or (nat_eq letter) other false
+
+-- a ring at a letter; it is framed unless it is at this letter on the other machine
+abbrev pub ring_shown : ℕ → ℕ → Option ℕ → Option ℕ → List ℕ
+ring_shown x y None other = []
+ring_shown x y (Some letter) other =
+    let shown = decimal (x + 48) ∷ decimal (y + 85) ∷ letter_text letter ∷ ordinal_text letter ∷ [] in
+    if is_same_letter letter other then filled texts.RING_SHOWN.now shown
+    else filled texts.NEW_RING.now (decimal (x + 10) ∷ decimal (y + 64) ∷ shown)
+
+abbrev pub window_shown : ℕ → ℕ → Option ℕ → Option ℕ → List ℕ
+window_shown x y None other = []
+window_shown x y (Some letter) other =
+    filled (if is_same_letter letter other then texts.WINDOW.now else texts.NEW_WINDOW.now) (
+    decimal (x + 10) ∷ decimal (y + 99) ∷ decimal (x + 30) ∷ decimal (y + 128) ∷ letter_text letter
+    ∷ decimal (x + 70) ∷ decimal (y + 126) ∷ ordinal_text letter ∷ [])
+
+abbrev pub empty_shown : ℕ → ℕ → ℕ → List ℕ
+empty_shown x y slot = filled texts.EMPTY.now (
+    decimal (x + 48) ∷ decimal (y + 16) ∷ decimal slot ∷ decimal x ∷ decimal (y + 24)
+    ∷ decimal (x + 48) ∷ decimal (y + 54) ∷ [])
+
+-- a wheel in its slot, its ring and its window
+abbrev pub seated_shown : ℕ → ℕ → Parts → Parts → ℕ → Wheel → List ℕ
+seated_shown x y m n slot wheel =
+    wheel_shown x y slot (is_seated n slot wheel) wheel
+    ++ ring_shown x y (machine_ring m wheel) (machine_ring n wheel)
+    ++ window_shown x y (machine_letter m wheel) (machine_letter n wheel)
+
+abbrev pub slot_shown : ℕ → ℕ → Parts → Parts → ℕ → Option (Option Wheel) → List ℕ
+slot_shown x y m n slot None = []
+slot_shown x y m n slot (Some None) = empty_shown x y slot
+slot_shown x y m n slot (Some (Some wheel)) = seated_shown x y m n slot wheel
+
+unfoldable pub band_head : ℕ → Word → List ℕ
+band_head y name = filled texts.BAND.now (
+    decimal (y + 16) ∷ word_text name ∷ decimal (y + 54) ∷ decimal (y + 84) ∷ decimal (y + 125) ∷ decimal (y + 16) ∷ [])
+
+-- the band of machine `m`, which marks what differs in machine `n`
+unfoldable pub band_text : ℕ → Word → Parts → Parts → List ℕ
+band_text y name m n =
+    band_head y name ++ reflector_shown y (machine_reflector m) (machine_reflector n)
+    ++ flat_map (λ slot. slot_shown (slot_x slot) y m n slot (machine_slot m slot)) SLOTS
+
+-- ---- The picture: the machine before, without marks, and the machine after; or the machine after alone.
+
+unfoldable pub both_bands : Parts → Parts → List ℕ
+both_bands m n =
+    texts.WHEELS.now ++ machine_words m ++ texts.WHEELS_THEN.now ++ machine_words n ++ texts.TITLE_END.now
+    ++ band_text 0 Before m m ++ band_text 164 After n m ++ texts.WHEELS_END.now
+
+unfoldable pub one_band : Parts → List ℕ
+one_band n =
+    texts.WHEELS_ONCE.now ++ machine_words n ++ texts.TITLE_END.now ++ band_text 0 After n n ++ texts.WHEELS_END.now

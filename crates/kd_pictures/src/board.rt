@@ -1,0 +1,402 @@
+//! The picture of a plugboard.
+ghost use Rattle.std.specs.Prelude.{◌≡◌, ◌+◌, ◌*◌, ◌<◌, ◌≤◌, ◌++◌, IsTrue, flat_map, is_some, nat_lt, option_map};
+ghost use Rattle.std.specs.List.{list_all, list_any};
+ghost use Rattle.kd_pictures.specs.Drawing.{Draws};
+ghost use Rattle.kd_pictures.specs.Board.{all_cables, bend, board_head, board_text, cable_line, cable_of};
+ghost use Rattle.kd_pictures.specs.Board.{cable_holding};
+ghost use Rattle.kd_pictures.specs.Board.{cable_after, cable_words, cables_after, is_plugged, left_half, open_end};
+ghost use Rattle.kd_pictures.specs.Board.{right_half, end_moves, free_socket, has_cables, has_plug, lane};
+ghost use Rattle.kd_pictures.specs.Board.{line_between, line_class, line_text, moving_class, moving_plug, open_line};
+ghost use Rattle.kd_pictures.specs.Board.{picture_name, round_plug, socket_holding, socket_text};
+
+use crate::drawing::draw;
+use crate::numbers::CABLES;
+use crate::sockets::{KEYBOARD, label_y, line_x, socket_x, socket_y};
+use crate::template::{Value, fill};
+use crate::texts::{
+    BOARD, BOARD_END, CABLE_WORDS, FREE, GOES_IN, GOES_OUT, LEFT_HALF, LOOSE_WORDS, NO_CABLES,
+    OPEN_END, RIGHT_HALF, STAYS, TITLE_END,
+};
+use crate::words::Word;
+use kd_state::{Cable, Machine, lies_in};
+use kd_tables::{Letter, Sink};
+
+/// Which plugs a plugboard marks: those to take out, before; or those to put in, after.
+#[derive(Clone, Copy)]
+pub enum Plugs {
+    Out,
+    In,
+}
+
+/// Writes the plugboard of `machine`, with the plugs marked that aren't there on `other`.
+pub fn draw_board<W: Sink>(sink: &mut W, plugs: Plugs, machine: &Machine, other: &Machine)
+    ensures { Draws W.taken W.has_failed sink.old sink.new
+        (board_text plugs machine.now other.now) }
+{
+    draw_board_head(sink, plugs);
+    draw_all_cables(sink, machine);
+    draw(sink, TITLE_END);
+    draw_lines(sink, plugs, machine, other, &CABLES);
+    draw_sockets(sink, plugs, machine, other, &KEYBOARD);
+    draw(sink, BOARD_END);
+}
+
+#[tactic(auto, unfolding(crate::specs::Board::board_head))]
+fn draw_board_head<W: Sink>(sink: &mut W, plugs: Plugs)
+    ensures { Draws W.taken W.has_failed sink.old sink.new (board_head plugs) }
+{
+    fill(sink, BOARD, &[Value::Word(picture_name(plugs))]);
+}
+
+fn picture_name(plugs: Plugs) -> Word
+    ensures { result ≡ picture_name plugs }
+{
+    match plugs {
+        Plugs::Out => Word::Before,
+        Plugs::In => Word::After,
+    }
+}
+
+/// Writes the cables in words.
+#[tactic(auto, unfolding(crate::specs::Board::all_cables))]
+fn draw_all_cables<W: Sink>(sink: &mut W, machine: &Machine)
+    ensures { Draws W.taken W.has_failed sink.old sink.new (all_cables machine.now) }
+{
+    if has_cables(machine, &CABLES) {
+        draw_cables_after(sink, "", machine, &CABLES);
+    } else {
+        draw(sink, NO_CABLES);
+    }
+}
+
+/// Whether one of the cables has a letter.
+pub fn has_cables(machine: &Machine, numbers: &[u8]) -> bool
+    ensures { result ≡ has_cables machine.now numbers.now }
+{
+    match numbers {
+        [number, ..] if is_plugged(machine, *number) => true,
+        [_, rest @ ..] => has_cables(machine, rest),
+        [] => false,
+    }
+}
+
+/// Whether the cable has a letter.
+fn is_plugged(machine: &Machine, number: u8) -> bool
+    ensures { result ≡ is_plugged machine.now number }
+{
+    let (one, _) = cable_of(machine, number);
+    one.is_some()
+}
+
+/// Writes the cables that have letters, in words: the first after `separator`, the others after a comma.
+fn draw_cables_after<W: Sink>(sink: &mut W, separator: &str, machine: &Machine, numbers: &[u8])
+    ensures { Draws W.taken W.has_failed sink.old sink.new
+        (cables_after separator.now machine.now numbers.now) }
+{
+    match numbers {
+        [number, rest @ ..] if is_plugged(machine, *number) => {
+            draw_cable_after(sink, separator, machine, *number);
+            draw_cables_after(sink, ", ", machine, rest);
+        }
+        [_, rest @ ..] => draw_cables_after(sink, separator, machine, rest),
+        [] => draw(sink, ""),
+    }
+}
+
+/// Writes a cable that has letters, in words, after `separator`.
+fn draw_cable_after<W: Sink>(sink: &mut W, separator: &str, machine: &Machine, number: u8)
+    ensures { Draws W.taken W.has_failed sink.old sink.new
+        (cable_after separator.now machine.now number) }
+{
+    draw(sink, separator);
+    draw_cable_words(sink, number, cable_of(machine, number));
+}
+
+fn draw_cable_words<W: Sink>(sink: &mut W, number: u8, cable: Cable)
+    ensures { Draws W.taken W.has_failed sink.old sink.new (cable_words number cable) }
+{
+    let number = Value::Number(u16::from(number));
+    match cable {
+        (Some(one), Some(other)) => fill(
+            sink,
+            CABLE_WORDS,
+            &[number, Value::Letter(one), Value::Letter(other)],
+        ),
+        (Some(one), None) => fill(sink, LOOSE_WORDS, &[number, Value::Letter(one)]),
+        (None, _) => draw(sink, ""),
+    }
+}
+
+fn cable_of(machine: &Machine, number: u8) -> Cable
+    ensures { result ≡ cable_of machine.now number }
+{
+    machine.cable(number).unwrap_or((None, None))
+}
+
+/// Whether the letter is in the cable.
+fn has_plug(machine: &Machine, number: u8, letter: Letter) -> bool
+    ensures { result ≡ has_plug machine.now number letter }
+{
+    lies_in(&cable_of(machine, number), letter)
+}
+
+/// Writes the lines of the cables.
+fn draw_lines<W: Sink>(
+    sink: &mut W,
+    plugs: Plugs,
+    machine: &Machine,
+    other: &Machine,
+    numbers: &[u8],
+)
+    ensures { Draws W.taken W.has_failed sink.old sink.new
+        (flat_map (line_text plugs machine.now other.now) numbers.now) }
+{
+    if let [number, rest @ ..] = numbers {
+        draw_line(sink, plugs, machine, other, *number);
+        draw_lines(sink, plugs, machine, other, rest);
+    }
+}
+
+fn draw_line<W: Sink>(sink: &mut W, plugs: Plugs, machine: &Machine, other: &Machine, number: u8)
+    ensures { Draws W.taken W.has_failed sink.old sink.new
+        (line_text plugs machine.now other.now number) }
+{
+    let class = line_class(plugs, other, number, cable_of(machine, number));
+    let lane = 139 + 9 * u16::from(number);
+    draw_cable_line(sink, class, lane, cable_of(machine, number));
+}
+
+/// The class of a cable's line: thick, if one of its plugs isn't there on `other`.
+fn line_class(plugs: Plugs, other: &Machine, number: u8, cable: Cable) -> Word
+    ensures { result ≡ line_class plugs other.now number cable }
+{
+    if end_moves(other, number, cable.0) || end_moves(other, number, cable.1) {
+        moving_class(plugs)
+    } else {
+        Word::Plain
+    }
+}
+
+fn end_moves(other: &Machine, number: u8, end: Option<Letter>) -> bool
+    ensures { result ≡ end_moves other.now number end }
+{
+    match end {
+        Some(letter) => !has_plug(other, number, letter),
+        None => false,
+    }
+}
+
+fn moving_class(plugs: Plugs) -> Word
+    ensures { result ≡ moving_class plugs }
+{
+    match plugs {
+        Plugs::Out => Word::OutClass,
+        Plugs::In => Word::InClass,
+    }
+}
+
+fn draw_cable_line<W: Sink>(sink: &mut W, class: Word, lane: u16, cable: Cable)
+    requires low { 100 ≤ lane }
+    requires high { lane < 10000 }
+    ensures { Draws W.taken W.has_failed sink.old sink.new (cable_line class lane cable) }
+{
+    match cable {
+        (Some(one), Some(other)) if line_x(one) < line_x(other) => {
+            draw_between(sink, class, lane, one, other)
+        }
+        (Some(one), Some(other)) => draw_between(sink, class, lane, other, one),
+        (Some(one), None) => draw_open(sink, class, lane, one),
+        (None, _) => draw(sink, ""),
+    }
+}
+
+/// Writes the line of a cable from its left end to its right end.
+fn draw_between<W: Sink>(sink: &mut W, class: Word, lane: u16, left: Letter, right: Letter)
+    requires low { 100 ≤ lane }
+    requires high { lane < 10000 }
+    ensures { Draws W.taken W.has_failed sink.old sink.new (line_between class lane left right) }
+{
+    draw_left_half(sink, class, lane, left);
+    draw_right_half(sink, lane, right);
+}
+
+/// Writes the line of a cable with one plug.
+fn draw_open<W: Sink>(sink: &mut W, class: Word, lane: u16, letter: Letter)
+    requires low { 100 ≤ lane }
+    requires high { lane < 10000 }
+    ensures { Draws W.taken W.has_failed sink.old sink.new (open_line class lane letter) }
+{
+    draw_left_half(sink, class, lane, letter);
+    draw_open_end(sink, letter);
+}
+
+/// Writes a line from a socket into its lane.
+fn draw_left_half<W: Sink>(sink: &mut W, class: Word, lane: u16, letter: Letter)
+    requires low { 100 ≤ lane }
+    requires high { lane < 10000 }
+    ensures { Draws W.taken W.has_failed sink.old sink.new (left_half class lane letter) }
+{
+    fill(
+        sink,
+        LEFT_HALF,
+        &[
+            Value::Word(class),
+            Value::Number(line_x(letter)),
+            Value::Number(socket_y(letter)),
+            Value::Number(bend(socket_y(letter), lane)),
+            Value::Number(line_x(letter)),
+            Value::Number(lane),
+            Value::Number(line_x(letter) + 5),
+            Value::Number(lane),
+        ],
+    );
+}
+
+/// Writes a line along its lane, and to a socket.
+fn draw_right_half<W: Sink>(sink: &mut W, lane: u16, letter: Letter)
+    requires low { 100 ≤ lane }
+    requires high { lane < 10000 }
+    ensures { Draws W.taken W.has_failed sink.old sink.new (right_half lane letter) }
+{
+    fill(
+        sink,
+        RIGHT_HALF,
+        &[
+            Value::Number(line_x(letter) - 5),
+            Value::Number(line_x(letter)),
+            Value::Number(lane),
+            Value::Number(line_x(letter)),
+            Value::Number(bend(socket_y(letter), lane)),
+            Value::Number(socket_y(letter)),
+        ],
+    );
+}
+
+fn draw_open_end<W: Sink>(sink: &mut W, letter: Letter)
+    ensures { Draws W.taken W.has_failed sink.old sink.new (open_end letter) }
+{
+    fill(sink, OPEN_END, &[Value::Number(line_x(letter) + 20)]);
+}
+
+/// Where a line from a socket at height `y` begins to turn into its lane.
+fn bend(y: u16, lane: u16) -> u16
+    requires low { 100 ≤ lane }
+    requires high { lane < 10000 }
+    ensures { result ≡ bend y lane }
+{
+    if y < lane { lane - 5 } else { lane + 5 }
+}
+
+/// Writes the sockets of the letters with these places in the alphabet.
+fn draw_sockets<W: Sink>(
+    sink: &mut W,
+    plugs: Plugs,
+    machine: &Machine,
+    other: &Machine,
+    letters: &[u8],
+)
+    requires { IsTrue (list_all (λ letter. nat_lt letter 26) letters.now) }
+    ensures { Draws W.taken W.has_failed sink.old sink.new
+        (flat_map (socket_text plugs machine.now other.now) letters.now) }
+{
+    if let [letter, rest @ ..] = letters {
+        draw_socket(sink, plugs, machine, other, Letter::at(*letter));
+        draw_sockets(sink, plugs, machine, other, rest);
+    }
+}
+
+fn draw_socket<W: Sink>(
+    sink: &mut W,
+    plugs: Plugs,
+    machine: &Machine,
+    other: &Machine,
+    letter: Letter,
+)
+    ensures { Draws W.taken W.has_failed sink.old sink.new
+        (socket_text plugs machine.now other.now letter) }
+{
+    match cable_holding(machine, letter, &CABLES) {
+        None => draw_free(sink, letter),
+        Some(number) if has_plug(other, number, letter) => {
+            draw_round(sink, STAYS, letter, number)
+        },
+        Some(number) => draw_moving(sink, plugs, letter, number),
+    }
+}
+
+/// The number of the cable with the letter; `None` if no cable has it.
+fn cable_holding(machine: &Machine, letter: Letter, numbers: &[u8]) -> Option<u8>
+    ensures { result ≡ cable_holding machine.now letter numbers.now }
+{
+    match numbers {
+        [number, ..] if has_plug(machine, *number, letter) => Some(*number),
+        [_, rest @ ..] => cable_holding(machine, letter, rest),
+        [] => None,
+    }
+}
+
+fn draw_free<W: Sink>(sink: &mut W, letter: Letter)
+    ensures { Draws W.taken W.has_failed sink.old sink.new (free_socket letter) }
+{
+    fill(
+        sink,
+        FREE,
+        &[
+            Value::Number(socket_x(letter)),
+            Value::Number(label_y(letter)),
+            Value::Letter(letter),
+            Value::Number(socket_x(letter)),
+            Value::Number(socket_y(letter)),
+        ],
+    );
+}
+
+/// Writes a plug that moves: to take out, a square; to put in, a disc.
+fn draw_moving<W: Sink>(sink: &mut W, plugs: Plugs, letter: Letter, number: u8)
+    ensures { Draws W.taken W.has_failed sink.old sink.new (moving_plug plugs letter number) }
+{
+    match plugs {
+        Plugs::Out => draw_square(sink, letter, number),
+        Plugs::In => draw_round(sink, GOES_IN, letter, number),
+    }
+}
+
+fn draw_square<W: Sink>(sink: &mut W, letter: Letter, number: u8)
+    ensures { Draws W.taken W.has_failed sink.old sink.new (moving_plug Plugs.Out letter number) }
+{
+    fill(
+        sink,
+        GOES_OUT,
+        &[
+            Value::Number(socket_x(letter)),
+            Value::Number(label_y(letter)),
+            Value::Letter(letter),
+            Value::Number(socket_x(letter) - 15),
+            Value::Number(socket_y(letter) - 15),
+            Value::Number(socket_x(letter)),
+            Value::Number(socket_y(letter) + 6),
+            Value::Number(u16::from(number)),
+        ],
+    );
+}
+
+/// Writes a plug with a circle round the cable's number.
+fn draw_round<W: Sink>(sink: &mut W, template: &str, letter: Letter, number: u8)
+    ensures { Draws W.taken W.has_failed sink.old sink.new
+        (round_plug template.now letter number) }
+{
+    fill(
+        sink,
+        template,
+        &[
+            Value::Number(socket_x(letter)),
+            Value::Number(label_y(letter)),
+            Value::Letter(letter),
+            Value::Number(socket_x(letter)),
+            Value::Number(socket_y(letter)),
+            Value::Number(socket_x(letter)),
+            Value::Number(socket_y(letter) + 6),
+            Value::Number(u16::from(number)),
+        ],
+    );
+}

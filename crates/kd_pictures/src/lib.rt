@@ -1,0 +1,14 @@
+//! Pictures of a machine, drawn as text: templates and their values, the fixed texts, wheels and plugboards.
+#![tactic(auto)]
+
+pub mod board;
+mod drawing;
+pub mod laws;
+pub mod numbers;
+mod sockets;
+pub mod template;
+pub mod texts;
+pub mod wheels;
+pub mod words;
+
+pub use drawing::draw;

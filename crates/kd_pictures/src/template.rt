@@ -1,0 +1,119 @@
+//! Fills values into a template.
+ghost use Rattle.std.specs.Prelude.{codes, decimal, ◌≡◌, [], ◌∷◌, ◌++◌, map, if◌then◌else◌};
+ghost use Rattle.std.specs.List.{before_first, after_first};
+ghost use Rattle.kd_pictures.specs.Drawing.{Draws};
+ghost use Rattle.kd_pictures.specs.declared.texts.TheConstants.{SETTINGS as SETTINGS_TEXT};
+ghost use Rattle.kd_pictures.specs.Template.{count_text, filled, is_gap, letter_text, ordinal_text, value_text};
+
+use crate::drawing::draw;
+use crate::texts::{NO_SETTINGS, ONE_SETTING, SETTINGS};
+use crate::words::{Word, model_name};
+use arrayvec::ArrayString;
+use itoa::Buffer;
+use kd_state::{Setting, push_letter};
+use kd_tables::{Letter, Model, Place, Reflector, Sink, Wheel};
+
+/// A value that is filled into a template.
+#[derive(Clone, Copy)]
+pub enum Value {
+    Number(u16),
+    Letter(Letter),
+    Ordinal(Letter),
+    Wheel(Wheel),
+    Reflector(Reflector),
+    Place(Place),
+    Line(Setting),
+    Count(u8),
+    Model(Model),
+    Word(Word),
+}
+
+/// Writes `template` with its signs `~` replaced by the values, in their order.
+#[tactic(auto, using(crate::proofs::Templates::fills_none))]
+pub fn fill<W: Sink>(sink: &mut W, template: &str, values: &[Value])
+    ensures { Draws W.taken W.has_failed sink.old sink.new
+        (filled template.now (map value_text values.now)) }
+{
+    if let [value, values @ ..] = values {
+        let (piece, rest) = cut(template);
+        draw(sink, piece);
+        draw_value(sink, *value);
+        fill(sink, rest, values);
+    } else {
+        draw(sink, template);
+    }
+}
+
+/// The parts of `template` before and after its first sign `~`; all of it and nothing if it has no such sign.
+#[tactic(auto, using(std::proofs::lemmas::Str::Pattern::split_once_first))]
+fn cut(template: &str) -> (&str, &str)
+    ensures before { result.0.now ≡ before_first is_gap template.now }
+    ensures after { result.1.now ≡ after_first is_gap template.now }
+{
+    match template.split_once('~') {
+        Some(parts) => parts,
+        None => (template, ""),
+    }
+}
+
+fn draw_value<W: Sink>(sink: &mut W, value: Value)
+    ensures { Draws W.taken W.has_failed sink.old sink.new (value_text value) }
+{
+    match value {
+        Value::Number(number) => draw(sink, Buffer::new().format(number)),
+        Value::Letter(letter) => draw_letter(sink, letter),
+        Value::Ordinal(letter) => draw_ordinal(sink, letter),
+        Value::Wheel(wheel) => draw(sink, wheel.text().as_str()),
+        Value::Reflector(reflector) => draw(sink, reflector.text().as_str()),
+        Value::Place(place) => draw(sink, place.text().as_str()),
+        Value::Line(setting) => draw(sink, setting.line().as_str()),
+        Value::Count(number) => draw_count(sink, number),
+        Value::Model(model) => draw(sink, model_name(model)),
+        Value::Word(word) => draw(sink, word.text()),
+    }
+}
+
+pub fn draw_letter<W: Sink>(sink: &mut W, letter: Letter)
+    ensures { Draws W.taken W.has_failed sink.old sink.new (letter_text letter) }
+{
+    let mut text = ArrayString::<1>::new();
+    push_letter(&mut text, letter);
+    draw(sink, text.as_str());
+}
+
+/// Writes the number of a letter, from 01 to 26.
+fn draw_ordinal<W: Sink>(sink: &mut W, letter: Letter)
+    ensures { Draws W.taken W.has_failed sink.old sink.new (ordinal_text letter) }
+{
+    let number = letter.index() + 1;
+    draw_zero(sink, number < 10);
+    draw(sink, Buffer::new().format(number));
+}
+
+fn draw_zero<W: Sink>(sink: &mut W, is_short: bool)
+    ensures { Draws W.taken W.has_failed sink.old sink.new (if is_short then codes "0" else []) }
+{
+    if is_short {
+        draw(sink, "0");
+    } else {
+        draw(sink, "");
+    }
+}
+
+/// Writes how many settings there are.
+fn draw_count<W: Sink>(sink: &mut W, number: u8)
+    ensures { Draws W.taken W.has_failed sink.old sink.new (count_text number) }
+{
+    match number {
+        0 => draw(sink, NO_SETTINGS),
+        1 => draw(sink, ONE_SETTING),
+        _ => draw_several(sink, number),
+    }
+}
+
+fn draw_several<W: Sink>(sink: &mut W, number: u8)
+    ensures { Draws W.taken W.has_failed sink.old sink.new (decimal number ++ SETTINGS_TEXT.now) }
+{
+    draw(sink, Buffer::new().format(number));
+    draw(sink, SETTINGS);
+}

@@ -1,0 +1,440 @@
+//! The fixed texts of a page. In a template, each sign `~` stands for a value.
+
+/// The head of the file: before its title, and after it. The foot of the file.
+pub const HEAD: &str =
+    "<!DOCTYPE html>\n<html lang=en>\n<meta charset=utf-8>\n<meta name=viewport content=\"width=device-width,initial-scale=1\">\n<title>";
+
+pub const STYLE: &str = "</title>
+<style>
+:root{--ink:#111;--paper:#fff;--soft:#555;--line:#aaa;--in:#0b4f8a;--out:#9a3412}
+*{box-sizing:border-box}
+body{margin:0;background:var(--paper);color:var(--ink);font:18px/1.35 system-ui,-apple-system,\"Segoe UI\",Roboto,\"Helvetica Neue\",Arial,sans-serif}
+main{max-width:50rem;margin:0 auto;padding:16px}
+h1{font-size:1.7em;margin:0}
+h2{font-size:1.25em;border-top:1px solid;padding-top:.3em;margin:1.2em 0 .3em}
+h2.idle{font-size:1em;margin:.4em 0}
+small{white-space:nowrap}
+h1 small,h2 small,th small{font-weight:400}
+h1 small{font-size:.6em}
+h2 small{font-size:.8em}
+h2.idle small{font-size:1em}
+h2 span{display:none}
+p{margin:.3em 0}
+ul{list-style:none;margin:0;padding:0}
+nav li{display:inline-block;margin-right:1.5em}
+a{color:inherit}
+figure{margin:.5em 0}
+.fields{display:flex}
+.fields span{flex:1;border-bottom:1px solid;margin:.9em .6em .3em 0}
+.fields span,.note,figcaption,caption{font-size:.85em;color:var(--soft);text-align:left}
+label{display:block;padding:.2em 0}
+li label{padding-left:1.6em;text-indent:-1.6em}
+input{-webkit-appearance:none;-moz-appearance:none;appearance:none;width:1.1em;height:1.1em;border:2px solid var(--ink);border-radius:0;margin:0 .4em 0 0;vertical-align:-.15em;background:none}
+input:checked{border-width:.55em}
+code,pre{font-family:ui-monospace,Consolas,\"DejaVu Sans Mono\",monospace}
+code{font-size:.75em;font-weight:400;color:var(--soft);margin-left:.5em;white-space:nowrap}
+pre{font-size:1.1em;line-height:1.5;margin:.4em 0;overflow-x:auto}
+table{border-collapse:collapse}
+th{text-align:left;font-weight:400}
+thead th,.plugs th,.pins th,.set th{font-weight:700}
+.beside{display:flex;align-items:flex-start}
+.beside figure{flex:0 1 60%;min-width:0}
+.beside table{flex:1 0 auto}
+.plugs tr,.drum tr{border-bottom:1px solid var(--line)}
+.plugs td,.plugs th{padding:0 .5em 0 0;white-space:nowrap}
+.plugs code{margin-left:.2em;font-size:.65em}
+.pins{width:100%;table-layout:fixed;text-align:center}
+.pins th{padding-top:.4em}
+.pins td{padding:.1em 0;line-height:1.25}
+.pins .set{border:2px solid}
+.pins small{font-size:.75em}
+.pins td small{font-weight:700}
+.pins label{padding:0}
+.pins input{margin-right:.2em}
+.drum{width:100%;table-layout:fixed}
+.drum thead th{width:4.8%}
+.drum thead th:first-child{width:6.5%}
+.drum thead th:last-child{width:auto}
+.drum td,.drum th{padding:0;text-align:center}
+.drum thead th:last-child,.drum .set td:nth-child(n+10){text-align:left;padding-left:.4em}
+.drum label{padding:0}
+.drum code{margin-left:.3em;font-size:.7em}
+.letters td,.letters th{padding:0 1.1em 0 0;white-space:nowrap;vertical-align:top}
+.letters code{margin:0;display:block}
+svg{display:block;width:100%;max-width:640px}
+text{fill:var(--ink);text-anchor:middle}
+.label{text-anchor:start}
+.bold,.on{font-weight:700}
+.on{fill:var(--paper)}
+rect,circle,path{fill:var(--paper);stroke:var(--ink);stroke-width:1.5}
+path{fill:none}
+rect.set{stroke-width:3.5}
+rect.out{stroke-width:4}
+path.out,path.in{stroke-width:2.5}
+.out{stroke:var(--out)}
+.in{stroke:var(--in)}
+circle.in{fill:var(--in)}
+.free{fill:var(--ink)}
+@media screen and (prefers-color-scheme:dark){:root{--ink:#e8e6e1;--paper:#16181b;--soft:#aaa;--line:#666;--in:#8cc8ff;--out:#ffb38a}}
+@media screen{article+article{border-top:4px solid;margin-top:2em;padding-top:.6em}}
+@media screen and (max-width:760px){.beside{display:block}}
+@media screen and (max-width:700px){
+body{font-size:16px}
+main{padding:10px}
+.pins td{font-size:min(13px,3.5vw);vertical-align:bottom}
+.pins br{display:none}
+.pins .set input,.pins td small{display:block;margin:auto;line-height:1}
+.pins td small{font-size:min(.75em,2.2vw)}
+.drum td,.drum th{font-size:min(14px,5vw - 5.5px)}
+.drum thead th{width:5.2%;font-size:min(12px,3vw)}
+.drum thead th:first-child{width:8%}
+.drum input{margin-right:.2em}
+.drum code{display:block;margin-left:2em}
+.letters code{font-size:.55em;white-space:normal}
+.letters td,.letters th{padding-right:.3em}
+.letters input{margin-right:.1em}
+}
+@media print{
+body{font-size:12pt;line-height:1.25}
+main{padding:0;max-width:none}
+nav{display:none}
+h1{font-size:1.5em}
+figure{margin:.3em 0}
+h2{margin:.5em 0 .15em}
+p{margin:.1em 0}
+pre{line-height:1.25;margin:.15em 0}
+.fields span{margin-top:.7em}
+section .fields span{margin:.5em .6em .1em 0}
+h2.idle{margin:.2em 0}
+h2 span{display:inline;float:right;font-weight:400;font-size:11pt;color:var(--soft)}
+label{padding-top:.08em;padding-bottom:.08em}
+.plugs label{padding:.04em 0}
+.drum thead th{width:4.4%}
+.drum td{white-space:nowrap}
+.drum code{font-size:.6em}
+.wheels svg{width:110mm}
+article+article{page-break-before:always;break-before:page}
+h2{page-break-after:avoid;break-after:avoid}
+figure,tr,li,pre,.beside,.pins tbody,.drum{page-break-inside:avoid;break-inside:avoid}
+}
+@page{margin:12mm}
+</style>
+<body>
+<main>
+";
+
+pub const FOOT: &str = "</main>\n";
+
+/// The title of a file with one day, and with several: the model, and the first and the last day.
+pub const TITLE_DAY: &str = "~, day ~";
+
+pub const TITLE_DAYS: &str = "~, days ~ to ~";
+
+/// The list of the days in a file with several days: a day, and its number of settings.
+pub const NAV: &str = "<nav aria-label=\"Days\">\n<ul>\n";
+
+pub const NAV_DAY: &str = "<li><a href=\"#day-~\">Day ~</a>, ~\n";
+
+pub const NAV_END: &str = "</ul>\n</nav>\n";
+
+/// How many settings there are: none, one, or several.
+pub const NO_SETTINGS: &str = "nothing to change";
+
+pub const ONE_SETTING: &str = "1 setting";
+
+pub const SETTINGS: &str = " settings";
+
+/// The head of a day: the day, the model, the day again, and the number of settings. Then what to compare first.
+pub const DAY: &str =
+    "<article id=day-~>\n<header>\n<h1>~, day ~ <small>~</small></h1>\n<p class=fields><span>Machine</span><span>Date</span><span>Done by</span></p>\n<p>";
+
+pub const COMPARE_PIN: &str =
+    "First compare: framed pins the other way, other pins as shown, lugs at \u{25aa} and \u{d7}.</p>\n</header>\n";
+
+pub const DAY_END: &str = "</article>\n";
+
+/// The head of a step: its title, its number of settings, the model, and the day. Without anything to do; without a number.
+pub const STEP: &str = "<section>\n<h2>~ <small>~</small><span>~, day ~</span></h2>\n";
+
+pub const IDLE_STEP: &str =
+    "<section>\n<h2 class=idle>~ <small>~</small><span>~, day ~</span></h2>\n</section>\n";
+
+pub const PLAIN_STEP: &str = "<section>\n<h2>~<span>~, day ~</span></h2>\n";
+
+pub const STEP_END: &str = "</section>\n";
+
+/// A list of boxes.
+pub const LIST: &str = "<ul>\n";
+
+pub const LIST_END: &str = "</ul>\n</section>\n";
+
+/// A box to tick, with the words for the hand and the setting's line.
+pub const RING: &str =
+    "<li><label><input type=checkbox> wheel <b>~</b>: set the ring to <b>~\u{a0}~</b> <code>~</code></label>\n";
+
+pub const SEAT: &str =
+    "<li><label><input type=checkbox> slot ~, ~: put in wheel <b>~</b>, from the box <code>~</code></label>\n";
+
+pub const SEAT_FROM: &str =
+    "<li><label><input type=checkbox> slot ~, ~: put in wheel <b>~</b>, from slot ~ <code>~</code></label>\n";
+
+pub const REFLECTOR: &str =
+    "<li><label><input type=checkbox> put in reflector <b>~</b> <code>~</code></label>\n";
+
+pub const PLUG: &str = "<td><label><input type=checkbox> <b>~</b> <code>~</code></label>";
+
+/// A pin with its box. Its line is split: the head of its wheel has the beginning.
+pub const PIN_ON: &str =
+    "<label><input type=checkbox><b>~</b><br>\u{25cf}<small>ON</small></label>";
+
+pub const PIN_OFF: &str =
+    "<label><input type=checkbox><b>~</b><br>\u{25cb}<small>OFF</small></label>";
+
+pub const LUG_LEFT: &str =
+    "<td><label><input type=checkbox> left to <b>~</b> <code>~</code></label>";
+
+pub const LUG_RIGHT: &str =
+    "<td><label><input type=checkbox> right to <b>~</b> <code>~</code></label>";
+
+/// The line of a turn. It stands in the box of the window.
+pub const TURN: &str = " <code>~</code>";
+
+/// The windows of a rotor machine: all have a box.
+pub const WINDOWS: &str = "<p>Set all of them: typing may have turned the wheels.</p>\n<ul>\n";
+
+pub const WINDOW_BOX: &str =
+    "<li><label><input type=checkbox> slot ~: turn the wheel until <b>~\u{a0}~</b> shows";
+
+pub const WINDOW_BOX_END: &str = "</label>\n";
+
+/// The letters of a Converter's wheels: all have a box.
+pub const LETTERS: &str =
+    "<p>Set all of them: enciphering may have turned the wheels.</p>\n<table class=letters>\n<tr><th scope=row>Wheel<th scope=col>1<th scope=col>2<th scope=col>3<th scope=col>4<th scope=col>5<th scope=col>6\n<tr><th scope=row>letter";
+
+pub const LETTER_BOX: &str = "<td><label><input type=checkbox> <b>~</b>";
+
+pub const LETTER_BOX_END: &str = "</label>";
+
+pub const LETTERS_END: &str = "\n</table>\n</section>\n";
+
+/// The picture of the wheels before and after, and in words; if nothing changes, only after.
+pub const WHEELS: &str =
+    "First compare the machine with <i>before</i>; only windows may differ. Thick frames: to set.</p>\n</header>\n<figure class=wheels><svg role=\"img\" viewBox=\"0 0 600 314\"><title>The wheels, from the left. Before: ";
+
+pub const WHEELS_THEN: &str = ". After: ";
+
+pub const WHEELS_ONCE: &str =
+    "The machine has to stand as shown; only windows may differ.</p>\n</header>\n<figure class=wheels><svg role=\"img\" viewBox=\"0 0 600 150\"><title>The wheels, from the left: ";
+
+pub const TITLE_END: &str = ".</title>\n";
+
+pub const WHEELS_END: &str = "</svg>\n</figure>\n";
+
+/// A reflector, an empty slot, and a wheel with ring and window, in words.
+pub const REFLECTOR_WORDS: &str = "reflector ~";
+
+pub const EMPTY_WORDS: &str = "; slot ~: empty";
+
+pub const WHEEL_WORDS: &str = "; slot ~: wheel ~";
+
+pub const RING_WORDS: &str = ", ring ~";
+
+pub const WINDOW_WORDS: &str = ", window ~";
+
+/// A band of the picture: its name, its labels, and a reflector, which may be new.
+pub const BAND: &str =
+    "<text class=\"label bold\" x=\"2\" y=\"~\" font-size=\"20\">~</text>\n<text class=\"label\" x=\"2\" y=\"~\" font-size=\"18\">wheel</text>\n<text class=\"label\" x=\"2\" y=\"~\" font-size=\"18\">ring</text>\n<text class=\"label\" x=\"2\" y=\"~\" font-size=\"18\">window</text>\n<text x=\"134\" y=\"~\" font-size=\"18\">reflector</text>\n";
+
+pub const REFLECTOR_SHOWN: &str =
+    "<rect x=\"96\" y=\"~\" width=\"76\" height=\"122\"/>\n<text x=\"134\" y=\"~\" font-size=\"20\">~</text>\n";
+
+pub const NEW_REFLECTOR: &str =
+    "<rect class=\"set\" x=\"96\" y=\"~\" width=\"76\" height=\"122\"/>\n<text class=\"bold\" x=\"134\" y=\"~\" font-size=\"20\">~</text>\n";
+
+/// A slot, empty or with a wheel; a ring; a window. Each may be new.
+pub const EMPTY: &str =
+    "<text x=\"~\" y=\"~\" font-size=\"18\">slot ~</text>\n<rect x=\"~\" y=\"~\" width=\"96\" height=\"122\"/>\n<text x=\"~\" y=\"~\" font-size=\"20\">empty</text>\n";
+
+pub const WHEEL: &str =
+    "<text x=\"~\" y=\"~\" font-size=\"18\">slot ~</text>\n<rect x=\"~\" y=\"~\" width=\"96\" height=\"122\"/>\n<text x=\"~\" y=\"~\" font-size=\"20\">~</text>\n";
+
+pub const NEW_WHEEL: &str =
+    "<text x=\"~\" y=\"~\" font-size=\"18\">slot ~</text>\n<rect class=\"set\" x=\"~\" y=\"~\" width=\"96\" height=\"122\"/>\n<text class=\"bold\" x=\"~\" y=\"~\" font-size=\"20\">~</text>\n";
+
+pub const RING_SHOWN: &str = "<text x=\"~\" y=\"~\" font-size=\"20\">~\u{a0}~</text>\n";
+
+pub const NEW_RING: &str =
+    "<rect class=\"set\" x=\"~\" y=\"~\" width=\"76\" height=\"28\"/>\n<text class=\"bold\" x=\"~\" y=\"~\" font-size=\"20\">~\u{a0}~</text>\n";
+
+pub const WINDOW: &str =
+    "<rect x=\"~\" y=\"~\" width=\"40\" height=\"40\"/>\n<text x=\"~\" y=\"~\" font-size=\"26\">~</text>\n<text x=\"~\" y=\"~\" font-size=\"20\">~</text>\n";
+
+pub const NEW_WINDOW: &str =
+    "<rect class=\"set\" x=\"~\" y=\"~\" width=\"40\" height=\"40\"/>\n<text class=\"bold\" x=\"~\" y=\"~\" font-size=\"26\">~</text>\n<text class=\"bold\" x=\"~\" y=\"~\" font-size=\"20\">~</text>\n";
+
+/// The picture of a plugboard: its title, which has the cables in words.
+pub const BOARD: &str =
+    "<div class=beside><figure><svg role=\"img\" viewBox=\"0 0 560 336\"><title>The plugboard ~. Cables: ";
+
+pub const CABLE_WORDS: &str = "~ ~-~";
+
+pub const LOOSE_WORDS: &str = "~ ~";
+
+pub const NO_CABLES: &str = "none";
+
+pub const BOARD_END: &str = "</svg>\n<figcaption>";
+
+/// The line of a cable: from its left end into its lane, to its right end, or open.
+pub const LEFT_HALF: &str = "<path~ d=\"M~ ~V~Q~ ~ ~ ~";
+
+pub const RIGHT_HALF: &str = "H~Q~ ~ ~ ~V~\"/>\n";
+
+pub const OPEN_END: &str = "H~\"/>\n";
+
+/// A socket: free, with a plug that stays, with a plug to take out, with a plug to put in.
+pub const FREE: &str =
+    "<text x=\"~\" y=\"~\" font-size=\"22\">~</text>\n<circle class=\"free\" cx=\"~\" cy=\"~\" r=\"4\"/>\n";
+
+pub const STAYS: &str =
+    "<text x=\"~\" y=\"~\" font-size=\"22\">~</text>\n<circle cx=\"~\" cy=\"~\" r=\"15\"/>\n<text x=\"~\" y=\"~\" font-size=\"17\">~</text>\n";
+
+pub const GOES_OUT: &str =
+    "<text class=\"bold\" x=\"~\" y=\"~\" font-size=\"22\">~</text>\n<rect class=\"out\" x=\"~\" y=\"~\" width=\"30\" height=\"30\"/>\n<text x=\"~\" y=\"~\" font-size=\"17\">~</text>\n";
+
+pub const GOES_IN: &str =
+    "<text class=\"bold\" x=\"~\" y=\"~\" font-size=\"22\">~</text>\n<circle class=\"in\" cx=\"~\" cy=\"~\" r=\"15\"/>\n<text class=\"on\" x=\"~\" y=\"~\" font-size=\"17\">~</text>\n";
+
+/// What the marks of a plugboard mean. The table of the plugs to move, with a row for each cable.
+pub const CAPTION_SAME: &str =
+    "After. Circle: stays. Number: the cable\u{2019}s.</figcaption></figure>\n";
+
+pub const PLUGS_OUT: &str =
+    "Before. Square: take out. Circle: stays. Number: the cable\u{2019}s.</figcaption></figure>\n<table class=plugs>\n<tr><th scope=col>Cable<th scope=col colspan=2>take out at\n";
+
+pub const PLUGS_IN: &str =
+    "After. Disc: put in. Circle: stays. Number: the cable\u{2019}s.</figcaption></figure>\n<table class=plugs>\n<tr><th scope=col>Cable<th scope=col colspan=2>put in at\n";
+
+pub const PLUG_ROW: &str = "<tr><th scope=row>~";
+
+pub const ROW_END: &str = "\n";
+
+pub const PLUGS_END: &str = "</table>\n";
+
+pub const BOARD_STEP_END: &str = "</div>\n</section>\n";
+
+/// The table of the pins: a wheel, with the beginning of its lines; a pin, which may change.
+pub const PINS: &str =
+    "<table class=pins>\n<caption>Pins after: \u{25cf} effective, \u{25cb} not. Framed pins are to change: ON makes a pin effective, OFF not.</caption>\n";
+
+pub const PIN_WHEEL: &str = "<tbody>\n<tr><th scope=rowgroup colspan=13>Wheel ~ <small>~</small>";
+
+pub const PIN_LINES: &str = " <code>PIN ~</code>";
+
+pub const PIN_ROW: &str = "\n<tr>";
+
+pub const NO_PIN: &str = "<td>";
+
+pub const CELL: &str = "<td>";
+
+pub const SET_CELL: &str = "<td class=set>";
+
+pub const EFFECTIVE: &str = "~<br>\u{25cf}";
+
+pub const INEFFECTIVE: &str = "~<br>\u{25cb}";
+
+pub const PINS_END: &str = "</table>\n</section>\n";
+
+/// The table of the bars: a bar, which may change; the cell of a place; cells for boxes.
+pub const DRUM: &str =
+    "<table class=drum>\n<caption>\u{25aa} a lug stays here, \u{d7} a lug leaves, \u{25a0} a lug comes. Move the lugs of a bar in the order shown.</caption>\n<thead>\n<tr><th scope=col>Bar<th scope=col>1<th scope=col>0L<th scope=col>2<th scope=col>3<th scope=col>4<th scope=col>5<th scope=col>0R<th scope=col>6<th scope=col colspan=2>Lugs to move\n<tbody>\n";
+
+pub const BAR: &str = "<tr><th scope=row>~";
+
+pub const SET_BAR: &str = "<tr class=set><th scope=row>~";
+
+pub const NO_LUG: &str = "<td>";
+
+pub const STAYS_HERE: &str = "<td>\u{25aa}";
+
+pub const LEAVES: &str = "<td>\u{d7}";
+
+pub const COMES: &str = "<td>\u{25a0}";
+
+pub const NO_BOXES: &str = "<td><td>\n";
+
+pub const ONE_BOX: &str = "<td>\n";
+
+pub const BOXES: &str = "\n";
+
+pub const DRUM_END: &str = "</table>\n</section>\n";
+
+/// The test: the keys, and what the machine makes of them. Then the letters to set again, and the numbers of settings.
+pub const TEST_ROTOR: &str =
+    "<p>Type the alphabet. The lamps have to give the second line:</p>\n<pre>";
+
+pub const TEST_PIN: &str =
+    "<p>Set the knob to C, and encipher 26 times A. The machine has to print the second line:</p>\n<pre>";
+
+pub const TEST_LAMPS: &str = "\n<b>";
+
+pub const TEST_END: &str = "</b></pre>\n<p>Then set the windows to <b>";
+
+pub const AGAIN_ROTOR: &str = "~\u{a0}~";
+
+pub const NOTE_ROTOR: &str =
+    "</b> again.</p>\n<p class=fields><span>Windows when put away</span></p>\n<p class=note>No shorter list leads to this day. Differences in rings, slots, reflector and windows: ~. Least number of plugs to move, by the prices\u{2019} sum: ~. Together: ~.</p>\n</section>\n";
+
+pub const NOTE_PIN: &str =
+    "</b> again.</p>\n<p class=fields><span>Letters when put away</span></p>\n<p class=note>No shorter list leads to this day. Differences in pins and letters: ~. Least number of lugs to move, by the prices\u{2019} sum: ~. Together: ~.</p>\n</section>\n";
+
+/// The names of the models.
+pub const ENIGMA_I: &str = "Enigma I";
+
+pub const ENIGMA_M3: &str = "Enigma M3";
+
+pub const ENIGMA_M4: &str = "Enigma M4";
+
+pub const CONVERTER: &str = "Converter M-209";
+
+/// The titles of the steps.
+pub const RINGS_OUT: &str = "1 Rings, with the wheels out";
+
+pub const RINGS: &str = "1 Rings";
+
+pub const SEATS: &str = "2 Wheels and reflector";
+
+pub const OUT_STEP: &str = "3 Plugs out";
+
+pub const IN_STEP: &str = "4 Plugs in";
+
+pub const WINDOW_STEP: &str = "5 Windows";
+
+pub const LAMP_STEP: &str = "6 Test";
+
+pub const PIN_STEP: &str = "1 Pins";
+
+pub const LUG_STEP: &str = "2 Lugs";
+
+pub const LETTER_STEP: &str = "3 Letters";
+
+pub const PRINT_STEP: &str = "4 Test";
+
+/// The slots' names.
+pub const GREEK: &str = "Greek";
+
+pub const LEFT: &str = "left";
+
+pub const MIDDLE: &str = "middle";
+
+pub const RIGHT: &str = "right";
+
+/// The names of the pictures, and the classes of moving cables.
+pub const BEFORE: &str = "before";
+
+pub const AFTER: &str = "after";
+
+pub const OUT_CLASS: &str = " class=\"out\"";
+
+pub const IN_CLASS: &str = " class=\"in\"";
+
+pub const PLAIN: &str = "";

@@ -1,0 +1,321 @@
+//! The picture of a rotor machine's wheels before and after.
+ghost use Rattle.std.specs.Prelude.{◌≡◌, ◌+◌, ◌*◌, ◌<◌, ◌++◌, flat_map};
+ghost use Rattle.kd_state.specs.Machine.{machine_slot};
+ghost use Rattle.kd_pictures.specs.Drawing.{Draws};
+ghost use Rattle.kd_pictures.specs.Wheels.{is_seated};
+ghost use Rattle.kd_pictures.specs.Wheels.{band_head, band_text, both_bands, is_same_letter, letter_words};
+ghost use Rattle.kd_pictures.specs.Wheels.{machine_words};
+ghost use Rattle.kd_pictures.specs.Wheels.{one_band, reflector_shown, reflector_words, ring_shown, seated_shown};
+ghost use Rattle.kd_pictures.specs.Wheels.{slot_shown};
+ghost use Rattle.kd_pictures.specs.Wheels.{empty_shown, slot_words, slot_x, wheel_shown, wheel_words, window_shown};
+
+use crate::drawing::draw;
+use crate::numbers::SLOTS;
+use crate::template::{Value, fill};
+use crate::texts::{
+    BAND, EMPTY, EMPTY_WORDS, NEW_REFLECTOR, NEW_RING, NEW_WHEEL, NEW_WINDOW, REFLECTOR_SHOWN,
+    REFLECTOR_WORDS, RING_SHOWN, RING_WORDS, TITLE_END, WHEEL, WHEEL_WORDS, WHEELS, WHEELS_END,
+    WHEELS_ONCE, WHEELS_THEN, WINDOW, WINDOW_WORDS,
+};
+use crate::words::Word;
+use kd_state::Machine;
+use kd_tables::{Letter, Reflector, Sink, Wheel};
+
+/// Writes the picture of the machine before, and below it of the machine after. What differs is marked there.
+pub fn draw_both<W: Sink>(sink: &mut W, before: &Machine, after: &Machine)
+    ensures { Draws W.taken W.has_failed sink.old sink.new (both_bands before.now after.now) }
+{
+    draw(sink, WHEELS);
+    draw_words(sink, before);
+    draw(sink, WHEELS_THEN);
+    draw_words(sink, after);
+    draw(sink, TITLE_END);
+    draw_band(sink, 0, Word::Before, before, before);
+    draw_band(sink, 164, Word::After, after, before);
+    draw(sink, WHEELS_END);
+}
+
+/// Writes the picture of the machine if nothing changes.
+pub fn draw_one<W: Sink>(sink: &mut W, after: &Machine)
+    ensures { Draws W.taken W.has_failed sink.old sink.new (one_band after.now) }
+{
+    draw(sink, WHEELS_ONCE);
+    draw_words(sink, after);
+    draw(sink, TITLE_END);
+    draw_band(sink, 0, Word::After, after, after);
+    draw(sink, WHEELS_END);
+}
+
+/// Writes the machine in words.
+fn draw_words<W: Sink>(sink: &mut W, machine: &Machine)
+    ensures { Draws W.taken W.has_failed sink.old sink.new (machine_words machine.now) }
+{
+    draw_reflector_words(sink, machine.reflector());
+    draw_all_slot_words(sink, machine, &SLOTS);
+}
+
+fn draw_reflector_words<W: Sink>(sink: &mut W, reflector: Option<Reflector>)
+    ensures { Draws W.taken W.has_failed sink.old sink.new (reflector_words reflector) }
+{
+    match reflector {
+        None => draw(sink, ""),
+        Some(reflector) => fill(sink, REFLECTOR_WORDS, &[Value::Reflector(reflector)]),
+    }
+}
+
+fn draw_all_slot_words<W: Sink>(sink: &mut W, machine: &Machine, slots: &[u8])
+    ensures { Draws W.taken W.has_failed sink.old sink.new
+        (flat_map (λ slot. slot_words machine.now slot (machine_slot machine.now slot)) slots.now) }
+{
+    if let [slot, rest @ ..] = slots {
+        draw_slot_words(sink, machine, *slot, machine.slot(*slot));
+        draw_all_slot_words(sink, machine, rest);
+    }
+}
+
+fn draw_slot_words<W: Sink>(sink: &mut W, machine: &Machine, slot: u8, held: Option<Option<Wheel>>)
+    ensures { Draws W.taken W.has_failed sink.old sink.new (slot_words machine.now slot held) }
+{
+    match held {
+        None => draw(sink, ""),
+        Some(None) => fill(sink, EMPTY_WORDS, &[Value::Number(u16::from(slot))]),
+        Some(Some(wheel)) => draw_wheel_words(sink, machine, slot, wheel),
+    }
+}
+
+/// Writes a wheel in its slot, its ring and its window letter, in words.
+fn draw_wheel_words<W: Sink>(sink: &mut W, machine: &Machine, slot: u8, wheel: Wheel)
+    ensures { Draws W.taken W.has_failed sink.old sink.new (wheel_words machine.now slot wheel) }
+{
+    fill(
+        sink,
+        WHEEL_WORDS,
+        &[Value::Number(u16::from(slot)), Value::Wheel(wheel)],
+    );
+    draw_letter_words(sink, RING_WORDS, machine.ring(wheel));
+    draw_letter_words(sink, WINDOW_WORDS, machine.letter(wheel));
+}
+
+fn draw_letter_words<W: Sink>(sink: &mut W, template: &str, letter: Option<Letter>)
+    ensures { Draws W.taken W.has_failed sink.old sink.new (letter_words template.now letter) }
+{
+    match letter {
+        None => draw(sink, ""),
+        Some(letter) => fill(sink, template, &[Value::Letter(letter)]),
+    }
+}
+
+/// Writes a band at height `y`: `machine`, with what differs in `other` marked.
+fn draw_band<W: Sink>(sink: &mut W, y: u16, name: Word, machine: &Machine, other: &Machine)
+    requires { y < 1000 }
+    ensures { Draws W.taken W.has_failed sink.old sink.new
+        (band_text y name machine.now other.now) }
+{
+    draw_band_head(sink, y, name);
+    draw_reflector(sink, y, machine.reflector(), other.reflector());
+    draw_slots(sink, y, machine, other, &SLOTS);
+}
+
+#[tactic(auto, unfolding(crate::specs::Wheels::band_head))]
+fn draw_band_head<W: Sink>(sink: &mut W, y: u16, name: Word)
+    requires { y < 1000 }
+    ensures { Draws W.taken W.has_failed sink.old sink.new (band_head y name) }
+{
+    fill(
+        sink,
+        BAND,
+        &[
+            Value::Number(y + 16),
+            Value::Word(name),
+            Value::Number(y + 54),
+            Value::Number(y + 84),
+            Value::Number(y + 125),
+            Value::Number(y + 16),
+        ],
+    );
+}
+
+fn draw_reflector<W: Sink>(
+    sink: &mut W,
+    y: u16,
+    reflector: Option<Reflector>,
+    other: Option<Reflector>,
+)
+    requires { y < 1000 }
+    ensures { Draws W.taken W.has_failed sink.old sink.new (reflector_shown y reflector other) }
+{
+    match reflector {
+        None => draw(sink, ""),
+        Some(shown) => fill(
+            sink,
+            if other == Some(shown) {
+                REFLECTOR_SHOWN
+            } else {
+                NEW_REFLECTOR
+            },
+            &[
+                Value::Number(y + 24),
+                Value::Number(y + 54),
+                Value::Reflector(shown),
+            ],
+        ),
+    }
+}
+
+fn draw_slots<W: Sink>(sink: &mut W, y: u16, machine: &Machine, other: &Machine, slots: &[u8])
+    requires { y < 1000 }
+    ensures { Draws W.taken W.has_failed sink.old sink.new
+        (flat_map (λ slot.
+        slot_shown (slot_x slot) y machine.now other.now slot (machine_slot machine.now slot))
+        slots.now) }
+{
+    if let [slot, rest @ ..] = slots {
+        draw_slot(sink, y, machine, other, *slot);
+        draw_slots(sink, y, machine, other, rest);
+    }
+}
+
+/// Writes a slot, and the wheel in it.
+fn draw_slot<W: Sink>(sink: &mut W, y: u16, machine: &Machine, other: &Machine, slot: u8)
+    requires { y < 1000 }
+    ensures { Draws W.taken W.has_failed sink.old sink.new
+        (slot_shown (slot_x slot) y machine.now other.now slot (machine_slot machine.now slot)) }
+{
+    let x = 80 + 104 * u16::from(slot);
+    match machine.slot(slot) {
+        None => draw(sink, ""),
+        Some(None) => draw_empty(sink, x, y, slot),
+        Some(Some(wheel)) => draw_seated(sink, x, y, machine, other, slot, wheel),
+    }
+}
+
+fn draw_empty<W: Sink>(sink: &mut W, x: u16, y: u16, slot: u8)
+    requires x { x < 30000 }
+    requires y { y < 1000 }
+    ensures { Draws W.taken W.has_failed sink.old sink.new (empty_shown x y slot) }
+{
+    fill(
+        sink,
+        EMPTY,
+        &[
+            Value::Number(x + 48),
+            Value::Number(y + 16),
+            Value::Number(u16::from(slot)),
+            Value::Number(x),
+            Value::Number(y + 24),
+            Value::Number(x + 48),
+            Value::Number(y + 54),
+        ],
+    );
+}
+
+/// Writes a wheel in its slot, its ring and its window.
+fn draw_seated<W: Sink>(
+    sink: &mut W,
+    x: u16,
+    y: u16,
+    machine: &Machine,
+    other: &Machine,
+    slot: u8,
+    wheel: Wheel,
+)
+    requires x { x < 30000 }
+    requires y { y < 1000 }
+    ensures { Draws W.taken W.has_failed sink.old sink.new
+        (seated_shown x y machine.now other.now slot wheel) }
+{
+    draw_wheel(sink, x, y, slot, is_seated(other, slot, wheel), wheel);
+    draw_ring(sink, x, y, machine.ring(wheel), other.ring(wheel));
+    draw_window(sink, x, y, machine.letter(wheel), other.letter(wheel));
+}
+
+fn draw_wheel<W: Sink>(sink: &mut W, x: u16, y: u16, slot: u8, is_old: bool, wheel: Wheel)
+    requires x { x < 30000 }
+    requires y { y < 1000 }
+    ensures { Draws W.taken W.has_failed sink.old sink.new (wheel_shown x y slot is_old wheel) }
+{
+    fill(
+        sink,
+        if is_old { WHEEL } else { NEW_WHEEL },
+        &[
+            Value::Number(x + 48),
+            Value::Number(y + 16),
+            Value::Number(u16::from(slot)),
+            Value::Number(x),
+            Value::Number(y + 24),
+            Value::Number(x + 48),
+            Value::Number(y + 54),
+            Value::Wheel(wheel),
+        ],
+    );
+}
+
+fn draw_ring<W: Sink>(sink: &mut W, x: u16, y: u16, ring: Option<Letter>, other: Option<Letter>)
+    requires x { x < 30000 }
+    requires y { y < 1000 }
+    ensures { Draws W.taken W.has_failed sink.old sink.new (ring_shown x y ring other) }
+{
+    match ring {
+        None => draw(sink, ""),
+        Some(letter) if other == Some(letter) => fill(
+            sink,
+            RING_SHOWN,
+            &[
+                Value::Number(x + 48),
+                Value::Number(y + 85),
+                Value::Letter(letter),
+                Value::Ordinal(letter),
+            ],
+        ),
+        Some(letter) => fill(
+            sink,
+            NEW_RING,
+            &[
+                Value::Number(x + 10),
+                Value::Number(y + 64),
+                Value::Number(x + 48),
+                Value::Number(y + 85),
+                Value::Letter(letter),
+                Value::Ordinal(letter),
+            ],
+        ),
+    }
+}
+
+fn draw_window<W: Sink>(sink: &mut W, x: u16, y: u16, shown: Option<Letter>, other: Option<Letter>)
+    requires x { x < 30000 }
+    requires y { y < 1000 }
+    ensures { Draws W.taken W.has_failed sink.old sink.new (window_shown x y shown other) }
+{
+    match shown {
+        None => draw(sink, ""),
+        Some(letter) => fill(
+            sink,
+            if other == Some(letter) {
+                WINDOW
+            } else {
+                NEW_WINDOW
+            },
+            &[
+                Value::Number(x + 10),
+                Value::Number(y + 99),
+                Value::Number(x + 30),
+                Value::Number(y + 128),
+                Value::Letter(letter),
+                Value::Number(x + 70),
+                Value::Number(y + 126),
+                Value::Ordinal(letter),
+            ],
+        ),
+    }
+}
+
+/// Whether the slot holds the wheel.
+pub fn is_seated(machine: &Machine, slot: u8, wheel: Wheel) -> bool
+    ensures { result ≡ is_seated machine.now slot wheel }
+{
+    match machine.slot(slot) {
+        Some(seated) => seated == Some(wheel),
+        None => false,
+    }
+}
