@@ -3,3 +3,4 @@ pub mod Sections
 pub mod Days
 pub mod Writings
 pub mod DayLines
+pub mod EmptyMonths

@@ -13,4 +13,5 @@ pub mod Sheet
 pub mod SheetFile
 pub mod MachineText
 pub mod SheetText
+pub mod EmptySheet
 pub mod Laws

@@ -2,6 +2,7 @@
 #![tactic(auto)]
 
 mod document;
+mod empty_month;
 mod fault;
 mod key;
 pub mod laws;
@@ -13,6 +14,7 @@ mod sheet_writer;
 mod values;
 mod writing;
 
+pub use empty_month::write_empty_month;
 pub use fault::SheetFault;
 pub use key::Key;
 pub use machine_reader::read_machine;

@@ -13,7 +13,7 @@ use kd_state::{Entry, PinEntry, RotorEntry, SheetDay};
 use kd_tables::{Device, Model, Sink, put_all};
 
 /// Appends the first two lines of a day: its number and its model.
-fn push_day_head(text: &mut FileString, number: u8, model: Model)
+pub fn push_day_head(text: &mut FileString, number: u8, model: Model)
     requires { array_string_len text.old ≤ 16 }
     ensures bytes { text.new.bytes ≡ text.old.bytes ++ concat (day_head_lines number model) }
     ensures len { array_string_len text.new ≤ 64 }
