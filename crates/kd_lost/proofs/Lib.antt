@@ -1,0 +1,7 @@
+pub mod Ciphers
+pub mod Bytes
+pub mod KeyLetters
+pub mod Completions
+pub mod PinText
+pub mod Parts
+pub mod PartShown

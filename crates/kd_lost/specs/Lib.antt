@@ -1,0 +1,6 @@
+pub mod Lost
+pub mod WholePart
+pub mod Copies
+pub mod DamagedText
+pub mod DamagedPart
+pub mod Laws

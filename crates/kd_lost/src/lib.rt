@@ -1,0 +1,18 @@
+//! Forms in which letters were lost on the air: everything that can be read of them without guessing.
+//!
+//! A lost letter is a `?` or `-`, and a small letter is its capital. The text of a part is shown without the letters
+//! that were lost; a part whose keys were lost isn't read.
+#![tactic(auto)]
+
+mod body;
+mod copies;
+mod damage;
+mod damaged_text;
+pub mod laws;
+mod part;
+mod received;
+mod warnings;
+
+pub use damage::PartDamage;
+pub use damaged_text::{DamagedText, GroupTest, LostCopies};
+pub use part::{DamagedPart, PartNumbers, read_damaged_part};
