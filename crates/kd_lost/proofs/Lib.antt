@@ -5,3 +5,5 @@ pub mod Completions
 pub mod PinText
 pub mod Parts
 pub mod PartShown
+pub mod KnownLetters
+pub mod WholeParts

@@ -184,7 +184,7 @@ whole_split part line body whole first kept completes =
       unbroken = subst (IsWithout 10) same (unbroken_whole line front first.without one);
     }
 
-least_count : (s : Day) (count : ℕ) (i : Option Indicator) → IsLetterCount s count → HasIndicator s i
+pub least_count : (s : Day) (count : ℕ) (i : Option Indicator) → IsLetterCount s count → HasIndicator s i
     → (0 < count) × (i ≡ None → 20 ≤ count)
 least_count (OfRotors s) count (Some i) is has = (omega (arith, is), λ none. absurd (cc))
 least_count (OfRotors s) count None is has = absurd has
