@@ -7,3 +7,5 @@ pub mod Parts
 pub mod PartShown
 pub mod KnownLetters
 pub mod WholeParts
+pub mod Forms
+pub mod WholeForms

@@ -3,4 +3,5 @@ pub mod WholePart
 pub mod Copies
 pub mod DamagedText
 pub mod DamagedPart
+pub mod DamagedForm
 pub mod Laws

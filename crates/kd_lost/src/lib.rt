@@ -8,11 +8,15 @@ mod body;
 mod copies;
 mod damage;
 mod damaged_text;
+mod form;
 pub mod laws;
+mod order;
 mod part;
 mod received;
 mod warnings;
 
 pub use damage::PartDamage;
 pub use damaged_text::{DamagedText, GroupTest, LostCopies};
+pub use form::{DamagedFormFault, read_damaged_form};
+pub use order::{OrderNote, has_part, order_note};
 pub use part::{DamagedPart, PartNumbers, read_damaged_part};
