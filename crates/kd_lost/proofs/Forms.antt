@@ -1,6 +1,6 @@
 -- How a damaged form is cut into parts, and read part by part.
-use Rattle.std.proofs.Common.{◌≡◌, ◌≢◌, ◌∙◌, ℕ, zero, suc, ◌+◌, ◌<◌, ◌≤◌, ◌==◌, ◌&&◌, ◌||◌, nat_le, List, [], ◌∷◌, ◌++◌, length}
-use Rattle.std.proofs.Common.{drop, take, refl, sym, ap, subst, arith, Bool, true, false, get_or, append_assoc, if◌then◌else◌}
+use Rattle.std.proofs.Common.{◌≡◌, ◌∙◌, ℕ, suc, ◌+◌, ◌<◌, ◌≤◌, ◌==◌, ◌&&◌, ◌||◌, nat_le, List, [], ◌∷◌, ◌++◌, length}
+use Rattle.std.proofs.Common.{drop, take, refl, sym, ap, arith, Bool, true, false, get_or, append_assoc, if◌then◌else◌}
 use Rattle.std.proofs.Common.{Option, Some, None, MatchOption, length-append}
 use Rattle.std.proofs.lemmas.List.{append-nil, drop_all, drop_more, take_all, take_more}
 use Rattle.kd_state.specs.SheetDay.{Day}
@@ -53,9 +53,10 @@ cut_there form i x inside is ends before =
 pub cut_nowhere : (form : List ℕ) (i : ℕ) → length form ≤ i → IsCutTo form i
     → ((cut_at_digits form).0 ≡ form) × ((cut_at_digits form).1 ≡ [])
 cut_nowhere form i past before =
-    let none = drop_all i form past in
-    (before.part ∙ ap (λ r. take i form ++ (cut_at_digits r).0) none ∙ append-nil (take i form) ∙ take_all i form past,
-    before.others ∙ ap (λ r. (cut_at_digits r).1) none)
+    let none = drop_all i form past in (
+      before.part ∙ ap (λ r. take i form ++ (cut_at_digits r).0) none ∙ append-nil (take i form) ∙ take_all i form past,
+      before.others ∙ ap (λ r. (cut_at_digits r).1) none,
+    )
 
 -- -------- lines with digits
 

@@ -3,7 +3,7 @@ use Rattle.std.proofs.Common.{All, Any, Bool, true, false, IsTrue, ◌↔◌, �
 use Rattle.std.proofs.Common.{length, map, drop, take, refl, sym, ap, subst, arith, Option, Some, None, Result, Ok, Err, get_or}
 use Rattle.std.proofs.Common.{inl, inr, ◌≤◌}
 use Rattle.std.proofs.lemmas.List.Elements.{All-cons, All-nil, All-weaker}
-use Rattle.kd_state.specs.AnswerRules.{Demands, Finds, FindsAlways, GoesOn, HasFault, ThenNext}
+use Rattle.kd_state.specs.AnswerRules.{Demands, FindsAlways, GoesOn, HasFault, ThenNext}
 use Rattle.kd_lost.specs.declared.damage.PartDamage.{PartDamage}
 use Rattle.kd_lost.specs.Lost.{Completes, IsLetterFor, covered}
 use Rattle.kd_lost.specs.Copies.{AreKeyLettersAnswer, IsKeyLetterAnswer, IsKeysAnswer}

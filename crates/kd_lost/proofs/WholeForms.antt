@@ -1,19 +1,18 @@
 -- A form that `receive` reads is cut into its parts, and shown whole.
-use Rattle.std.proofs.Common.{All, ◌≡◌, ◌≢◌, ◌∙◌, ◌⊎◌, inl, inr, ℕ, ◌+◌, ◌<◌, ◌≤◌, ◌==◌, ◌&&◌, ◌||◌, nat_le, IsTrue, IsFalse}
-use Rattle.std.proofs.Common.{List, [], ◌∷◌, ◌++◌, length, map, take, drop, refl, sym, ap, subst, arith, Bool, true, false}
-use Rattle.std.proofs.Common.{Option, Some, None, Result, Ok, Err, codes, get_or, append_assoc, if◌then◌else◌}
+use Rattle.std.proofs.Common.{All, ◌≡◌, ◌≢◌, ◌∙◌, ◌⊎◌, inl, inr, ℕ, ◌≤◌, ◌==◌, ◌&&◌, ◌||◌, nat_le, IsTrue}
+use Rattle.std.proofs.Common.{List, [], ◌∷◌, ◌++◌, length, map, take, refl, sym, ap, subst, arith, Bool, true, false}
+use Rattle.std.proofs.Common.{Some, Ok, codes, get_or, if◌then◌else◌}
 use Rattle.std.proofs.lemmas.Bool.{Decides.nat_tests, cases_Bool, cases_eq, false≢true}
-use Rattle.std.proofs.lemmas.List.{map-append}
 use Rattle.std.proofs.lemmas.List.Elements.{All-cons, All-head, All-nil, All-tail}
 use Rattle.kd_tables.specs.Text.{is_text_byte}
 use Rattle.kd_state.specs.LineWords.{IsWithout}
 use Rattle.kd_state.specs.SheetDay.{Day}
 use Rattle.kd_form.specs.FormParts.{BeginsHeading, begins_heading, cut_at_headings, parts_of}
-use Rattle.kd_form.specs.FormText.{IsAnswerAt, IsTextOf, ReadsPartsTo, first_part_start, next_part_start, plaintext_bytes}
+use Rattle.kd_form.specs.FormText.{IsAnswerAt, ReadsPartsTo, first_part_start, next_part_start, plaintext_bytes}
 use Rattle.kd_form.specs.PartReading.{PartStart}
 use Rattle.kd_form.proofs.Headings.{BeginsHeading-bytes, at_cut, heading_size, no_cut}
-use Rattle.kd_lost.specs.declared.{damaged_text.DamagedText.{DamagedText}, part.DamagedPart.{DamagedPart}}
-use Rattle.kd_lost.specs.DamagedForm.{AreReadOf, cut_at_digits, damaged_parts_of, ends_part, has_digit_line, shown_byte}
+use Rattle.kd_lost.specs.declared.{part.DamagedPart.{DamagedPart}}
+use Rattle.kd_lost.specs.DamagedForm.{AreReadOf, cut_at_digits, ends_part, has_digit_line, shown_byte}
 use Rattle.kd_lost.specs.DamagedForm.{letters_in, shown_letters}
 use Rattle.kd_lost.specs.Laws.{FormsReadAreShownWhole, FormsReadHaveTheirParts, IsReadWell}
 use Rattle.kd_lost.proofs.Forms.{an_end, no_end}
@@ -48,9 +47,10 @@ quiet_body (byte ∷ body) allowed =
 
 quiet_line : (line rest : List ℕ) → IsWithout 10 line → IsQuiet rest → IsQuiet (line ++ rest)
 quiet_line [] rest without quiet = quiet
-quiet_line (byte ∷ line) rest without quiet =
-    ((λ is. absurd (All-head (λ other. other ≢ 10) byte line without is)),
-    quiet_line line rest (All-tail (λ other. other ≢ 10) byte line without) quiet)
+quiet_line (byte ∷ line) rest without quiet = (
+  (λ is. absurd (All-head (λ other. other ≢ 10) byte line without is)),
+  quiet_line line rest (All-tail (λ other. other ≢ 10) byte line without) quiet,
+)
 
 module _ (s : Day) where
   quiet_parts : (p : PartStart) (parts : List (List ℕ)) (letters : List ℕ)

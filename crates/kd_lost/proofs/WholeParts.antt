@@ -1,28 +1,27 @@
 -- A part that is read as it was received has no lost letter, and is shown whole.
-use Rattle.std.proofs.Common.{All, zero, suc, append_assoc, ◌≡◌, ◌≢◌, ◌∙◌, ℕ, ◌+◌, ◌-◌, ◌<◌, ◌≤◌, ◌^◌, List, [], ◌∷◌, ◌++◌, length}
+use Rattle.std.proofs.Common.{All, append_assoc, ◌≡◌, ◌≢◌, ◌∙◌, ℕ, ◌+◌, ◌-◌, ◌<◌, ◌≤◌, ◌^◌, List, [], ◌∷◌, ◌++◌, length}
 use Rattle.std.proofs.Common.{map, drop, take, refl, sym, ap, subst, arith, Option, Some, None, inl, inr, IsTrue, IsFalse}
-use Rattle.std.proofs.Common.{Result, Ok, Err, codes, decimal, option_map, length-drop, Any, get_or, ◌↔◌}
-use Rattle.std.proofs.lemmas.Bool.{Decides.nat_tests, cases_Bool, false≢true}
-use Rattle.std.proofs.lemmas.List.{drop-drop, drop-take, get_or-take, length-take, length-take-le, take-take}
+use Rattle.std.proofs.Common.{Result, Ok, Err, codes, decimal, option_map, Any, get_or, ◌↔◌}
+use Rattle.std.proofs.lemmas.Bool.{Decides.nat_tests, cases_Bool}
+use Rattle.std.proofs.lemmas.List.{drop-drop, drop-take, get_or-take, length-take-le, take-take}
 use Rattle.std.proofs.lemmas.List.Elements.{All-append, All-cons, All-from_get_or, All-head, All-map, All-nil, All-tail}
 use Rattle.std.proofs.lemmas.List.Elements.{All-weaker}
 use Rattle.std.proofs.lemmas.Fmt.{digits_decimal}
 use Rattle.std.specs.List.{cons_option, slice_range}
 use Rattle.kd_tables.specs.Text.{is_text_byte, letters_text}
-use Rattle.kd_state.specs.AnswerRules.{GoesOn, HasFault}
 use Rattle.kd_state.specs.LineWords.{IsFirstPart, line_of}
 use Rattle.kd_state.specs.SheetDay.{AreADaysGroup, Day, OfRotors, OfPins}
 use Rattle.kd_state.specs.TwoCiphers.{IsWindow, sheet_key}
 use Rattle.kd_state.proofs.Lines.{IsNumeralModel-digits}
 use Rattle.kd_state.proofs.OneAnswer.{ThenNext-Ok, Yields-Ok}
-use Rattle.kd_form.specs.declared.{heading.{Heading.{Heading}, Indicator.{Indicator}}, keys.PinKeys.{PinKeys}}
-use Rattle.kd_form.specs.BodyCipher.{HasIndicator, HasIndicatorsAround, IsLettersAnswer, IsPinAnswer, deciphered_key}
+use Rattle.kd_form.specs.declared.{heading.{Heading.{Heading}, Indicator.{Indicator}}}
+use Rattle.kd_form.specs.BodyCipher.{HasIndicator, IsLettersAnswer, IsPinAnswer, deciphered_key}
 use Rattle.kd_form.specs.BodyCipher.{keys_of_body, text_of_body, list_of_body, group_of_body}
 use Rattle.kd_form.specs.FormParts.{HasFirstLine, IsHeading, IsLineText, WithReturn, WithoutReturn}
 use Rattle.kd_form.specs.InternalKey.{IsInternalKey}
 use Rattle.kd_form.specs.Part.{fraction_text, heading_words, indicator_words}
-use Rattle.kd_form.specs.PartMaking.{cipher_from, enciphered_choice, list_letters}
-use Rattle.kd_form.specs.PartReading.{HasDueNumbers, HasHeading, IsPartAnswer, PartStart, ReadPart}
+use Rattle.kd_form.specs.PartMaking.{enciphered_choice, list_letters}
+use Rattle.kd_form.specs.PartReading.{HasDueNumbers, IsPartAnswer, PartStart, ReadPart}
 use Rattle.kd_form.specs.Sending.{IsBytesAnswer, letter_of_byte, letters_from}
 use Rattle.kd_form.proofs.Headings.{at_most, ended_heading, one_heading}
 use Rattle.kd_form.proofs.MadeParts.{enciphered_length}
@@ -31,10 +30,9 @@ use Rattle.kd_lost.specs.declared.damaged_text.DamagedText.{DamagedText}
 use Rattle.kd_lost.specs.declared.part.PartNumbers.{PartNumbers}
 use Rattle.kd_lost.specs.Lost.{Completes, capital_of, covered, is_lost, received_letter, received_letters}
 use Rattle.kd_lost.specs.Copies.{IsKeysAnswer}
-use Rattle.kd_lost.specs.WholePart.{IsLettersText, IsPinText}
-use Rattle.kd_lost.specs.DamagedText.{AreWarnings, GroupLost, GroupRight, GroupWrong, IsDamagedLettersAnswer, IsListTest}
-use Rattle.kd_lost.specs.DamagedText.{IsGroupTest, IsTextShown, ListLost, ListRight, ListWrong, text_part}
-use Rattle.kd_lost.specs.DamagedPart.{AreNumbersRead, IsDamagedHeading, IsDamagedTextAnswer, IsHeadedPartAnswer}
+use Rattle.kd_lost.specs.DamagedText.{GroupLost, GroupRight, GroupWrong, IsDamagedLettersAnswer, IsListTest}
+use Rattle.kd_lost.specs.DamagedText.{IsGroupTest, ListLost, ListRight, ListWrong, text_part}
+use Rattle.kd_lost.specs.DamagedPart.{AreNumbersRead, IsDamagedHeading, IsHeadedPartAnswer}
 use Rattle.kd_lost.specs.DamagedPart.{IsDamagedLinesAnswer, body_of, filled_byte, first_line, is_body_byte}
 use Rattle.kd_lost.specs.Laws.{AreWholeCopies, IsShownWhole, PartsReadAreShownWhole, PartsReadHaveNumbers}
 use Rattle.kd_lost.specs.declared.damaged_text.GroupTest.{GroupTest}

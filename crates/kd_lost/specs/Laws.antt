@@ -1,5 +1,5 @@
 -- Laws of damaged parts and of the ciphers under them.
-use Rattle.std.specs.Prelude.{◌≡◌, ℕ, Bool, true, false, List, [], ◌∷◌, ◌++◌, All, map, slice_get, Option, Some, None}
+use Rattle.std.specs.Prelude.{◌≡◌, ℕ, false, List, [], ◌∷◌, ◌++◌, All, map, slice_get, Option, Some, None}
 use Rattle.std.specs.Prelude.{Result, Ok}
 use Rattle.kd_state.specs.SheetDay.{Day}
 use Rattle.kd_state.specs.TwoCiphers.{EngineKey, cipher}
