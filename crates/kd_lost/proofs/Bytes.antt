@@ -3,7 +3,8 @@ use Rattle.std.proofs.Common.{◌≡◌, ◌∙◌, ℕ, ◌+◌, ◌<◌, List,
 use Rattle.std.proofs.Common.{Option, Some, None, get_or, option_to_list}
 use Rattle.std.specs.List.{cons_option, filter_map}
 use Rattle.std.proofs.lemmas.Bool.{cases_lt}
-use Rattle.std.proofs.lemmas.List.{get_or_default, length-take, map_push, take-append-le, take-take, take_all, take_more}
+use Rattle.std.proofs.lemmas.List.{get_or_default, length-take, map_push, take-append-le, take-take, take_all}
+use Rattle.std.proofs.lemmas.List.{take_more}
 use Rattle.std.proofs.lemmas.List.Elements.{filter_map-append}
 use Rattle.kd_lost.specs.Lost.{received_letter, received_letters}
 use Rattle.kd_lost.specs.DamagedPart.{filled_byte}
@@ -28,7 +29,8 @@ more_found : {X Y : Type 0} (f : X → Option Y) (n : ℕ) (xs : List X) (index 
     → index < length xs → get_or xs index x ≡ x → kept ≡ take n (filter_map f (take index xs))
     → take n (kept ++ option_to_list (f x)) ≡ take n (filter_map f (take (index + 1) xs))
 more_found f n xs index x kept inside is was =
-    ap (λ l. take n (l ++ option_to_list (f x))) was ∙ still_kept n (filter_map f (take index xs)) (option_to_list (f x))
+    ap (λ l. take n (l ++ option_to_list (f x))) was ∙ still_kept n (filter_map f (take index xs)) (option_to_list
+        (f x))
     ∙ sym (ap (λ l. take n (filter_map f l)) (take_more xs index x inside)
     ∙ ap (take n) (filter_map-append f (take index xs) (get_or xs index x ∷ []))
     ∙ ap (λ y. take n (filter_map f (take index xs) ++ cons_option (f y) [])) is

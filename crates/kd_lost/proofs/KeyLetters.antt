@@ -1,6 +1,8 @@
 -- The Converter's key letters, from their copies.
-use Rattle.std.proofs.Common.{◌≡◌, ◌∙◌, ℕ, ◌+◌, ◌<◌, List, [], ◌∷◌, length, All, Any, Contains, refl, sym, ap, subst, arith}
-use Rattle.std.proofs.Common.{Option, Some, None, Result, Ok, Err, suc, ◌++◌, ◌≤◌, ◌-◌, take, drop, get_or, append_assoc}
+use Rattle.std.proofs.Common.{◌≡◌, ◌∙◌, ℕ, ◌+◌, ◌<◌, List, [], ◌∷◌, length, All, Any, Contains, refl, sym, ap, subst}
+use Rattle.std.proofs.Common.{arith}
+use Rattle.std.proofs.Common.{Option, Some, None, Result, Ok, Err, suc, ◌++◌, ◌≤◌, ◌-◌, take, drop, get_or}
+use Rattle.std.proofs.Common.{append_assoc}
 use Rattle.std.proofs.Common.{MatchResult, length-drop, Bool, true, false, IsTrue, ◌≢◌, ◌↔◌}
 use Rattle.std.specs.Bool.{OnTrue, OnFalse}
 use Rattle.std.proofs.lemmas.Bool.{false≢true}
@@ -176,7 +178,8 @@ each_of_four P a b c d all =
     let more = All-tail P a (b ∷ c ∷ d ∷ []) all in
     let rest = All-tail P b (c ∷ d ∷ []) more in
     let last = All-tail P c (d ∷ []) rest in
-    (All-head P a (b ∷ c ∷ d ∷ []) all, All-head P b (c ∷ d ∷ []) more, All-head P c (d ∷ []) rest, All-head P d [] last)
+    (All-head P a (b ∷ c ∷ d ∷ []) all, All-head P b (c ∷ d ∷ []) more, All-head P c
+    (d ∷ []) rest, All-head P d [] last)
 
 -- ---- what `decipher_pin` says of the copies
 

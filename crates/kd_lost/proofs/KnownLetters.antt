@@ -1,6 +1,8 @@
 -- Letters of which none is lost: the keys in them, and how they are shown.
-use Rattle.std.proofs.Common.{All, Any, Bool, true, false, IsTrue, ◌↔◌, ◌≡◌, ◌≢◌, ◌∙◌, ℕ, zero, suc, ◌+◌, ◌<◌, List, [], ◌∷◌}
-use Rattle.std.proofs.Common.{length, map, drop, take, refl, sym, ap, subst, arith, Option, Some, None, Result, Ok, Err, get_or}
+use Rattle.std.proofs.Common.{All, Any, Bool, true, false, IsTrue, ◌↔◌, ◌≡◌, ◌≢◌, ◌∙◌, ℕ, zero, suc, ◌+◌, ◌<◌, List}
+use Rattle.std.proofs.Common.{[], ◌∷◌}
+use Rattle.std.proofs.Common.{length, map, drop, take, refl, sym, ap, subst, arith, Option, Some, None, Result, Ok}
+use Rattle.std.proofs.Common.{Err, get_or}
 use Rattle.std.proofs.Common.{inl, inr, ◌≤◌}
 use Rattle.std.proofs.lemmas.List.Elements.{All-cons, All-nil, All-weaker}
 use Rattle.kd_state.specs.AnswerRules.{Demands, FindsAlways, GoesOn, HasFault, ThenNext}
@@ -68,7 +70,8 @@ none_lost_in_both (l ∷ letters) [] lost = lost
 none_lost_in_both (l ∷ letters) (other ∷ end) (inl both) = let gone = both.0 in cc
 none_lost_in_both (l ∷ letters) (other ∷ end) (inr lost) = none_lost_in_both letters end lost
 
-pub covered_none : (letters text : List ℕ) → length letters ≡ length text → covered (map Some letters) text ≡ map Some text
+pub covered_none : (letters text : List ℕ) → length letters ≡ length text
+    → covered (map Some letters) text ≡ map Some text
 covered_none [] [] same = refl
 covered_none [] (x ∷ text) same = absurd (omega (arith, same))
 covered_none (l ∷ letters) [] same = absurd (omega (arith, same))

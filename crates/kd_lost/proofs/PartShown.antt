@@ -1,6 +1,7 @@
 -- The text of a part is the text of each of its completions, and some completion has a text.
 use Rattle.std.proofs.Common.{All, ◌≡◌, ◌∙◌, ℕ, ◌-◌, ◌<◌, ◌≤◌, List, [], ◌∷◌, ◌++◌, length, map, drop, take, refl}
-use Rattle.std.proofs.Common.{sym, ap, subst, arith, Option, Some, None, Result, Ok, Err, IsTrue, IsFalse, append_assoc, get_or}
+use Rattle.std.proofs.Common.{sym, ap, subst, arith, Option, Some, None, Result, Ok, Err, IsTrue, IsFalse}
+use Rattle.std.proofs.Common.{append_assoc, get_or}
 use Rattle.std.proofs.Common.{length-append, length-drop}
 use Rattle.std.proofs.lemmas.Bool.{false≢true}
 use Rattle.std.proofs.lemmas.List.{drop_at, length-take-le, take-append-drop, take-take, take_at}
@@ -27,7 +28,8 @@ use Rattle.kd_lost.specs.WholePart.{HasKeysAround, IsLettersText}
 use Rattle.kd_lost.specs.DamagedText.{IsDamagedLettersAnswer, IsTextShown, text_part}
 use Rattle.kd_lost.specs.declared.part.DamagedPart.{DamagedPart}
 use Rattle.kd_lost.specs.DamagedPart.{AreNumbersRead, IsDamagedLinesAnswer}
-use Rattle.kd_lost.specs.DamagedPart.{IsDamagedHeading, IsDamagedTextAnswer, IsPartShown, body_of, first_line, is_body_byte}
+use Rattle.kd_lost.specs.DamagedPart.{IsDamagedHeading, IsDamagedTextAnswer, IsPartShown, body_of, first_line}
+use Rattle.kd_lost.specs.DamagedPart.{is_body_byte}
 use Rattle.kd_lost.proofs.Ciphers.{filled_completes}
 use Rattle.kd_lost.proofs.Completions.{both_complete, completes_length}
 use Rattle.kd_lost.proofs.KeyLetters.{each_of_four, key_letters_complete, key_letters_length, letter_of_each}
@@ -102,7 +104,8 @@ pin_has_text s received keys internal some read on_wheels is_key =
     omega (arith, length-drop {A = Option ℕ}, size_of_start, size_of_end) in
     let P = λ (got : Option ℕ). IsLetterFor got chosen in
     let each = letter_of_each 0 (chosen_copies start end) chosen first.says in
-    let four = each_of_four P (get_or start 0 None) (get_or start 1 None) (get_or end 0 None) (get_or end 1 None) each in
+    let four = each_of_four P (get_or start 0 None) (get_or start 1 None) (get_or end 0 None)
+        (get_or end 1 None) each in
     let copies = key_letters_complete 1 (drop 2 start) (drop 2 end) external same rest.says in
     let at_start : Completes start (chosen ∷ chosen ∷ external) =
     copy_completes start chosen external (omega (arith, size_of_start)) four.0 four.1 copies.0 in
@@ -120,13 +123,15 @@ pin_has_text s received keys internal some read on_wheels is_key =
     key_letters_length 1 (drop 2 start) (drop 2 end) external same rest.says
     ∙ (omega (arith, length-drop {A = Option ℕ}, size_of_start)) in
     let two_letters : length last ≡ 2 =
-    omega (arith, completes_length (drop 8 back) last (filled_completes (drop 8 back)), length-drop {A = Option ℕ}, some) in
+    omega (arith, completes_length (drop 8 back) last (filled_completes
+        (drop 8 back)), length-drop {A = Option ℕ}, some) in
     let whole : List ℕ = (chosen ∷ chosen ∷ external ++ middle) ++ (chosen ∷ chosen ∷ external ++ last) in
     let these : keys_of_body whole ≡ keys = keys_around chosen external middle last six ∙ sym (Yields-Ok rest.next) in
     record {
       whole = whole;
       text = cipher_from s internal (text_of_body whole);
-      completes = joined_at ten received (chosen ∷ chosen ∷ external ++ middle) (chosen ∷ chosen ∷ external ++ last) here there;
+      completes = joined_at ten received (chosen ∷ chosen ∷ external ++ middle)
+          (chosen ∷ chosen ∷ external ++ last) here there;
       is = record {
         around = around_keys chosen external middle last six two_letters;
         on_wheels = subst (λ k. IsWindow (sheet_key s) k.external) (sym these) on_wheels;
@@ -256,7 +261,8 @@ part_shown s part shown read =
         let empty : length (received_letters (body_of part)) ≡ 0 = ap (λ b. length (received_letters b)) none in
         absurd (omega (arith, least.0, empty, counted))
 
-pub answer_shown : (s : Day) (part : List ℕ) (answer : Result DamagedText PartDamage) → IsDamagedTextAnswer s part answer
+pub answer_shown : (s : Day) (part : List ℕ) (answer : Result DamagedText PartDamage)
+    → IsDamagedTextAnswer s part answer
     → IfOk answer (IsPartShown s part)
 answer_shown s part (Ok shown) read = part_shown s part shown read
 answer_shown s part (Err damage) read = tt

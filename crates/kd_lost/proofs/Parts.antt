@@ -1,6 +1,7 @@
 -- Completions of bytes, and the lines of a part.
 use Rattle.std.proofs.Common.{All, ◌≡◌, ◌≢◌, ◌∙◌, ◌⊎◌, inl, inr, ℕ, ◌+◌, ◌<◌, List, [], ◌∷◌, ◌++◌, map}
-use Rattle.std.proofs.Common.{refl, sym, ap, subst, arith, Option, Some, None, IsTrue, IsFalse, get_or, Bool, true, false}
+use Rattle.std.proofs.Common.{refl, sym, ap, subst, arith, Option, Some, None, IsTrue, IsFalse, get_or, Bool, true}
+use Rattle.std.proofs.Common.{false}
 use Rattle.std.specs.List.{cons_option}
 use Rattle.std.proofs.lemmas.Bool.{Decides.nat_tests, cases_Bool}
 use Rattle.std.proofs.lemmas.List.Elements.{All-head, All-tail, All-cons, All-nil, All-map}
@@ -163,7 +164,8 @@ restored_kind byte body letters (Other kept given is) allowed a more =
 -- letters that complete those of a body are those of a completion
 pub restored : (body letters : List ℕ) → All (λ byte. IsTrue (is_body_byte byte)) body
     → Completes (received_letters body) letters → Restored body letters
-restored [] [] allowed a = record { rest = []; completes = tt; has = refl; allowed = All-nil (λ byte. IsTrue (is_text_byte byte)) }
+restored [] [] allowed a = record { rest = []; completes = tt; has = refl; allowed = All-nil (λ byte. IsTrue
+    (is_text_byte byte)) }
 restored [] (x ∷ letters) allowed a = absurd a
 restored (byte ∷ body) letters allowed a =
     restored_kind byte body letters (kind_of byte) (All-head (λ byte. IsTrue (is_body_byte byte)) byte body allowed) a
@@ -206,7 +208,8 @@ has_more_lines byte part (inr other) (TwoLines first) =
     let more = more_line byte part other in
     TwoLines (record {
       joined = ap (λ l. byte ∷ l) first.joined ∙ λ i. sym more.0 i ++ 10 ∷ sym more.1 i;
-      without = subst (IsWithout 10) (sym more.0) (All-cons (λ other. other ≢ 10) byte (first_line part) other first.without);
+      without = subst (IsWithout 10) (sym more.0) (All-cons (λ other. other ≢ 10) byte
+          (first_line part) other first.without);
     })
 has_more_lines byte part (inr other) (OneLine none) = OneLine ((more_line byte part other).1 ∙ none)
 

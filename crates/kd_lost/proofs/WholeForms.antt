@@ -10,6 +10,7 @@ use Rattle.kd_state.specs.SheetDay.{Day}
 use Rattle.kd_form.specs.FormParts.{BeginsHeading, begins_heading, cut_at_headings, parts_of}
 use Rattle.kd_form.specs.FormText.{IsAnswerAt, ReadsPartsTo, first_part_start, next_part_start, plaintext_bytes}
 use Rattle.kd_form.specs.PartReading.{PartStart}
+use Rattle.kd_form.specs.Sending.{space_letter}
 use Rattle.kd_form.proofs.Headings.{BeginsHeading-bytes, at_cut, heading_size, no_cut}
 use Rattle.kd_lost.specs.declared.{part.DamagedPart.{DamagedPart}}
 use Rattle.kd_lost.specs.DamagedForm.{AreReadOf, cut_at_digits, ends_part, has_digit_line, shown_byte}
@@ -60,7 +61,8 @@ module _ (s : Day) where
   quiet_parts p (part ∷ parts) letters (inr (read, more, is, rest, joined)) =
       let w = whole_part s p part read is in (
         subst IsQuiet (sym w.first.joined)
-            (quiet_line w.line (10 ∷ w.body) w.first.without ((λ _. no_digits w.body w.allowed), quiet_body w.body w.allowed)),
+            (quiet_line w.line (10 ∷ w.body) w.first.without ((λ _. no_digits w.body w.allowed),
+            quiet_body w.body w.allowed)),
         quiet_parts (next_part_start p read.parts part) parts more rest,
       )
 
@@ -85,7 +87,8 @@ heading_digit (a ∷ b ∷ c ∷ d ∷ e ∷ f ∷ bytes) long front low high =
     let three : c ≡ 82 = ap (λ l. get_or l 2 0) front in
     let four : d ≡ 84 = ap (λ l. get_or l 3 0) front in
     let five : e ≡ 32 = ap (λ l. get_or l 4 0) front in
-    digit_behind a _ (omega (arith, one)) (digit_behind b _ (omega (arith, two)) (digit_behind c _ (omega (arith, three))
+    digit_behind a _ (omega (arith, one)) (digit_behind b _ (omega (arith, two)) (digit_behind c _ (omega
+        (arith, three))
     (digit_behind d _ (omega (arith, four)) (digit_behind e _ (omega (arith, five))
     (digit_here f (has_digit_line bytes) low high)))))
 heading_digit [] long front low high = absurd (omega (arith, long))
@@ -147,9 +150,9 @@ same_parts s form text (parts, (letters, read, is), joined) =
 
 -- -------- the texts
 
-shown_known : (s : Day) (letters : List ℕ) → map (shown_byte s) (map Some letters) ≡ plaintext_bytes s letters
+shown_known : (s : Day) (letters : List ℕ) → map (shown_byte (space_letter s)) (map Some letters) ≡ plaintext_bytes s letters
 shown_known s [] = refl
-shown_known s (letter ∷ letters) = ap (λ l. shown_byte s (Some letter) ∷ l) (shown_known s letters)
+shown_known s (letter ∷ letters) = ap (λ l. shown_byte (space_letter s) (Some letter) ∷ l) (shown_known s letters)
 
 known_joined : (one other : List ℕ) → map Some (one ++ other) ≡ map Some one ++ map Some other
 known_joined [] other = refl
@@ -178,5 +181,5 @@ forms_shown s form text reads is are =
     let shown = parts_shown s first_part_start (parts_of form) letters reads read
     (subst (λ l. AreReadOf s l reads) (same_parts s form text is) are) in (
       shown.0,
-      joined ∙ ap (λ l. l ++ 10 ∷ []) (made ∙ sym (shown_known s letters) ∙ ap (map (shown_byte s)) (sym shown.1)),
+      joined ∙ ap (λ l. l ++ 10 ∷ []) (made ∙ sym (shown_known s letters) ∙ ap (map (shown_byte (space_letter s))) (sym shown.1)),
     )

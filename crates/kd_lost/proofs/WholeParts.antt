@@ -1,6 +1,7 @@
 -- A part that is read as it was received has no lost letter, and is shown whole.
 use Rattle.std.proofs.Common.{All, append_assoc, ◌≡◌, ◌≢◌, ◌∙◌, ℕ, ◌+◌, ◌-◌, ◌<◌, ◌≤◌, ◌^◌, List, [], ◌∷◌, ◌++◌, length}
-use Rattle.std.proofs.Common.{map, drop, take, refl, sym, ap, subst, arith, Option, Some, None, inl, inr, IsTrue, IsFalse}
+use Rattle.std.proofs.Common.{map, drop, take, refl, sym, ap, subst, arith, Option, Some, None, inl, inr, IsTrue}
+use Rattle.std.proofs.Common.{IsFalse}
 use Rattle.std.proofs.Common.{Result, Ok, Err, codes, decimal, option_map, Any, get_or, ◌↔◌}
 use Rattle.std.proofs.lemmas.Bool.{Decides.nat_tests, cases_Bool}
 use Rattle.std.proofs.lemmas.List.{drop-drop, drop-take, get_or-take, length-take-le, take-take}
@@ -37,7 +38,8 @@ use Rattle.kd_lost.specs.DamagedPart.{IsDamagedLinesAnswer, body_of, filled_byte
 use Rattle.kd_lost.specs.Laws.{AreWholeCopies, IsShownWhole, PartsReadAreShownWhole, PartsReadHaveNumbers}
 use Rattle.kd_lost.specs.declared.damaged_text.GroupTest.{GroupTest}
 use Rattle.kd_lost.specs.declared.damaged_text.GroupTest.TheVariants as tests
-use Rattle.kd_lost.proofs.KnownLetters.{always, covered_none, drop_known, found, known_completes, known_keys, known_length}
+use Rattle.kd_lost.proofs.KnownLetters.{always, covered_none, drop_known, found, known_completes, known_keys}
+use Rattle.kd_lost.proofs.KnownLetters.{known_length}
 use Rattle.kd_lost.proofs.KnownLetters.{lost_is_false, none_lost_in_both, not_any_lost, passed, same_known, take_known}
 use Rattle.kd_lost.proofs.PinText.{end_of, keys_there, start_of}
 use Rattle.kd_lost.proofs.Parts.{lines_there}
@@ -64,8 +66,10 @@ firm_number number small = All-from_get_or IsFirm (decimal number) 0
     (λ i inside. let digit = digits_decimal IsNumeralModel-digits number small i inside in
     firm_byte _ (omega (arith, digit)) (omega (arith, digit)) (omega (arith, digit)))
 
-firm_then : (byte : ℕ) (front rest : List ℕ) → IsFirm byte → AreFirm front → AreFirm rest → AreFirm (front ++ byte ∷ rest)
-firm_then byte front rest here one other = All-append IsFirm front (byte ∷ rest) one (All-cons IsFirm byte rest here other)
+firm_then : (byte : ℕ) (front rest : List ℕ) → IsFirm byte → AreFirm front → AreFirm rest
+    → AreFirm (front ++ byte ∷ rest)
+firm_then byte front rest here one other = All-append IsFirm front (byte ∷ rest) one
+    (All-cons IsFirm byte rest here other)
 
 text_firm : (byte : ℕ) → IsTrue (is_text_byte byte) → IsFirm byte
 text_firm byte allowed = grind (arith, nat_tests, cases_Bool)
@@ -95,7 +99,8 @@ firm_heading s h is =
     firm_then 32 (codes "PART") _ (refl, refl) firm_word
     (firm_then 32 (fraction_text h.part h.parts) _ (refl, refl)
     (subst AreFirm (sym (append_assoc (decimal h.part) (codes "/") (decimal h.parts)))
-    (firm_then 47 (decimal h.part) (decimal h.parts) (refl, refl) (firm_number h.part part) (firm_number h.parts parts)))
+    (firm_then 47 (decimal h.part) (decimal h.parts) (refl, refl) (firm_number h.part part)
+    (firm_number h.parts parts)))
     (firm_end s h.letters h.indicator letters is.indicator))
 
 firm_line : (line text : List ℕ) → IsLineText line text → AreFirm text → AreFirm line
@@ -204,7 +209,8 @@ whole_part s p part read is =
     (subst (λ c. HasDueNumbers p.number p.expected c.heading) (sym same) two.says)
     (subst (λ c. All (λ byte. IsTrue (is_text_byte byte)) c.body) (sym same) (all_allowed _ one.found.body three.says))
     counted.says
-    (subst (λ l. IsLettersAnswer s p.number h.indicator (letters_from None body) (Ok l)) (sym (ap (λ r. r.letters) told))
+    (subst (λ l. IsLettersAnswer s p.number h.indicator (letters_from None body) (Ok l)) (sym (ap
+    (λ r. r.letters) told))
     counted.next)
     (ap (λ r. r.parts) told)
 
@@ -214,7 +220,8 @@ same_heading : (s : Day) (part line body : List ℕ) (h other : Heading) → IsF
     → IsDamagedHeading s line other → other ≡ h
 same_heading s part line body h other first kept filled a b =
     let is = λ (g : Heading) (d : IsDamagedHeading s line g).
-    ended_heading s line body g first.without d.is_heading (subst (λ l. IsLineText l (line_of (heading_words g))) filled d.text) in
+    ended_heading s line body g first.without d.is_heading (subst (λ l. IsLineText l (line_of
+        (heading_words g))) filled d.text) in
     (one_heading s (line ++ 10 ∷ body) other h body body (is other b) (is h a)).0
 
 -- -------- the letters of a part that `receive` reads
@@ -342,7 +349,8 @@ known_letters_shown : (s : Day) (number : ℕ) (i : Option Indicator) (letters t
     (answer : Result DamagedText PartDamage) → (i ≡ None → 20 ≤ length letters)
     → IsLettersAnswer s number i letters (Ok text) → IsDamagedLettersAnswer s i (map Some letters) answer
     → (shown : DamagedText) × (answer ≡ Ok shown) × IsShownWhole text shown
-known_letters_shown s number (Some i) letters text answer some read told = known_rotor s number i letters text answer read told
+known_letters_shown s number (Some i) letters text answer some read told = known_rotor s number i letters text
+    answer read told
 known_letters_shown s number None letters text answer some read told =
     known_pin s number letters text answer (some refl) read told
 

@@ -6,7 +6,6 @@ use Rattle.std.specs.Prelude.{◌≡◌, ℕ, ◌<◌, ◌==◌, ◌&&◌, ◌||
 use Rattle.std.specs.Prelude.{length, Any, IfOk, Option, None, Some, Result, Ok, Err}
 use Rattle.std.specs.List.{flat_map}
 use Rattle.kd_form.specs.FormText.{plaintext_byte}
-use Rattle.kd_form.specs.Sending.{space_letter}
 use Rattle.kd_lost.specs.declared.damage.PartDamage.{PartDamage}
 use Rattle.kd_lost.specs.declared.damaged_text.DamagedText.{DamagedText}
 use Rattle.kd_state.specs.SheetDay.{Day}
@@ -64,10 +63,11 @@ letters_in (Err damage) = []
 abbrev pub shown_letters : List DamagedPart → List (Option ℕ)
 shown_letters reads = flat_map (λ (read : DamagedPart). letters_in read.text) reads
 
--- the byte for a letter of a text: `?` for a lost one; on the Converter M-209, a space for Z
-abbrev pub shown_byte : Day → Option ℕ → ℕ
-shown_byte s None = 63
-shown_byte s (Some letter) = plaintext_byte (space_letter s) letter
+-- the byte for a letter of a text: `?` for a lost one, a space for the letter `for_space`, if there is one, otherwise the
+-- capital letter
+abbrev pub shown_byte : Option ℕ → Option ℕ → ℕ
+shown_byte for_space None = 63
+shown_byte for_space (Some letter) = plaintext_byte for_space letter
 
 -- Why a form with these parts isn't read: it has more than 255, or memory is short.
 pub data IsFormFault (parts : List (List ℕ)) (fault : DamagedFormFault) : Type 0 where

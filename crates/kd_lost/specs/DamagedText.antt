@@ -67,7 +67,8 @@ text_part (Some i) letters = drop 5 letters
 text_part None letters = slice_range letters 10 (length letters - 10)
 
 -- `shown` has the text of each completion of the letters `received`, without the letters that were lost.
-pub record IsTextShown (s : Day) (i : Option Indicator) (received : List (Option ℕ)) (shown : DamagedText) : Type 0 where
+pub record IsTextShown (s : Day) (i : Option Indicator) (received : List (Option ℕ))
+    (shown : DamagedText) : Type 0 where
   pub each : (whole text : List ℕ) → Completes received whole → IsLettersText s i whole text
       → shown.letters.items ≡ covered (text_part i received) text
   pub warnings : AreWarnings s i received shown

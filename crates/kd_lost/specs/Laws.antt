@@ -6,6 +6,7 @@ use Rattle.kd_state.specs.TwoCiphers.{EngineKey, cipher}
 use Rattle.kd_form.specs.FormParts.{parts_of}
 use Rattle.kd_form.specs.FormText.{IsTextOf}
 use Rattle.kd_form.specs.PartReading.{IsPartAnswer, PartStart, ReadPart}
+use Rattle.kd_form.specs.Sending.{space_letter}
 use Rattle.kd_lost.specs.declared.damage.PartDamage.{PartDamage}
 use Rattle.kd_lost.specs.declared.damaged_text.{DamagedText.{DamagedText}, LostCopies.{LostCopies}}
 use Rattle.kd_lost.specs.declared.damaged_text.GroupTest.TheVariants as tests
@@ -60,4 +61,4 @@ abbrev pub FormsReadAreShownWhole : Type 0
 FormsReadAreShownWhole =
     (s : Day) (form text : List ℕ) (reads : List DamagedPart) → IsTextOf s form text
     → AreReadOf s (damaged_parts_of form) reads
-    → All IsReadWell reads × (text ≡ map (shown_byte s) (shown_letters reads) ++ 10 ∷ [])
+    → All IsReadWell reads × (text ≡ map (shown_byte (space_letter s)) (shown_letters reads) ++ 10 ∷ [])
