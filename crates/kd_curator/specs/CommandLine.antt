@@ -11,6 +11,9 @@ use Rattle.clap.specs.Words.{App, app_of, IsAmong, Row, Rule, Shape, first_of, f
 use Rattle.clap.specs.Simple.{new_shape}
 use Rattle.kd_state.specs.SheetDay.{IsDayNumber}
 use Rattle.kd_curator.specs.Days.{AreDays}
+use Rattle.clap.specs.declared.builder.action.ArgAction.TheVariants.{SetTrue}
+use Rattle.kd_key_table.specs.declared.table_file.TableForm.{TableForm}
+use Rattle.kd_key_table.specs.declared.table_file.TableForm.TheVariants as forms
 use Rattle.kd_curator.specs.declared.command.Command.{Command}
 use Rattle.kd_curator.specs.declared.command.Command.TheVariants as commands
 use Rattle.kd_curator.specs.declared.command.NoCommand.{NoCommand}
@@ -33,8 +36,12 @@ page_shape = command_shape (codes "page") (new_rule (codes "DAYS"))
 abbrev pub list_shape : Shape
 list_shape = command_shape (codes "list") (needed (codes "DAY"))
 
+-- the option `--csv`, which has no value
+abbrev pub csv_flag : Rule
+csv_flag = record (new_rule (codes "csv")) { long = Some (codes "csv"); action = Some SetTrue }
+
 abbrev pub table_shape : Shape
-table_shape = record (new_shape (codes "table")) { rules = needed (codes "SHEET") ∷ [] }
+table_shape = record (new_shape (codes "table")) { rules = csv_flag ∷ needed (codes "SHEET") ∷ [] }
 
 -- the grammar of the program: its three commands
 unfoldable pub curator_grammar : App
@@ -65,7 +72,7 @@ NamedCommand = Command (List ℕ)
 -- the command, with its borrowed file names replaced by the names themselves
 abbrev pub unborrowed_command : Command (Bor (List ℕ)) → NamedCommand
 unborrowed_command (commands.OnMachine machine sheet task) = commands.OnMachine machine.now sheet.now task
-unborrowed_command (commands.Table sheet) = commands.Table sheet.now
+unborrowed_command (commands.Table sheet form) = commands.Table sheet.now form
 
 abbrev pub task_name : Task → List ℕ
 task_name (tasks.Page days) = codes "page"
@@ -89,15 +96,26 @@ pub record IsTaskWith (said : List ℕ × List Row) (machine_file key_sheet : Li
   pub sheet : first_of (codes "SHEET") said.1 ≡ Some key_sheet
   pub task : IsTaskOf said its_task
 
--- They mean the command `table`, with this file.
-pub record IsTableOf (said : List ℕ × List Row) (key_sheet : List ℕ) : Type 0 where
+-- The arguments in `rows` ask for tables in this form: as CSV with the option `--csv`, as a page without it.
+abbrev pub HasForm : List Row → TableForm → Type 0
+HasForm rows forms.Csv = first_of (codes "csv") rows ≡ Some (codes "true")
+HasForm rows forms.Page = first_of (codes "csv") rows ≢ Some (codes "true")
+
+-- `word` is a value of the option `--csv`: `true` means tables as CSV.
+abbrev pub IsFormNamed : List ℕ → TableForm → Type 0
+IsFormNamed word forms.Csv = word ≡ codes "true"
+IsFormNamed word forms.Page = word ≢ codes "true"
+
+-- They mean the command `table`, with this file and this form.
+pub record IsTableOf (said : List ℕ × List Row) (key_sheet : List ℕ) (its_form : TableForm) : Type 0 where
   pub name : said.0 ≡ codes "table"
   pub sheet : first_of (codes "SHEET") said.1 ≡ Some key_sheet
+  pub form : HasForm said.1 its_form
 
 -- They mean the command `command`.
 abbrev pub IsCommandOf : List ℕ × List Row → NamedCommand → Type 0
 IsCommandOf said (commands.OnMachine machine sheet task) = IsTaskWith said machine sheet task
-IsCommandOf said (commands.Table sheet) = IsTableOf said sheet
+IsCommandOf said (commands.Table sheet form) = IsTableOf said sheet form
 
 -- What is said, if anything, means the command `command`.
 abbrev pub IsMeant : Option (List ℕ × List Row) → NamedCommand → Type 0
