@@ -4,7 +4,11 @@
 #[cfg(test)]
 mod calls;
 #[cfg(test)]
+mod command;
+#[cfg(test)]
 mod converter;
+#[cfg(test)]
+mod empty;
 #[cfg(test)]
 mod faults;
 #[cfg(test)]
