@@ -2,7 +2,7 @@
 -- Code: `grammar` builds the grammar by calls of the library `clap`.
 -- Test: refuses_other_words
 use Rattle.std.specs.Prelude.{codes, decimal, ◌≡◌, ◌≢◌, ℕ, Bool, true, false, List, [], ◌∷◌, Option, Some, None}
-use Rattle.std.specs.Prelude.{IsSomeAnd, IsTrue, All}
+use Rattle.std.specs.Prelude.{IsSomeAnd, IsTrue}
 use Rattle.std.specs.Borrow.{Bor}
 use Rattle.clap.specs.declared.builder.command.Command.{Command as Grammar, out-Command}
 use Rattle.clap.specs.declared.error.kind.ErrorKind.{ErrorKind}
@@ -55,11 +55,6 @@ curator_grammar = record {
   };
   subs = page_shape ∷ list_shape ∷ table_shape ∷ [];
 }
-
--- `grammar` is the command `shape`, and no argument is global.
-pub record IsMadeOf (grammar : Grammar) (shape : Shape) : Type 0 where
-  pub made : app_of grammar ≡ record { top = shape; subs = [] }
-  pub local : (out-Command grammar).has_globals ≡ false
 
 -- ---- Which command a command line means.
 -- Code: `clap` parses the command line; `command_of` makes the command from the arguments that `clap` found.
@@ -147,20 +142,22 @@ is_help _ = false
 abbrev pub AsksForHelp : List (List ℕ) → Type 0
 AsksForHelp words = (kind : ErrorKind) × (fault_of curator_grammar words ≡ kind ∷ []) × IsTrue (is_help kind)
 
--- The words are no command, and don't ask for help.
-pub record AreOtherWords (words : List (List ℕ)) : Type 0 where
-  pub none : IsNoCommandLine words
-  pub no_help : All (λ kind. is_help kind ≡ false) (fault_of curator_grammar words)
-
--- clap's error of this kind gives this reason.
-abbrev pub IsToldAs : ErrorKind → NoCommand → Type 0
-IsToldAs kind (Asked text) = IsTrue (is_help kind)
-IsToldAs kind (Usage text) = (is_help kind ≡ false) × (kind ≢ OutOfMemory)
-IsToldAs kind NoMemory = Unit {0}
-
 -- Why there is no command. `Asked`: a word asks for help or for the version. `Usage`: the words mean no command.
 abbrev pub HasNoCommand : List (List ℕ) → NoCommand → Type 0
 HasNoCommand words (Asked text) =
     (kind : ErrorKind) × IsAmong kind (fault_of curator_grammar words) × IsTrue (is_help kind)
 HasNoCommand words (Usage text) = IsNoCommandLine words × ¬ (AsksForHelp words)
 HasNoCommand words NoMemory = Unit {0}
+
+-- ---- What inner functions make of grammars and errors. No public contract cites these definitions.
+
+-- `grammar` is the command `shape`, and no argument is global.
+pub record IsMadeOf (grammar : Grammar) (shape : Shape) : Type 0 where
+  pub made : app_of grammar ≡ record { top = shape; subs = [] }
+  pub local : (out-Command grammar).has_globals ≡ false
+
+-- clap's error of this kind gives this reason.
+abbrev pub IsToldAs : ErrorKind → NoCommand → Type 0
+IsToldAs kind (Asked text) = IsTrue (is_help kind)
+IsToldAs kind (Usage text) = (is_help kind ≡ false) × (kind ≢ OutOfMemory)
+IsToldAs kind NoMemory = Unit {0}
