@@ -28,7 +28,7 @@ abbrev pub IsNumberText : List ℕ → Type 0
 IsNumberText [] = ⊥
 IsNumberText (digit ∷ digits) = IsDigit digit × All IsDigit digits × ((digit ≡ 48) → (digits ≡ []))
 
--- The text is a decimal number without leading zeros. If the Bool is `true`, the number may be below 0; `-0` is none.
+-- The text is a decimal number without leading zeros. If the Bool is `true`, it may be negative, but not `-0`.
 abbrev pub IsNumeral : Bool → List ℕ → Type 0
 IsNumeral false text = IsNumberText text
 IsNumeral true text =

@@ -10,6 +10,8 @@ use Rattle.kd_curator.proofs.Prelude.{AreDays, IsMeant, IsTaskOf, codes}
 use Rattle.std.proofs.Common.{get_or}
 use Rattle.kd_curator.specs.declared.command.Task.{Task}
 use Rattle.kd_curator.specs.declared.command.Task.TheVariants as tasks
+use Rattle.kd_curator.specs.declared.command.Command.TheVariants as commands
+use Rattle.kd_curator.specs.CommandLine.{IsCommandOf, IsTaskWith, task_name}
 use Rattle.clap.proofs.{OnLiterals.clap_on_literals, WalkLemmas.first_value-rows}
 use Rattle.clap.specs.declared.parser.matches.{ArgMatches.ArgMatches, Found.Found}
 use Rattle.kd_curator.specs.{CommandLine.curator_grammar, declared.command.NoCommand.NoCommand}
@@ -129,3 +131,27 @@ pub some_also : {T : Type 0} (answer : Option T) (P Q : T → Type 0) → ((x : 
     → IfSome answer Q
 some_also None P Q more holds = tt
 some_also (Some x) P Q more holds = more x holds
+
+third_differs : ◌≡◌ {A = ℕ} 116 112 → ⊥
+third_differs wrong = omega (arith, wrong)
+
+third_from_second : ◌≡◌ {A = ℕ} 116 108 → ⊥
+third_from_second wrong = omega (arith, wrong)
+
+-- the name of the command `table` is no task's
+pub table_is_no_task : (task : Task) → codes "table" ≡ task_name task → ⊥
+table_is_no_task (tasks.Page days) is = third_differs (ap (λ l. get_or l 0 0) is)
+table_is_no_task (tasks.List day) is = third_from_second (ap (λ l. get_or l 0 0) is)
+
+-- no command is meant, if its name isn't that of `table`, and no task is meant
+pub no_task_with : (said : List ℕ × List Row) → said.0 ≢ codes "table"
+    → ((machine sheet : List ℕ) (task : Task) → IsTaskWith said machine sheet task → ⊥)
+    → (command : NamedCommand) → IsCommandOf said command → ⊥
+no_task_with said other none (commands.OnMachine machine sheet task) of = none machine sheet task of
+no_task_with said other none (commands.Table sheet) of = other of.name
+
+-- the command `table` without a sheet is no command
+pub no_table : (rows : List Row) → first_of (codes "SHEET") rows ≡ None → (command : NamedCommand)
+    → IsCommandOf (codes "table", rows) command → ⊥
+no_table rows none (commands.OnMachine machine sheet task) of = table_is_no_task task of.task.name
+no_table rows none (commands.Table sheet) of = let wrong : None ≡ Some sheet = sym none ∙ of.sheet in cc

@@ -14,4 +14,5 @@ pub mod OneCommand
 pub mod Passing
 pub mod Ranked
 pub mod Runs
+pub mod TableAnswers
 pub mod Writings

@@ -2,13 +2,14 @@
 use Rattle.std.proofs.Common.{get_or}
 use Rattle.std.proofs.lemmas.Fmt.{decimal_injective}
 use Rattle.kd_curator.proofs.Prelude.{◌≡◌, ℕ, List, Option, Some, None, Row, NamedCommand, HasTaskDays, IsMeant}
-use Rattle.kd_curator.proofs.Prelude.{IsTaskOf}
+use Rattle.kd_curator.proofs.Prelude.{IsCommandOf, IsTaskOf}
 use Rattle.kd_curator.proofs.Prelude.{ap, arith, refl, same_Some, subcommand_of, subst, sym, ◌∙◌}
 use Rattle.kd_curator.specs.CommandLine.{CommandLinesMeanOneCommand, curator_grammar}
 use Rattle.kd_curator.specs.Days.{days_named}
 use Rattle.kd_curator.specs.declared.command.Task.{Task}
 use Rattle.kd_curator.specs.declared.command.Task.TheVariants as tasks
-use Rattle.kd_curator.proofs.CommandLines.{first_differs}
+use Rattle.kd_curator.proofs.CommandLines.{first_differs, table_is_no_task}
+use Rattle.kd_curator.specs.declared.command.Command.TheVariants as commands
 
 same_days : (rows : List Row) (one other : Option (List ℕ)) → HasTaskDays rows (tasks.Page one)
     → HasTaskDays rows (tasks.Page other) → one ≡ other
@@ -31,19 +32,29 @@ same_task rows name (tasks.List one) (tasks.List other) first second =
     ap tasks.List (decimal_injective one other (omega (arith, first.days.1.last)) (omega (arith, second.days.1.last))
     (same_Some _ _ (sym first.days.0 ∙ second.days.0)))
 
-same_parts : (one other : NamedCommand) → one.machine ≡ other.machine → one.sheet ≡ other.sheet
-    → one.task ≡ other.task → one ≡ other
-same_parts one other machine sheet task =
-    let made : List ℕ → List ℕ → Task → NamedCommand = λ m s t. record { machine = m; sheet = s; task = t } in
-    subst (λ t. one ≡ made other.machine other.sheet t) task
-    (subst (λ s. one ≡ made other.machine s one.task) sheet (ap (λ m. made m one.sheet one.task) machine))
+same_parts : (machine other sheet more : List ℕ) (task next : Task) → machine ≡ other → sheet ≡ more → task ≡ next
+    → ◌≡◌ {A = NamedCommand} (commands.OnMachine machine sheet task) (commands.OnMachine other more next)
+same_parts machine other sheet more task next is are same =
+    subst (λ t. ◌≡◌ {A = NamedCommand} (commands.OnMachine machine sheet task) (commands.OnMachine other more t)) same
+    (subst (λ s. ◌≡◌ {A = NamedCommand} (commands.OnMachine machine sheet task) (commands.OnMachine other s task)) are
+    (ap (λ m. commands.OnMachine m sheet task) is))
+
+same_command : (said : List ℕ × List Row) (one other : NamedCommand) → IsCommandOf said one → IsCommandOf said other
+    → one ≡ other
+same_command said (commands.OnMachine machine sheet task) (commands.OnMachine other more next) first second =
+    same_parts machine other sheet more task next (same_Some _ _ (sym first.machine ∙ second.machine))
+    (same_Some _ _ (sym first.sheet ∙ second.sheet)) (same_task said.1 said.0 task next first.task second.task)
+same_command said (commands.OnMachine machine sheet task) (commands.Table other) first second =
+    absurd (table_is_no_task task (sym second.name ∙ first.task.name))
+same_command said (commands.Table sheet) (commands.OnMachine machine other task) first second =
+    absurd (table_is_no_task task (sym first.name ∙ second.task.name))
+same_command said (commands.Table sheet) (commands.Table other) first second =
+    ap commands.Table (same_Some _ _ (sym first.sheet ∙ second.sheet))
 
 same_meant : (said : Option (List ℕ × List Row)) (one other : NamedCommand) → IsMeant said one → IsMeant said other
     → one ≡ other
 same_meant None one other first second = absurd first
-same_meant (Some said) one other first second =
-    same_parts one other (same_Some _ _ (sym first.machine ∙ second.machine))
-    (same_Some _ _ (sym first.sheet ∙ second.sheet)) (same_task said.1 said.0 one.task other.task first.task second.task)
+same_meant (Some said) one other first second = same_command said one other first second
 
 pub one_command : CommandLinesMeanOneCommand
 one_command words one other first second =

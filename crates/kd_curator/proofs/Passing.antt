@@ -13,9 +13,15 @@ use Rattle.kd_state.specs.declared.machine.parts.Parts.{Parts}
 use Rattle.kd_state.specs.SheetDay.{Day}
 use Rattle.kd_curator.specs.Ending.{stop_after}
 use Rattle.kd_curator.specs.MachineAndSheet.{IsAnswerOnSheet}
-use Rattle.kd_curator.specs.Program.{CarriesOut, DoesTask, IsTold, PassesOn, is_stopped_before_writing}
+use Rattle.kd_curator.specs.Program.{CarriesOut, DoesCommand, DoesTask, IsTold, PassesOn, is_stopped_before_writing}
 use Rattle.kd_curator.specs.Program.{Carried, FileUnread, Shown, OtherWords, NoMemory, is_stopped_by_device, is_usage}
-use Rattle.kd_curator.specs.Refusals.{is_device_fault, refused_device}
+use Rattle.kd_curator.specs.Refusals.{is_device_fault, refused_device, refused_whole}
+use Rattle.kd_curator.specs.Tables.{WritesTables}
+use Rattle.kd_sheet.specs.SheetFile.{sheet_of}
+use Rattle.kd_sheet.specs.declared.fault.SheetFault.{SheetFault}
+use Rattle.kd_key_table.specs.TableFile.{table_text}
+use Rattle.kd_curator.specs.declared.command.Command.TheVariants as commands
+use Rattle.kd_curator.specs.declared.fault.PageFault.TheVariants.{File}
 use Rattle.kd_curator.specs.RunList.{WritesList, NoList, Settings}
 use Rattle.kd_curator.specs.RunPage.{WritesPages, NoDays, NoPage, Pages}
 use Rattle.kd_curator.specs.declared.command.Command.{Command}
@@ -71,12 +77,30 @@ module _ (one other : Port) (before : one.had ≡ other.had) (after : Keeps one.
   on_sheet_kept machine sheet Holds Other answer more (inl found) = inl (found_kept Holds Other answer more _ found)
   on_sheet_kept machine sheet Holds Other answer more (inr lacks) = inr lacks
 
+  month_kept : (told : Result (Unit {0}) Refused) (found : Result (List (Option Day)) SheetFault)
+      → MatchResult found (λ month. WritesText refused_device (table_text month) one told)
+      (λ fault. told ≡ Err (refused_whole (File fault)))
+      → MatchResult found (λ month. WritesText refused_device (table_text month) other told)
+      (λ fault. told ≡ Err (refused_whole (File fault)))
+  month_kept told (Ok month) writes = text_kept refused_device _ told writes
+  month_kept told (Err fault) is = is
+
   task_kept : (task : Task) (machine sheet : List ℕ) (told : Result (Unit {0}) Refused)
       → DoesTask task machine sheet one told → DoesTask task machine sheet other told
   task_kept (tasks.Page days) machine sheet told does =
       on_sheet_kept machine sheet _ _ told (λ m month. pages_kept month m _ told) does
   task_kept (tasks.List day) machine sheet told does =
       on_sheet_kept machine sheet _ _ told (λ m month. list_kept month m day told) does
+
+  tables_kept : (sheet : List ℕ) (told : Result (Unit {0}) Refused) → WritesTables sheet one told
+      → WritesTables sheet other told
+  tables_kept sheet told (inl found) = inl (month_kept told (sheet_of sheet) found)
+  tables_kept sheet told (inr lacks) = inr lacks
+
+  command_kept : (command : Command (List ℕ)) (told : Result (Unit {0}) Refused) → DoesCommand command one told
+      → DoesCommand command other told
+  command_kept (commands.OnMachine machine sheet task) told does = task_kept task machine sheet told does
+  command_kept (commands.Table sheet) told does = tables_kept sheet told does
 
 -- ---- the program's answer
 
@@ -128,7 +152,7 @@ module _ (words : List (List ℕ)) (known : Option (List ℕ → Option (List �
   pub carried_on : CarriesOut words known asked one [] done → CarriesOut words known asked other left answer
   carried_on (Carried command says read knows asks told) =
       Carried command says read knows asks (told_on left done answer ends _ _
-      (λ t. task_kept one other before after read.task read.machine read.sheet t) told)
+      (λ t. command_kept one other before after read t) told)
   carried_on (FileUnread command says fault knows asks is) =
       FileUnread command says fault knows asks (stops_on left done answer ends (stops.Unread fault) is)
   carried_on (Shown text kind among help none told) =

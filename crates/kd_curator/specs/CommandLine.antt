@@ -1,4 +1,4 @@
--- The grammar of the command line: `page` and `list`, with their arguments and with help.
+-- The grammar of the command line: `page`, `list` and `table`, with their arguments and with help.
 -- Code: `grammar` builds the grammar by calls of the library `clap`.
 -- Test: refuses_other_words
 use Rattle.std.specs.Prelude.{codes, decimal, ◌≡◌, ◌≢◌, ℕ, Bool, true, false, List, [], ◌∷◌, Option, Some, None}
@@ -12,6 +12,7 @@ use Rattle.clap.specs.Simple.{new_shape}
 use Rattle.kd_state.specs.SheetDay.{IsDayNumber}
 use Rattle.kd_curator.specs.Days.{AreDays}
 use Rattle.kd_curator.specs.declared.command.Command.{Command}
+use Rattle.kd_curator.specs.declared.command.Command.TheVariants as commands
 use Rattle.kd_curator.specs.declared.command.NoCommand.{NoCommand}
 use Rattle.kd_curator.specs.declared.command.NoCommand.TheVariants.{Asked, Usage, NoMemory}
 use Rattle.kd_curator.specs.declared.command.Task.{Task}
@@ -32,7 +33,10 @@ page_shape = command_shape (codes "page") (new_rule (codes "DAYS"))
 abbrev pub list_shape : Shape
 list_shape = command_shape (codes "list") (needed (codes "DAY"))
 
--- the grammar of the program: its two commands
+abbrev pub table_shape : Shape
+table_shape = record (new_shape (codes "table")) { rules = needed (codes "SHEET") ∷ [] }
+
+-- the grammar of the program: its three commands
 unfoldable pub curator_grammar : App
 curator_grammar = record {
   top = record (new_shape (codes "curator")) {
@@ -42,7 +46,7 @@ curator_grammar = record {
     arg_required_else_help = true;
     is_leaf = false;
   };
-  subs = page_shape ∷ list_shape ∷ [];
+  subs = page_shape ∷ list_shape ∷ table_shape ∷ [];
 }
 
 -- `grammar` is the command `shape`, and no argument is global.
@@ -60,8 +64,8 @@ NamedCommand = Command (List ℕ)
 
 -- the command, with its borrowed file names replaced by the names themselves
 abbrev pub unborrowed_command : Command (Bor (List ℕ)) → NamedCommand
-unborrowed_command command =
-    record { machine = command.machine.now; sheet = command.sheet.now; task = command.task }
+unborrowed_command (commands.OnMachine machine sheet task) = commands.OnMachine machine.now sheet.now task
+unborrowed_command (commands.Table sheet) = commands.Table sheet.now
 
 abbrev pub task_name : Task → List ℕ
 task_name (tasks.Page days) = codes "page"
@@ -79,11 +83,21 @@ pub record IsTaskOf (said : List ℕ × List Row) (task : Task) : Type 0 where
   pub name : said.0 ≡ task_name task
   pub days : HasTaskDays said.1 task
 
--- `said` is a command's name and the values of its arguments. They mean the command `command`.
-pub record IsCommandOf (said : List ℕ × List Row) (command : NamedCommand) : Type 0 where
-  pub machine : first_of (codes "MACHINE") said.1 ≡ Some command.machine
-  pub sheet : first_of (codes "SHEET") said.1 ≡ Some command.sheet
-  pub task : IsTaskOf said command.task
+-- `said` is a command's name and the values of its arguments. They mean the task `task`, with these files.
+pub record IsTaskWith (said : List ℕ × List Row) (machine_file key_sheet : List ℕ) (its_task : Task) : Type 0 where
+  pub machine : first_of (codes "MACHINE") said.1 ≡ Some machine_file
+  pub sheet : first_of (codes "SHEET") said.1 ≡ Some key_sheet
+  pub task : IsTaskOf said its_task
+
+-- They mean the command `table`, with this file.
+pub record IsTableOf (said : List ℕ × List Row) (key_sheet : List ℕ) : Type 0 where
+  pub name : said.0 ≡ codes "table"
+  pub sheet : first_of (codes "SHEET") said.1 ≡ Some key_sheet
+
+-- They mean the command `command`.
+abbrev pub IsCommandOf : List ℕ × List Row → NamedCommand → Type 0
+IsCommandOf said (commands.OnMachine machine sheet task) = IsTaskWith said machine sheet task
+IsCommandOf said (commands.Table sheet) = IsTableOf said sheet
 
 -- What is said, if anything, means the command `command`.
 abbrev pub IsMeant : Option (List ℕ × List Row) → NamedCommand → Type 0

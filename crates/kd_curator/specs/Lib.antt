@@ -11,3 +11,4 @@ pub mod Program
 pub mod Refusals
 pub mod RunList
 pub mod RunPage
+pub mod Tables

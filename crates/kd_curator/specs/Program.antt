@@ -20,7 +20,9 @@ use Rattle.kd_curator.specs.MachineAndSheet.{IsAnswerOnSheet}
 use Rattle.kd_curator.specs.Refusals.{is_device_fault, refused_device}
 use Rattle.kd_curator.specs.RunList.{WritesList}
 use Rattle.kd_curator.specs.RunPage.{WritesPages, wanted_days}
+use Rattle.kd_curator.specs.Tables.{WritesTables}
 use Rattle.kd_curator.specs.declared.command.Command.{Command}
+use Rattle.kd_curator.specs.declared.command.Command.TheVariants as commands
 use Rattle.kd_curator.specs.declared.command.Task.{Task}
 use Rattle.kd_curator.specs.declared.command.Task.TheVariants as tasks
 use Rattle.kd_curator.specs.declared.fault.Refused.{Refused}
@@ -33,12 +35,14 @@ with_file (Err fault) made = Err fault
 
 -- the command with the bytes of its files, or the fault of the first file that can't be read
 abbrev pub known_command : (List ℕ → Option (List ℕ)) → NamedCommand → Result (Command (List ℕ)) FileFault
-known_command held command =
-    with_file (content_of (held command.machine)) (λ machine. with_file (content_of (held command.sheet))
-    (λ sheet. Ok (record { machine = machine; sheet = sheet; task = command.task })))
+known_command held (commands.OnMachine machine sheet task) =
+    with_file (content_of (held machine)) (λ bytes. with_file (content_of (held sheet))
+    (λ more. Ok (commands.OnMachine bytes more task)))
+known_command held (commands.Table sheet) = with_file (content_of (held sheet)) (λ bytes. Ok (commands.Table bytes))
 
 abbrev pub names_of : NamedCommand → List (List ℕ)
-names_of command = command.machine ∷ command.sheet ∷ []
+names_of (commands.OnMachine machine sheet task) = machine ∷ sheet ∷ []
+names_of (commands.Table sheet) = sheet ∷ []
 
 -- What a task writes, from the bytes of a machine file and of a key sheet.
 abbrev pub DoesTask : Task → List ℕ → List ℕ → Port → Result (Unit {0}) Refused → Type 0
@@ -46,6 +50,11 @@ DoesTask (tasks.Page days) machine sheet sink answer = IsAnswerOnSheet machine s
     (λ m month. WritesPages month m (wanted_days days (model_of m) month) sink answer) answer
 DoesTask (tasks.List day) machine sheet sink answer = IsAnswerOnSheet machine sheet
     (λ m month. WritesList month m day sink answer) answer
+
+-- What a command writes, from the bytes of its files.
+abbrev pub DoesCommand : Command (List ℕ) → Port → Result (Unit {0}) Refused → Type 0
+DoesCommand (commands.OnMachine machine sheet task) sink answer = DoesTask task machine sheet sink answer
+DoesCommand (commands.Table sheet) sink answer = WritesTables sheet sink answer
 
 -- ---- The program's answer.
 
@@ -76,7 +85,7 @@ pub data CarriesOut (words : List (List ℕ)) (known : Option (List ℕ → Opti
   Carried : (command : NamedCommand) → IsCommandLineOf words command → (read : Command (List ℕ))
       → IfSome known (λ held. AgreesOrNoMemory files.NoMemory (known_command held command) (Ok read))
       → AreAskedFor (names_of command) [] asked true
-      → IsTold (DoesTask read.task read.machine read.sheet sink) left answer
+      → IsTold (DoesCommand read sink) left answer
       → CarriesOut words known asked sink left answer
   FileUnread : (command : NamedCommand) → IsCommandLineOf words command → (fault : FileFault)
       → IfSome known (λ held. AgreesOrNoMemory files.NoMemory (known_command held command) (Err fault))

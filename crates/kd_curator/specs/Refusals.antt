@@ -7,6 +7,8 @@ use Rattle.kd_sheet.specs.FaultText.{sheet_fault_text}
 use Rattle.kd_curator.specs.declared.fault.PageFault.{PageFault}
 use Rattle.kd_curator.specs.declared.fault.PageFault.TheVariants as faults
 use Rattle.kd_curator.specs.declared.fault.Refused.{Refused}
+use Rattle.kd_key_table.specs.declared.fault.TableFault.{TableFault}
+use Rattle.kd_key_table.specs.declared.fault.TableFault.TheVariants as tables
 
 abbrev pub page_fault_text : PageFault → List ℕ
 page_fault_text (faults.File fault) = sheet_fault_text fault
@@ -29,3 +31,8 @@ refused_device = refused_whole faults.Device
 abbrev pub is_device : Result (Unit {0}) Refused → Bool
 is_device (Ok done) = false
 is_device (Err refused) = is_device_fault refused.fault
+
+-- why there are no tables, as a refusal
+abbrev pub refused_table : TableFault → Refused
+refused_table (tables.Sheet fault) = refused_whole (faults.File fault)
+refused_table tables.Device = refused_device

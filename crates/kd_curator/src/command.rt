@@ -1,7 +1,7 @@
 //! The commands, and the parser of the command line.
-ghost use Rattle.std.specs.Prelude.{◌≡◌, codes, false, map, IfErr, IfOk, IfSome};
+ghost use Rattle.std.specs.Prelude.{◌≡◌, ◌≢◌, codes, false, map, IfErr, IfOk, IfSome};
 ghost use Rattle.clap.specs.Words.{app_of, found_of, kind_of, rows_of, rule_of, subcommand_rows_of};
-ghost use Rattle.kd_curator.specs.CommandLine.{IsMadeOf, curator_grammar, command_shape, list_shape, page_shape};
+ghost use Rattle.kd_curator.specs.CommandLine.{IsMadeOf, curator_grammar, command_shape, list_shape, page_shape, table_shape};
 ghost use Rattle.kd_curator.specs.CommandLine.{unborrowed_command, needed, task_name};
 ghost use Rattle.kd_curator.specs.CommandLine.{HasTaskDays, IsCommandLineOf, IsCommandOf, IsMeant, IsTaskOf};
 ghost use Rattle.kd_curator.specs.CommandLine.{NamedCommand};
@@ -20,18 +20,26 @@ const VERSION: &str = "1.0";
 /// The text of the error for an argument that names no days.
 const NO_DAYS: &str = "days are numbers from 1 to 31, such as 2, 1-31 or 1,4,2";
 
-/// A command, with its two files or their names.
+/// A command, with its files or their names.
 #[derive(Drop)]
-pub struct Command<F> {
-    /// The machine file.
-    pub machine: F,
-    /// The key sheet.
-    pub sheet: F,
-    /// What is written.
-    pub task: Task,
+pub enum Command<F> {
+    /// Writes how a machine is set to days of a key sheet.
+    OnMachine {
+        /// The machine file.
+        machine: F,
+        /// The key sheet.
+        sheet: F,
+        /// What is written.
+        task: Task,
+    },
+    /// Writes a key sheet as printed tables.
+    Table {
+        /// The key sheet.
+        sheet: F,
+    },
 }
 
-/// What a command writes.
+/// What is written of a machine and of days.
 #[derive(Drop)]
 pub enum Task {
     /// The pages of these days; without days, of all days that the sheet has for the machine's model.
@@ -127,10 +135,35 @@ fn command_of<'a>(name: &str, words: &ArgMatches<'a>) -> Option<NamedCommand<'a>
     ensures none { result ≡ None → (command : NamedCommand)
         → ¬ (IsCommandOf (name.now, rows_of (found_of words.now)) command) }
 {
+    match name {
+        "table" => table_of(words),
+        _ => task_with_files(name, words),
+    }
+}
+
+/// The command `table`, with the key sheet in `words`.
+fn table_of<'a>(words: &ArgMatches<'a>) -> Option<NamedCommand<'a>>
+    ensures said { IfSome result (λ command.
+        IsCommandOf (codes "table", rows_of (found_of words.now)) (unborrowed_command command)) }
+    ensures none { result ≡ None → (command : NamedCommand)
+        → ¬ (IsCommandOf (codes "table", rows_of (found_of words.now)) command) }
+{
+    let sheet = words.get_str("SHEET")?;
+    Some(Command::Table { sheet })
+}
+
+/// The command of a task, named `name`, with the arguments in `words`; `None` if its days aren't days.
+fn task_with_files<'a>(name: &str, words: &ArgMatches<'a>) -> Option<NamedCommand<'a>>
+    requires { name.now ≢ codes "table" }
+    ensures said { IfSome result (λ command.
+        IsCommandOf (name.now, rows_of (found_of words.now)) (unborrowed_command command)) }
+    ensures none { result ≡ None → (command : NamedCommand)
+        → ¬ (IsCommandOf (name.now, rows_of (found_of words.now)) command) }
+{
     let machine = words.get_str("MACHINE")?;
     let sheet = words.get_str("SHEET")?;
     let task = task_of(name, words)?;
-    Some(Command {
+    Some(Command::OnMachine {
         machine,
         sheet,
         task,
@@ -179,6 +212,7 @@ fn grammar<'a>(alloc: Global) -> Result<Grammar<'a>, AllocError>
 {
     let page = page_grammar(alloc)?;
     let list = list_grammar(alloc)?;
+    let table = table_grammar(alloc)?;
     Grammar::new(alloc, "curator")
         .about("Writes pages to hang beside a cipher machine: what to set for a day, with pictures")
         .version(VERSION)
@@ -186,7 +220,8 @@ fn grammar<'a>(alloc: Global) -> Result<Grammar<'a>, AllocError>
         .subcommand_required(true)
         .arg_required_else_help(true)
         .subcommand(page)?
-        .subcommand(list)
+        .subcommand(list)?
+        .subcommand(table)
 }
 
 /// The grammar of `page`.
@@ -214,6 +249,15 @@ fn list_grammar<'a>(alloc: Global) -> Result<Grammar<'a>, AllocError>
         "Writes the settings of a day's page, as a list that desk apply carries out",
         needed(alloc, "DAY", "The day, from 1 to 31"),
     )
+}
+
+/// The grammar of `table`.
+fn table_grammar<'a>(alloc: Global) -> Result<Grammar<'a>, AllocError>
+    ensures { IfOk result (λ grammar. IsMadeOf grammar table_shape) }
+{
+    Grammar::new(alloc, "table")
+        .about("Writes a key sheet as an HTML page of tables to print, like the sheets of the time")
+        .arg(needed(alloc, "SHEET", "The key sheet"))
 }
 
 /// The grammar of a command with a machine file, a key sheet and `last`.

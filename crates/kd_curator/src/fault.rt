@@ -2,6 +2,7 @@
 ghost use Rattle.std.specs.Prelude.{◌≡◌};
 ghost use Rattle.kd_curator.specs.Refusals.{page_fault_text};
 
+use kd_key_table::TableFault;
 use kd_sheet::SheetFault;
 use kd_tables::{Device, Refusal, Text};
 
@@ -83,5 +84,19 @@ impl From<Device> for Refused {
 
     fn from(_: Device) -> Refused {
         Refused::from(PageFault::Device)
+    }
+}
+
+impl From<TableFault> for Refused {
+    ghost use Rattle.std.specs.Prelude.{◌≡◌};
+    ghost use Rattle.kd_curator.specs.Refusals.{refused_table};
+
+    ghost from_gives = { λ fault refused. refused ≡ refused_table fault };
+
+    fn from(fault: TableFault) -> Refused {
+        match fault {
+            TableFault::Sheet(fault) => Refused::from(fault),
+            TableFault::Device => Refused::from(PageFault::Device),
+        }
     }
 }

@@ -16,6 +16,7 @@ pub mod run_list;
 pub mod run_page;
 mod stages;
 mod stop;
+mod tables;
 
 pub use chain::{DayPlans, plan_days};
 pub use command::{Command, NamedCommand, NoCommand, Task, parse_words};

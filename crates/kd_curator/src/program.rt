@@ -7,7 +7,9 @@ ghost use Rattle.kd_host.specs.Files.{AreAskedFor};
 ghost use Rattle.kd_host.specs.Writing.{WritesText};
 ghost use Rattle.kd_curator.specs.CommandLine.{unborrowed_command};
 ghost use Rattle.kd_curator.specs.Ending.{stop_after};
-ghost use Rattle.kd_curator.specs.Program.{CarriesOut, DoesTask, HasEnded, IsRun, gathering_port, known_command};
+ghost use Rattle.kd_curator.specs.declared.command.Command.TheVariants.{OnMachine, Table};
+ghost use Rattle.kd_curator.specs.Program.{CarriesOut, DoesCommand, DoesTask, HasEnded, IsRun};
+ghost use Rattle.kd_curator.specs.Program.{gathering_port, known_command};
 ghost use Rattle.kd_curator.specs.Program.{names_of};
 ghost use Rattle.kd_curator.specs.Program.{PassesOn, is_stopped_before_writing, is_stopped_by_device};
 ghost use Rattle.kd_curator.specs.Refusals.{is_device, refused_device};
@@ -18,6 +20,7 @@ use crate::fault::{PageFault, Refused};
 use crate::run_list::run_list;
 use crate::run_page::run_page;
 use crate::stop::{Stop, end_program};
+use crate::tables::write_tables;
 use kd_host::{Content, FileFault, Files};
 use kd_tables::{Failed, Sink, put_all};
 use std::alloc::Global;
@@ -85,7 +88,7 @@ fn run_words<'n, S: AsStr, F: Files<'n>, W: Sink>(
     }
 }
 
-/// Reads the two files that `command` names.
+/// Reads the files that `command` names.
 fn read_files<'n, F: Files<'n>>(
     alloc: Global,
     command: NamedCommand<'n>,
@@ -97,34 +100,88 @@ fn read_files<'n, F: Files<'n>>(
     ensures asked { AreAskedFor (names_of (unborrowed_command command.entry)) (F.asked files.old)
         (F.asked files.new) (is_ok result) }
 {
-    let Command {
-        machine,
-        sheet,
-        task,
-    } = command;
+    match command {
+        Command::OnMachine {
+            machine,
+            sheet,
+            task,
+        } => read_task_files(alloc, machine, sheet, task, files),
+        Command::Table { sheet } => read_table_file(alloc, sheet, files),
+    }
+}
+
+/// Reads a machine file and a key sheet, for `task`.
+fn read_task_files<'n, F: Files<'n>>(
+    alloc: Global,
+    machine: &'n str,
+    sheet: &'n str,
+    task: Task,
+    files: &mut F,
+) -> Result<Command<Content>, FileFault>
+    requires { F.asked files.old ≡ [] }
+    ensures read { IfSome (F.known files.old) (λ held. AgreesOrNoMemory FileFault.NoMemory
+        (known_command held (OnMachine machine.now sheet.now task)) result) }
+    ensures asked { AreAskedFor (names_of (OnMachine machine.now sheet.now task))
+        (F.asked files.old) (F.asked files.new) (is_ok result) }
+{
     let machine = files.read_content(alloc, machine)?;
     let sheet = files.read_content(alloc, sheet)?;
-    Ok(Command {
+    Ok(Command::OnMachine {
         machine,
         sheet,
         task,
     })
 }
 
+/// Reads a key sheet, for the command `table`.
+fn read_table_file<'n, F: Files<'n>>(
+    alloc: Global,
+    sheet: &'n str,
+    files: &mut F,
+) -> Result<Command<Content>, FileFault>
+    requires { F.asked files.old ≡ [] }
+    ensures read { IfSome (F.known files.old) (λ held. AgreesOrNoMemory FileFault.NoMemory
+        (known_command held (Table sheet.now)) result) }
+    ensures asked { AreAskedFor (names_of (Table sheet.now))
+        (F.asked files.old) (F.asked files.new) (is_ok result) }
+{
+    let sheet = files.read_content(alloc, sheet)?;
+    Ok(Command::Table { sheet })
+}
+
 /// Carries out `command`, whose files have been read.
-fn carry_out<W: Sink>(alloc: Global, command: Command<Content>, sink: &mut W) -> Result<(), Refused>
-    ensures does { DoesTask command.task command.machine command.sheet
+fn carry_out<W: Sink>(
+    alloc: Global,
+    command: Command<Content>,
+    sink: &mut W,
+) -> Result<(), Refused>
+    ensures does { DoesCommand command (port W.taken W.has_failed sink.old sink.new) result }
+    ensures untouched { IsErr result → is_device result ≡ false → sink.new ≡ sink.old }
+    ensures failed { W.has_failed sink.new ≡ (W.has_failed sink.old || is_device result) }
+{
+    match command {
+        Command::OnMachine {
+            machine,
+            sheet,
+            task,
+        } => do_task(alloc, task, machine.as_slice(), sheet.as_slice(), sink),
+        Command::Table { sheet } => write_tables(alloc, sheet.as_slice(), sink),
+    }
+}
+
+/// Does `task` with the machine in the file `machine` and the key sheet `sheet`.
+fn do_task<W: Sink>(
+    alloc: Global,
+    task: Task,
+    machine: &[u8],
+    sheet: &[u8],
+    sink: &mut W,
+) -> Result<(), Refused>
+    ensures does { DoesTask task machine.now sheet.now
         (port W.taken W.has_failed sink.old sink.new) result }
     ensures untouched { IsErr result → is_device result ≡ false → sink.new ≡ sink.old }
     ensures failed { W.has_failed sink.new ≡ (W.has_failed sink.old || is_device result) }
 {
-    let Command {
-        machine,
-        sheet,
-        task,
-    } = command;
-    let machine = machine.as_slice();
-    let sheet = sheet.as_slice();
     match task {
         Task::Page(days) => run_page(alloc, machine, sheet, days, sink),
         Task::List(day) => run_list(alloc, machine, sheet, day, sink),

@@ -17,8 +17,15 @@ static PAGES: [(&[&str], &[u8]); 4] = [
     (&["curator", "page", "m", "s"], &[]),
 ];
 
+/// A command line with `table`, and its key sheet.
+static TABLES: [(&[&str], &str); 3] = [
+    (&["curator", "table", "s"], "s"),
+    (&["curator", "table", "table"], "table"),
+    (&["curator", "table", "--", "-s"], "-s"),
+];
+
 /// Command lines that mean no command.
-static OTHERS: [&[&str]; 14] = [
+static OTHERS: [&[&str]; 17] = [
     &["curator", "Page", "m", "s"],
     &["curator", "page"],
     &["curator", "page", "m"],
@@ -30,19 +37,23 @@ static OTHERS: [&[&str]; 14] = [
     &["curator", "list", "m", "s", "1-2"],
     &["curator", "list", "m", "s", "01"],
     &["curator", "list", "m", "s", "1", "2"],
+    &["curator", "table"],
+    &["curator", "table", "m", "s"],
+    &["curator", "table", "--list", "s"],
     &["curator", "card", "m", "s", "1"],
     &["curator", "help"],
     &["curator", "m", "s"],
 ];
 
 /// Command lines that ask for help or for the version.
-static HELP: [&[&str]; 7] = [
+static HELP: [&[&str]; 8] = [
     &["curator", "--help"],
     &["curator", "-h"],
     &["curator", "--version"],
     &["curator", "-V"],
     &["curator", "page", "--help"],
     &["curator", "list", "-h"],
+    &["curator", "table", "--help"],
     &["curator"],
 ];
 
@@ -51,7 +62,7 @@ fn finds_the_files_and_the_day(rt: HostRuntime) {
     for (words, machine, sheet, day) in &LISTS {
         let found = match parse_words(rt.alloc(), words) {
             Ok(
-                Command {
+                Command::OnMachine {
                     machine,
                     sheet,
                     task: Task::List(day),
@@ -68,7 +79,7 @@ fn finds_the_days(rt: HostRuntime) {
     for (words, days) in &PAGES {
         let found = match parse_words(rt.alloc(), words) {
             Ok(
-                Command {
+                Command::OnMachine {
                     machine: "m",
                     sheet: "s",
                     task: Task::Page(found),
@@ -80,6 +91,17 @@ fn finds_the_days(rt: HostRuntime) {
             _ => false,
         };
         assert!(rt; found);
+    }
+}
+
+#[test]
+fn finds_the_sheet(rt: HostRuntime) {
+    for (words, sheet) in &TABLES {
+        let found = match parse_words(rt.alloc(), words) {
+            Ok(Command::Table { sheet }) => Some(sheet),
+            _ => None,
+        };
+        assert_eq!(rt; found, Some(*sheet));
     }
 }
 

@@ -13,3 +13,5 @@ mod program;
 mod samples;
 #[cfg(test)]
 mod sinks;
+#[cfg(test)]
+mod tables;

@@ -38,7 +38,7 @@ fn files() -> [(&'static str, &'static [u8]); 4] {
 }
 
 /// A command line, the line on standard error, and the exit status.
-static STOPPED: [(&[&str], &str); 15] = [
+static STOPPED: [(&[&str], &str); 17] = [
     (
         &["curator", "list", "m", "s", "4"],
         "refused 39 NoSuchDay\n",
@@ -84,6 +84,8 @@ static STOPPED: [(&[&str], &str); 15] = [
     (&["curator", "page", "bad", "none"], "refused 6 Device\n"),
     (&["curator", "list", "none", "s", "1"], "refused 6 Device\n"),
     (&["curator", "list", "m", "none", "1"], "refused 6 Device\n"),
+    (&["curator", "table", "bad"], "refused 18 NotToml\n"),
+    (&["curator", "table", "none"], "refused 6 Device\n"),
 ];
 
 #[test]
@@ -99,7 +101,17 @@ fn says_why_it_refuses(rt: HostRuntime) {
 }
 
 /// A command line that writes a page, and texts of the page, from its top.
-static PAGES: [(&[&str], &[&str]); 4] = [
+static PAGES: [(&[&str], &[&str]); 5] = [
+    (
+        &["curator", "table", "s"],
+        &[
+            "<title>Key table</title>",
+            "<h1>Enigma I: key table <small>days 1 to 2</small></h1>",
+            "<tr><th scope=row>2<td>C<td>V<td>IV<td>I<td>01<td>26<td>02<td>-<td>X Y Z<td>-\n<tr><th scope=row>1<td>B<td>I",
+            "<h1>Enigma M3: key table <small>day 5</small></h1>",
+            "</main>\n",
+        ],
+    ),
     (
         &["curator", "page", "m", "s", "2"],
         &[

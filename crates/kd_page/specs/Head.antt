@@ -4,8 +4,8 @@ use Rattle.kd_tables.specs.declared.model.Model.{Model}
 use Rattle.kd_pictures.specs.Template.{count_text, filled}
 use Rattle.kd_pictures.specs.Words.{model_name}
 use Rattle.kd_page.specs.declared.head.ListedDay.{ListedDay}
-use Rattle.kd_pictures.specs.declared.texts.TheConstants.{FOOT, HEAD, NAV, NAV_DAY, NAV_END, STYLE, TITLE_DAY}
-use Rattle.kd_pictures.specs.declared.texts.TheConstants.{TITLE_DAYS}
+use Rattle.kd_pictures.specs.declared.texts.TheConstants.{BODY, FOOT, HEAD, NAV, NAV_DAY, NAV_END, STYLE}
+use Rattle.kd_pictures.specs.declared.texts.TheConstants.{TITLE_DAY, TITLE_DAYS}
 
 -- the last of these days
 abbrev pub last_of : ListedDay → List ListedDay → ListedDay
@@ -31,7 +31,8 @@ nav_text first (next ∷ days) = list_of_days first (next ∷ days)
 
 -- the head of a file with the pages of these days
 unfoldable pub head_text : Model → ListedDay → List ListedDay → List ℕ
-head_text model first days = HEAD.now ++ title_text model first days ++ STYLE.now ++ nav_text first days
+head_text model first days =
+    HEAD.now ++ title_text model first days ++ STYLE.now ++ BODY.now ++ nav_text first days
 
 -- the whole file: the head, the pages of the days, and the foot
 unfoldable pub file_text : Model → ListedDay → List ListedDay → List ℕ → List ℕ

@@ -15,18 +15,10 @@ use Rattle.kd_pictures.specs.declared.words.Word.{Word}
 use Rattle.kd_pictures.specs.declared.words.Word.TheVariants as words
 use Rattle.kd_pictures.specs.declared.texts.TheConstants as texts
 use Rattle.kd_page.specs.Steps.{full_step_text}
+use Rattle.kd_pictures.specs.Fives.{fives_from}
 use Rattle.kd_pictures.specs.Template.{filled, letter_text, ordinal_text}
 use Rattle.kd_page.specs.Windows.{letter_shown}
 use Rattle.kd_pictures.specs.Words.{is_converter}
-
-abbrev pub gap_text : Bool → List ℕ
-gap_text ends_group = if ends_group then codes " " else []
-
--- the letters in groups of five, after this many letters
-abbrev pub fives_from : ℕ → List ℕ → List ℕ
-fives_from place [] = []
-fives_from place (letter ∷ letters) =
-    letter_text letter ++ gap_text (place % 5 == 4) ++ fives_from (place + 1) letters
 
 -- the keys of the test: the alphabet, or on a Converter 26 times A
 abbrev pub test_keys : Parts → List ℕ

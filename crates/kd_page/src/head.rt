@@ -6,7 +6,9 @@ ghost use Rattle.kd_pictures.specs.declared.texts.TheConstants.{FOOT as FOOT_TEX
 
 use kd_pictures::draw;
 use kd_pictures::template::{Value, fill};
-use kd_pictures::texts::{FOOT, HEAD, NAV, NAV_DAY, NAV_END, STYLE, TITLE_DAY, TITLE_DAYS};
+use kd_pictures::texts::{
+    BODY, FOOT, HEAD, NAV, NAV_DAY, NAV_END, STYLE, TITLE_DAY, TITLE_DAYS,
+};
 use kd_tables::{Model, Sink};
 
 /// A day in the list of days, with its number of settings.
@@ -23,6 +25,7 @@ pub fn draw_head<W: Sink>(sink: &mut W, model: Model, first: ListedDay, others: 
     draw(sink, HEAD);
     draw_title(sink, model, first, others);
     draw(sink, STYLE);
+    draw(sink, BODY);
     draw_nav(sink, first, others);
 }
 

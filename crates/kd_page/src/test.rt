@@ -3,7 +3,7 @@ ghost use Rattle.std.specs.Prelude.{◌≡◌, ◌+◌, ◌%◌, ◌<◌, ◌≤
 ghost use Rattle.kd_state.specs.TwoCiphers.{IsReady, physical_cipher};
 ghost use Rattle.kd_card.specs.Proving.{is_priced_setting, priced_count};
 ghost use Rattle.kd_pictures.specs.Drawing.{Draws};
-ghost use Rattle.kd_page.specs.Test.{again_all, again_at, again_text, fives_from, gap_text, letters_again, note_text};
+ghost use Rattle.kd_page.specs.Test.{again_all, again_at, again_text, letters_again, note_text};
 ghost use Rattle.kd_page.specs.Test.{test_keys, test_step, test_text, test_title, test_words};
 ghost use Rattle.kd_page.specs.Windows.{letter_shown};
 
@@ -11,6 +11,7 @@ use crate::pins::alphabet;
 use crate::steps::{Heading, draw_full_step};
 use crate::windows::letter_shown;
 use kd_pictures::draw;
+use kd_pictures::fives::draw_fives;
 use kd_pictures::numbers::LATER_WHEELS;
 use kd_pictures::template::{Value, draw_letter, fill};
 use kd_pictures::texts::{
@@ -93,28 +94,6 @@ fn enciphered(machine: &Machine, keys: [Letter; 26]) -> [Letter; 26]
     let mut text = keys;
     engine.run(&mut text);
     text
-}
-
-/// Writes letters in groups of five. `place` letters were written before them.
-fn draw_fives<W: Sink>(sink: &mut W, place: u8, letters: &[Letter])
-    requires { place + length letters.now < 200 }
-    ensures { Draws W.taken W.has_failed sink.old sink.new (fives_from place letters.now) }
-{
-    if let [letter, rest @ ..] = letters {
-        draw_letter(sink, *letter);
-        draw_gap(sink, place % 5 == 4);
-        draw_fives(sink, place + 1, rest);
-    }
-}
-
-fn draw_gap<W: Sink>(sink: &mut W, ends_group: bool)
-    ensures { Draws W.taken W.has_failed sink.old sink.new (gap_text ends_group) }
-{
-    if ends_group {
-        draw(sink, " ");
-    } else {
-        draw(sink, "");
-    }
 }
 
 /// Writes the letters that the machine shows.

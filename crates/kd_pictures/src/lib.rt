@@ -3,6 +3,7 @@
 
 pub mod board;
 mod drawing;
+pub mod fives;
 pub mod laws;
 pub mod numbers;
 mod sockets;

@@ -82,7 +82,7 @@ pub fn draw_letter<W: Sink>(sink: &mut W, letter: Letter)
 }
 
 /// Writes the number of a letter, from 01 to 26.
-fn draw_ordinal<W: Sink>(sink: &mut W, letter: Letter)
+pub fn draw_ordinal<W: Sink>(sink: &mut W, letter: Letter)
     ensures { Draws W.taken W.has_failed sink.old sink.new (ordinal_text letter) }
 {
     let number = letter.index() + 1;

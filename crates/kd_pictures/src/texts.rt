@@ -1,6 +1,6 @@
 //! The fixed texts of a page. In a template, each sign `~` stands for a value.
 
-/// The head of the file: before its title, and after it. The foot of the file.
+/// The head of the file: before its title, and after it, with the style sheet. The foot of the file.
 pub const HEAD: &str =
     "<!DOCTYPE html>\n<html lang=en>\n<meta charset=utf-8>\n<meta name=viewport content=\"width=device-width,initial-scale=1\">\n<title>";
 
@@ -118,10 +118,10 @@ h2{page-break-after:avoid;break-after:avoid}
 figure,tr,li,pre,.beside,.pins tbody,.drum{page-break-inside:avoid;break-inside:avoid}
 }
 @page{margin:12mm}
-</style>
-<body>
-<main>
 ";
+
+/// The end of the style sheet, and the beginning of the page's body.
+pub const BODY: &str = "</style>\n<body>\n<main>\n";
 
 pub const FOOT: &str = "</main>\n";
 

@@ -27,6 +27,7 @@ returns c =
     ∙ ap without_help_command (ap app_of_fields c.version.ensures
     ∙ ap with_version (ap app_of_fields c.about.ensures ∙ c.new.ensures.app)))) in
     let first = one_command_more top c.in_ok-page.ensures c.in_ok-subcommand.ensures in
-    ok_also c.subcommand-2.result (AddsSubcommand c.in_ok-subcommand.field-0 c.in_ok-list.list)
+    let second = one_command_more first c.in_ok-list.ensures c.in_ok-subcommand-2.ensures in
+    ok_also c.subcommand-3.result (AddsSubcommand c.in_ok-subcommand-2.field-0 c.in_ok-table.table)
     (λ made. app_of made ≡ curator_grammar)
-    (λ made adds. one_command_more {new = made} first c.in_ok-list.ensures adds) c.subcommand-2.ensures
+    (λ made adds. one_command_more {new = made} second c.in_ok-table.ensures adds) c.subcommand-3.ensures

@@ -1,0 +1,30 @@
+-- The days of a sheet, model by model.
+use Rattle.std.specs.Prelude.{ℕ, Bool, false, List, [], ◌∷◌, filter, is_some, Option}
+use Rattle.std.specs.List.{list_any}
+use Rattle.std.specs.Option.{option_map_or}
+use Rattle.kd_tables.specs.contracts.model.ModelPartialEq.TheImpl as model_eq
+use Rattle.kd_tables.specs.declared.model.Model.{Model}
+use Rattle.kd_state.specs.SheetDay.{Day, day_model}
+use Rattle.kd_sheet.specs.Sheet.{day_of}
+use Rattle.kd_key_table.specs.declared.days.TheConstants.{DAYS, LAST_DAY_FIRST}
+
+-- whether two models are the same, by the derived `==`
+abbrev pub same_model : Model → Model → Bool
+same_model = (model_eq.ghosts).eq
+
+-- whether the month has day `number`, and the day is of the model
+unfoldable pub has_day_of : Model → List (Option Day) → ℕ → Bool
+has_day_of model month number = option_map_or (λ s. same_model (day_model s) model) (day_of month number) false
+
+-- the days that the month has for the model, the last day first
+abbrev pub days_of : Model → List (Option Day) → List ℕ
+days_of model month = filter (has_day_of model month) LAST_DAY_FIRST
+
+-- the first of the days of which `last` is the last, and the others are listed from the last of them on
+abbrev pub first_of : ℕ → List ℕ → ℕ
+first_of last [] = last
+first_of last (day ∷ earlier) = first_of day earlier
+
+-- whether the month has any day
+abbrev pub has_days : List (Option Day) → Bool
+has_days month = list_any (λ number. is_some (day_of month number)) DAYS

@@ -1,0 +1,8 @@
+pub mod Words
+pub mod Days
+pub mod MonthTable
+pub mod KeyList
+pub mod CsvTable
+pub mod TableFile
+pub mod RunTable
+pub mod Plain

@@ -1,0 +1,79 @@
+-- The table of a rotor model: a row for each day, the last day on top, so that a used day is cut off below.
+use Rattle.std.specs.Prelude.{decimal, ℕ, Bool, true, false, List, [], ◌∷◌, ◌++◌, flat_map, Option, Some, None}
+use Rattle.kd_tables.specs.declared.model.Model.{Model}
+use Rattle.kd_tables.specs.declared.model.Model.TheVariants.{EnigmaI, M3, M4, M209}
+use Rattle.kd_tables.specs.Tables.{reflector_text, slots_of}
+use Rattle.kd_state.specs.declared.sheet_day.rotor_entry.SheetWheel.{SheetWheel}
+use Rattle.kd_state.specs.SheetDay.{Day, OfRotors, OfPins, RotorDay}
+use Rattle.kd_sheet.specs.Sheet.{day_of}
+use Rattle.kd_pictures.specs.Template.{filled}
+use Rattle.kd_pictures.specs.Words.{model_name}
+use Rattle.kd_key_table.specs.declared.texts.TheConstants as texts
+use Rattle.kd_key_table.specs.Days.{days_of, first_of}
+use Rattle.kd_key_table.specs.Words.{ground_text, group_text, name_text, pair_text, ring_text, words_text}
+
+-- ---- The row of a day.
+
+abbrev pub wheel_cell : SheetWheel → List ℕ
+wheel_cell wheel = filled texts.WHEEL.now (name_text wheel ∷ [])
+
+-- whether the model's sheets have a number for a ring, not a letter
+abbrev pub has_numbered_rings : Model → Bool
+has_numbered_rings EnigmaI = true
+has_numbered_rings M3 = false
+has_numbered_rings M4 = false
+has_numbered_rings M209 = false
+
+abbrev pub ring_cell : Bool → SheetWheel → List ℕ
+ring_cell is_number wheel = filled texts.RING.now (ring_text is_number wheel ∷ [])
+
+-- the day, the reflector, the wheels and their rings, from the left
+abbrev pub setting_cells : RotorDay → List ℕ
+setting_cells day =
+    filled texts.ROW.now (decimal day.day ∷ reflector_text day.reflector ∷ []) ++ flat_map wheel_cell day.wheels
+    ++ flat_map (ring_cell (has_numbered_rings day.model)) day.wheels
+
+-- the cables, the ground, which has a window letter for each wheel, and the groups
+abbrev pub word_cells : RotorDay → List ℕ
+word_cells day =
+    texts.CELL.now ++ words_text pair_text day.pairs ++ texts.CELL.now ++ words_text ground_text day.wheels
+    ++ texts.CELL.now ++ words_text group_text day.groups ++ texts.ROW_END.now
+
+unfoldable pub row_text : RotorDay → List ℕ
+row_text day = setting_cells day ++ word_cells day
+
+-- the row of a rotor machine's day
+abbrev pub row_of : Option Day → List ℕ
+row_of None = []
+row_of (Some (OfRotors values)) = row_text values
+row_of (Some (OfPins values)) = []
+
+-- ---- The table.
+
+-- the day, or the first day and the last
+abbrev pub span_text : ℕ → List ℕ → List ℕ
+span_text last [] = filled texts.ONE_DAY.now (decimal last ∷ [])
+span_text last (day ∷ earlier) =
+    filled texts.FIRST_TO_LAST.now (decimal (first_of last (day ∷ earlier)) ∷ decimal last ∷ [])
+
+-- the head of a model's table, and the names of its columns
+unfoldable pub month_head : Model → ℕ → List ℕ → List ℕ
+month_head model last earlier =
+    let slots = decimal (slots_of model) in
+    filled texts.MONTH.now (model_name model ∷ []) ++ span_text last earlier
+    ++ filled texts.COLUMNS.now (slots ∷ slots ∷ slots ∷ slots ∷ [])
+
+-- the table of the day `last`, and of the days `earlier`, the last of them first
+unfoldable pub table_text : Model → List (Option Day) → ℕ → List ℕ → List ℕ
+table_text model month last earlier =
+    month_head model last earlier ++ flat_map (λ number. row_of (day_of month number)) (last ∷ earlier)
+    ++ texts.MONTH_END.now
+
+-- the table of the days of a model, the last day first; no table without days
+abbrev pub table_of_days : Model → List (Option Day) → List ℕ → List ℕ
+table_of_days model month [] = []
+table_of_days model month (last ∷ earlier) = table_text model month last earlier
+
+-- the table of all days that the month has for the model
+unfoldable pub month_table : Model → List (Option Day) → List ℕ
+month_table model month = table_of_days model month (days_of model month)

@@ -1,0 +1,16 @@
+//! Key sheets as printed tables: a table for each rotor model, and a key list for each day of a Converter.
+#![tactic(auto)]
+
+mod csv_table;
+mod days;
+mod fault;
+mod key_list;
+pub mod laws;
+mod month_table;
+pub mod run_table;
+mod table_file;
+pub mod texts;
+mod words;
+
+pub use fault::TableFault;
+pub use table_file::TableForm;

@@ -1,0 +1,182 @@
+//! The table of a rotor model: a row for each day, the last day on top.
+ghost use Rattle.std.specs.Prelude.{◌≡◌, flat_map, option_copied, Some};
+ghost use Rattle.kd_pictures.specs.Drawing.{Draws};
+ghost use Rattle.kd_sheet.specs.Sheet.{day_of};
+ghost use Rattle.kd_state.specs.Entry.{rotor_values, values_of};
+ghost use Rattle.kd_key_table.specs.MonthTable.{has_numbered_rings, month_head, month_table, ring_cell};
+ghost use Rattle.kd_key_table.specs.MonthTable.{row_of, row_text, setting_cells, span_text, table_of_days};
+ghost use Rattle.kd_key_table.specs.MonthTable.{table_text, wheel_cell, word_cells};
+
+use crate::days::{days_of, first_of};
+use crate::texts::{
+    CELL, COLUMNS, FIRST_TO_LAST, MONTH, MONTH_END, ONE_DAY, RING, ROW, ROW_END, WHEEL,
+};
+use crate::words::{Ground, Whole, draw_words};
+use kd_pictures::draw;
+use kd_pictures::template::{Value, fill};
+use kd_sheet::Sheet;
+use kd_state::{Entry, RotorEntry, SheetDay, SheetWheel};
+use kd_tables::{Letter, Model, Sink};
+
+/// Writes the table of the days that the sheet has for `model`; nothing if it has none.
+#[tactic(auto, unfolding(crate::specs::MonthTable::month_table))]
+pub(crate) fn draw_month<W: Sink>(sink: &mut W, model: Model, sheet: &Sheet)
+    ensures { Draws W.taken W.has_failed sink.old sink.new (month_table model sheet.now) }
+{
+    let days = days_of(model, sheet);
+    draw_days(sink, model, sheet, days.as_slice());
+}
+
+/// Writes the table of the days `days`, of which the first is the last of the month.
+fn draw_days<W: Sink>(sink: &mut W, model: Model, sheet: &Sheet, days: &[u8])
+    ensures { Draws W.taken W.has_failed sink.old sink.new
+        (table_of_days model sheet.now days.now) }
+{
+    if let [last, earlier @ ..] = days {
+        draw_table(sink, model, sheet, *last, earlier);
+    } else {
+        draw(sink, "");
+    }
+}
+
+/// Writes the table of the day `last`, and of the days `earlier`.
+fn draw_table<W: Sink>(sink: &mut W, model: Model, sheet: &Sheet, last: u8, earlier: &[u8])
+    ensures { Draws W.taken W.has_failed sink.old sink.new
+        (table_text model sheet.now last earlier.now) }
+{
+    draw_month_head(sink, model, last, earlier);
+    draw_day(sink, sheet.day(last));
+    draw_rows(sink, sheet, earlier);
+    draw(sink, MONTH_END);
+}
+
+fn draw_month_head<W: Sink>(sink: &mut W, model: Model, last: u8, earlier: &[u8])
+    ensures { Draws W.taken W.has_failed sink.old sink.new (month_head model last earlier.now) }
+{
+    let slots = u16::from(model.slots());
+    fill(sink, MONTH, &[Value::Model(model)]);
+    draw_span(sink, last, earlier);
+    fill(
+        sink,
+        COLUMNS,
+        &[
+            Value::Number(slots),
+            Value::Number(slots),
+            Value::Number(slots),
+            Value::Number(slots),
+        ],
+    );
+}
+
+/// Writes the day, or the first day and the last.
+fn draw_span<W: Sink>(sink: &mut W, last: u8, earlier: &[u8])
+    ensures { Draws W.taken W.has_failed sink.old sink.new (span_text last earlier.now) }
+{
+    let last_number = Value::Number(u16::from(last));
+    if let [_, ..] = earlier {
+        let first = Value::Number(u16::from(first_of(last, earlier)));
+        fill(sink, FIRST_TO_LAST, &[first, last_number]);
+    } else {
+        fill(sink, ONE_DAY, &[last_number]);
+    }
+}
+
+fn draw_rows<W: Sink>(sink: &mut W, sheet: &Sheet, days: &[u8])
+    ensures { Draws W.taken W.has_failed sink.old sink.new
+        (flat_map (λ number. row_of (day_of sheet.now number)) days.now) }
+{
+    if let [number, rest @ ..] = days {
+        draw_day(sink, sheet.day(*number));
+        draw_rows(sink, sheet, rest);
+    }
+}
+
+/// Writes the row of a rotor machine's day.
+fn draw_day<W: Sink>(sink: &mut W, day: Option<&SheetDay>)
+    ensures { Draws W.taken W.has_failed sink.old sink.new (row_of (option_copied day.entry)) }
+{
+    match day {
+        Some(day) => draw_entry(sink, day.entry()),
+        None => draw(sink, ""),
+    }
+}
+
+fn draw_entry<W: Sink>(sink: &mut W, entry: &Entry)
+    ensures { Draws W.taken W.has_failed sink.old sink.new (row_of (Some (values_of entry.now))) }
+{
+    match entry {
+        Entry::Rotor(entry) => draw_row(sink, entry),
+        Entry::Pin(_) => draw(sink, ""),
+    }
+}
+
+fn draw_row<W: Sink>(sink: &mut W, entry: &RotorEntry)
+    ensures { Draws W.taken W.has_failed sink.old sink.new (row_text (rotor_values entry.now)) }
+{
+    draw_setting_cells(sink, entry);
+    draw_word_cells(sink, entry);
+}
+
+/// Writes the day, the reflector, the wheels and their rings.
+fn draw_setting_cells<W: Sink>(sink: &mut W, entry: &RotorEntry)
+    ensures { Draws W.taken W.has_failed sink.old sink.new (setting_cells (rotor_values entry.now)) }
+{
+    let wheels = entry.wheels.as_slice();
+    let day = Value::Number(u16::from(entry.day));
+    fill(sink, ROW, &[day, Value::Reflector(entry.reflector)]);
+    draw_wheels(sink, wheels);
+    draw_rings(sink, has_numbered_rings(entry.model), wheels);
+}
+
+/// Writes the cables, the ground and the groups.
+fn draw_word_cells<W: Sink>(sink: &mut W, entry: &RotorEntry)
+    ensures { Draws W.taken W.has_failed sink.old sink.new (word_cells (rotor_values entry.now)) }
+{
+    draw(sink, CELL);
+    draw_words::<Whole, W, (Letter, Letter)>(sink, entry.pairs.as_slice());
+    draw(sink, CELL);
+    draw_words::<Ground, W, SheetWheel>(sink, entry.wheels.as_slice());
+    draw(sink, CELL);
+    draw_words::<Whole, W, [Letter; 3]>(sink, entry.groups.as_slice());
+    draw(sink, ROW_END);
+}
+
+fn draw_wheels<W: Sink>(sink: &mut W, wheels: &[SheetWheel])
+    ensures { Draws W.taken W.has_failed sink.old sink.new (flat_map wheel_cell wheels.now) }
+{
+    if let [wheel, rest @ ..] = wheels {
+        fill(sink, WHEEL, &[Value::Wheel(wheel.wheel)]);
+        draw_wheels(sink, rest);
+    }
+}
+
+/// Whether the model's sheets have a number for a ring, not a letter.
+pub(crate) fn has_numbered_rings(model: Model) -> bool
+    ensures { result ≡ has_numbered_rings model }
+{
+    match model {
+        Model::EnigmaI => true,
+        Model::M3 | Model::M4 | Model::M209 => false,
+    }
+}
+
+/// Writes the rings of the wheels, as numbers or as letters.
+fn draw_rings<W: Sink>(sink: &mut W, are_numbers: bool, wheels: &[SheetWheel])
+    ensures { Draws W.taken W.has_failed sink.old sink.new
+        (flat_map (ring_cell are_numbers) wheels.now) }
+{
+    if let [wheel, rest @ ..] = wheels {
+        draw_ring(sink, are_numbers, wheel);
+        draw_rings(sink, are_numbers, rest);
+    }
+}
+
+fn draw_ring<W: Sink>(sink: &mut W, is_number: bool, wheel: &SheetWheel)
+    ensures { Draws W.taken W.has_failed sink.old sink.new (ring_cell is_number wheel.now) }
+{
+    if is_number {
+        fill(sink, RING, &[Value::Ordinal(wheel.ring)]);
+    } else {
+        fill(sink, RING, &[Value::Letter(wheel.ring)]);
+    }
+}

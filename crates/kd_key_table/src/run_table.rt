@@ -1,0 +1,33 @@
+//! The command `table`: writes a key sheet as printed tables.
+ghost use Rattle.std.specs.Prelude.{◌≡◌, ◌≢◌, ◌||◌, Err, IsErr};
+ghost use Rattle.kd_tables.specs.Ports.{port};
+ghost use Rattle.kd_key_table.specs.RunTable.{IsTableAnswer, is_device};
+ghost use Rattle.kd_key_table.specs.declared.fault.TableFault.TheVariants.{Device};
+
+use crate::fault::TableFault;
+use crate::table_file::{TableForm, write_tables};
+use kd_sheet::read_sheet;
+use kd_tables::Sink;
+use std::alloc::Global;
+
+/// Writes the tables of the key sheet `sheet`.
+///
+/// A page has a table for each rotor model, with the last day on top, and a key list for each day of a Converter. A
+/// table for a spreadsheet has a row for each day, from the first day on.
+///
+/// For a fault of the sheet, nothing is written. For `Device`, only a prefix of the file is written.
+pub fn run_table<W: Sink>(
+    alloc: Global,
+    form: TableForm,
+    sheet: &[u8],
+    sink: &mut W,
+) -> Result<(), TableFault>
+    ensures table { IsTableAnswer form sheet.now
+        (port W.taken W.has_failed sink.old sink.new) result }
+    ensures untouched { IsErr result → result ≢ Err Device → sink.new ≡ sink.old }
+    ensures failed { W.has_failed sink.new ≡ (W.has_failed sink.old || is_device result) }
+{
+    let sheet = read_sheet(alloc, sheet)?;
+    write_tables(sink, form, &sheet)?;
+    Ok(())
+}

@@ -1,0 +1,82 @@
+//! The file of a sheet's tables.
+ghost use Rattle.std.specs.Prelude.{◌≡◌, ◌||◌, ◌++◌, is_err};
+ghost use Rattle.kd_tables.specs.Writing.{Writes};
+ghost use Rattle.kd_pictures.specs.Drawing.{Draws};
+ghost use Rattle.kd_key_table.specs.Days.{has_days};
+ghost use Rattle.kd_key_table.specs.TableFile.{file_text, no_days, table_text, tables_of};
+
+use crate::csv_table::draw_csv;
+use crate::days::{DAYS, has_any_day};
+use crate::key_list::draw_key_lists;
+use crate::month_table::draw_month;
+use crate::texts::{NO_DAYS, TABLE_STYLE, TITLE, WIDE_BODY};
+use kd_pictures::draw;
+use kd_pictures::texts::{FOOT, HEAD, STYLE};
+use kd_sheet::Sheet;
+use kd_tables::{Device, Model, Sink};
+
+/// The form of a file with a sheet's tables.
+#[derive(Clone, Copy, Debug, PartialEq, Eq)]
+pub enum TableForm {
+    /// An HTML page to print.
+    Page,
+    /// A table for a spreadsheet, in the form CSV.
+    Csv,
+}
+
+/// Writes the file of the sheet's tables.
+pub(crate) fn write_tables<W: Sink>(
+    sink: &mut W,
+    form: TableForm,
+    sheet: &Sheet,
+) -> Result<(), Device>
+    ensures text { Writes (W.taken sink.old) (W.taken sink.new) (file_text form sheet.now) result }
+    ensures failed { W.has_failed sink.new ≡ (W.has_failed sink.old || is_err result) }
+{
+    draw_file(sink, form, sheet);
+    if sink.failed() { Err(Device) } else { Ok(()) }
+}
+
+fn draw_file<W: Sink>(sink: &mut W, form: TableForm, sheet: &Sheet)
+    ensures { Draws W.taken W.has_failed sink.old sink.new (file_text form sheet.now) }
+{
+    match form {
+        TableForm::Page => draw_page(sink, sheet),
+        TableForm::Csv => draw_csv(sink, sheet),
+    }
+}
+
+/// Writes the page.
+fn draw_page<W: Sink>(sink: &mut W, sheet: &Sheet)
+    ensures { Draws W.taken W.has_failed sink.old sink.new (table_text sheet.now) }
+{
+    draw(sink, HEAD);
+    draw(sink, TITLE);
+    draw(sink, STYLE);
+    draw(sink, TABLE_STYLE);
+    draw(sink, WIDE_BODY);
+    draw_no_days(sink, sheet);
+    draw_tables(sink, sheet);
+    draw(sink, FOOT);
+}
+
+/// Writes that the sheet has no days, if it has none.
+fn draw_no_days<W: Sink>(sink: &mut W, sheet: &Sheet)
+    ensures { Draws W.taken W.has_failed sink.old sink.new (no_days (has_days sheet.now)) }
+{
+    if has_any_day(sheet, &DAYS) {
+        draw(sink, "");
+    } else {
+        draw(sink, NO_DAYS);
+    }
+}
+
+/// Writes a table for each rotor model that has days, and a key list for each day of a Converter.
+fn draw_tables<W: Sink>(sink: &mut W, sheet: &Sheet)
+    ensures { Draws W.taken W.has_failed sink.old sink.new (tables_of sheet.now) }
+{
+    draw_month(sink, Model::EnigmaI, sheet);
+    draw_month(sink, Model::M3, sheet);
+    draw_month(sink, Model::M4, sheet);
+    draw_key_lists(sink, sheet, &DAYS);
+}

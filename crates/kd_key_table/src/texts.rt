@@ -1,0 +1,148 @@
+//! The fixed texts of a key table. In a template, each sign `~` stands for a value.
+
+/// The file's title.
+pub const TITLE: &str = "Key table";
+
+/// What the style sheet of a table has beyond the style sheet of a page.
+pub const TABLE_STYLE: &str = ".shown svg{width:110mm;max-width:100%}
+.row{display:flex;align-items:flex-end;border-bottom:1px solid var(--line);padding:.4em 0 .2em}
+.groups,.row label,.text,.heading b{font-family:ui-monospace,Consolas,\"DejaVu Sans Mono\",monospace}
+.groups{display:flex;flex-wrap:wrap;flex:1}
+.groups span{flex:0 0 10%;min-width:0}
+section>label{padding-left:1.6em;text-indent:-1.6em}
+.row b,.row .groups>span>small,.row i{display:block;line-height:1.2}
+.groups small,.row i{font-size:.75em;letter-spacing:.2em;text-indent:.1em;font-weight:400;font-style:normal}
+.row .groups>span>small{border-top:1px solid;margin:2.3em .6em 0 0;padding-top:.15em}
+.row label{flex:0 0 7.2em;padding:0;font-size:.8em;line-height:1.25}
+.row label b{display:inline}
+.heading span{display:inline-block;margin-right:2em;font-size:.85em;color:var(--soft)}
+.heading b{display:block;font-size:1.47em;line-height:1.3;color:var(--ink)}
+.form .groups,.text{font-size:1.25em;line-height:1.6}
+.letters{word-break:break-all}
+.words{white-space:pre-wrap;overflow-wrap:anywhere}
+@media screen and (max-width:820px){
+.groups span{flex-basis:20%}
+.row .groups{row-gap:.6em;font-size:min(1em,5vw - 5px)}
+.row .groups>span>small{margin-right:.4em}
+.form .groups{font-size:min(1.15em,5.4vw)}
+}
+@media print{
+.sheets{display:block;margin-bottom:.3em}
+.next{page-break-before:always;break-before:page}
+.row{page-break-inside:avoid;break-inside:avoid}
+.row .groups>span>small{margin:2em .4em 0 0}
+.row{padding:.25em 0 .1em}
+.row label{line-height:1.15}
+.shown{margin:.1em 0 .2em}
+}
+.wide{max-width:75rem}
+.month,.keylist{width:100%;text-align:center;line-height:1.2}
+.month td,.keylist td,.month tbody th,.keylist tbody th{font-family:ui-monospace,Consolas,\"DejaVu Sans Mono\",monospace;padding:0 .15em;white-space:nowrap}
+.month th,.keylist th{text-align:center;font-weight:700;vertical-align:bottom}
+.month small{font-size:.7em;color:var(--soft)}
+.month tr,.keylist tr{border-bottom:1px solid var(--line)}
+.month thead,.keylist thead,.month tbody tr:nth-last-child(5n+6),.keylist tbody tr:nth-child(9n){border-bottom:2px solid var(--ink)}
+.keylist thead tr{border:0}
+.month colgroup+colgroup{border-left:1px solid var(--line)}
+.list{max-width:50rem}
+.list h2,.list pre{text-align:center;border:0}
+.list pre{font-size:1.4em}
+@media screen and (max-width:1150px){
+.month,.month thead,.month tbody,.month tr{display:block}
+.month tr{text-align:left;padding:.2em 0}
+.month th,.month td,.month tbody th{display:inline-block;text-align:left;padding:0 .7em 0 0}
+.month tr>:nth-last-child(3){display:block;white-space:normal}
+.month tr>:nth-last-child(2){padding-right:1.6em}
+}
+@media screen and (max-width:700px){
+.keylist{font-size:15px}
+.list pre{font-size:1em}
+}
+@media print{
+.sheet{page:sheet}
+.sheet header{display:flex;align-items:baseline}
+.sheet .fields{flex:1;margin:0 0 .2em 1.5em}
+.month{font-size:12pt;line-height:13.4pt}
+.month thead{line-height:1.15}
+.sheet .note{font-size:9.5pt}
+.keylist{font-size:14pt;line-height:1.28}
+}
+@page sheet{size:landscape;margin:10mm 12mm}
+";
+
+/// The end of the style sheet, and the beginning of the body, which is wider than a page's.
+pub const WIDE_BODY: &str = "</style>\n<body>\n<main class=wide>\n";
+
+/// What stands in place of the tables of a sheet without days.
+pub const NO_DAYS: &str = "<p>The sheet has no days.</p>\n";
+
+/// The head of a month's table: the model; its day, or its first day and its last.
+pub const MONTH: &str = "<article class=sheet>\n<header>\n<h1>~: key table <small>";
+
+pub const ONE_DAY: &str = "day ~";
+
+pub const FIRST_TO_LAST: &str = "days ~ to ~";
+
+/// The columns of a month's table. Wheels and rings have a column for each slot.
+pub const COLUMNS: &str =
+    "</small></h1>\n<p class=fields><span>Network</span><span>Month</span><span>Copy</span></p>\n</header>\n<p class=note>After use, cut off the day at the bottom. A\u{a0}01, B\u{a0}02, C\u{a0}03, D\u{a0}04, E\u{a0}05, F\u{a0}06, G\u{a0}07, H\u{a0}08, I\u{a0}09, J\u{a0}10, K\u{a0}11, L\u{a0}12, M\u{a0}13, N\u{a0}14, O\u{a0}15, P\u{a0}16, Q\u{a0}17, R\u{a0}18, S\u{a0}19, T\u{a0}20, U\u{a0}21, V\u{a0}22, W\u{a0}23, X\u{a0}24, Y\u{a0}25, Z\u{a0}26.</p>\n<table class=month>\n<colgroup><colgroup><colgroup span=~><colgroup span=~><colgroup><colgroup><colgroup>\n<thead>\n<tr><th scope=col>Day<br><small lang=de>Tag</small><th scope=col>Reflector<br><small lang=de>Umkehrwalze</small><th scope=col colspan=~>Wheels<br><small lang=de>Walzenlage</small><th scope=col colspan=~>Rings<br><small lang=de>Ringstellung</small><th scope=col>Cables<br><small lang=de>Steckerverbindungen</small><th scope=col>Ground<br><small lang=de>Grundstellung</small><th scope=col>Groups<br><small lang=de>Kenngruppen</small>\n<tbody>\n";
+
+/// The row of a day: its number and its reflector, a wheel, a ring, and the cells of cables, ground and groups.
+pub const ROW: &str = "<tr><th scope=row>~<td>~";
+
+pub const WHEEL: &str = "<td>~";
+
+pub const RING: &str = "<td>~";
+
+pub const CELL: &str = "<td>";
+
+pub const ROW_END: &str = "\n";
+
+pub const MONTH_END: &str = "</table>\n</article>\n";
+
+/// What stands in a cell for no cables, or no groups.
+pub const NOTHING: &str = "-";
+
+/// What stands between two words of a cell.
+pub const SPACE: &str = " ";
+
+/// The head of a Converter's key list: the model and the day, before the letters of the list. Then the columns.
+pub const KEY_LIST: &str = "<article class=list>\n<header>\n<h1>~, day ~: key list ";
+
+pub const KEY_LIST_COLUMNS: &str =
+    "</h1>\n<p class=fields><span>Network</span><span>Date</span><span>Copy</span></p>\n</header>\n<table class=keylist>\n<thead>\n<tr><th scope=col rowspan=2>Bar<th scope=col rowspan=2>Lugs<th scope=colgroup colspan=6>Effective pins of wheel\n<tr><th scope=col>1<th scope=col>2<th scope=col>3<th scope=col>4<th scope=col>5<th scope=col>6\n<tbody>\n";
+
+/// The row of a bar: its number, with two digits, and its lugs.
+pub const BAR_BELOW_TEN: &str = "<tr><th scope=row>0~<td>~-~";
+
+pub const BAR: &str = "<tr><th scope=row>~<td>~-~";
+
+/// The cell of a pin: an effective pin with its letter, a pin that isn't effective, and a place beyond the last pin.
+pub const EFFECTIVE: &str = "<td>~";
+
+pub const INEFFECTIVE: &str = "<td>-";
+
+pub const NO_PIN: &str = "<td>";
+
+/// The head of the check. After the check, what it is, and the letters of the day.
+pub const CHECK: &str = "</table>\n<h2>26-letter check</h2>\n<pre><b>";
+
+pub const CHECK_END: &str =
+    "</b></pre>\n<p class=note>Wheels at A A A A A A, knob at C: 26 times A prints the check. Letters of the day: ";
+
+pub const KEY_LIST_END: &str = ".</p>\n</article>\n";
+
+/// The names of the columns of a spreadsheet's table, and of the columns for key lists.
+pub const COLUMN_NAMES: &str = "day,model,reflector,wheels,rings,plugs,window,groups";
+
+pub const LIST_COLUMN_NAMES: &str = ",list,pins 1,pins 2,pins 3,pins 4,pins 5,pins 6,bars";
+
+/// What ends a cell of a spreadsheet's table; and the cells of key lists in the row of a rotor machine's day.
+pub const COMMA: &str = ",";
+
+pub const NO_LIST: &str = ",,,,,,,,";
+
+/// The cells of a Converter's day before its window: the day, and empty cells. After the window: no groups.
+pub const PIN_DAY: &str = "~,M-209,,,,,";
+
+pub const NO_GROUPS: &str = ",,";

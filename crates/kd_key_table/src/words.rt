@@ -1,0 +1,146 @@
+//! The words of a cell: letters, cables, groups, wheels and rings, with a space between each two.
+ghost use Rattle.std.specs.Prelude.{ℕ, List, flat_map, true, false};
+ghost use Rattle.kd_tables.specs.Text.{letters_text};
+ghost use Rattle.kd_pictures.specs.Drawing.{Draws};
+ghost use Rattle.kd_key_table.specs.Words.{ring_text, spaced, words_text};
+
+use crate::texts::{NOTHING, SPACE};
+use kd_pictures::draw;
+use kd_pictures::template::{draw_letter, draw_ordinal};
+use kd_state::SheetWheel;
+use kd_tables::{Letter, Reading, Sink};
+
+/// What stands in a cell as one word. `Kind` says what of the value is written.
+pub(crate) trait CellWord<Kind> {
+    /// The word.
+    ghost text: { Self → List ℕ };
+
+    fn draw_word<W: Sink>(&self, sink: &mut W)
+        ensures { Draws W.taken W.has_failed sink.old sink.new (text self.now) };
+}
+
+/// All of a value.
+pub(crate) struct Whole;
+
+/// The letter in a wheel's window.
+pub(crate) struct Ground;
+
+/// A wheel's name.
+pub(crate) struct Name;
+
+/// A wheel's ring, by its letter.
+pub(crate) struct RingLetter;
+
+/// A wheel's ring, by its number.
+pub(crate) struct RingNumber;
+
+impl CellWord<Whole> for Letter {
+    ghost use Rattle.kd_pictures.specs.Template.{letter_text};
+
+    ghost text = { letter_text };
+
+    fn draw_word<W: Sink>(&self, sink: &mut W) {
+        draw_letter(sink, *self);
+    }
+}
+
+/// A cable, by the letters of its two plugs.
+impl CellWord<Whole> for (Letter, Letter) {
+    ghost use Rattle.kd_key_table.specs.Words.{pair_text};
+
+    ghost text = { pair_text };
+
+    fn draw_word<W: Sink>(&self, sink: &mut W) {
+        draw_letters(sink, &[self.0, self.1]);
+    }
+}
+
+/// A group of the day.
+impl CellWord<Whole> for [Letter; 3] {
+    ghost use Rattle.kd_key_table.specs.Words.{group_text};
+
+    ghost text = { group_text };
+
+    fn draw_word<W: Sink>(&self, sink: &mut W) {
+        draw_letters(sink, self);
+    }
+}
+
+impl CellWord<Whole> for Reading {
+    ghost use Rattle.kd_tables.specs.Places.{reading_text};
+
+    ghost text = { reading_text };
+
+    fn draw_word<W: Sink>(&self, sink: &mut W) {
+        draw(sink, self.text().as_str());
+    }
+}
+
+impl CellWord<Ground> for SheetWheel {
+    ghost use Rattle.kd_key_table.specs.Words.{ground_text};
+
+    ghost text = { ground_text };
+
+    fn draw_word<W: Sink>(&self, sink: &mut W) {
+        draw_letter(sink, self.letter);
+    }
+}
+
+impl CellWord<Name> for SheetWheel {
+    ghost use Rattle.kd_key_table.specs.Words.{name_text};
+
+    ghost text = { name_text };
+
+    fn draw_word<W: Sink>(&self, sink: &mut W) {
+        draw(sink, self.wheel.text().as_str());
+    }
+}
+
+impl CellWord<RingLetter> for SheetWheel {
+    ghost text = { ring_text false };
+
+    fn draw_word<W: Sink>(&self, sink: &mut W) {
+        draw_letter(sink, self.ring);
+    }
+}
+
+impl CellWord<RingNumber> for SheetWheel {
+    ghost text = { ring_text true };
+
+    fn draw_word<W: Sink>(&self, sink: &mut W) {
+        draw_ordinal(sink, self.ring);
+    }
+}
+
+/// Writes letters without anything between them.
+pub(crate) fn draw_letters<W: Sink>(sink: &mut W, letters: &[Letter])
+    ensures { Draws W.taken W.has_failed sink.old sink.new (letters_text letters.now) }
+{
+    if let [letter, rest @ ..] = letters {
+        draw_letter(sink, *letter);
+        draw_letters(sink, rest);
+    }
+}
+
+/// Writes words, or a hyphen if there are none.
+pub(crate) fn draw_words<Kind, W: Sink, T: CellWord<Kind>>(sink: &mut W, words: &[T])
+    ensures { Draws W.taken W.has_failed sink.old sink.new (words_text T.text words.now) }
+{
+    if let [word, rest @ ..] = words {
+        word.draw_word(sink);
+        draw_spaced(sink, rest);
+    } else {
+        draw(sink, NOTHING);
+    }
+}
+
+/// Writes words, with a space before each.
+fn draw_spaced<Kind, W: Sink, T: CellWord<Kind>>(sink: &mut W, words: &[T])
+    ensures { Draws W.taken W.has_failed sink.old sink.new (flat_map (spaced T.text) words.now) }
+{
+    if let [word, rest @ ..] = words {
+        draw(sink, SPACE);
+        word.draw_word(sink);
+        draw_spaced(sink, rest);
+    }
+}

@@ -1,5 +1,0 @@
-use Rattle.std.proofs.Common.{length}
-use Rattle.kd_page.proofs.test.+draw_fives.Given as goal
-
-abbrev pub decreases-draw_fives : goal.decreases-draw_fives
-decreases-draw_fives g l = length l.letters.now
