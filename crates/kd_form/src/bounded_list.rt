@@ -5,7 +5,7 @@ use arrayvec::ArrayVec;
 use kd_tables::Letter;
 
 /// Appends `item`, if there is room for it.
-pub(crate) fn push_if_room<T: Copy, const N: usize>(items: &mut ArrayVec<T, N>, item: T)
+pub fn push_if_room<T: Copy, const N: usize>(items: &mut ArrayVec<T, N>, item: T)
     ensures { items.new.items ≡ take N (items.old.items ++ item ∷ []) }
 {
     if !items.is_full() {

@@ -13,7 +13,7 @@ use std::marker::Model;
 
 /// A machine set as the day says, whose windows are set anew for each text.
 #[derive(Drop)]
-pub(crate) struct DayMachine<'day> {
+pub struct DayMachine<'day> {
     pub(crate) day: &'day SheetDay,
     /// The engine: set as the day says, with any letters in its windows.
     engine: Engine,
@@ -33,7 +33,7 @@ impl<'day> Model for DayMachine<'day> {
 impl<'day> DayMachine<'day> {
     /// Creates a machine that is set as `day` says.
     #[tactic(auto, using(crate::proofs::MadeParts::new_has_days_key))]
-    pub(crate) fn new(day: &'day SheetDay) -> Self
+    pub fn new(day: &'day SheetDay) -> Self
         ensures { result ≡ day.now }
     {
         DayMachine {
@@ -58,7 +58,7 @@ impl<'day> DayMachine<'day> {
     }
 
     /// Whether `window` has one letter for each slot or each pin wheel, and each letter is on its wheel.
-    pub(crate) fn can_show(&mut self, window: &[Letter]) -> bool
+    pub fn can_show(&mut self, window: &[Letter]) -> bool
         ensures day { self.new ≡ self.old }
         ensures window { IsTrue result ↔ IsWindow (sheet_key self.old) window.now }
     {
@@ -67,7 +67,7 @@ impl<'day> DayMachine<'day> {
 
     /// Enciphers or deciphers `text`. At the start, the machine's windows show the letters of `window`.
     #[tactic(auto, using(crate::proofs::MadeParts::stay_letters))]
-    pub(crate) fn encipher_text<const N: usize>(
+    pub fn encipher_text<const N: usize>(
         &mut self,
         window: &[Letter],
         text: &[Letter],
@@ -86,7 +86,7 @@ impl<'day> DayMachine<'day> {
 }
 
 /// How many slots the day's machine has; `None` for the Converter M-209.
-pub(crate) fn slots_of(day: &SheetDay) -> Option<usize>
+pub fn slots_of(day: &SheetDay) -> Option<usize>
     ensures { MatchOption result
         (IsConverterDay day.now)
         (IsRotorDayWith day.now) }

@@ -4,22 +4,22 @@ use kd_tables::Letter;
 
 /// What the heading line of a part says.
 #[derive(Clone, Copy)]
-pub(crate) struct Heading {
+pub struct Heading {
     /// The part's number, counted from 1.
-    pub(crate) part: u8,
+    pub part: u8,
     /// How many parts the form has.
-    pub(crate) parts: u8,
+    pub parts: u8,
     /// How many letters the body has.
-    pub(crate) letters: usize,
+    pub letters: usize,
     /// The indicator of a rotor machine's part; `None` on the Converter M-209.
-    pub(crate) indicator: Option<Indicator>,
+    pub indicator: Option<Indicator>,
 }
 
 /// What the heading of a rotor machine's part says of the part's keys.
 #[derive(Clone, Copy)]
-pub(crate) struct Indicator {
+pub struct Indicator {
     /// The ground setting: the letters in the windows before the message key is deciphered.
-    pub(crate) ground_setting: PerSlot<Letter>,
+    pub ground_setting: PerSlot<Letter>,
     /// The enciphered message key.
-    pub(crate) enciphered_key: PerSlot<Letter>,
+    pub enciphered_key: PerSlot<Letter>,
 }

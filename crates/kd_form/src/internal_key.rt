@@ -10,7 +10,7 @@ use arrayvec::ArrayVec;
 use kd_tables::{Letter, place_on_wheel};
 
 /// Enciphers the chosen letter of `keys` twelve times, and picks the internal key; `None` if there is none.
-pub(crate) fn internal_key_of(
+pub fn internal_key_of(
     machine: &mut DayMachine,
     keys: &PinKeys,
 ) -> Option<ArrayVec<Letter, 6>>

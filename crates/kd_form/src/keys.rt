@@ -24,11 +24,11 @@ pub(crate) struct RotorKeys {
 
 /// The keys of a part on the Converter M-209.
 #[derive(Clone, Copy)]
-pub(crate) struct PinKeys {
+pub struct PinKeys {
     /// The letter that is enciphered twelve times for the internal key.
-    pub(crate) chosen: Letter,
+    pub chosen: Letter,
     /// The letters in the windows before the chosen letter is enciphered.
-    pub(crate) external: [Letter; 6],
+    pub external: [Letter; 6],
 }
 
 /// A placeholder: an `ArrayVec` of keys needs a value for its unused places.

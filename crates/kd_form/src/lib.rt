@@ -4,18 +4,18 @@
 //! feeds a reader with the bytes of a source, and writes the reader's output to a sink.
 #![tactic(auto)]
 
-mod bounded_list;
-mod day_machine;
+pub mod bounded_list;
+pub mod day_machine;
 mod fault;
-mod heading;
-mod internal_key;
-mod keys;
+pub mod heading;
+pub mod internal_key;
+pub mod keys;
 pub mod laws;
 mod machine_check;
-mod receiving;
+pub mod receiving;
 mod sending;
 mod stream;
-mod text_bytes;
+pub mod text_bytes;
 mod typing;
 
 pub use fault::FormFault;

@@ -10,7 +10,7 @@ ghost use Rattle.kd_form.specs.Streams.{StreamsOnKey, is_device, is_off_key};
 mod body_cipher;
 mod body_reader;
 pub(crate) mod form_reader;
-mod heading_reader;
+pub mod heading_reader;
 mod plaintext;
 
 use super::fault::FormFault;

@@ -7,7 +7,7 @@ use kd_state::SheetDay;
 use kd_tables::Letter;
 
 /// The letter that is enciphered for a space: Z on the Converter M-209, and `None` on a rotor machine.
-pub(crate) fn space_letter(day: &SheetDay) -> Option<Letter>
+pub fn space_letter(day: &SheetDay) -> Option<Letter>
     ensures { result ≡ space_letter day.now }
 {
     match day.list() {
@@ -17,7 +17,7 @@ pub(crate) fn space_letter(day: &SheetDay) -> Option<Letter>
 }
 
 /// The letter that `byte` gives: a capital letter gives itself, a space gives `for_space`, other bytes `None`.
-pub(crate) fn letter_of_byte(for_space: &Option<Letter>, byte: u8) -> Option<Letter>
+pub fn letter_of_byte(for_space: &Option<Letter>, byte: u8) -> Option<Letter>
     ensures { result ≡ letter_of_byte for_space.now byte }
 {
     if byte == b' ' {
@@ -27,7 +27,7 @@ pub(crate) fn letter_of_byte(for_space: &Option<Letter>, byte: u8) -> Option<Let
 }
 
 /// Whether `byte` is allowed in a text: a capital letter, a space, CR or LF.
-pub(crate) fn is_text_byte(byte: u8) -> bool
+pub fn is_text_byte(byte: u8) -> bool
     ensures { result ≡ is_text_byte byte }
 {
     matches!(byte, b'A'..=b'Z' | b' ' | b'\r' | b'\n')

@@ -137,7 +137,7 @@ wheels_again (w ∷ wheels) = ap (λ rest. w ∷ rest) (wheels_again wheels)
 
 -- ---- the tables
 
-abbrev rotor_day_table : RotorDay → Members
+abbrev pub rotor_day_table : RotorDay → Members
 rotor_day_table s =
     member (key_name keys.Day) (integer (pos s.day))
     (member (key_name keys.Groups) (array_of_texts (map letters_text s.groups))
@@ -148,7 +148,7 @@ rotor_day_table s =
     (member (key_name keys.Wheels) (array_of_texts (map slot_text (seats_of_wheels s.wheels)))
     (member (key_name keys.Window) (string (letters_text (map (λ w. w.letter) s.wheels))) no_members)))))))
 
-abbrev pin_day_table : PinDay → Members
+abbrev pub pin_day_table : PinDay → Members
 pin_day_table s =
     member (key_name keys.Day) (integer (pos s.day)) (member (key_name keys.List) (string (letters_text s.list))
     (member (key_name keys.Model) (string (model_text M209))
@@ -156,7 +156,7 @@ pin_day_table s =
     (member (key_name keys.Rows) (array_of_texts (map reading_text s.rows))
     (member (key_name keys.Window) (string (letters_text s.window)) no_members)))))
 
-day_by_model : (number : ℕ) (model : Model) (reflector : Reflector) (table : Members) (day : Day)
+pub day_by_model : (number : ℕ) (model : Model) (reflector : Reflector) (table : Members) (day : Day)
     → list_any (same_reflector reflector) (reflectors_of model) ≡ true
     → rotor_day_in number model table ≡ Ok day → day_in number model table ≡ Ok day
 unfolding day_in
@@ -185,7 +185,7 @@ parts_are s legal part low = record {
   within = All-map (λ letter. letter < 26) _ s.wheels (All-weaker HasWheelLetters _ low s.wheels legal.letters);
 }
 
-rotor_again : (s : RotorDay) → IsLegalRotorDay s → rotor_day_in s.day s.model (rotor_day_table s) ≡ Ok (OfRotors s)
+pub rotor_again : (s : RotorDay) → IsLegalRotorDay s → rotor_day_in s.day s.model (rotor_day_table s) ≡ Ok (OfRotors s)
 unfolding rotor_day_in reflector_in letters_at
 rotor_again s legal =
     let has = (has_reflector-Decides (reflectors_of s.model) s.reflector).1 legal.reflector in
@@ -202,7 +202,7 @@ rows_in_again s legal =
     let is = All-slice_get IsReading s.rows k row legal.rows at in
     grind (arith, le-leb, cases_eq, eq-eqb, is.equal, or-true, ne_eqb)) (eq-eqb _ _ (sym legal.count))
 
-pin_again : (s : PinDay) → IsLegalPinDay s → pin_day_in s.day (pin_day_table s) ≡ Ok (OfPins s)
+pub pin_again : (s : PinDay) → IsLegalPinDay s → pin_day_in s.day (pin_day_table s) ≡ Ok (OfPins s)
 unfolding pin_day_in letters_at
 pin_again s legal = grind (arith, bind-step, rows_in_again, pins_in_again, window_again, capitals_again)
 
@@ -251,7 +251,7 @@ quoted_is text plain = grind (arith, nat_tests, none_of, is_other, escaped_plain
 -- ---- the lines
 
 -- an ASCII byte
-abbrev is_low : ℕ → Bool
+abbrev pub is_low : ℕ → Bool
 is_low byte = nat_lt byte 128
 
 plain_low : (text : List ℕ) → IsPlain text → list_all is_low text ≡ true
@@ -320,7 +320,7 @@ line_of entry = key_line entry.0 entry.2
 abbrev pub expression_of : FileEntry → Expression
 expression_of entry = (([], key_name entry.0), key_value entry.1)
 
-key_bare : (key : Key) → key_text (key_name key) ≡ key_name key
+pub key_bare : (key : Key) → key_text (key_name key) ≡ key_name key
 unfolding key_text
 key_bare key = grind arith
 
@@ -328,14 +328,14 @@ key_low : (key : Key) → list_all is_low (key_name key) ≡ true
 key_low key = grind arith
 
 -- the lines are a TOML text of the entries, which the parser accepts, and their bytes are ASCII
-lines_text : (started : Bool) (entries : List FileEntry) → AllByRecursion IsWritten entries
+pub lines_text : (started : Bool) (entries : List FileEntry) → AllByRecursion IsWritten entries
     → IsLinesText false started (map expression_of entries) (concat (map line_of entries))
     × AllPrinted (map expression_of entries) × (list_all is_low (concat (map line_of entries)) ≡ true)
 lines_text started [] all = (refl, tt, refl)
 lines_text started (entry ∷ entries) all =
     grind (arith, key_bare, append_assoc, list_all-append, key_low, lines_text true entries all.1)
 
-no_mark : (text : List ℕ) → list_all is_low text ≡ true → skip_bom text ≡ text
+pub no_mark : (text : List ℕ) → list_all is_low text ≡ true → skip_bom text ≡ text
 unfolding skip_bom
 no_mark text e = grind (arith, ltb-true, ne_eqb)
 
@@ -359,32 +359,32 @@ file_read entries table all is =
 letter_plain : (letter : ℕ) → letter < 26 → is_plain (letter + 65) ≡ true
 letter_plain letter within = grind (arith, nat_tests)
 
-letters_plain : (letters : List ℕ) → AllByRecursion (λ letter. letter < 26) letters → IsPlain (letters_text letters)
+pub letters_plain : (letters : List ℕ) → AllByRecursion (λ letter. letter < 26) letters → IsPlain (letters_text letters)
 letters_plain [] within = refl
 letters_plain (letter ∷ letters) within = rw (letter_plain letter within.0, letters_plain letters within.1) refl
 
-model_plain : (model : Model) → IsPlain (model_text model)
+pub model_plain : (model : Model) → IsPlain (model_text model)
 model_plain model = grind arith
 
-reflector_plain : (reflector : Reflector) → IsPlain (reflector_text reflector)
+pub reflector_plain : (reflector : Reflector) → IsPlain (reflector_text reflector)
 reflector_plain reflector = grind arith
 
-slots_plain : (slots : List (Option Wheel)) → AllByRecursion IsPlain (map slot_text slots)
+pub slots_plain : (slots : List (Option Wheel)) → AllByRecursion IsPlain (map slot_text slots)
 slots_plain [] = tt
 slots_plain (slot ∷ slots) = grind (arith, slots_plain slots)
 
-cables_plain : (cables : List (Option ℕ × Option ℕ)) → AllByRecursion (λ letter. letter < 26) (letters_in_cables cables)
+pub cables_plain : (cables : List (Option ℕ × Option ℕ)) → AllByRecursion (λ letter. letter < 26) (letters_in_cables cables)
     → AllByRecursion IsPlain (map cable_text cables)
 cables_plain [] within = tt
 cables_plain (cable ∷ cables) within = grind (arith, AllByRecursion-parts, letters_plain, cables_plain cables)
 
-pins_plain : (ring : List ℕ) (pins : List Bool) → AllByRecursion (λ letter. letter < 26) ring
+pub pins_plain : (ring : List ℕ) (pins : List Bool) → AllByRecursion (λ letter. letter < 26) ring
     → IsPlain (pins_text ring pins)
 pins_plain [] pins within = refl
 pins_plain (letter ∷ ring) [] within = refl
 pins_plain (letter ∷ ring) (pin ∷ pins) within = grind (arith, letter_plain, pins_plain ring pins within.1)
 
-bars_plain : (bars : List (Place × Place)) → AllByRecursion IsPlain (map standing_text bars)
+pub bars_plain : (bars : List (Place × Place)) → AllByRecursion IsPlain (map standing_text bars)
 bars_plain [] = tt
 bars_plain (bar ∷ bars) = grind (arith, list_all-append, bars_plain bars)
 
@@ -393,7 +393,7 @@ bars_plain (bar ∷ bars) = grind (arith, list_all-append, bars_plain bars)
 abbrev version_entry : Model → FileEntry
 version_entry model = (keys.Version, integer (pos (file_version model)), digit_text (file_version model))
 
-version_written : (model : Model) → IsWritten (version_entry model)
+pub version_written : (model : Model) → IsWritten (version_entry model)
 unfolding digits
 version_written model = grind arith
 

@@ -1,6 +1,6 @@
 -- The laws of machine files and key sheets: a written machine is read back, and a day is legal exactly if some entry of
 -- a key sheet describes it.
-use Rattle.std.specs.Prelude.{◌≡◌, ◌↔◌, ℕ, List, [], Contains, Some, Ok}
+use Rattle.std.specs.Prelude.{◌≡◌, ◌↔◌, ℕ, List, [], ◌∷◌, Contains, Some, Ok}
 use Rattle.toml.specs.Data.{Data}
 use Rattle.kd_state.specs.declared.machine.parts.Parts.{Parts}
 use Rattle.kd_state.specs.Machine.{IsLegal, IsMachine, with_cables_in_order}
@@ -9,7 +9,8 @@ use Rattle.kd_sheet.specs.Document.{read_items}
 use Rattle.kd_sheet.specs.MachineFile.{machine_of}
 use Rattle.kd_sheet.specs.MachineText.{machine_text}
 use Rattle.kd_sheet.specs.Sheet.{day_of, month_of}
-use Rattle.kd_sheet.specs.SheetFile.{day_for}
+use Rattle.kd_sheet.specs.SheetFile.{day_for, sheet_of}
+use Rattle.kd_sheet.specs.SheetText.{AreSheetDays, sheet_text}
 
 -- The file written for legal parts is read as the same parts, with each cable's letters in alphabetical order.
 abbrev pub LegalPartsAreReadBack : Type 0
@@ -18,6 +19,11 @@ LegalPartsAreReadBack = (m : Parts) → IsLegal m → machine_of (machine_text m
 -- The file written for a machine is read as the same machine.
 abbrev pub WrittenFilesAreReadBack : Type 0
 WrittenFilesAreReadBack = (m : Parts) → IsMachine m → machine_of (machine_text m) ≡ Ok m
+
+-- The sheet written for legal days, at least one and each with its own number, is read as exactly these days.
+abbrev pub WrittenSheetsAreReadBack : Type 0
+WrittenSheetsAreReadBack = (day : Day) (days : List Day) → AreSheetDays [] (day ∷ days)
+    → sheet_of (sheet_text (day ∷ days)) ≡ Ok (month_of (day ∷ days))
 
 -- A day is legal exactly if the first entry of a key sheet can describe this day.
 abbrev pub LegalDaysAreDescribed : Type 0

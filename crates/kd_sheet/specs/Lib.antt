@@ -12,4 +12,6 @@ pub mod MachineFile
 pub mod Sheet
 pub mod SheetFile
 pub mod MachineText
+pub mod SheetText
+pub mod EmptySheet
 pub mod Laws

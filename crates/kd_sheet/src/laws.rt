@@ -1,5 +1,5 @@
 //! Laws of machine files, key sheets and their days.
-ghost use Rattle.kd_sheet.specs.Laws.{LegalPartsAreReadBack, WrittenFilesAreReadBack};
+ghost use Rattle.kd_sheet.specs.Laws.{LegalPartsAreReadBack, WrittenFilesAreReadBack, WrittenSheetsAreReadBack};
 ghost use Rattle.kd_sheet.specs.Laws.{LegalDaysAreDescribed, DaysAreTheEntries};
 
 /// The file written for a machine is read as the same machine.
@@ -9,6 +9,12 @@ ghost use Rattle.kd_sheet.specs.Laws.{LegalDaysAreDescribed, DaysAreTheEntries};
 pub fn written_files_are_read_back()
     ensures machines { WrittenFilesAreReadBack }
     ensures parts { LegalPartsAreReadBack }
+{}
+
+/// The sheet written for legal days, at least one and each with its own number, is read as exactly these days.
+#[tactic(auto, using(crate::proofs::Days::sheet_again))]
+pub fn written_sheets_are_read_back()
+    ensures { WrittenSheetsAreReadBack }
 {}
 
 /// A day is legal exactly if an entry of a key sheet can describe this day.

@@ -161,7 +161,7 @@ pub(crate) fn heading_of_open_line(day: &SheetDay, line: &[u8]) -> Option<Headin
 /// The heading of a part whose heading line has ended in LF, or in CR and LF.
 ///
 /// `line` is the heading line without the LF, or its first 64 bytes if it is longer.
-pub(crate) fn heading_of_ended_line(day: &SheetDay, line: &[u8]) -> Option<Heading>
+pub fn heading_of_ended_line(day: &SheetDay, line: &[u8]) -> Option<Heading>
     ensures { (part : List ℕ) → IsWithout 10 part → line.now ≡ take 64 part
         → IsEndedHeading day.now part result }
 {

@@ -51,7 +51,7 @@ fn index_of_byte(letters: &[Letter], byte: u8) -> Option<usize>
 }
 
 /// Reads the effective pins of one wheel from a text of their letters; no letter may come twice.
-fn pins_of_text<const N: usize>(ring: &Ring<N>, text: &[u8]) -> Option<[bool; N]>
+pub fn pins_of_text<const N: usize>(ring: &Ring<N>, text: &[u8]) -> Option<[bool; N]>
     ensures { result ≡ pins_of_text ring.now text.now }
 {
     let letters = ring.letters();

@@ -17,15 +17,22 @@ fn digit_value(byte: u8) -> Option<u8>
     byte.checked_sub(b'0').filter(|digit| *digit <= 6)
 }
 
-/// Reads `item` as a bar's reading: two different digits from 0 to 6, in either order, with `-` between; or `0-0`.
+/// Reads a bar's reading: two different digits from 0 to 6, in either order, with `-` between; or `0-0`.
 #[tactic(auto, unfolding(crate::specs::Bars::reading_of_text))]
-fn reading_of_item(item: &Value) -> Option<Reading>
-    ensures { result ≡ from_text reading_of_text (view item.now) }
+pub fn reading_of_text(text: &[u8]) -> Option<Reading>
+    ensures { result ≡ reading_of_text text.now }
 {
-    match item.as_str()?.as_bytes() {
+    match text {
         [one, b'-', other] => Reading::new(digit_value(*one)?, digit_value(*other)?),
         _ => None,
     }
+}
+
+/// Reads `item` as a bar's reading.
+fn reading_of_item(item: &Value) -> Option<Reading>
+    ensures { result ≡ from_text reading_of_text (view item.now) }
+{
+    reading_of_text(item.as_str()?.as_bytes())
 }
 
 /// Reads an item as a row: the reading asked of a bar. A fault has the row's number, counted from 1.

@@ -1,0 +1,11 @@
+pub mod Ciphers
+pub mod Bytes
+pub mod KeyLetters
+pub mod Completions
+pub mod PinText
+pub mod Parts
+pub mod PartShown
+pub mod KnownLetters
+pub mod WholeParts
+pub mod Forms
+pub mod WholeForms

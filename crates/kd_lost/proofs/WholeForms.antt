@@ -1,0 +1,185 @@
+-- A form that `receive` reads is cut into its parts, and shown whole.
+use Rattle.std.proofs.Common.{All, ◌≡◌, ◌≢◌, ◌∙◌, ◌⊎◌, inl, inr, ℕ, ◌≤◌, ◌==◌, ◌&&◌, ◌||◌, nat_le, IsTrue}
+use Rattle.std.proofs.Common.{List, [], ◌∷◌, ◌++◌, length, map, take, refl, sym, ap, subst, arith, Bool, true, false}
+use Rattle.std.proofs.Common.{Some, Ok, codes, get_or, if◌then◌else◌}
+use Rattle.std.proofs.lemmas.Bool.{Decides.nat_tests, cases_Bool, cases_eq, false≢true}
+use Rattle.std.proofs.lemmas.List.Elements.{All-cons, All-head, All-nil, All-tail}
+use Rattle.kd_tables.specs.Text.{is_text_byte}
+use Rattle.kd_state.specs.LineWords.{IsWithout}
+use Rattle.kd_state.specs.SheetDay.{Day}
+use Rattle.kd_form.specs.FormParts.{BeginsHeading, begins_heading, cut_at_headings, parts_of}
+use Rattle.kd_form.specs.FormText.{IsAnswerAt, ReadsPartsTo, first_part_start, next_part_start, plaintext_bytes}
+use Rattle.kd_form.specs.PartReading.{PartStart}
+use Rattle.kd_form.specs.Sending.{space_letter}
+use Rattle.kd_form.proofs.Headings.{BeginsHeading-bytes, at_cut, heading_size, no_cut}
+use Rattle.kd_lost.specs.declared.{part.DamagedPart.{DamagedPart}}
+use Rattle.kd_lost.specs.DamagedForm.{AreReadOf, cut_at_digits, ends_part, has_digit_line, shown_byte}
+use Rattle.kd_lost.specs.DamagedForm.{letters_in, shown_letters}
+use Rattle.kd_lost.specs.Laws.{FormsReadAreShownWhole, FormsReadHaveTheirParts, IsReadWell}
+use Rattle.kd_lost.proofs.Forms.{an_end, no_end}
+use Rattle.kd_lost.proofs.WholeParts.{shown_whole, whole_part}
+
+-- -------- lines without digits
+
+-- behind its first line, the part has no line with a digit
+abbrev pub IsQuiet : List ℕ → Type 0
+IsQuiet [] = Unit {0}
+IsQuiet (byte ∷ bytes) = (byte ≡ 10 → has_digit_line bytes ≡ false) × IsQuiet bytes
+
+abbrev pub AreQuiet : List (List ℕ) → Type 0
+AreQuiet [] = Unit {0}
+AreQuiet (part ∷ parts) = IsQuiet part × AreQuiet parts
+
+no_digit : (byte : ℕ) (rest : Bool) → IsTrue (is_text_byte byte) → rest ≡ false
+    → (if byte == 10 then false else (nat_le 48 byte && nat_le byte 57) || rest) ≡ false
+no_digit byte rest allowed none = grind (arith, nat_tests, cases_Bool, allowed, none)
+
+no_digits : (body : List ℕ) → All (λ byte. IsTrue (is_text_byte byte)) body → has_digit_line body ≡ false
+no_digits [] allowed = refl
+no_digits (byte ∷ body) allowed =
+    no_digit byte (has_digit_line body) (All-head (λ byte. IsTrue (is_text_byte byte)) byte body allowed)
+    (no_digits body (All-tail (λ byte. IsTrue (is_text_byte byte)) byte body allowed))
+
+quiet_body : (body : List ℕ) → All (λ byte. IsTrue (is_text_byte byte)) body → IsQuiet body
+quiet_body [] allowed = tt
+quiet_body (byte ∷ body) allowed =
+    let rest = All-tail (λ byte. IsTrue (is_text_byte byte)) byte body allowed in
+    ((λ _. no_digits body rest), quiet_body body rest)
+
+quiet_line : (line rest : List ℕ) → IsWithout 10 line → IsQuiet rest → IsQuiet (line ++ rest)
+quiet_line [] rest without quiet = quiet
+quiet_line (byte ∷ line) rest without quiet = (
+  (λ is. absurd (All-head (λ other. other ≢ 10) byte line without is)),
+  quiet_line line rest (All-tail (λ other. other ≢ 10) byte line without) quiet,
+)
+
+module _ (s : Day) where
+  quiet_parts : (p : PartStart) (parts : List (List ℕ)) (letters : List ℕ)
+      → ReadsPartsTo s (IsAnswerAt s (Ok tt)) p parts letters → AreQuiet parts
+  quiet_parts p [] letters read = tt
+  quiet_parts p (part ∷ parts) letters (inl (fault, none)) = let off = fault.2 in absurd (cc)
+  quiet_parts p (part ∷ parts) letters (inr (read, more, is, rest, joined)) =
+      let w = whole_part s p part read is in (
+        subst IsQuiet (sym w.first.joined)
+            (quiet_line w.line (10 ∷ w.body) w.first.without ((λ _. no_digits w.body w.allowed),
+            quiet_body w.body w.allowed)),
+        quiet_parts (next_part_start p read.parts part) parts more rest,
+      )
+
+-- -------- both cuts
+
+cut_or_not : (byte : ℕ) (bytes : List ℕ) → ((byte ≡ 10) × BeginsHeading bytes) ⊎ ((byte ≡ 10) → ¬ (BeginsHeading bytes))
+cut_or_not byte bytes = grind (arith, cases_eq byte 10, cases_Bool (begins_heading bytes), false≢true)
+
+digit_behind : (byte : ℕ) (rest : Bool) → 32 ≤ byte → rest ≡ true
+    → (if byte == 10 then false else (nat_le 48 byte && nat_le byte 57) || rest) ≡ true
+digit_behind byte rest high some = grind (arith, nat_tests, cases_Bool, high, some)
+
+digit_here : (byte : ℕ) (rest : Bool) → 48 ≤ byte → byte ≤ 57
+    → (if byte == 10 then false else (nat_le 48 byte && nat_le byte 57) || rest) ≡ true
+digit_here byte rest low high = grind (arith, nat_tests, low, high)
+
+heading_digit : (bytes : List ℕ) → 6 ≤ length bytes → take 5 bytes ≡ codes "PART " → 48 ≤ get_or bytes 5 0
+    → get_or bytes 5 0 ≤ 57 → has_digit_line bytes ≡ true
+heading_digit (a ∷ b ∷ c ∷ d ∷ e ∷ f ∷ bytes) long front low high =
+    let one : a ≡ 80 = ap (λ l. get_or l 0 0) front in
+    let two : b ≡ 65 = ap (λ l. get_or l 1 0) front in
+    let three : c ≡ 82 = ap (λ l. get_or l 2 0) front in
+    let four : d ≡ 84 = ap (λ l. get_or l 3 0) front in
+    let five : e ≡ 32 = ap (λ l. get_or l 4 0) front in
+    digit_behind a _ (omega (arith, one)) (digit_behind b _ (omega (arith, two)) (digit_behind c _ (omega
+        (arith, three))
+    (digit_behind d _ (omega (arith, four)) (digit_behind e _ (omega (arith, five))
+    (digit_here f (has_digit_line bytes) low high)))))
+heading_digit [] long front low high = absurd (omega (arith, long))
+heading_digit (a ∷ []) long front low high = absurd (omega (arith, long))
+heading_digit (a ∷ b ∷ []) long front low high = absurd (omega (arith, long))
+heading_digit (a ∷ b ∷ c ∷ []) long front low high = absurd (omega (arith, long))
+heading_digit (a ∷ b ∷ c ∷ d ∷ []) long front low high = absurd (omega (arith, long))
+heading_digit (a ∷ b ∷ c ∷ d ∷ e ∷ []) long front low high = absurd (omega (arith, long))
+
+begins_with_digit : (bytes : List ℕ) → BeginsHeading bytes → has_digit_line bytes ≡ true
+begins_with_digit bytes begun =
+    let told = BeginsHeading-bytes bytes begun in
+    heading_digit bytes (heading_size bytes begun) told.0 told.1 told.2
+
+same_line_from : (byte : ℕ) (bytes : List ℕ)
+    → ((byte ≡ 10) × BeginsHeading bytes) ⊎ ((byte ≡ 10) → ¬ (BeginsHeading bytes))
+    → has_digit_line (cut_at_headings bytes).0 ≡ has_digit_line bytes
+    → has_digit_line (cut_at_headings (byte ∷ bytes)).0 ≡ has_digit_line (byte ∷ bytes)
+same_line_from byte bytes (inl (is, begun)) same =
+    subst (λ b. has_digit_line (cut_at_headings (b ∷ bytes)).0 ≡ has_digit_line (b ∷ bytes)) (sym is)
+    (ap (λ c. has_digit_line c.0) (at_cut bytes begun))
+same_line_from byte bytes (inr not) same =
+    ap (λ c. has_digit_line c.0) (no_cut byte bytes not)
+    ∙ ap (λ h. if byte == 10 then false else (nat_le 48 byte && nat_le byte 57) || h) same
+
+-- the first line of the first part is the form's
+same_line : (bytes : List ℕ) → has_digit_line (cut_at_headings bytes).0 ≡ has_digit_line bytes
+same_line [] = refl
+same_line (byte ∷ bytes) = same_line_from byte bytes (cut_or_not byte bytes) (same_line bytes)
+
+not_ended : (byte : ℕ) (bytes : List ℕ) → (byte ≡ 10 → has_digit_line bytes ≡ false) → ends_part byte bytes ≡ false
+not_ended byte bytes off = grind (arith, nat_tests, cases_eq byte 10, off)
+
+same_cut_from : (byte : ℕ) (bytes : List ℕ)
+    → ((byte ≡ 10) × BeginsHeading bytes) ⊎ ((byte ≡ 10) → ¬ (BeginsHeading bytes)) → AreQuiet (parts_of (byte ∷ bytes))
+    → (AreQuiet (parts_of bytes) → cut_at_digits bytes ≡ cut_at_headings bytes)
+    → cut_at_digits (byte ∷ bytes) ≡ cut_at_headings (byte ∷ bytes)
+same_cut_from byte bytes (inl (is, begun)) quiet same =
+    let cut = ap (λ b. cut_at_headings (b ∷ bytes)) is ∙ at_cut bytes begun in
+    let ends : ends_part 10 bytes ≡ true = begins_with_digit bytes begun in
+    let rest = subst (λ (c : List ℕ × List (List ℕ)). AreQuiet (c.0 ∷ c.1)) cut quiet in
+    ap (λ b. cut_at_digits (b ∷ bytes)) is ∙ an_end 10 bytes ends
+    ∙ ap (λ (c : List ℕ × List (List ℕ)). (10 ∷ [], c.0 ∷ c.1)) (same rest.1) ∙ sym cut
+same_cut_from byte bytes (inr not) quiet same =
+    let cut = no_cut byte bytes not in
+    let rest = subst (λ (c : List ℕ × List (List ℕ)). AreQuiet (c.0 ∷ c.1)) cut quiet in
+    let off : byte ≡ 10 → has_digit_line bytes ≡ false = λ is. sym (same_line bytes) ∙ rest.0.0 is in
+    no_end byte bytes (not_ended byte bytes off)
+    ∙ ap (λ (c : List ℕ × List (List ℕ)). (byte ∷ c.0, c.1)) (same (rest.0.1, rest.1)) ∙ sym cut
+
+same_cut : (form : List ℕ) → AreQuiet (parts_of form) → cut_at_digits form ≡ cut_at_headings form
+same_cut [] quiet = refl
+same_cut (byte ∷ bytes) quiet = same_cut_from byte bytes (cut_or_not byte bytes) quiet (same_cut bytes)
+
+pub same_parts : FormsReadHaveTheirParts
+same_parts s form text (parts, (letters, read, is), joined) =
+    ap (λ (c : List ℕ × List (List ℕ)). c.0 ∷ c.1)
+    (same_cut form (quiet_parts s first_part_start (parts_of form) letters read))
+
+-- -------- the texts
+
+shown_known : (s : Day) (letters : List ℕ) → map (shown_byte (space_letter s)) (map Some letters) ≡ plaintext_bytes s letters
+shown_known s [] = refl
+shown_known s (letter ∷ letters) = ap (λ l. shown_byte (space_letter s) (Some letter) ∷ l) (shown_known s letters)
+
+known_joined : (one other : List ℕ) → map Some (one ++ other) ≡ map Some one ++ map Some other
+known_joined [] other = refl
+known_joined (letter ∷ one) other = ap (λ l. Some letter ∷ l) (known_joined one other)
+
+module _ (s : Day) where
+  parts_shown : (p : PartStart) (parts : List (List ℕ)) (letters : List ℕ) (reads : List DamagedPart)
+      → ReadsPartsTo s (IsAnswerAt s (Ok tt)) p parts letters → AreReadOf s parts reads
+      → All IsReadWell reads × (shown_letters reads ≡ map Some letters)
+  parts_shown p [] letters [] read are = (All-nil IsReadWell, sym (ap (map Some) read.1))
+  parts_shown p [] letters (one ∷ reads) read are = absurd are
+  parts_shown p (part ∷ parts) letters [] read are = absurd are
+  parts_shown p (part ∷ parts) letters (one ∷ reads) (inl (fault, none)) are = let off = fault.2 in absurd (cc)
+  parts_shown p (part ∷ parts) letters (one ∷ reads) (inr (read, more, is, rest, joined)) are =
+      let (shown, told, whole) = shown_whole s p part read one.text is are.0.text in
+      let others = parts_shown (next_part_start p read.parts part) parts more reads rest are.1 in (
+        All-cons IsReadWell one reads (shown, told, whole.group, whole.copies) others.0,
+        ap (λ t. letters_in t ++ shown_letters reads) told ∙ ap (λ l. l ++ shown_letters reads) whole.letters
+            ∙ ap (λ l. map Some read.letters ++ l) others.1 ∙ sym (known_joined read.letters more)
+            ∙ ap (map Some) (sym joined),
+      )
+
+pub forms_shown : FormsReadAreShownWhole
+forms_shown s form text reads is are =
+    let (parts, (letters, read, made), joined) = is in
+    let shown = parts_shown s first_part_start (parts_of form) letters reads read
+    (subst (λ l. AreReadOf s l reads) (same_parts s form text is) are) in (
+      shown.0,
+      joined ∙ ap (λ l. l ++ 10 ∷ []) (made ∙ sym (shown_known s letters) ∙ ap (map (shown_byte (space_letter s))) (sym shown.1)),
+    )

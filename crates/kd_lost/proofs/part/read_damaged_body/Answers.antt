@@ -1,0 +1,52 @@
+use Rattle.std.proofs.Common.{◌≡◌, ◌∙◌, length, sym, ap, arith, refl, None, subst}
+use Rattle.std.proofs.lemmas.Bool.{false≢true}
+use Rattle.std.proofs.lemmas.List.{length-take, take_all}
+use Rattle.kd_state.specs.AnswerRules.{GoesOn, HasFault}
+use Rattle.kd_form.proofs.Headings.{at_most}
+use Rattle.kd_lost.specs.Lost.{received_letters}
+use Rattle.kd_lost.specs.DamagedText.{IsDamagedLettersAnswer}
+use Rattle.kd_lost.proofs.part.read_damaged_body.Goals as goal
+
+pub returns-then-not-are_body_bytes : goal.returns-then-not-are_body_bytes
+returns-then-not-are_body_bytes c = HasFault _ (
+  (λ _ all. false≢true (sym c.if-not-are_body_bytes.true ∙ c.are_body_bytes.ensures.1 all)),
+  refl,
+) refl
+
+pub returns-then-len-heading : goal.returns-then-len-heading
+returns-then-len-heading c =
+    let received = received_letters c.args.body.now in
+    let few = at_most _ c.args.heading.now.letters c.requires.letters in
+    GoesOn tt (c.are_body_bytes.ensures.0 c.if-not-are_body_bytes.false) (HasFault _ (
+      (λ _ counted. c.if-len-heading.true
+          (omega (arith, ap length c.received_letters-letters.ensures, length-take 525 received, counted, few,
+          c.len.ensures.value))),
+      refl,
+    ) refl)
+
+pub returns-in-Some : goal.returns-in-Some
+returns-in-Some c =
+    let received = received_letters c.args.body.now in
+    let few = at_most _ c.args.heading.now.letters c.requires.letters in
+    let size = ap length c.received_letters-letters.ensures ∙ length-take 525 received in
+    let all : c.received_letters-letters.result.items ≡ received =
+    c.received_letters-letters.ensures ∙ take_all 525 received
+    (omega (arith, size, few, c.len.ensures.value, c.if-len-heading.false)) in
+    let counted : length received ≡ c.args.heading.now.letters =
+    omega (arith, ap length all, c.len.ensures.value, c.if-len-heading.false) in
+    let read = rw (c.as_slice.ensures.value ∙ all) at c.decipher_rotor.ensures in
+    GoesOn tt (c.are_body_bytes.ensures.0 c.if-not-are_body_bytes.false) (GoesOn tt counted (rw c.in-Some.is read))
+
+pub returns-in-None : goal.returns-in-None
+returns-in-None c =
+    let received = received_letters c.args.body.now in
+    let few = at_most _ c.args.heading.now.letters c.requires.letters in
+    let size = ap length c.received_letters-letters.ensures ∙ length-take 525 received in
+    let all : c.received_letters-letters.result.items ≡ received =
+    c.received_letters-letters.ensures ∙ take_all 525 received
+    (omega (arith, size, few, c.len.ensures.value, c.if-len-heading.false)) in
+    let counted : length received ≡ c.args.heading.now.letters =
+    omega (arith, ap length all, c.len.ensures.value, c.if-len-heading.false) in
+    let read = subst (λ l. IsDamagedLettersAnswer c.args.day.now None l c.decipher_pin.result)
+    (c.as_slice-in-None.ensures.value ∙ all) c.decipher_pin.ensures in
+    GoesOn tt (c.are_body_bytes.ensures.0 c.if-not-are_body_bytes.false) (GoesOn tt counted (rw c.in-None.is read))

@@ -1,0 +1,43 @@
+use Rattle.std.proofs.Common.{◌∙◌, [], map, refl}
+use Rattle.kd_state.specs.AnswerRules.{GoesOn, HasFault}
+use Rattle.kd_lost.specs.DamagedPart.{filled_byte}
+use Rattle.kd_form.proofs.Headings.{ended_heading}
+use Rattle.kd_lost.proofs.Parts.{unbroken_filled}
+use Rattle.kd_lost.proofs.part.read_lines.Goals as goal
+
+pub returns-in_default-clause-numbers : goal.returns-in_default-clause-numbers
+returns-in_default-clause-numbers c =
+    let filled = map filled_byte c.args.line.now in
+    let unbroken = unbroken_filled c.args.line.now c.requires in
+    let none = c.in_default.ensures filled unbroken (c.as_slice.ensures.value ∙ c.filled_line.ensures) in
+    λ h there. none h [] (ended_heading c.args.day.now filled [] h unbroken there.is_heading there.text)
+
+pub returns-in_default-clause-text : goal.returns-in_default-clause-text
+returns-in_default-clause-text c =
+    let filled = map filled_byte c.args.line.now in
+    let unbroken = unbroken_filled c.args.line.now c.requires in
+    let none = c.in_default.ensures filled unbroken (c.as_slice.ensures.value ∙ c.filled_line.ensures) in
+    HasFault _ (
+      (λ h there.
+          none h [] (ended_heading c.args.day.now filled [] h unbroken there.is_heading there.text)),
+      refl,
+    ) refl
+
+pub read_body_after-requires : goal.read_body_after-requires
+read_body_after-requires c =
+    (c.in-Some.ensures (map filled_byte c.args.line.now) (unbroken_filled c.args.line.now c.requires)
+    (c.as_slice.ensures.value ∙ c.filled_line.ensures)).0
+
+pub returns-clause-numbers : goal.returns-clause-numbers
+returns-clause-numbers c =
+    let found =
+    c.in-Some.ensures (map filled_byte c.args.line.now) (unbroken_filled c.args.line.now c.requires)
+    (c.as_slice.ensures.value ∙ c.filled_line.ensures) in
+    (c.in-Some.heading, record { is_heading = found.0; text = found.1 }, c.numbers_of.ensures)
+
+pub returns-clause-text : goal.returns-clause-text
+returns-clause-text c =
+    let found =
+    c.in-Some.ensures (map filled_byte c.args.line.now) (unbroken_filled c.args.line.now c.requires)
+    (c.as_slice.ensures.value ∙ c.filled_line.ensures) in
+    GoesOn c.in-Some.heading (record { is_heading = found.0; text = found.1 }) c.read_body_after.ensures

@@ -1,0 +1,42 @@
+-- The copies of a Converter's key letters: the chosen letter stands four times in a part, each external letter twice.
+-- Test: copies_are_used
+use Rattle.std.specs.Prelude.{ℕ, ◌+◌, List, [], ◌∷◌, drop, All, Contains, Option, Some, None}
+use Rattle.std.specs.Prelude.{slice_index_or}
+use Rattle.kd_state.specs.AnswerRules.{AnswerRule, ◌>>=◌, Yields, Finds, Demands}
+use Rattle.kd_form.specs.declared.keys.PinKeys.{PinKeys}
+use Rattle.kd_lost.specs.declared.damage.PartDamage.{PartDamage}
+use Rattle.kd_lost.specs.declared.damage.PartDamage.TheVariants.{CopiesDiffer, KeyLetterLost}
+use Rattle.kd_lost.specs.Lost.{IsLetterFor}
+
+-- All copies of a letter that were received are equal: some letter is each of them.
+abbrev pub HaveOneLetter : List (Option ℕ) → Type 0
+HaveOneLetter copies = (letter : ℕ) × All (λ got. IsLetterFor got letter) copies
+
+-- The answer for one key letter, whose number is `number`: the letter that its copies have.
+abbrev pub IsKeyLetterAnswer : ℕ → List (Option ℕ) → AnswerRule PartDamage ℕ
+IsKeyLetterAnswer number copies = do
+  _ ← Demands (HaveOneLetter copies) (CopiesDiffer number)
+  Finds (λ letter. Contains copies (Some letter)) (KeyLetterLost number)
+
+-- The answer for key letters that stand once in each of two copies. The first has the number `number`.
+abbrev pub AreKeyLettersAnswer : ℕ → List (Option ℕ) → List (Option ℕ) → AnswerRule PartDamage (List ℕ)
+AreKeyLettersAnswer number (one ∷ start) (other ∷ end) = do
+  letter ← IsKeyLetterAnswer number (one ∷ other ∷ [])
+  letters ← AreKeyLettersAnswer (number + 1) start end
+  Yields (letter ∷ letters)
+AreKeyLettersAnswer number [] end = Yields []
+AreKeyLettersAnswer number (one ∷ start) [] = Yields []
+
+-- the copies of the chosen letter: the first two letters of both copies of the keys
+abbrev pub chosen_copies : List (Option ℕ) → List (Option ℕ) → List (Option ℕ)
+chosen_copies start end =
+    slice_index_or start 0 None ∷ slice_index_or start 1 None ∷ slice_index_or end 0 None ∷ slice_index_or end 1 None
+    ∷ []
+
+-- The answer for the keys before and after the text: the chosen letter, which has number 0, then the external letters,
+-- which have the numbers of their wheels.
+abbrev pub IsKeysAnswer : List (Option ℕ) → List (Option ℕ) → AnswerRule PartDamage PinKeys
+IsKeysAnswer start end = do
+  chosen ← IsKeyLetterAnswer 0 (chosen_copies start end)
+  external ← AreKeyLettersAnswer 1 (drop 2 start) (drop 2 end)
+  Yields (record { chosen = chosen; external = external })

@@ -1,0 +1,94 @@
+-- How a damaged form is cut into parts, and what is read of all of them. A part begins at each line with a digit: no
+-- other line than a heading has one, and a damaged heading still has some of its digits.
+-- Code: the form is cut part by part.
+-- Test: damaged_forms_are_read
+use Rattle.std.specs.Prelude.{◌≡◌, ℕ, ◌<◌, ◌==◌, ◌&&◌, ◌||◌, nat_le, Bool, false, if◌then◌else◌, List, [], ◌∷◌}
+use Rattle.std.specs.Prelude.{length, Any, IfOk, Option, None, Some, Result, Ok, Err}
+use Rattle.std.specs.List.{flat_map}
+use Rattle.kd_form.specs.FormText.{plaintext_byte}
+use Rattle.kd_lost.specs.declared.damage.PartDamage.{PartDamage}
+use Rattle.kd_lost.specs.declared.damaged_text.DamagedText.{DamagedText}
+use Rattle.kd_state.specs.SheetDay.{Day}
+use Rattle.kd_lost.specs.declared.form.DamagedFormFault.{DamagedFormFault}
+use Rattle.kd_lost.specs.declared.form.DamagedFormFault.TheVariants as faults
+use Rattle.kd_lost.specs.declared.order.OrderNote.{OrderNote}
+use Rattle.kd_lost.specs.declared.order.OrderNote.TheVariants as notes
+use Rattle.kd_lost.specs.declared.part.{DamagedPart.{DamagedPart}, PartNumbers.{PartNumbers}}
+use Rattle.kd_lost.specs.DamagedPart.{AreNumbersRead, IsDamagedTextAnswer, IsPartShown, first_line}
+
+-- ---- The parts of a form.
+
+-- whether the first line of `bytes` has a digit
+abbrev pub has_digit_line : List ℕ → Bool
+has_digit_line [] = false
+has_digit_line (byte ∷ bytes) =
+    if byte == 10 then false else (nat_le 48 byte && nat_le byte 57) || has_digit_line bytes
+
+-- whether a part ends with `byte`, before `bytes`: at each LF before a line with a digit
+abbrev pub ends_part : ℕ → List ℕ → Bool
+ends_part byte bytes = byte == 10 && has_digit_line bytes
+
+-- The first part of a damaged form, and the list of its other parts.
+abbrev pub cut_at_digits : List ℕ → List ℕ × List (List ℕ)
+cut_at_digits [] = ([], [])
+cut_at_digits (byte ∷ bytes) =
+    if ends_part byte bytes then (byte ∷ [], (cut_at_digits bytes).0 ∷ (cut_at_digits bytes).1)
+    else (byte ∷ (cut_at_digits bytes).0, (cut_at_digits bytes).1)
+
+-- all parts of a damaged form
+abbrev pub damaged_parts_of : List ℕ → List (List ℕ)
+damaged_parts_of form = (cut_at_digits form).0 ∷ (cut_at_digits form).1
+
+-- ---- What is read of them.
+
+-- `read` is what `read_damaged_part` reads of `part`.
+pub record IsReadOf (s : Day) (part : List ℕ) (read : DamagedPart) : Type 0 where
+  pub numbers : AreNumbersRead s (first_line part) read.numbers
+  pub text : IsDamagedTextAnswer s part read.text
+  pub shown : IfOk read.text (IsPartShown s part)
+
+-- Each part is read by itself.
+abbrev pub AreReadOf : Day → List (List ℕ) → List DamagedPart → Type 0
+AreReadOf s [] [] = Unit {0}
+AreReadOf s (part ∷ parts) (read ∷ reads) = IsReadOf s part read × AreReadOf s parts reads
+AreReadOf s [] (read ∷ reads) = ⊥
+AreReadOf s (part ∷ parts) [] = ⊥
+
+-- the letters of a text that are shown; none, if the text isn't read
+abbrev pub letters_in : Result DamagedText PartDamage → List (Option ℕ)
+letters_in (Ok shown) = shown.letters.items
+letters_in (Err damage) = []
+
+-- the letters of all texts that are shown, one after another
+abbrev pub shown_letters : List DamagedPart → List (Option ℕ)
+shown_letters reads = flat_map (λ (read : DamagedPart). letters_in read.text) reads
+
+-- the byte for a letter of a text: `?` for a lost one, a space for the letter `for_space`, if there is one, otherwise the
+-- capital letter
+abbrev pub shown_byte : Option ℕ → Option ℕ → ℕ
+shown_byte for_space None = 63
+shown_byte for_space (Some letter) = plaintext_byte for_space letter
+
+-- Why a form with these parts isn't read: it has more than 255, or memory is short.
+pub data IsFormFault (parts : List (List ℕ)) (fault : DamagedFormFault) : Type 0 where
+  TooMany : 255 < length parts → fault ≡ faults.TooManyParts → IsFormFault parts fault
+  NoMemory : fault ≡ faults.NoMemory → IsFormFault parts fault
+
+-- ---- The order of the parts.
+
+-- The part has the number `number`.
+abbrev pub HasNumber : ℕ → DamagedPart → Type 0
+HasNumber number part = (given : PartNumbers) × (part.numbers ≡ Some given) × (given.part ≡ number)
+
+-- The part has a number above `number`.
+abbrev pub HasNumberAbove : ℕ → DamagedPart → Type 0
+HasNumberAbove number part = (given : PartNumbers) × (part.numbers ≡ Some given) × (number < given.part)
+
+-- The place of part `number` behind the parts `before`: it stood before, or it comes after a part with a higher number,
+-- or neither.
+pub data IsOrderNote (before : List DamagedPart) (number : ℕ) (note : OrderNote) : Type 0 where
+  Again : Any (HasNumber number) before → note ≡ notes.Again → IsOrderNote before number note
+  Late : ¬ (Any (HasNumber number) before) → Any (HasNumberAbove number) before → note ≡ notes.Late
+      → IsOrderNote before number note
+  InOrder : ¬ (Any (HasNumber number) before) → ¬ (Any (HasNumberAbove number) before) → note ≡ notes.InOrder
+      → IsOrderNote before number note

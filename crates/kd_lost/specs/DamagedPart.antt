@@ -1,0 +1,93 @@
+-- What is read of a part in which letters were lost: its numbers, and its text or the reason why there is none.
+-- Test: letters_are_lost_in_turn
+use Rattle.std.specs.Prelude.{◌≡◌, ℕ, ◌==◌, ◌||◌, Bool, IsTrue, IsFalse, if◌then◌else◌, List, [], ◌∷◌, length, map, All}
+use Rattle.std.specs.Prelude.{Option, MatchOption}
+use Rattle.kd_tables.specs.Text.{is_text_byte}
+use Rattle.kd_state.specs.AnswerRules.{AnswerRule, ◌>>=◌, Finds, Demands}
+use Rattle.kd_state.specs.LineWords.{line_of}
+use Rattle.kd_state.specs.SheetDay.{Day}
+use Rattle.kd_form.specs.declared.heading.Heading.{Heading}
+use Rattle.kd_form.specs.FormParts.{IsHeading, IsLineText}
+use Rattle.kd_form.specs.Part.{heading_words}
+use Rattle.kd_lost.specs.declared.damage.PartDamage.{PartDamage}
+use Rattle.kd_lost.specs.declared.damage.PartDamage.TheVariants.{HeadingDamaged, HeadingKeyLost, BadByte, CountWrong}
+use Rattle.kd_lost.specs.declared.damaged_text.DamagedText.{DamagedText}
+use Rattle.kd_lost.specs.declared.part.PartNumbers.{PartNumbers}
+use Rattle.kd_lost.specs.Lost.{IsCompletion, capital_of, covered, is_lost, received_letters}
+use Rattle.kd_lost.specs.WholePart.{IsPartText}
+use Rattle.kd_lost.specs.DamagedText.{IsDamagedLettersAnswer, text_part}
+
+-- ---- The lines of a part.
+
+-- the first line of a part, without its LF; the whole part, if it has no LF
+abbrev pub first_line : List ℕ → List ℕ
+first_line [] = []
+first_line (byte ∷ bytes) = if byte == 10 then [] else byte ∷ first_line bytes
+
+-- the bytes of a part after its first line
+abbrev pub body_of : List ℕ → List ℕ
+body_of [] = []
+body_of (byte ∷ bytes) = if byte == 10 then bytes else body_of bytes
+
+-- the byte as a capital letter, with B in place of a lost letter: B isn't in the word `PART`
+abbrev pub filled_byte : ℕ → ℕ
+filled_byte byte = if is_lost byte then 66 else capital_of byte
+
+-- `line` is the heading line of `h`, but for letters of the keys that were lost.
+pub record IsDamagedHeading (s : Day) (line : List ℕ) (h : Heading) : Type 0 where
+  pub is_heading : IsHeading s h
+  pub text : IsLineText (map filled_byte line) (line_of (heading_words h))
+
+-- whether the byte may be in a body: a letter, a lost letter, a space, CR or LF
+abbrev pub is_body_byte : ℕ → Bool
+is_body_byte byte = is_lost byte || is_text_byte (capital_of byte)
+
+-- ---- What is read.
+
+-- the numbers that a heading gives
+abbrev pub numbers_of : Heading → PartNumbers
+numbers_of h = record { part = h.part; parts = h.parts; letters = h.letters }
+
+-- `numbers` are the numbers in the heading, if there is one.
+abbrev pub AreNumbersRead : Day → List ℕ → Option PartNumbers → Type 0
+AreNumbersRead s line numbers =
+    MatchOption numbers ((h : Heading) → ¬ (IsDamagedHeading s line h))
+    (λ given. (h : Heading) × IsDamagedHeading s line h × (given ≡ numbers_of h))
+
+-- The answer for a body after the heading `h`.
+abbrev pub IsDamagedBodyAnswer : Day → Heading → List ℕ → AnswerRule PartDamage DamagedText
+IsDamagedBodyAnswer s h body = do
+  _ ← Demands (All (λ byte. IsTrue (is_body_byte byte)) body) BadByte
+  _ ← Demands (length (received_letters body) ≡ h.letters) CountWrong
+  IsDamagedLettersAnswer s h.indicator (received_letters body)
+
+-- The answer for a part with the heading `h` in its line `line`, and the body `body`.
+abbrev pub IsHeadedPartAnswer : Day → Heading → List ℕ → List ℕ → AnswerRule PartDamage DamagedText
+IsHeadedPartAnswer s h line body = do
+  _ ← Demands (All (λ byte. IsFalse (is_lost byte)) line) HeadingKeyLost
+  IsDamagedBodyAnswer s h body
+
+-- The answer for a part that consists of `line` and `body`. The tests are, in order: there is a heading; none of its
+-- letters is lost; each byte of the body is allowed; the body has as many letters as the heading says. Then come the
+-- keys of a Converter's part.
+abbrev pub IsDamagedLinesAnswer : Day → List ℕ → List ℕ → AnswerRule PartDamage DamagedText
+IsDamagedLinesAnswer s line body = do
+  h ← Finds (IsDamagedHeading s line) HeadingDamaged
+  IsHeadedPartAnswer s h line body
+
+-- The answer for a part: its text, or the first reason why there is none.
+abbrev pub IsDamagedTextAnswer : Day → List ℕ → AnswerRule PartDamage DamagedText
+IsDamagedTextAnswer s part = IsDamagedLinesAnswer s (first_line part) (body_of part)
+
+-- ---- What the text of a part is, for all completions.
+
+-- Some completion of `part` has a text. For each completion that has one, whatever its group or its list letters,
+-- `shown` is the text of the completion, without the letters that were lost.
+pub record IsPartShown (s : Day) (part : List ℕ) (shown : DamagedText) : Type 0 where
+  pub whole : List ℕ
+  pub heading : Heading
+  pub text : List ℕ
+  pub completes : IsCompletion part whole
+  pub some : IsPartText s whole heading text
+  pub each : (whole : List ℕ) (h : Heading) (text : List ℕ) → IsCompletion part whole → IsPartText s whole h text
+      → shown.letters.items ≡ covered (text_part h.indicator (received_letters (body_of part))) text

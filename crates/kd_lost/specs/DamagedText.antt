@@ -1,0 +1,92 @@
+-- What is read of the letters of a body in which letters were lost.
+-- Test: letters_are_lost_in_turn
+use Rattle.std.specs.Prelude.{◌≡◌, ◌⊎◌, ◌↔◌, ℕ, ◌-◌, List, [], ◌∷◌, length, map, take, drop, Any, IsTrue}
+use Rattle.std.specs.Prelude.{Option, Some, None}
+use Rattle.std.specs.List.{slice_range}
+use Rattle.kd_state.specs.AnswerRules.{AnswerRule, ◌>>=◌, Finds, Demands, FindsAlways}
+use Rattle.kd_state.specs.SheetDay.{Day, AreADaysGroup}
+use Rattle.kd_state.specs.TwoCiphers.{IsWindow, sheet_key}
+use Rattle.kd_form.specs.declared.heading.Indicator.{Indicator}
+use Rattle.kd_form.specs.InternalKey.{IsInternalKey}
+use Rattle.arrayvec.specs.ArrayVec.{ArrayVec}
+use Rattle.kd_form.specs.declared.keys.PinKeys.{PinKeys}
+use Rattle.kd_form.specs.PartMaking.{cipher_from, enciphered_choice, list_letters}
+use Rattle.kd_lost.specs.declared.damage.PartDamage.{PartDamage}
+use Rattle.kd_lost.specs.declared.damage.PartDamage.TheVariants.{KeyNotOnWheel, NoInternalKey}
+use Rattle.kd_lost.specs.declared.damaged_text.DamagedText.{DamagedText}
+use Rattle.kd_lost.specs.declared.damaged_text.GroupTest.{GroupTest}
+use Rattle.kd_lost.specs.declared.damaged_text.GroupTest.TheVariants as tests
+use Rattle.kd_lost.specs.declared.damaged_text.LostCopies.{LostCopies}
+use Rattle.kd_lost.specs.Lost.{Completes, covered}
+use Rattle.kd_lost.specs.Copies.{IsKeysAnswer}
+use Rattle.kd_lost.specs.WholePart.{IsLettersText}
+
+-- ---- The warnings: the group or the list letters, and the copies of a Converter's indicators.
+
+-- The test of the group, which was received as `received`. A group with a lost letter isn't tested.
+pub data IsGroupTest (s : Day) (received : List (Option ℕ)) (test : GroupTest) : Type 0 where
+  GroupRight : (letters : List ℕ) → received ≡ map Some letters → AreADaysGroup s letters → test ≡ tests.Right
+      → IsGroupTest s received test
+  GroupWrong : (letters : List ℕ) → received ≡ map Some letters → ¬ (AreADaysGroup s letters) → test ≡ tests.Wrong
+      → IsGroupTest s received test
+  GroupLost : Any (λ got. got ≡ None) received → test ≡ tests.NotTested → IsGroupTest s received test
+
+-- At some place, both copies have a lost letter.
+abbrev pub IsLostInBoth : List (Option ℕ) → List (Option ℕ) → Type 0
+IsLostInBoth (one ∷ start) (other ∷ end) = ((one ≡ None) × (other ≡ None)) ⊎ IsLostInBoth start end
+IsLostInBoth [] end = ⊥
+IsLostInBoth (one ∷ start) [] = ⊥
+
+-- The test of the list letters `due`, of which `start` and `end` are the copies. They are wrong if a received one isn't
+-- the day's. Otherwise, they aren't tested if one is lost in both copies.
+pub data IsListTest (due : List ℕ) (start end : List (Option ℕ)) (test : GroupTest) : Type 0 where
+  ListWrong : ¬ (Completes start due × Completes end due) → test ≡ tests.Wrong → IsListTest due start end test
+  ListLost : Completes start due → Completes end due → IsLostInBoth start end → test ≡ tests.NotTested
+      → IsListTest due start end test
+  ListRight : Completes start due → Completes end due → ¬ (IsLostInBoth start end) → test ≡ tests.Right
+      → IsListTest due start end test
+
+-- `lost` says in which copies of the indicators, the first and the last ten letters, a letter is lost.
+pub record AreLostCopies (received : List (Option ℕ)) (lost : LostCopies) : Type 0 where
+  pub at_start : IsTrue lost.at_start ↔ Any (λ got. got ≡ None) (take 10 received)
+  pub at_end : IsTrue lost.at_end ↔ Any (λ got. got ≡ None) (drop (length received - 10) received)
+
+-- The warnings for a body that was received as `received`.
+abbrev pub AreWarnings : Day → Option Indicator → List (Option ℕ) → DamagedText → Type 0
+AreWarnings s (Some i) received shown = IsGroupTest s (slice_range received 2 5) shown.group × (shown.copies ≡ None)
+AreWarnings s None received shown =
+    IsListTest (list_letters s) (slice_range received 8 10) (drop (length received - 2) received) shown.group
+    × (lost : LostCopies) × (shown.copies ≡ Some lost) × AreLostCopies received lost
+
+-- ---- The text.
+
+-- the letters of a body that its text has: on a rotor machine, all but the first five; on the Converter M-209, those
+-- between the indicators
+abbrev pub text_part : {A : Type 0} → Option Indicator → List A → List A
+text_part (Some i) letters = drop 5 letters
+text_part None letters = slice_range letters 10 (length letters - 10)
+
+-- `shown` has the text of each completion of the letters `received`, without the letters that were lost.
+pub record IsTextShown (s : Day) (i : Option Indicator) (received : List (Option ℕ))
+    (shown : DamagedText) : Type 0 where
+  pub each : (whole text : List ℕ) → Completes received whole → IsLettersText s i whole text
+      → shown.letters.items ≡ covered (text_part i received) text
+  pub warnings : AreWarnings s i received shown
+
+-- The answer for the keys `keys` and for `received`, the letters of the text between the indicators.
+abbrev pub IsKeyedTextAnswer : Day → PinKeys → List (Option ℕ) → AnswerRule PartDamage (ArrayVec (Option ℕ))
+IsKeyedTextAnswer s keys received = do
+  _ ← Demands (IsWindow (sheet_key s) keys.external) KeyNotOnWheel
+  internal ← Finds (IsInternalKey (enciphered_choice s keys)) NoInternalKey
+  FindsAlways (λ shown. (whole : List ℕ) → Completes received whole
+      → shown.items ≡ covered received (cipher_from s internal whole))
+
+-- The answer for the letters of a body. On a rotor machine, they always give a text. On the Converter M-209, the tests
+-- are, in order: the copies of the keys; each external letter is on its wheel; there is an internal key.
+abbrev pub IsDamagedLettersAnswer : Day → Option Indicator → List (Option ℕ) → AnswerRule PartDamage DamagedText
+IsDamagedLettersAnswer s (Some i) received = FindsAlways (IsTextShown s (Some i) received)
+IsDamagedLettersAnswer s None received = do
+  keys ← IsKeysAnswer (take 8 received) (take 8 (drop (length received - 10) received))
+  _ ← Demands (IsWindow (sheet_key s) keys.external) KeyNotOnWheel
+  _ ← Finds (IsInternalKey (enciphered_choice s keys)) NoInternalKey
+  FindsAlways (IsTextShown s None received)

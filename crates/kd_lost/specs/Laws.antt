@@ -1,0 +1,64 @@
+-- Laws of damaged parts and of the ciphers under them.
+use Rattle.std.specs.Prelude.{◌≡◌, ℕ, false, List, [], ◌∷◌, ◌++◌, All, map, slice_get, Option, Some, None}
+use Rattle.std.specs.Prelude.{Result, Ok}
+use Rattle.kd_state.specs.SheetDay.{Day}
+use Rattle.kd_state.specs.TwoCiphers.{EngineKey, cipher}
+use Rattle.kd_form.specs.FormParts.{parts_of}
+use Rattle.kd_form.specs.FormText.{IsTextOf}
+use Rattle.kd_form.specs.PartReading.{IsPartAnswer, PartStart, ReadPart}
+use Rattle.kd_form.specs.Sending.{space_letter}
+use Rattle.kd_lost.specs.declared.damage.PartDamage.{PartDamage}
+use Rattle.kd_lost.specs.declared.damaged_text.{DamagedText.{DamagedText}, LostCopies.{LostCopies}}
+use Rattle.kd_lost.specs.declared.damaged_text.GroupTest.TheVariants as tests
+use Rattle.kd_lost.specs.declared.part.{DamagedPart.{DamagedPart}, PartNumbers.{PartNumbers}}
+use Rattle.kd_lost.specs.DamagedForm.{AreReadOf, damaged_parts_of, shown_byte, shown_letters}
+use Rattle.kd_lost.specs.DamagedPart.{AreNumbersRead, IsDamagedTextAnswer, first_line}
+
+-- If two texts have the same letter at a place, they are deciphered to the same letter there, whatever their other
+-- letters are.
+abbrev pub CiphersAgreeWhereTextsDo : Type 0
+CiphersAgreeWhereTextsDo =
+    (key : EngineKey) (text other : List ℕ) (place : ℕ) → slice_get text place ≡ slice_get other place
+    → slice_get (cipher key text) place ≡ slice_get (cipher key other) place
+
+-- No letter of the Converter's indicators is lost.
+abbrev pub AreWholeCopies : Option LostCopies → Type 0
+AreWholeCopies None = Unit {0}
+AreWholeCopies (Some lost) = (lost.at_start ≡ false) × (lost.at_end ≡ false)
+
+-- The text `text` is shown whole, letter by letter, and without a warning.
+pub record IsShownWhole (text : List ℕ) (shown : DamagedText) : Type 0 where
+  pub letters : shown.letters.items ≡ map Some text
+  pub group : shown.group ≡ tests.Right
+  pub copies : AreWholeCopies shown.copies
+
+-- A part that `receive` reads is shown whole.
+abbrev pub PartsReadAreShownWhole : Type 0
+PartsReadAreShownWhole =
+    (s : Day) (p : PartStart) (part : List ℕ) (read : ReadPart) (answer : Result DamagedText PartDamage)
+    → IsPartAnswer s p part (Ok read) → IsDamagedTextAnswer s part answer
+    → (shown : DamagedText) × (answer ≡ Ok shown) × IsShownWhole read.letters shown
+
+-- The numbers of a part that `receive` reads are found.
+abbrev pub PartsReadHaveNumbers : Type 0
+PartsReadHaveNumbers =
+    (s : Day) (p : PartStart) (part : List ℕ) (read : ReadPart) (found : Option PartNumbers)
+    → IsPartAnswer s p part (Ok read) → AreNumbersRead s (first_line part) found
+    → (numbers : PartNumbers) × (found ≡ Some numbers) × (numbers.part ≡ p.number) × (numbers.parts ≡ read.parts)
+
+-- The parts of a form that `receive` reads are those that it reads.
+abbrev pub FormsReadHaveTheirParts : Type 0
+FormsReadHaveTheirParts =
+    (s : Day) (form text : List ℕ) → IsTextOf s form text → damaged_parts_of form ≡ parts_of form
+
+-- The part is read, and its text has no warning.
+abbrev pub IsReadWell : DamagedPart → Type 0
+IsReadWell read =
+    (shown : DamagedText) × (read.text ≡ Ok shown) × (shown.group ≡ tests.Right) × AreWholeCopies shown.copies
+
+-- All parts of a form that `receive` reads are read, and the letters shown are together the form's text.
+abbrev pub FormsReadAreShownWhole : Type 0
+FormsReadAreShownWhole =
+    (s : Day) (form text : List ℕ) (reads : List DamagedPart) → IsTextOf s form text
+    → AreReadOf s (damaged_parts_of form) reads
+    → All IsReadWell reads × (text ≡ map (shown_byte (space_letter s)) (shown_letters reads) ++ 10 ∷ [])

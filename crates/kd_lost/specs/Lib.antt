@@ -1,0 +1,7 @@
+pub mod Lost
+pub mod WholePart
+pub mod Copies
+pub mod DamagedText
+pub mod DamagedPart
+pub mod DamagedForm
+pub mod Laws

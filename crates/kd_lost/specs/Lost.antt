@@ -1,0 +1,65 @@
+-- What may have been sent where letters were lost on the air. A lost letter is a `?` or `-`, and a small letter is its
+-- capital.
+-- Code: the reader puts A in place of each lost letter, deciphers, and leaves out what it deciphered there.
+-- Test: letters_are_lost_in_turn
+use Rattle.std.specs.Prelude.{◌≡◌, ℕ, ◌-◌, ◌<◌, ◌==◌, ◌&&◌, ◌||◌, nat_le, Bool, IsTrue, IsFalse, if◌then◌else◌}
+use Rattle.std.specs.Prelude.{List, [], ◌∷◌, map, filter_map, Option, Some, None, option_map, unwrap_or}
+use Rattle.kd_tables.specs.Text.{is_capital}
+use Rattle.kd_form.specs.Sending.{letter_of_byte}
+
+-- ---- Bytes.
+
+-- whether the byte stands for a lost letter: `?` or `-`
+abbrev pub is_lost : ℕ → Bool
+is_lost byte = byte == 63 || byte == 45
+
+-- the byte, with a capital letter in place of a small one
+abbrev pub capital_of : ℕ → ℕ
+capital_of byte = if nat_le 97 byte && nat_le byte 122 then byte - 32 else byte
+
+-- `sent` may have been sent where `byte` was received: any capital letter for a lost one, otherwise the byte itself or,
+-- for a small letter, its capital.
+pub data MayHaveBeen (byte sent : ℕ) : Type 0 where
+  AnyLetter : IsTrue (is_lost byte) → IsTrue (is_capital sent) → MayHaveBeen byte sent
+  AsReceived : IsFalse (is_lost byte) → sent ≡ capital_of byte → MayHaveBeen byte sent
+
+-- `whole` is a completion of the bytes `received`: it may have been sent, byte by byte.
+abbrev pub IsCompletion : List ℕ → List ℕ → Type 0
+IsCompletion [] [] = Unit {0}
+IsCompletion (byte ∷ received) (sent ∷ whole) = MayHaveBeen byte sent × IsCompletion received whole
+IsCompletion [] (sent ∷ whole) = ⊥
+IsCompletion (byte ∷ received) [] = ⊥
+
+-- ---- Letters: `None` is a lost one.
+
+-- what a byte of a body gives: a letter, a lost letter, or nothing
+abbrev pub received_letter : ℕ → Option (Option ℕ)
+received_letter byte = if is_lost byte then Some None else option_map Some (letter_of_byte None (capital_of byte))
+
+-- the letters of a body as they were received
+abbrev pub received_letters : List ℕ → List (Option ℕ)
+received_letters body = filter_map received_letter body
+
+-- The letter is the received one or, where a letter was lost, any letter.
+abbrev pub IsLetterFor : Option ℕ → ℕ → Type 0
+IsLetterFor None letter = letter < 26
+IsLetterFor (Some got) letter = letter ≡ got
+
+-- `whole` has a letter in place of each lost one.
+abbrev pub Completes : List (Option ℕ) → List ℕ → Type 0
+Completes [] [] = Unit {0}
+Completes (got ∷ received) (letter ∷ whole) = IsLetterFor got letter × Completes received whole
+Completes [] (letter ∷ whole) = ⊥
+Completes (got ∷ received) [] = ⊥
+
+-- `text`, without the letters at the places where `received` has a lost one
+abbrev pub covered : List (Option ℕ) → List ℕ → List (Option ℕ)
+covered (got ∷ received) (letter ∷ text) = option_map (λ _. letter) got ∷ covered received text
+covered [] text = []
+covered (got ∷ received) [] = []
+
+-- ---- What the code holds. No public contract cites this definition.
+
+-- `received`, with A in place of each lost letter
+abbrev pub filled : List (Option ℕ) → List ℕ
+filled received = map (λ got. unwrap_or got 0) received

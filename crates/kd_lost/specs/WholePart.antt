@@ -1,0 +1,41 @@
+-- The text of a part in which no letter is lost, whatever its group or its list letters.
+-- Test: letters_are_lost_in_turn
+use Rattle.std.specs.Prelude.{◌≡◌, ℕ, ◌-◌, List, length, take, drop, slice_index, All, IsTrue, Option, Some, None}
+use Rattle.kd_tables.specs.Text.{is_text_byte}
+use Rattle.kd_state.specs.SheetDay.{Day}
+use Rattle.kd_state.specs.TwoCiphers.{IsWindow, sheet_key}
+use Rattle.kd_form.specs.declared.heading.{Heading.{Heading}, Indicator.{Indicator}}
+use Rattle.kd_form.specs.BodyCipher.{deciphered_key, keys_of_body, text_of_body}
+use Rattle.kd_form.specs.InternalKey.{IsInternalKey}
+use Rattle.kd_form.specs.PartMaking.{cipher_from, enciphered_choice}
+use Rattle.kd_form.specs.PartReading.{HasHeading}
+use Rattle.kd_form.specs.Sending.{letters_from}
+
+-- The first two letters are equal, and the keys before the text, which are the first eight letters, stand again after
+-- the text, before the last two letters.
+pub record HasKeysAround (letters : List ℕ) : Type 0 where
+  pub again : take 8 letters ≡ take 8 (drop (length letters - 10) letters)
+  pub twice : slice_index letters 0 ≡ slice_index letters 1
+
+-- `text` is the text of a Converter's body with these letters, whatever its list letters.
+pub record IsPinText (s : Day) (letters text : List ℕ) : Type 0 where
+  pub around : HasKeysAround letters
+  pub on_wheels : IsWindow (sheet_key s) (keys_of_body letters).external
+  pub internal : List ℕ
+  pub is_key : IsInternalKey (enciphered_choice s (keys_of_body letters)) internal
+  pub is : text ≡ cipher_from s internal (text_of_body letters)
+
+-- `text` is the text of a body with these letters, whatever its group or its list letters: as on a rotor machine if
+-- the heading has an indicator, otherwise as on the Converter M-209.
+abbrev pub IsLettersText : Day → Option Indicator → List ℕ → List ℕ → Type 0
+IsLettersText s (Some i) letters text = text ≡ cipher_from s (deciphered_key s i) (drop 5 letters)
+IsLettersText s None letters text = IsPinText s letters text
+
+-- `part` has the heading `h` and the text `text`, whatever its group or its list letters. That is all that `receive`
+-- asks for, but for these letters and for the number of the part.
+pub record IsPartText (s : Day) (part : List ℕ) (h : Heading) (text : List ℕ) : Type 0 where
+  pub body : List ℕ
+  pub has : HasHeading s part h body
+  pub allowed : All (λ byte. IsTrue (is_text_byte byte)) body
+  pub counted : length (letters_from None body) ≡ h.letters
+  pub read : IsLettersText s h.indicator (letters_from None body) text

@@ -1,0 +1,25 @@
+//! `PartDamage`: why a part of a form can't be read.
+
+/// Why the text of a part can't be read.
+///
+/// The key letters of a Converter M-209's part have numbers: the chosen letter has number 0, and the external letter
+/// of a wheel has the wheel's number, from 1 to 6.
+#[derive(Clone, Copy, Debug, PartialEq, Eq)]
+pub enum PartDamage {
+    /// The part doesn't begin with a valid heading for the day's model, even if letters of its keys are lost.
+    HeadingDamaged,
+    /// A letter of the ground setting or of the enciphered message key is lost in the heading.
+    HeadingKeyLost,
+    /// A byte of the body is neither a letter nor a lost letter, nor a space or line end.
+    BadByte,
+    /// The body has more or fewer letters than its heading says.
+    CountWrong,
+    /// Two copies of the Converter's key letter with this number differ.
+    CopiesDiffer(u8),
+    /// The Converter's key letter with this number is lost in all its copies.
+    KeyLetterLost(u8),
+    /// An external letter isn't on its wheel.
+    KeyNotOnWheel,
+    /// The twelve letters from which the internal key is picked don't give each wheel a letter.
+    NoInternalKey,
+}

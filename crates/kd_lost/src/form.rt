@@ -1,0 +1,87 @@
+//! Reads a form in which letters were lost, part by part.
+ghost use Rattle.std.specs.Prelude.{◌≡◌, ◌<◌, length, IfSome, MatchOption, MatchResult, []};
+ghost use Rattle.kd_lost.specs.DamagedForm.{AreReadOf, IsFormFault, cut_at_digits, damaged_parts_of};
+ghost use Rattle.kd_lost.specs.DamagedForm.{ends_part, has_digit_line};
+
+use crate::part::{DamagedPart, read_damaged_part};
+use kd_state::SheetDay;
+use std::alloc::Global;
+
+/// How many parts of a form are read at most. The headings count at most 99; some may be doubled.
+const MOST_PARTS: usize = 255;
+
+/// Why a form in which letters were lost isn't read.
+#[derive(Clone, Copy, Debug, PartialEq, Eq)]
+pub enum DamagedFormFault {
+    /// There was no memory for what is read of the parts.
+    NoMemory,
+    /// More than 255 lines have digits, so the form would have more than 255 parts.
+    TooManyParts,
+}
+
+/// Reads each part of `form` by itself, without the letters that were lost.
+///
+/// A part begins at each line with a digit. For a form that `receive` reads, these are its parts.
+pub fn read_damaged_form(
+    alloc: Global,
+    day: &SheetDay,
+    form: &[u8],
+) -> Result<Vec<DamagedPart>, DamagedFormFault>
+    ensures { MatchResult result
+        (λ parts. AreReadOf day.now (damaged_parts_of form.now) parts.items)
+        (IsFormFault (damaged_parts_of form.now)) }
+{
+    let mut parts = Vec::new(alloc);
+    let mut left = Some(form);
+    while let Some(rest) = left {
+        if parts.len() == MOST_PARTS {
+            return Err(DamagedFormFault::TooManyParts);
+        }
+        let (part, next) = split_part(rest);
+        let Ok(()) = parts.push(read_damaged_part(day, part)) else {
+            return Err(DamagedFormFault::NoMemory);
+        };
+        left = next;
+    }
+    Ok(parts)
+}
+
+/// The first part of `form`, and the bytes after it; `None` if there is no other part.
+fn split_part(form: &[u8]) -> (&[u8], Option<&[u8]>)
+    ensures part { result.0.now ≡ (cut_at_digits form.now).0 }
+    ensures others { MatchOption result.1
+        ((cut_at_digits form.now).1 ≡ [])
+        (λ rest. (cut_at_digits form.now).1 ≡ damaged_parts_of rest.now) }
+    ensures shorter { IfSome result.1 (λ rest. length rest.now < length form.now) }
+{
+    for (index, byte) in form.iter().enumerate() {
+        let (_, rest) = form.split_at(index + 1);
+        if ends_part(*byte, rest) {
+            let (part, _) = form.split_at(index + 1);
+            return (part, Some(rest));
+        }
+    }
+    (form, None)
+}
+
+/// Whether a part ends with `byte`, before `rest`.
+fn ends_part(byte: u8, rest: &[u8]) -> bool
+    ensures { result ≡ ends_part byte rest.now }
+{
+    byte == b'\n' && has_digit_line(rest)
+}
+
+/// Whether the first line of `bytes` has a digit.
+fn has_digit_line(bytes: &[u8]) -> bool
+    ensures { result ≡ has_digit_line bytes.now }
+{
+    for byte in bytes {
+        if *byte == b'\n' {
+            return false;
+        }
+        if byte.is_ascii_digit() {
+            return true;
+        }
+    }
+    false
+}

@@ -1,0 +1,22 @@
+//! Forms in which letters were lost on the air: everything that can be read of them without guessing.
+//!
+//! A lost letter is a `?` or `-`, and a small letter is its capital. The text of a part is shown without the letters
+//! that were lost; a part whose keys were lost isn't read.
+#![tactic(auto)]
+
+mod body;
+mod copies;
+mod damage;
+mod damaged_text;
+mod form;
+pub mod laws;
+mod order;
+mod part;
+mod received;
+mod warnings;
+
+pub use damage::PartDamage;
+pub use damaged_text::{DamagedText, GroupTest, LostCopies};
+pub use form::{DamagedFormFault, read_damaged_form};
+pub use order::{OrderNote, has_part, order_note};
+pub use part::{DamagedPart, PartNumbers, read_damaged_part};

@@ -1,0 +1,119 @@
+//! Reads a part of a form in which letters were lost.
+ghost use Rattle.std.specs.Prelude.{◌≡◌, MatchResult, IfOk};
+ghost use Rattle.kd_state.specs.LineWords.{IsWithout};
+ghost use Rattle.kd_form.specs.FormParts.{IsHeading};
+ghost use Rattle.kd_lost.specs.DamagedPart.{AreNumbersRead, IsDamagedBodyAnswer, IsDamagedLinesAnswer};
+ghost use Rattle.kd_lost.specs.DamagedPart.{IsHeadedPartAnswer};
+ghost use Rattle.kd_lost.specs.DamagedPart.{IsDamagedTextAnswer, IsPartShown, first_line, numbers_of};
+
+use crate::body::{decipher_pin, decipher_rotor};
+use crate::damage::PartDamage;
+use crate::damaged_text::DamagedText;
+use crate::received::{are_body_bytes, filled_line, has_lost_byte, received_letters};
+use kd_form::day_machine::slots_of;
+use kd_form::heading::Heading;
+use kd_form::receiving::heading_reader::heading_of_ended_line;
+use kd_state::{SheetDay, split_once};
+
+/// What can be read of a part of a form in which letters were lost.
+#[derive(Drop)]
+pub struct DamagedPart {
+    /// The numbers in the heading; `None` if the heading is damaged.
+    pub numbers: Option<PartNumbers>,
+    /// The text, or why it can't be read.
+    pub text: Result<DamagedText, PartDamage>,
+}
+
+/// The numbers in the heading of a part.
+#[derive(Clone, Copy, Debug, PartialEq, Eq)]
+pub struct PartNumbers {
+    /// The part's number, counted from 1.
+    pub part: u8,
+    /// How many parts the form has.
+    pub parts: u8,
+    /// How many letters the body has.
+    pub letters: usize,
+}
+
+/// Reads a part of a form, without the letters that were lost.
+///
+/// The day's machine is the one that the heading has to suit. The text is the one that `receive` gives if no letter is
+/// lost. Whoever knows a lost letter of the keys may put it into the form, and read the form again.
+pub fn read_damaged_part(day: &SheetDay, part: &[u8]) -> DamagedPart
+    ensures numbers { AreNumbersRead day.now (first_line part.now) result.numbers }
+    ensures text { IsDamagedTextAnswer day.now part.now result.text }
+    ensures shown { IfOk result.text (IsPartShown day.now part.now) }
+{
+    match split_once(part, b'\n') {
+        Some((line, body)) => read_lines(day, line, body),
+        None => read_lines(day, part, &[]),
+    }
+}
+
+/// Reads the part that consists of `line` and `body`.
+fn read_lines(day: &SheetDay, line: &[u8], body: &[u8]) -> DamagedPart
+    requires { IsWithout 10 line.now }
+    ensures numbers { AreNumbersRead day.now line.now result.numbers }
+    ensures text { IsDamagedLinesAnswer day.now line.now body.now result.text }
+{
+    let Some(heading) = heading_of_ended_line(day, filled_line(line).as_slice()) else {
+        return DamagedPart {
+            numbers: None,
+            text: Err(PartDamage::HeadingDamaged),
+        };
+    };
+    DamagedPart {
+        numbers: Some(numbers_of(&heading)),
+        text: read_body_after(day, &heading, line, body),
+    }
+}
+
+/// The numbers in `heading`.
+fn numbers_of(heading: &Heading) -> PartNumbers
+    ensures { result ≡ numbers_of heading.now }
+{
+    PartNumbers {
+        part: heading.part,
+        parts: heading.parts,
+        letters: heading.letters,
+    }
+}
+
+/// Reads the body of a part with the heading `heading` in its line `line`.
+fn read_body_after(
+    day: &SheetDay,
+    heading: &Heading,
+    line: &[u8],
+    body: &[u8],
+) -> Result<DamagedText, PartDamage>
+    requires { IsHeading day.now heading.now }
+    ensures { IsHeadedPartAnswer day.now heading.now line.now body.now result }
+{
+    if has_lost_byte(line) {
+        return Err(PartDamage::HeadingKeyLost);
+    }
+    read_damaged_body(day, heading, body)
+}
+
+/// Reads the body of a part with the heading `heading`.
+fn read_damaged_body(
+    day: &SheetDay,
+    heading: &Heading,
+    body: &[u8],
+) -> Result<DamagedText, PartDamage>
+    requires { IsHeading day.now heading.now }
+    ensures { IsDamagedBodyAnswer day.now heading.now body.now result }
+{
+    if !are_body_bytes(body) {
+        return Err(PartDamage::BadByte);
+    }
+    let letters = received_letters(body);
+    if letters.len() != heading.letters {
+        return Err(PartDamage::CountWrong);
+    }
+    prove!(slots_of(day) != Some(0));
+    match &heading.indicator {
+        Some(indicator) => Ok(decipher_rotor(day, indicator, letters.as_slice())),
+        None => decipher_pin(day, letters.as_slice()),
+    }
+}

@@ -1,0 +1,112 @@
+//! The bytes of a part as they were received: lost letters, small letters, and what a body's bytes give.
+ghost use Rattle.std.specs.Prelude.{◌≡◌, ◌++◌, ◌↔◌, List, map, take, All, Any, Contains, None, IsTrue, IsFalse};
+ghost use Rattle.std.specs.Option.{option_to_list};
+ghost use Rattle.std.specs.Bool.{OnTrue, OnFalse};
+ghost use Rattle.kd_lost.specs.Lost.{is_lost, capital_of, received_letter, received_letters};
+ghost use Rattle.kd_lost.specs.DamagedPart.{filled_byte, is_body_byte};
+
+use arrayvec::ArrayVec;
+use kd_form::bounded_list::push_if_room;
+use kd_form::text_bytes::{is_text_byte, letter_of_byte};
+use kd_tables::Letter;
+
+/// Whether `byte` stands for a lost letter.
+pub(crate) fn is_lost(byte: u8) -> bool
+    ensures { result ≡ is_lost byte }
+{
+    byte == b'?' || byte == b'-'
+}
+
+/// `byte`, with a capital letter in place of a small one.
+fn capital_of(byte: u8) -> u8
+    ensures { result ≡ capital_of byte }
+{
+    if byte >= b'a' && byte <= b'z' {
+        byte - 32
+    } else {
+        byte
+    }
+}
+
+/// `byte` as a capital letter, with B in place of a lost letter.
+fn filled_byte(byte: u8) -> u8
+    ensures { result ≡ filled_byte byte }
+{
+    if is_lost(byte) {
+        b'B'
+    } else {
+        capital_of(byte)
+    }
+}
+
+/// The first bytes of a heading line, as capital letters, with B in place of each lost letter.
+#[tactic(auto, using(crate::proofs::Bytes::filled_more))]
+pub(crate) fn filled_line(line: &[u8]) -> ArrayVec<u8, 64>
+    ensures { result.items ≡ take 64 (map filled_byte line.now) }
+{
+    let mut kept = ArrayVec::new();
+    for byte in line {
+        push_if_room(&mut kept, filled_byte(*byte));
+    }
+    kept
+}
+
+/// Whether a letter of `line` is lost.
+pub(crate) fn has_lost_byte(line: &[u8]) -> bool
+    ensures lost { OnTrue result (Any (λ byte. IsTrue (is_lost byte)) line.now) }
+    ensures none { OnFalse result (All (λ byte. IsFalse (is_lost byte)) line.now) }
+{
+    for byte in line {
+        if is_lost(*byte) {
+            return true;
+        }
+    }
+    false
+}
+
+/// Whether each byte of `body` may be in a body.
+pub(crate) fn are_body_bytes(body: &[u8]) -> bool
+    ensures { IsTrue result ↔ All (λ byte. IsTrue (is_body_byte byte)) body.now }
+{
+    body.iter().all(|byte| is_body_byte(*byte))
+}
+
+/// Whether `byte` may be in a body: a letter, a lost letter, a space, CR or LF.
+fn is_body_byte(byte: u8) -> bool
+    ensures { result ≡ is_body_byte byte }
+{
+    is_lost(byte) || is_text_byte(capital_of(byte))
+}
+
+/// The first letters of a body, at most 525.
+#[tactic(auto, using(crate::proofs::Bytes::letters_more, crate::proofs::Bytes::kept_already))]
+pub(crate) fn received_letters(body: &[u8]) -> ArrayVec<Option<Letter>, 525>
+    ensures { result.items ≡ take 525 (received_letters body.now) }
+{
+    let mut letters = ArrayVec::new();
+    for byte in body {
+        keep_letter(&mut letters, received_letter(*byte));
+    }
+    letters
+}
+
+/// Appends `letter`, which may be a lost one, if there is one and room for it.
+fn keep_letter(letters: &mut ArrayVec<Option<Letter>, 525>, letter: Option<Option<Letter>>)
+    ensures { letters.old.items ≡ take 525 letters.old.items
+        → letters.new.items ≡ take 525 (letters.old.items ++ option_to_list letter) }
+{
+    if let Some(letter) = letter {
+        push_if_room(letters, letter);
+    }
+}
+
+/// What a byte of a body gives: a letter, a lost letter, or nothing.
+fn received_letter(byte: u8) -> Option<Option<Letter>>
+    ensures { result ≡ received_letter byte }
+{
+    if is_lost(byte) {
+        return Some(None);
+    }
+    let letter = letter_of_byte(&None, capital_of(byte))?;
+    Some(Some(letter))
+}

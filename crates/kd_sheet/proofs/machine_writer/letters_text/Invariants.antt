@@ -1,5 +1,0 @@
-use Rattle.{kd_tables.specs.Text.letters_text, std.proofs.Common.{take, ◌≡◌}}
-use Rattle.kd_sheet.proofs.machine_writer.letters_text.Given as goal
-
-abbrev pub invariant-loop-letter : goal.invariant-loop-letter
-invariant-loop-letter l = l.text.bytes ≡ letters_text (take l.letter-index l.letters)

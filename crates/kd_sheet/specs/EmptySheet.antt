@@ -1,0 +1,49 @@
+-- The text of a month to fill in: a section for each day, with `?` in place of each letter and number that is missing. The
+-- days are refused until they are filled in, so that no forgotten day can be taken for a key.
+-- Test: kd_table_trials/src/empty.rt
+use Rattle.std.specs.Prelude.{codes, false, ℕ, List, [], ◌∷◌, ◌++◌, map, replicate}
+use Rattle.std.specs.List.{range_with_len}
+use Rattle.kd_tables.specs.Tables.{slots_of}
+use Rattle.kd_tables.specs.declared.model.Model.{Model}
+use Rattle.kd_tables.specs.declared.model.Model.TheVariants.{M209}
+use Rattle.kd_sheet.specs.MachineText.{quoted_text, array_text, key_line}
+use Rattle.kd_sheet.specs.SheetText.{day_head_lines, sections_text}
+use Rattle.kd_sheet.specs.declared.key.Key.{Key}
+use Rattle.kd_sheet.specs.declared.key.Key.TheVariants as keys
+
+-- the line of a text of so many letters
+unfoldable pub unknown_line : Key → ℕ → List ℕ
+unknown_line key count = key_line key (quoted_text (replicate count 63))
+
+-- the line of an array of texts, each `item`
+unfoldable pub unknown_items_line : Key → ℕ → List ℕ → List ℕ
+unknown_items_line key count item = key_line key (array_text (replicate count item))
+
+-- the lines of a rotor machine's day after the first two: with ten pairs and four groups, as most sheets have them
+abbrev pub empty_rotor_lines : ℕ → List (List ℕ)
+empty_rotor_lines slots =
+    unknown_line keys.Reflector 1
+    ∷ unknown_items_line keys.Wheels slots (codes "?")
+    ∷ unknown_line keys.Rings slots
+    ∷ unknown_line keys.Window slots
+    ∷ unknown_items_line keys.Plugs 10 (codes "??")
+    ∷ unknown_items_line keys.Groups 4 (codes "???")
+    ∷ []
+
+-- the lines of a Converter's day after the first two
+abbrev pub empty_pin_lines : List (List ℕ)
+empty_pin_lines =
+    unknown_line keys.List 2
+    ∷ unknown_items_line keys.Pins 6 (codes "?")
+    ∷ unknown_line keys.Window 6
+    ∷ unknown_items_line keys.Rows 27 (codes "?-?")
+    ∷ []
+
+-- the lines of a day of `model`
+abbrev pub empty_day_lines : Model → ℕ → List (List ℕ)
+empty_day_lines M209 number = day_head_lines number M209 ++ empty_pin_lines
+empty_day_lines model number = day_head_lines number model ++ empty_rotor_lines (slots_of model)
+
+-- the text of a month with so many days
+unfoldable pub empty_month_text : Model → ℕ → List ℕ
+empty_month_text model days = sections_text false (map (empty_day_lines model) (range_with_len 1 days))

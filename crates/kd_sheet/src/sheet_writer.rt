@@ -1,0 +1,122 @@
+//! Writes key sheets of all models.
+ghost use Rattle.std.specs.{Prelude.{◌≡◌, ◌≤◌, ◌||◌, ◌++◌, map, is_err}, List.{concat}};
+ghost use Rattle.arrayvec.specs.ArrayString.{array_string_len};
+ghost use Rattle.kd_tables.specs.Writing.{Writes};
+ghost use Rattle.kd_state.specs.{SheetDay.{IsLegalRotorDay, IsLegalPinDay}, Entry.{rotor_values, pin_values}};
+ghost use Rattle.kd_sheet.specs.SheetText.{day_head_lines, wheels_lines, plugs_lines, converter_lines, day_lines};
+ghost use Rattle.kd_sheet.specs.SheetText.{rotor_day_lines, pin_day_lines, section_text, sections_text, sheet_text};
+
+use crate::Key;
+use crate::writing::letters::{pin_texts, push_letters_line, rings_text, window_text};
+use crate::writing::lines::{FileString, push_list_line, push_number_line, push_text_line};
+use kd_state::{Entry, PinEntry, RotorEntry, SheetDay};
+use kd_tables::{Device, Model, Sink, put_all};
+
+/// Appends the first two lines of a day: its number and its model.
+pub fn push_day_head(text: &mut FileString, number: u8, model: Model)
+    requires { array_string_len text.old ≤ 16 }
+    ensures bytes { text.new.bytes ≡ text.old.bytes ++ concat (day_head_lines number model) }
+    ensures len { array_string_len text.new ≤ 64 }
+{
+    push_number_line(text, Key::Day, number);
+    push_text_line(text, Key::Model, model.text().as_str());
+}
+
+/// Appends the lines of the reflector, and of the wheels with their rings and window letters.
+fn push_wheels_lines(text: &mut FileString, entry: &RotorEntry)
+    requires { array_string_len text.old ≤ 64 }
+    ensures bytes { text.new.bytes ≡ text.old.bytes ++ concat (wheels_lines (rotor_values entry.now)) }
+    ensures len { array_string_len text.new ≤ 400 }
+{
+    let wheels = entry.wheels.as_slice();
+    push_text_line(text, Key::Reflector, entry.reflector.text().as_str());
+    push_list_line(text, Key::Wheels, wheels);
+    push_text_line(text, Key::Rings, rings_text(wheels).as_str());
+    push_text_line(text, Key::Window, window_text(wheels).as_str());
+}
+
+/// Appends the lines of the plugged pairs and of the groups.
+fn push_plugs_lines(text: &mut FileString, entry: &RotorEntry)
+    requires legal { IsLegalRotorDay (rotor_values entry.now) }
+    requires room { array_string_len text.old ≤ 400 }
+    ensures { text.new.bytes ≡ text.old.bytes ++ concat (plugs_lines (rotor_values entry.now)) }
+{
+    push_list_line(text, Key::Plugs, entry.pairs.as_slice());
+    push_list_line(text, Key::Groups, entry.groups.as_slice());
+}
+
+/// Appends the lines of a rotor machine's day.
+fn push_rotor_day(text: &mut FileString, entry: &RotorEntry)
+    requires legal { IsLegalRotorDay (rotor_values entry.now) }
+    requires room { array_string_len text.old ≤ 16 }
+    ensures { text.new.bytes ≡ text.old.bytes ++ concat (rotor_day_lines (rotor_values entry.now)) }
+{
+    push_day_head(text, entry.day, entry.model);
+    push_wheels_lines(text, entry);
+    push_plugs_lines(text, entry);
+}
+
+/// Appends what a Converter's day has after its number and its model.
+fn push_converter_lines(text: &mut FileString, entry: &PinEntry)
+    requires legal { IsLegalPinDay (pin_values entry.now) }
+    requires room { array_string_len text.old ≤ 64 }
+    ensures { text.new.bytes ≡ text.old.bytes ++ concat (converter_lines (pin_values entry.now)) }
+{
+    push_letters_line(text, Key::List, &entry.list);
+    push_list_line(text, Key::Pins, &pin_texts(&entry.pins));
+    push_letters_line(text, Key::Window, &entry.window);
+    push_list_line(text, Key::Rows, &entry.rows);
+}
+
+/// Appends the lines of a Converter's day.
+fn push_pin_day(text: &mut FileString, entry: &PinEntry)
+    requires legal { IsLegalPinDay (pin_values entry.now) }
+    requires room { array_string_len text.old ≤ 16 }
+    ensures { text.new.bytes ≡ text.old.bytes ++ concat (pin_day_lines (pin_values entry.now)) }
+{
+    push_day_head(text, entry.day, Model::M209);
+    push_converter_lines(text, entry);
+}
+
+/// The section of `day`: the line `[[day]]` and the lines of the day. An empty line comes first if `started`.
+fn section_of(started: bool, day: &SheetDay) -> FileString
+    ensures { result.bytes ≡ section_text started (day_lines day.now) }
+{
+    let mut text = FileString::new();
+    text.push_str(if started { "\n[[day]]\n" } else { "[[day]]\n" });
+    match day.entry() {
+        Entry::Rotor(entry) => push_rotor_day(&mut text, entry),
+        Entry::Pin(entry) => push_pin_day(&mut text, entry),
+    }
+    text
+}
+
+/// Writes the sections of `days`. An empty line comes first if `started`.
+fn put_sections<W: Sink>(sink: &mut W, started: bool, days: &[SheetDay]) -> Result<(), Device>
+    ensures text { Writes (W.taken sink.old) (W.taken sink.new)
+        (sections_text started (map day_lines days.now)) result }
+    ensures failed { W.has_failed sink.new ≡ (W.has_failed sink.old || is_err result) }
+{
+    match days {
+        [day, rest @ ..] => {
+            let section = section_of(started, day);
+            match put_all(sink, section.as_str().as_bytes()) {
+                Ok(()) => put_sections(sink, true, rest),
+                Err(Device) => Err(Device),
+            }
+        }
+        [] => Ok(()),
+    }
+}
+
+/// Writes the key sheet that has `days`, in this order.
+///
+/// On the fault `Device`, the sink has taken a prefix of the text. If there is a day, and no two days have the same
+/// number, `read_sheet` reads the text as exactly these days: the law `written_sheets_are_read_back`.
+#[tactic(auto, unfolding(crate::specs::SheetText::sheet_text))]
+pub fn write_sheet<W: Sink>(sink: &mut W, days: &[SheetDay]) -> Result<(), Device>
+    ensures text { Writes (W.taken sink.old) (W.taken sink.new) (sheet_text days.now) result }
+    ensures failed { W.has_failed sink.new ≡ (W.has_failed sink.old || is_err result) }
+{
+    put_sections(sink, false, days)
+}

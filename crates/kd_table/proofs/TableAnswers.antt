@@ -1,0 +1,60 @@
+-- What the rows of a table make of the table.
+use Rattle.std.proofs.Common.{◌≡◌, ◌∙◌, ◌<◌, ℕ, Bool, true, false, List, [], ◌∷◌, ◌++◌, Ok, append_assoc, Option, Some, None, length, refl, sym, subst, arith}
+use Rattle.std.proofs.lemmas.Bool.{false≢true}
+use Rattle.kd_state.specs.SheetDay.{Day, IsLegalDay, day_number}
+use Rattle.std.proofs.lemmas.List.{append-nil}
+use Rattle.kd_sheet.proofs.Days.{sheet_again}
+use Rattle.kd_sheet.specs.SheetText.{AreSheetDays, sheet_text}
+use Rattle.kd_sheet.specs.{SheetFile.sheet_of, Sheet.month_of}
+use Rattle.kd_table.specs.Columns.{columns_of}
+use Rattle.kd_table.specs.Rows.{is_well_quoted}
+use Rattle.kd_table.specs.Table.{AreRows, TableMeans, IsRefusedTable, RefusedRow, NoDays, NoFirstRow, IsRead, AreDaysOfRows, BlankRow, DayRow, NoRows, is_taken}
+use Rattle.kd_table.specs.declared.columns.Columns.{Columns}
+use Rattle.kd_table.specs.declared.options.TableOptions.{TableOptions}
+
+module _ (options : TableOptions) (table : List ℕ) where
+  -- all rows were read, and none is refused
+  pub table_means : (rows : List (List (List ℕ))) (columns : Option Columns) (days : List Day)
+      → is_well_quoted table ≡ true → AreRows table rows → IsRead options rows columns days false → 0 < length days
+      → TableMeans options table days
+  table_means [] columns days quoted are is some =
+      let P : List Day → Type 0 = λ ds. 0 < length ds in absurd (let none = subst P is.1 some in omega arith)
+  table_means (head ∷ rows) columns days quoted are is some =
+      record { quoted = quoted; head = head; rows = rows; are = are; described = is.1; some = some }
+
+  pub table_refused : (rows : List (List (List ℕ))) (columns : Option Columns) (days : List Day) → AreRows table rows
+      → IsRead options rows columns days true → IsRefusedTable options table
+  table_refused [] columns days are is = absurd (false≢true (sym is.2))
+  table_refused (head ∷ rows) columns days are is = RefusedRow head rows are is.1
+
+  pub table_empty : (rows : List (List (List ℕ))) (columns : Option Columns) (days : List Day) → AreRows table rows
+      → IsRead options rows columns days false → length days ≡ 0 → IsRefusedTable options table
+  table_empty [] columns days are is none = NoFirstRow are
+  table_empty (head ∷ rows) columns [] are is none = NoDays head rows are is.1
+  table_empty (head ∷ rows) columns (day ∷ days) are is none = absurd (omega arith)
+
+-- days of rows are days of a sheet: each is legal, and has its own number
+sheet_days_more : (earlier days : List Day) (day : Day) → AreSheetDays earlier days → IsLegalDay day
+    → is_taken (earlier ++ days) (day_number day) ≡ false → AreSheetDays earlier (days ++ day ∷ [])
+sheet_days_more earlier [] day are legal free =
+    let P : List Day → Type 0 = λ ds. is_taken ds (day_number day) ≡ false in ((legal, subst P (append-nil earlier) free), tt)
+sheet_days_more earlier (first ∷ days) day are legal free =
+    let P : List Day → Type 0 = λ ds. is_taken ds (day_number day) ≡ false in (
+      are.0,
+      sheet_days_more (earlier ++ first ∷ []) days day are.1 legal
+          (subst P (sym (append_assoc earlier (first ∷ []) days)) free),
+    )
+
+sheet_days : (options : TableOptions) (columns : Columns) (rows : List (List (List ℕ))) (days : List Day)
+    → AreDaysOfRows options columns rows days → AreSheetDays [] days
+sheet_days options columns _ _ NoRows = tt
+sheet_days options columns _ _ (BlankRow rows days row are blank) = sheet_days options columns rows days are
+sheet_days options columns _ _ (DayRow rows days row day are filled is free) =
+    sheet_days_more [] days day (sheet_days options columns rows days are) is.legal free
+
+-- the sheet written for a table's days is read as exactly these days
+pub read_back : (options : TableOptions) (table : List ℕ) (days : List Day) → TableMeans options table days
+    → sheet_of (sheet_text days) ≡ Ok (month_of days)
+read_back options table [] means = let some = means.some in absurd (omega arith)
+read_back options table (day ∷ days) means =
+    sheet_again day days (sheet_days options (columns_of means.head) means.rows (day ∷ days) means.described)

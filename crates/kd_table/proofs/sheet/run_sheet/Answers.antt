@@ -1,0 +1,17 @@
+use Rattle.std.proofs.Common.{◌≡◌, ◌∙◌, Err, ap}
+use Rattle.kd_table.specs.declared.fault.TableFault.TheVariants as faults
+use Rattle.kd_table.proofs.TableAnswers.{read_back}
+use Rattle.kd_table.proofs.sheet.run_sheet.Goals as goal
+
+pub returns-in-Err-clause-refused : goal.returns-in-Err-clause-refused
+returns-in-Err-clause-refused g c = λ same.
+    let e : c.in-Err.fault ≡ faults.Refused = cc in c.read_days.ensures.refused (c.in-Err.is ∙ ap (λ fault. Err fault) e)
+
+pub returns-in-Ok-write_sheet-clause-sheet : goal.returns-in-Ok-write_sheet-clause-sheet
+returns-in-Ok-write_sheet-clause-sheet g c =
+    let written = rw c.as_slice.ensures.value at c.in-Ok-write_sheet.ensures.text.whole in (
+      c.in-Ok.days.items,
+      c.in-Ok.ensures.days,
+      written,
+      read_back c.args.options.now c.args.table.now c.in-Ok.days.items c.in-Ok.ensures.days,
+    )

@@ -1,0 +1,40 @@
+-- Names in the cells of a table: of columns, models, wheels and reflectors. Only letters and digits count, and capital
+-- and small letters are alike: `Enigma I`, `ENIGMA I` and `enigma-i` name the same model.
+-- Test: kd_table_trials/src/cells.rt
+use Rattle.std.specs.Prelude.{ℕ, nat_le, ◌-◌, ◌&&◌, ◌||◌, Bool, List, [], ◌∷◌, length, map, filter, find, bytes_eq, Option}
+use Rattle.std.specs.Prelude.{if◌then◌else◌}
+use Rattle.kd_tables.specs.Tables.{box_of, reflectors_of, model_text, reflector_text, wheel_text}
+use Rattle.kd_tables.specs.declared.model.Model.{Model}
+use Rattle.kd_tables.specs.declared.model.Model.TheVariants.{EnigmaI, M3, M4, M209}
+use Rattle.kd_tables.specs.declared.reflector.Reflector.{Reflector}
+use Rattle.kd_tables.specs.declared.wheel.Wheel.{Wheel}
+
+-- the capital letter for a small letter; any other byte as it is
+abbrev pub capital : ℕ → ℕ
+capital byte = if nat_le 97 byte && nat_le byte 122 then byte - 32 else byte
+
+abbrev pub is_digit : ℕ → Bool
+is_digit byte = nat_le 48 byte && nat_le byte 57
+
+abbrev pub is_capital_letter : ℕ → Bool
+is_capital_letter byte = nat_le 65 byte && nat_le byte 90
+
+-- the letters and digits of a text, with capital letters for small letters
+abbrev pub plain : List ℕ → List ℕ
+plain text = filter (λ byte. is_capital_letter byte || is_digit byte) (map capital text)
+
+-- whether a cell of at most 32 bytes has this name
+abbrev pub is_named : List ℕ → List ℕ → Bool
+is_named name cell = nat_le (length cell) 32 && bytes_eq (plain cell) (plain name)
+
+-- the model that a cell names
+abbrev pub model_named : List ℕ → Option Model
+model_named cell = find (λ model. is_named (model_text model) cell) (EnigmaI ∷ M3 ∷ M4 ∷ M209 ∷ [])
+
+-- the wheel that a word names
+abbrev pub wheel_named : List ℕ → Option Wheel
+wheel_named word = find (λ wheel. is_named (wheel_text wheel) word) (box_of M4)
+
+-- the reflector of `model` that a cell names: on an M4 the letter B means the thin reflector b
+abbrev pub reflector_named : Model → List ℕ → Option Reflector
+reflector_named model cell = find (λ reflector. is_named (reflector_text reflector) cell) (reflectors_of model)

@@ -1,0 +1,40 @@
+-- What a row of a table says of a Converter's day.
+-- Test: kd_table_trials/src/tables.rt
+use Rattle.std.specs.Prelude.{ℕ, Bool, List, slice_index_or, Option, Some, None}
+use Rattle.kd_tables.specs.Rings.{ring_of}
+use Rattle.kd_pins.specs.declared.pin_set.PinSet.{PinSet}
+use Rattle.kd_state.specs.SheetDay.{PinDay, pin_day_of}
+use Rattle.kd_sheet.specs.PinWheels.{pins_of_text}
+use Rattle.kd_table.specs.Columns.{cell_at, cell_or}
+use Rattle.kd_table.specs.Items.{number_in, letters_in, readings_in, exactly, joined}
+use Rattle.kd_table.specs.Steps.{◌>>=◌}
+use Rattle.kd_table.specs.declared.columns.Columns.{Columns}
+use Rattle.kd_table.specs.declared.options.TableOptions.{TableOptions}
+
+-- The pins of a wheel whose letters are `ring`, from the letters in a column, which must be there.
+abbrev pub pins_at : List ℕ → Option ℕ → List (List ℕ) → Option (List Bool)
+pins_at ring column row = do
+  place ← column
+  text ← joined (cell_at (Some place) row)
+  pins_of_text ring text
+
+-- the pins of the six wheels
+unfoldable pub pins_in : List (Option ℕ) → List (List ℕ) → Option PinSet
+pins_in columns row = do
+  one ← pins_at (ring_of 1) (slice_index_or columns 0 None) row
+  two ← pins_at (ring_of 2) (slice_index_or columns 1 None) row
+  three ← pins_at (ring_of 3) (slice_index_or columns 2 None) row
+  four ← pins_at (ring_of 4) (slice_index_or columns 3 None) row
+  five ← pins_at (ring_of 5) (slice_index_or columns 4 None) row
+  six ← pins_at (ring_of 6) (slice_index_or columns 5 None) row
+  Some (record { w1 = one; w2 = two; w3 = three; w4 = four; w5 = five; w6 = six })
+
+-- the values of a row's day; an option may stand for a window without anything
+unfoldable pub pin_values : TableOptions → Columns → List (List ℕ) → Option PinDay
+pin_values options columns row = do
+  number ← number_in (cell_at columns.day row)
+  list ← letters_in (cell_at columns.list row) >>= exactly 2
+  pins ← pins_in columns.pins row
+  window ← letters_in (cell_or options.window.now columns.window row) >>= exactly 6
+  rows ← readings_in (cell_at columns.bars row) >>= exactly 27
+  Some (pin_day_of number rows pins window list)

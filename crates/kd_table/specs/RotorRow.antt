@@ -1,0 +1,36 @@
+-- What a row of a table says of a rotor machine's day.
+-- Test: kd_table_trials/src/tables.rt
+use Rattle.std.specs.Prelude.{ℕ, List, [], ◌∷◌, Option, Some, None}
+use Rattle.std.specs.Option.{option_map}
+use Rattle.kd_tables.specs.declared.model.Model.{Model}
+use Rattle.kd_tables.specs.declared.wheel.Wheel.{Wheel}
+use Rattle.kd_state.specs.SheetDay.{RotorDay, rotor_day_of}
+use Rattle.kd_state.specs.declared.sheet_day.rotor_entry.SheetWheel.{SheetWheel}
+use Rattle.kd_table.specs.Columns.{cell_at, cell_or}
+use Rattle.kd_table.specs.Items.{number_in, wheels_in, letters_in, pairs_in, groups_in}
+use Rattle.kd_table.specs.Names.{reflector_named}
+use Rattle.kd_table.specs.Steps.{◌>>=◌}
+use Rattle.kd_table.specs.declared.columns.Columns.{Columns}
+use Rattle.kd_table.specs.declared.options.TableOptions.{TableOptions}
+
+-- each wheel with its ring and its window letter; there must be as many rings and letters as wheels
+abbrev pub wheels_with : List (Option Wheel) → List ℕ → List ℕ → Option (List SheetWheel)
+wheels_with [] [] [] = Some []
+wheels_with (Some wheel ∷ wheels) (ring ∷ rings) (letter ∷ letters) =
+    option_map (λ rest. record { wheel = wheel; ring = ring; letter = letter } ∷ rest) (wheels_with wheels rings letters)
+wheels_with _ _ _ = None
+
+-- The values of a row's day. For the reflector and the window, options may stand for cells without anything. The column
+-- of the plugged pairs must be there, so that a slip in its name isn't taken for a day without pairs.
+unfoldable pub rotor_values : TableOptions → Columns → List (List ℕ) → Model → Option RotorDay
+rotor_values options columns row model = do
+  number ← number_in (cell_at columns.day row)
+  reflector ← reflector_named model (cell_or options.reflector.now columns.reflector row)
+  wheels ← wheels_in (cell_at columns.wheels row)
+  rings ← letters_in (cell_at columns.rings row)
+  window ← letters_in (cell_or options.window.now columns.window row)
+  seated ← wheels_with wheels rings window
+  plugs ← columns.plugs
+  pairs ← pairs_in (cell_at (Some plugs) row)
+  groups ← groups_in (cell_at columns.groups row)
+  Some (rotor_day_of number model reflector seated pairs groups)

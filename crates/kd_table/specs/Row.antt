@@ -1,0 +1,48 @@
+-- What a row of a table says of a day.
+-- Test: kd_table_trials/src/tables.rt
+use Rattle.std.specs.Prelude.{◌≡◌, ◌&&◌, ℕ, Bool, List, [], ◌∷◌, ◌++◌, Option, Some, None, ⊤}
+use Rattle.std.specs.List.{list_all}
+use Rattle.std.specs.Option.{option_map}
+use Rattle.kd_tables.specs.declared.model.Model.{Model}
+use Rattle.kd_tables.specs.declared.model.Model.TheVariants.{M209}
+use Rattle.kd_state.specs.SheetDay.{Day, OfRotors, OfPins, IsLegalDay}
+use Rattle.kd_table.specs.Columns.{cell_at, cell_or}
+use Rattle.kd_table.specs.Items.{is_blank}
+use Rattle.kd_table.specs.Names.{model_named}
+use Rattle.kd_table.specs.PinRow.{pin_values}
+use Rattle.kd_table.specs.RotorRow.{rotor_values}
+use Rattle.kd_table.specs.Steps.{◌>>=◌}
+use Rattle.kd_table.specs.declared.columns.Columns.{Columns}
+use Rattle.kd_table.specs.declared.options.TableOptions.{TableOptions}
+
+-- the columns whose values are read, but for the columns of pins
+abbrev pub places_of : Columns → List (Option ℕ)
+places_of c =
+    c.day ∷ c.model ∷ c.reflector ∷ c.wheels ∷ c.rings ∷ c.plugs ∷ c.window ∷ c.groups ∷ c.list ∷ c.bars ∷ []
+
+-- whether a row has nothing in the columns that are read
+abbrev pub is_blank_row : Columns → List (List ℕ) → Bool
+is_blank_row columns row =
+    list_all (λ column. is_blank (cell_at column row)) (places_of columns)
+    && list_all (λ column. is_blank (cell_at column row)) columns.pins
+
+-- the values of a row's day of this model
+abbrev pub values_of_model : TableOptions → Columns → List (List ℕ) → Model → Option Day
+values_of_model options columns row M209 = option_map OfPins (pin_values options columns row)
+values_of_model options columns row model = option_map OfRotors (rotor_values options columns row model)
+
+-- the values of a row's day
+abbrev pub row_values : TableOptions → Columns → List (List ℕ) → Option Day
+row_values options columns row = do
+  model ← model_named (cell_or options.model.now columns.model row)
+  values_of_model options columns row model
+
+-- The row describes this day, which is legal.
+pub record IsDayOfRow (options : TableOptions) (columns : Columns) (row : List (List ℕ)) (day : Day) : Type 0 where
+  pub values : row_values options columns row ≡ Some day
+  pub legal : IsLegalDay day
+
+-- There are no values, or they aren't those of a legal day.
+abbrev pub IsNoDay : Option Day → Type 0
+IsNoDay None = ⊤
+IsNoDay (Some day) = ¬ IsLegalDay day

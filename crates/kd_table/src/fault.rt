@@ -1,0 +1,16 @@
+//! `TableFault`: why a table isn't made a key sheet.
+use thiserror::Error;
+
+/// Why no key sheet, or only a part of it, is written.
+#[derive(Clone, Copy, Debug, PartialEq, Eq, Error)]
+pub enum TableFault {
+    /// The table has faults, which were told.
+    #[error("the table has faults")]
+    Refused,
+    /// The sink failed.
+    #[error("the sheet can't be written")]
+    Device,
+    /// Memory ran out while the table was read.
+    #[error("no memory")]
+    NoMemory,
+}

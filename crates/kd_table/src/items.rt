@@ -1,0 +1,314 @@
+//! Reads the cells of a table: numbers, wheels, letters, pairs and groups.
+ghost use Rattle.std.specs.Prelude.{◌≡◌, ◌≤◌, ◌+◌, ◌*◌, ◌++◌, ◌==◌, not, filter, ℕ, Bool, List, Option, map, option_map, length};
+ghost use Rattle.std.specs.Option.{option_and_then};
+ghost use Rattle.kd_state.specs.LineWords.{words_of};
+ghost use Rattle.kd_table.specs.Items.{is_gap, is_blank, normal, item_text, cell_words, values_of_words, values_in};
+ghost use Rattle.kd_table.specs.Items.{digit_of, number_of, letter_of, pair_of, group_of, slot_of, numbered_letter, ring_of_word};
+ghost use Rattle.kd_table.specs.Items.{Bytes, words, letters, hyphened, number_in, joined};
+ghost use Rattle.kd_sheet.specs.Bars.{reading_of_text};
+
+use crate::names::{capital, is_capital_letter, is_digit, wheel_named};
+use arrayvec::ArrayVec;
+use kd_sheet::reading_of_text;
+use kd_state::split_words;
+use kd_tables::{Letter, Reading, Wheel};
+
+/// The most bytes, words and values that a cell may have.
+pub const CELL_LIMIT: usize = 192;
+
+/// The values in a cell.
+pub type Values<T> = ArrayVec<T, 192>;
+
+/// Whether `byte` may stand between items.
+pub fn is_gap(byte: u8) -> bool
+    ensures { result ≡ is_gap byte }
+{
+    byte == 32 || 44 <= byte && byte <= 47 || byte == 59 || 9 <= byte && byte <= 13
+}
+
+/// Whether `cell` has nothing but gaps.
+pub fn is_blank(cell: &[u8]) -> bool
+    ensures { result ≡ is_blank cell.now }
+{
+    cell.iter().all(|byte| is_gap(*byte))
+}
+
+/// A space for a gap, and a capital letter for a small letter.
+pub fn normal(byte: u8) -> u8
+    ensures { result ≡ normal byte }
+{
+    if is_gap(byte) { 32 } else { capital(byte) }
+}
+
+/// A value that a word of a cell can mean.
+pub trait FromWord {
+    /// Which gaps words keep, and which bytes are items by themselves.
+    ghost bytes: { Bytes };
+
+    /// The value of a word.
+    ghost parse: { List ℕ → Option Self };
+
+    /// Whether `byte` is kept as it is.
+    fn is_kept(byte: u8) -> bool
+        ensures { result ≡ bytes.keeps byte };
+
+    /// Whether `byte` is an item by itself.
+    fn is_alone(byte: u8) -> bool
+        ensures { result ≡ bytes.alone byte };
+
+    /// Reads a word.
+    fn read_word(word: &[u8]) -> Option<Self>
+        ensures { result ≡ parse word.now };
+}
+
+/// Appends the bytes of `cell` in normal form, with a space after each byte that is an item by itself.
+pub fn push_item_text<T: FromWord>(text: &mut ArrayVec<u8, 384>, cell: &[u8])
+    requires { length text.old.items + 2 * length cell.now ≤ 384 }
+    ensures { text.new.items ≡ text.old.items ++ item_text T.bytes cell.now }
+{
+    if let [byte, rest @ ..] = cell {
+        let byte = *byte;
+        let byte = if T::is_kept(byte) { byte } else { normal(byte) };
+        text.push(byte);
+        if T::is_alone(byte) {
+            text.push(32);
+        }
+        push_item_text::<T>(text, rest);
+    }
+}
+
+/// Appends the values of the words that aren't empty. `None` if a word has no value.
+fn push_values<T: FromWord + Copy + Default>(values: &mut Values<T>, words: &[&[u8]]) -> Option<()>
+    requires { length values.old.items + length words.now ≤ 192 }
+    ensures { option_map (λ _. values.new.items) result
+        ≡ option_map (λ more. values.old.items ++ more) (values_of_words T.parse (map (λ word. word.now) words.now)) }
+{
+    match words {
+        [first, rest @ ..] => {
+            if !first.is_empty() {
+                values.push(T::read_word(first)?);
+            }
+            push_values(values, rest)
+        }
+        [] => Some(()),
+    }
+}
+
+/// Reads the words of a cell.
+pub fn values_in<T: FromWord + Copy + Default>(cell: &[u8]) -> Option<Values<T>>
+    ensures { option_map (λ values. values.items) result ≡ values_in T.bytes T.parse cell.now }
+{
+    if cell.len() > CELL_LIMIT {
+        return None;
+    }
+    let mut text = ArrayVec::new();
+    push_item_text::<T>(&mut text, cell);
+    let words = split_words::<192>(text.as_slice())?;
+    let mut values = ArrayVec::new();
+    push_values(&mut values, words.as_slice())?;
+    Some(values)
+}
+
+/// Reads a digit.
+fn digit_of(byte: u8) -> Option<u8>
+    ensures { result ≡ digit_of byte }
+{
+    if is_digit(byte) {
+        Some(byte - 48)
+    } else {
+        None
+    }
+}
+
+/// Reads a number of one or two digits.
+fn number_of(word: &[u8]) -> Option<u8>
+    ensures { result ≡ number_of word.now }
+{
+    match word {
+        [one] => digit_of(*one),
+        [one, other] => {
+            let tens = digit_of(*one)?;
+            let ones = digit_of(*other)?;
+            Some(10 * tens + ones)
+        }
+        _ => None,
+    }
+}
+
+/// The letter with a number from 1 (A) to 26 (Z).
+fn numbered_letter(number: Option<u8>) -> Option<Letter>
+    ensures { result ≡ numbered_letter number }
+{
+    let number = number?;
+    if 1 <= number && number <= 26 {
+        Letter::new(number - 1)
+    } else {
+        None
+    }
+}
+
+impl FromWord for u8 {
+    ghost bytes = { words };
+
+    ghost parse = { number_of };
+
+    fn is_kept(_byte: u8) -> bool {
+        false
+    }
+
+    fn is_alone(_byte: u8) -> bool {
+        false
+    }
+
+    fn read_word(word: &[u8]) -> Option<Self> {
+        number_of(word)
+    }
+}
+
+impl FromWord for Option<Wheel> {
+    ghost bytes = { words };
+
+    ghost parse = { slot_of };
+
+    fn is_kept(_byte: u8) -> bool {
+        false
+    }
+
+    fn is_alone(_byte: u8) -> bool {
+        false
+    }
+
+    fn read_word(word: &[u8]) -> Option<Self> {
+        Some(Some(wheel_named(word)?))
+    }
+}
+
+/// A letter: itself, or by its number from 1 (A) to 26 (Z).
+impl FromWord for Letter {
+    ghost bytes = { letters };
+
+    ghost parse = { ring_of_word };
+
+    fn is_kept(_byte: u8) -> bool {
+        false
+    }
+
+    fn is_alone(byte: u8) -> bool {
+        is_capital_letter(byte)
+    }
+
+    fn read_word(word: &[u8]) -> Option<Self> {
+        match word {
+            [byte] if is_capital_letter(*byte) => Letter::from_byte(*byte),
+            _ => numbered_letter(number_of(word)),
+        }
+    }
+}
+
+impl FromWord for (Letter, Letter) {
+    ghost bytes = { words };
+
+    ghost parse = { pair_of };
+
+    fn is_kept(_byte: u8) -> bool {
+        false
+    }
+
+    fn is_alone(_byte: u8) -> bool {
+        false
+    }
+
+    fn read_word(word: &[u8]) -> Option<Self> {
+        match word {
+            [one, other] => {
+                let letter = Letter::from_byte(*one)?;
+                let more = Letter::from_byte(*other)?;
+                Some((letter, more))
+            }
+            _ => None,
+        }
+    }
+}
+
+impl FromWord for [Letter; 3] {
+    ghost bytes = { words };
+
+    ghost parse = { group_of };
+
+    fn is_kept(_byte: u8) -> bool {
+        false
+    }
+
+    fn is_alone(_byte: u8) -> bool {
+        false
+    }
+
+    fn read_word(word: &[u8]) -> Option<Self> {
+        match word {
+            [one, two, three] => {
+                let one = Letter::from_byte(*one)?;
+                let two = Letter::from_byte(*two)?;
+                let three = Letter::from_byte(*three)?;
+                Some([one, two, three])
+            }
+            _ => None,
+        }
+    }
+}
+
+/// A bar's reading: the numbers of two wheels, with a hyphen between.
+impl FromWord for Reading {
+    ghost bytes = { hyphened };
+
+    ghost parse = { reading_of_text };
+
+    fn is_kept(byte: u8) -> bool {
+        byte == b'-'
+    }
+
+    fn is_alone(_byte: u8) -> bool {
+        false
+    }
+
+    fn read_word(word: &[u8]) -> Option<Self> {
+        reading_of_text(word)
+    }
+}
+
+/// Reads a cell that has one number and nothing else.
+pub fn number_in(cell: &[u8]) -> Option<u8>
+    ensures { result ≡ number_in cell.now }
+{
+    let numbers = values_in::<u8>(cell)?;
+    match numbers.as_slice() {
+        [number] => Some(*number),
+        _ => None,
+    }
+}
+
+/// Appends the bytes of `cell` in normal form, without the gaps.
+fn push_joined(text: &mut ArrayVec<u8, 192>, cell: &[u8])
+    requires { length text.old.items + length cell.now ≤ 192 }
+    ensures { text.new.items
+        ≡ text.old.items ++ filter (λ byte. not (byte == 32)) (map normal cell.now) }
+{
+    if let [byte, rest @ ..] = cell {
+        let byte = normal(*byte);
+        if byte != 32 {
+            text.push(byte);
+        }
+        push_joined(text, rest);
+    }
+}
+
+/// The letters of `cell`, without the gaps. `None` if the cell is too long.
+pub fn joined(cell: &[u8]) -> Option<ArrayVec<u8, 192>>
+    ensures { option_map (λ text. text.items) result ≡ joined cell.now }
+{
+    if cell.len() > CELL_LIMIT {
+        return None;
+    }
+    let mut text = ArrayVec::new();
+    push_joined(&mut text, cell);
+    Some(text)
+}

@@ -1,0 +1,19 @@
+//! Makes a key sheet of a table of days, as a spreadsheet saves it.
+#![tactic(auto)]
+
+mod columns;
+mod fault;
+mod items;
+mod names;
+mod notes;
+mod options;
+mod pin_row;
+mod quotes;
+mod reading;
+mod rotor_row;
+mod row;
+mod sheet;
+
+pub use fault::TableFault;
+pub use options::TableOptions;
+pub use sheet::run_sheet;

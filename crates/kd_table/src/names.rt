@@ -1,0 +1,89 @@
+//! Finds models, wheels and reflectors by their names in a table.
+ghost use Rattle.std.specs.Prelude.{◌≡◌, ◌≤◌, ◌+◌, ◌++◌, ◌||◌, length};
+ghost use Rattle.kd_table.specs.Names.{capital, is_digit, is_capital_letter, plain, is_named};
+ghost use Rattle.kd_table.specs.Names.{model_named, wheel_named, reflector_named};
+
+use arrayvec::ArrayVec;
+use kd_tables::{Model, Reflector, Wheel};
+
+/// The capital letter for a small letter; any other byte as it is.
+pub fn capital(byte: u8) -> u8
+    ensures { result ≡ capital byte }
+{
+    if 97 <= byte && byte <= 122 {
+        byte - 32
+    } else {
+        byte
+    }
+}
+
+/// Whether `byte` is a capital letter.
+pub fn is_capital_letter(byte: u8) -> bool
+    ensures { result ≡ is_capital_letter byte }
+{
+    65 <= byte && byte <= 90
+}
+
+/// Whether `byte` is a digit.
+pub fn is_digit(byte: u8) -> bool
+    ensures { result ≡ is_digit byte }
+{
+    48 <= byte && byte <= 57
+}
+
+/// Appends the letters and digits of `text`, with capital letters for small letters.
+fn push_plain(name: &mut ArrayVec<u8, 32>, text: &[u8])
+    requires { length name.old.items + length text.now ≤ 32 }
+    ensures { name.new.items ≡ name.old.items ++ plain text.now }
+{
+    if let [byte, rest @ ..] = text {
+        let byte = capital(*byte);
+        if is_capital_letter(byte) || is_digit(byte) {
+            name.push(byte);
+        }
+        push_plain(name, rest);
+    }
+}
+
+/// The letters and digits of `text`, with capital letters for small letters.
+fn plain(text: &[u8]) -> ArrayVec<u8, 32>
+    requires { length text.now ≤ 32 }
+    ensures { result.items ≡ plain text.now }
+{
+    let mut name = ArrayVec::new();
+    push_plain(&mut name, text);
+    name
+}
+
+/// Whether `cell`, of at most 32 bytes, has the name `name`.
+pub fn is_named(name: &str, cell: &[u8]) -> bool
+    requires { length name.now ≤ 32 }
+    ensures { result ≡ is_named name.now cell.now }
+{
+    cell.len() <= 32 && plain(cell).as_slice() == plain(name.as_bytes()).as_slice()
+}
+
+/// The model that `cell` names.
+pub fn model_named(cell: &[u8]) -> Option<Model>
+    ensures { result ≡ model_named cell.now }
+{
+    let models = [Model::EnigmaI, Model::M3, Model::M4, Model::M209];
+    let mut models = models.iter().copied();
+    models.find(|model| is_named(model.text().as_str(), cell))
+}
+
+/// The wheel that `word` names.
+pub fn wheel_named(word: &[u8]) -> Option<Wheel>
+    ensures { result ≡ wheel_named word.now }
+{
+    let mut wheels = Model::M4.wheels().iter().copied();
+    wheels.find(|wheel| is_named(wheel.text().as_str(), word))
+}
+
+/// The reflector of `model` that `cell` names. On an M4 the letter B means the thin reflector b.
+pub fn reflector_named(model: Model, cell: &[u8]) -> Option<Reflector>
+    ensures { result ≡ reflector_named model cell.now }
+{
+    let mut reflectors = model.reflectors().iter().copied();
+    reflectors.find(|reflector| is_named(reflector.text().as_str(), cell))
+}

@@ -1,0 +1,115 @@
+//! Tests the quotes of a table. The library `csv` refuses nothing: it would read an open quote to the table's end.
+ghost use Rattle.std.specs.Prelude.{◌≡◌, find};
+ghost use Rattle.csv.specs.Reading.{strip_bom};
+ghost use Rattle.kd_table.specs.Rows.{is_separator, separator_of, ends_cell, quoting_after_byte, quoting_after, may_end, is_well_quoted};
+
+/// Where a place in a table stands, as quotes go.
+#[derive(Clone, Copy)]
+pub enum Quoting {
+    /// At the start of a cell.
+    CellStart,
+    /// In a cell without quotes.
+    Unquoted,
+    /// In a quoted cell.
+    Quoted,
+    /// After a quote in a quoted cell, which ends the cell unless another quote follows.
+    Closed,
+    /// After a quoted cell that was followed by something else than a separator.
+    Wrong,
+}
+
+/// Whether `byte` may separate cells.
+fn is_separator(byte: u8) -> bool
+    ensures { result ≡ is_separator byte }
+{
+    byte == b',' || byte == b';' || byte == b'\t'
+}
+
+/// The first byte of `table` that may separate cells.
+fn first_separator(table: &[u8]) -> Option<u8>
+    ensures { result ≡ find is_separator table.now }
+{
+    let mut bytes = table.iter().copied();
+    bytes.find(|byte| is_separator(*byte))
+}
+
+/// The first comma, semicolon or tab of `table`, which separates its cells; a comma if there is none.
+pub fn separator_of(table: &[u8]) -> u8
+    ensures { result ≡ separator_of table.now }
+{
+    match first_separator(table) {
+        Some(byte) => byte,
+        None => b',',
+    }
+}
+
+/// Whether `byte` ends a cell.
+fn ends_cell(separator: u8, byte: u8) -> bool
+    ensures { result ≡ ends_cell separator byte }
+{
+    byte == separator || byte == 13 || byte == 10
+}
+
+impl Quoting {
+    /// Where the table stands after one more byte.
+    pub fn after_byte(self, separator: u8, byte: u8) -> Self
+        ensures { result ≡ quoting_after_byte separator self byte }
+    {
+        match self {
+            Quoting::CellStart if byte == 34 => Quoting::Quoted,
+            Quoting::CellStart if ends_cell(separator, byte) => Quoting::CellStart,
+            Quoting::CellStart => Quoting::Unquoted,
+            Quoting::Unquoted if ends_cell(separator, byte) => Quoting::CellStart,
+            Quoting::Unquoted => Quoting::Unquoted,
+            Quoting::Quoted if byte == 34 => Quoting::Closed,
+            Quoting::Quoted => Quoting::Quoted,
+            Quoting::Closed if byte == 34 => Quoting::Quoted,
+            Quoting::Closed if ends_cell(separator, byte) => Quoting::CellStart,
+            Quoting::Closed | Quoting::Wrong => Quoting::Wrong,
+        }
+    }
+
+    /// Whether a table may end here.
+    pub fn may_end(self) -> bool
+        ensures { result ≡ may_end self }
+    {
+        match self {
+            Quoting::CellStart | Quoting::Unquoted | Quoting::Closed => true,
+            Quoting::Quoted | Quoting::Wrong => false,
+        }
+    }
+}
+
+/// `table` without a byte order mark at its start.
+#[tactic(auto, using(crate::proofs::Marks::mark_stripped, crate::proofs::Marks::mark_absent))]
+pub fn strip_bom(table: &[u8]) -> &[u8]
+    ensures { result.now ≡ strip_bom table.now }
+{
+    if table.len() < 3 {
+        return table;
+    }
+    let (front, rest) = table.split_at(3);
+    if front == b"\xEF\xBB\xBF".as_slice() {
+        rest
+    } else {
+        table
+    }
+}
+
+/// Where `text` stands at its end.
+fn quoting_after(separator: u8, text: &[u8]) -> Quoting
+    ensures { result ≡ quoting_after separator Quoting.CellStart text.now }
+{
+    let mut quoting = Quoting::CellStart;
+    for byte in text {
+        quoting = quoting.after_byte(separator, *byte);
+    }
+    quoting
+}
+
+/// Whether each quoted cell of `table` is closed, and has nothing after the closing quote.
+pub fn is_well_quoted(table: &[u8]) -> bool
+    ensures { result ≡ is_well_quoted table.now }
+{
+    quoting_after(separator_of(table), strip_bom(table)).may_end()
+}

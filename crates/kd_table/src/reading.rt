@@ -1,0 +1,115 @@
+//! Reads a table row by row.
+ghost use Rattle.std.specs.Prelude.{◌≡◌, ◌++◌, ◌∷◌, [], List, ℕ, IfOk, false};
+ghost use Rattle.csv.specs.Records.{fields_of};
+ghost use Rattle.csv.specs.Reading.{AreRecords, strip_bom};
+ghost use Rattle.csv.specs.declared.parser.State.TheVariants as st;
+ghost use Rattle.kd_table.specs.Rows.{separated};
+ghost use Rattle.kd_table.specs.Table.{is_taken, IsBodyRead, IsRead};
+
+use crate::columns::Columns;
+use crate::fault::TableFault;
+use crate::options::TableOptions;
+use crate::row::{is_blank_row, row_day};
+use csv::{ByteRecord, ReaderBuilder};
+use kd_state::SheetDay;
+use std::alloc::Global;
+
+/// What was read of a table so far.
+#[derive(Drop)]
+pub struct Reading {
+    /// The columns, once the first row was read.
+    pub columns: Option<Columns>,
+    /// The days that rows describe, each with its own number.
+    pub days: Vec<SheetDay>,
+    /// Whether a row was refused.
+    pub refused: bool,
+}
+
+/// Whether one of `days` has this number.
+fn is_taken(days: &[SheetDay], number: u8) -> bool
+    ensures { result ≡ is_taken days.now number }
+{
+    match days {
+        [day, rest @ ..] => day.day() == number || is_taken(rest, number),
+        [] => false,
+    }
+}
+
+/// Reads a row under the first row, and appends its day. Returns whether a row was refused: this one, or one before.
+fn read_body_row(
+    days: &mut Vec<SheetDay>,
+    refused: bool,
+    options: &TableOptions<'_>,
+    columns: &Columns,
+    row: &ByteRecord,
+) -> Result<bool, TableFault>
+    ensures { IfOk result (λ now. (rows : List (List (List ℕ)))
+        → IsBodyRead options.now columns.now rows days.old.items refused
+        → IsBodyRead options.now columns.now (rows ++ fields_of row.now ∷ []) days.new.items now) }
+{
+    if is_blank_row(columns, row) {
+        return Ok(refused);
+    }
+    let day = match row_day(options, columns, row) {
+        Some(day) => day,
+        None => return Ok(true),
+    };
+    if is_taken(days.as_slice(), day.day()) {
+        return Ok(true);
+    }
+    if days.push(day).is_err() {
+        return Err(TableFault::NoMemory);
+    }
+    Ok(refused)
+}
+
+/// Reads the next row.
+fn read_row(
+    reading: &mut Reading,
+    options: &TableOptions<'_>,
+    row: &ByteRecord,
+) -> Result<(), TableFault>
+    ensures { IfOk result (λ _. (rows : List (List (List ℕ)))
+        → IsRead options.now rows reading.old.columns reading.old.days.items reading.old.refused
+        → IsRead options.now (rows ++ fields_of row.now ∷ []) reading.new.columns reading.new.days.items
+        reading.new.refused) }
+{
+    match reading.columns {
+        None => reading.columns = Some(Columns::of_head(row)),
+        Some(columns) => {
+            let refused = reading.refused;
+            reading.refused = read_body_row(&mut reading.days, refused, options, &columns, row)?;
+        }
+    }
+    Ok(())
+}
+
+/// Reads all rows of `table`, whose cells `separator` separates.
+pub fn read_rows(
+    alloc: Global,
+    separator: u8,
+    table: &[u8],
+    options: &TableOptions<'_>,
+) -> Result<Reading, TableFault>
+    ensures { IfOk result (λ reading. (rows : List (List (List ℕ)))
+        × AreRecords (separated separator) st.StartRecord (strip_bom table.now) rows
+        × IsRead options.now rows reading.columns reading.days.items reading.refused) }
+{
+    let rdr = ReaderBuilder::new()
+        .has_headers(false)
+        .flexible(true)
+        .delimiter(separator)
+        .from_reader(alloc, table);
+    let mut reading = Reading {
+        columns: None,
+        days: Vec::new(alloc),
+        refused: false,
+    };
+    for row in rdr.into_byte_records() {
+        let Ok(row) = row else {
+            return Err(TableFault::NoMemory);
+        };
+        read_row(&mut reading, options, &row)?;
+    }
+    Ok(reading)
+}

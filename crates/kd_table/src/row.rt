@@ -1,0 +1,63 @@
+//! Reads a row of a table as a day.
+ghost use Rattle.std.specs.Prelude.{◌≡◌, MatchOption};
+ghost use Rattle.csv.specs.Records.{fields_of};
+ghost use Rattle.std.specs.List.{list_all};
+ghost use Rattle.kd_table.specs.{Columns.{cell_at}, Items.{is_blank}};
+ghost use Rattle.kd_table.specs.Row.{is_blank_row, places_of, row_values, IsDayOfRow, IsNoDay};
+
+use crate::columns::{Columns, cell_at, cell_or};
+use crate::items::is_blank;
+use crate::names::model_named;
+use crate::options::TableOptions;
+use crate::pin_row::pin_day;
+use crate::rotor_row::rotor_day;
+use csv::ByteRecord;
+use kd_state::SheetDay;
+use kd_tables::Model;
+
+/// The columns whose values are read, but for the columns of pins.
+fn places_of(columns: &Columns) -> [Option<usize>; 10]
+    ensures { result ≡ places_of columns.now }
+{
+    [
+        columns.day,
+        columns.model,
+        columns.reflector,
+        columns.wheels,
+        columns.rings,
+        columns.plugs,
+        columns.window,
+        columns.groups,
+        columns.list,
+        columns.bars,
+    ]
+}
+
+/// Whether `row` has nothing in these columns.
+fn has_nothing(row: &ByteRecord, columns: &[Option<usize>]) -> bool
+    ensures { result ≡ list_all (λ column. is_blank (cell_at column (fields_of row.now))) columns.now }
+{
+    columns.iter().all(|column| is_blank(cell_at(row, *column)))
+}
+
+/// Whether `row` has nothing in the columns that are read.
+pub fn is_blank_row(columns: &Columns, row: &ByteRecord) -> bool
+    ensures { result ≡ is_blank_row columns.now (fields_of row.now) }
+{
+    has_nothing(row, &places_of(columns)) && has_nothing(row, &columns.pins)
+}
+
+/// Reads a row as a day. `None` if it doesn't describe a legal day.
+pub fn row_day(options: &TableOptions<'_>, columns: &Columns, row: &ByteRecord) -> Option<SheetDay>
+    ensures { MatchOption result
+        (IsNoDay (row_values options.now columns.now (fields_of row.now)))
+        (λ day. IsDayOfRow options.now columns.now (fields_of row.now) day) }
+{
+    let model = model_named(cell_or(options.model, row, columns.model))?;
+    let day = match model {
+        Model::M209 => pin_day(options, columns, row)?,
+        Model::EnigmaI | Model::M3 | Model::M4 => rotor_day(options, columns, row, model)?,
+    };
+    let _legal = day.model();
+    Some(day)
+}

@@ -1,0 +1,92 @@
+//! The command `sheet`: makes a key sheet of a table.
+ghost use Rattle.std.specs.Prelude.{◌≡◌, ◌||◌, Ok, Err, IfOk, IsErr, List, false};
+ghost use Rattle.std.specs.Io.KnownBytes.{Appends};
+ghost use Rattle.kd_tables.specs.Writing.{TakesPrefix};
+ghost use Rattle.kd_state.specs.SheetDay.{Day};
+ghost use Rattle.kd_sheet.specs.{Sheet.{month_of}, SheetFile.{sheet_of}, SheetText.{sheet_text}};
+ghost use Rattle.kd_table.specs.Table.{TableMeans, IsRefusedTable, is_device};
+ghost use Rattle.kd_table.specs.declared.fault.TableFault.TheVariants as faults;
+
+use crate::fault::TableFault;
+use crate::notes::tell_table;
+use crate::options::TableOptions;
+use crate::quotes::{is_well_quoted, separator_of};
+use crate::reading::{Reading, read_rows};
+use kd_sheet::write_sheet;
+use kd_state::SheetDay;
+use kd_tables::{Device, Sink};
+use std::alloc::Global;
+
+/// Reads a table as the days of a key sheet.
+fn read_days(
+    alloc: Global,
+    table: &[u8],
+    options: &TableOptions<'_>,
+) -> Result<Vec<SheetDay>, TableFault>
+    ensures days { IfOk result (λ days. TableMeans options.now table.now days.items) }
+    ensures refused { result ≡ Err faults.Refused → IsRefusedTable options.now table.now }
+    ensures unwritten { is_device result ≡ false }
+{
+    if !is_well_quoted(table) {
+        return Err(TableFault::Refused);
+    }
+    let reading = match read_rows(alloc, separator_of(table), table, options) {
+        Ok(reading) => reading,
+        Err(_) => return Err(TableFault::NoMemory),
+    };
+    let Reading { days, refused, .. } = reading;
+    if refused {
+        return Err(TableFault::Refused);
+    }
+    if days.is_empty() {
+        return Err(TableFault::Refused);
+    }
+    Ok(days)
+}
+
+/// Tells the faults of a table, if it is refused for its faults.
+fn tell_refused<N: Sink>(
+    fault: TableFault,
+    alloc: Global,
+    table: &[u8],
+    options: &TableOptions<'_>,
+    notes: &mut N,
+) {
+    if let TableFault::Refused = fault {
+        tell_table(alloc, table, options, true, notes);
+    }
+}
+
+/// Writes the key sheet that the days of `table` make.
+///
+/// `Refused` if the table is refused: nothing is written, and `notes` gets a line for each fault. On `Device`, the sink
+/// has taken a prefix of the sheet. `notes` gets a line for each column that isn't read, too.
+pub fn run_sheet<W: Sink, N: Sink>(
+    alloc: Global,
+    table: &[u8],
+    options: &TableOptions<'_>,
+    sink: &mut W,
+    notes: &mut N,
+) -> Result<(), TableFault>
+    ensures sheet { IfOk result (λ _. (days : List Day) × TableMeans options.now table.now days
+        × Appends (W.taken sink.old) (W.taken sink.new) (sheet_text days)
+        × (sheet_of (sheet_text days) ≡ Ok (month_of days))) }
+    ensures refused { result ≡ Err faults.Refused → IsRefusedTable options.now table.now }
+    ensures device { result ≡ Err faults.Device → (days : List Day) × TableMeans options.now table.now days
+        × TakesPrefix (W.taken sink.old) (W.taken sink.new) (sheet_text days) }
+    ensures untouched { IsErr result → is_device result ≡ false → sink.new ≡ sink.old }
+    ensures failed { W.has_failed sink.new ≡ (W.has_failed sink.old || is_device result) }
+{
+    let days = match read_days(alloc, table, options) {
+        Ok(days) => days,
+        Err(fault) => {
+            tell_refused(fault, alloc, table, options, notes);
+            return Err(fault);
+        }
+    };
+    tell_table(alloc, table, options, false, notes);
+    match write_sheet(sink, days.as_slice()) {
+        Ok(()) => Ok(()),
+        Err(Device) => Err(TableFault::Device),
+    }
+}
