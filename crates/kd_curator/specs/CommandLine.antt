@@ -96,11 +96,6 @@ abbrev pub HasForm : List Row → TableForm → Type 0
 HasForm rows forms.Csv = first_of (codes "csv") rows ≡ Some (codes "true")
 HasForm rows forms.Page = first_of (codes "csv") rows ≢ Some (codes "true")
 
--- `word` is a value of the option `--csv`: `true` means tables as CSV.
-abbrev pub IsFormNamed : List ℕ → TableForm → Type 0
-IsFormNamed word forms.Csv = word ≡ codes "true"
-IsFormNamed word forms.Page = word ≢ codes "true"
-
 -- They mean the command `table`, with this file and this form.
 pub record IsTableOf (said : List ℕ × List Row) (key_sheet : List ℕ) (its_form : TableForm) : Type 0 where
   pub name : said.0 ≡ codes "table"
@@ -161,3 +156,8 @@ abbrev pub IsToldAs : ErrorKind → NoCommand → Type 0
 IsToldAs kind (Asked text) = IsTrue (is_help kind)
 IsToldAs kind (Usage text) = (is_help kind ≡ false) × (kind ≢ OutOfMemory)
 IsToldAs kind NoMemory = Unit {0}
+
+-- `word` is a value of the option `--csv`: `true` means tables as CSV.
+abbrev pub IsFormNamed : List ℕ → TableForm → Type 0
+IsFormNamed word forms.Csv = word ≡ codes "true"
+IsFormNamed word forms.Page = word ≢ codes "true"
