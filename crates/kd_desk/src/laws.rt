@@ -13,10 +13,9 @@ use kd_card::write_card;
 use kd_plan::plan;
 use kd_sheet::Sheet;
 use kd_sheet::laws::written_files_are_read_back;
+pub use kd_state::laws::settings_lead_or_are_refused;
 use kd_state::{Machine, SheetDay, carry_all};
 use kd_tables::MemorySink;
-
-pub use kd_state::laws::settings_lead_or_are_refused;
 
 /// No bytes give two lists of settings, two faults, or a list and a fault.
 pub fn bytes_give_one_list_or_one_fault()
