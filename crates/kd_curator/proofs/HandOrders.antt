@@ -1,10 +1,9 @@
 -- A list of settings in an order for the hand leads to the same machine.
-use Rattle.std.proofs.Common.{◌≡◌, ℕ, Bool, true, false, not, ◌&&◌, List, [], ◌∷◌, ◌++◌, filter, arith, refl, subst}
+use Rattle.std.proofs.Common.{◌≡◌, ℕ, Bool, true, false, not, ◌&&◌, List, [], ◌∷◌, ◌++◌, filter, arith, refl}
 use Rattle.std.proofs.Common.{ap₂, ◌∙◌, IsTrue, Result, Ok, Err, append_assoc, length, ◌+◌, ◌-◌, sym}
 use Rattle.std.specs.Prelude.{nat_lt, ok_or, slice_set}
 use Rattle.std.specs.List.{list_all}
 use Rattle.std.specs.Prelude.{IsPermutation}
-use Rattle.std.proofs.lemmas.Grind.{common_steps}
 use Rattle.std.proofs.lemmas.List.Sorted.{IsPermutation-refl, IsPermutation-cons, IsPermutation-trans}
 use Rattle.std.proofs.lemmas.List.Sorted.{IsPermutation-sym, IsPermutation-middle}
 use Rattle.std.proofs.lemmas.List.Folds.{list_all-append}

@@ -1,12 +1,11 @@
 -- What was written to a sink that gathers bytes is written to the sink to which it passes them on.
-use Rattle.std.proofs.Common.{◌≡◌, ◌⊎◌, ◌≤◌, ◌||◌, ℕ, Bool, false, List, [], Option, Result, Ok, Err, IsErr, IsOk}
+use Rattle.std.proofs.Common.{◌≡◌, ◌||◌, ℕ, Bool, List, [], Option, Result, Ok, Err, IsErr, IsOk}
 use Rattle.std.proofs.Common.{IsTrue}
-use Rattle.std.proofs.Common.{MatchResult, inl, inr, is_err, length, refl, sym, subst, arith, ◌∙◌, ap, None, Some}
+use Rattle.std.proofs.Common.{MatchResult, inl, inr, is_err, refl, sym, subst, arith, ap, None, Some}
 use Rattle.std.proofs.Common.{append-nil}
 use Rattle.std.proofs.KnownBytes.{Appends-kept}
 use Rattle.std.specs.Io.KnownBytes.{Appends, Keeps, append_known}
 use Rattle.kd_tables.specs.Ports.{Port}
-use Rattle.kd_tables.specs.Writing.{TakesPrefix}
 use Rattle.kd_host.specs.Files.{AskedName}
 use Rattle.kd_host.specs.Writing.{WritesText}
 use Rattle.kd_state.specs.declared.machine.parts.Parts.{Parts}
@@ -15,17 +14,17 @@ use Rattle.kd_curator.specs.Ending.{stop_after}
 use Rattle.kd_curator.specs.MachineAndSheet.{IsAnswerOnSheet}
 use Rattle.kd_curator.specs.Program.{CarriesOut, DoesCommand, DoesTask, IsTold, PassesOn, is_stopped_before_writing}
 use Rattle.kd_curator.specs.Program.{Carried, FileUnread, Shown, OtherWords, NoMemory, is_stopped_by_device, is_usage}
-use Rattle.kd_curator.specs.Refusals.{is_device_fault, refused_device, refused_whole}
+use Rattle.kd_curator.specs.Refusals.{refused_device, refused_whole}
 use Rattle.kd_curator.specs.Tables.{WritesTables}
 use Rattle.kd_sheet.specs.SheetFile.{sheet_of}
 use Rattle.kd_sheet.specs.declared.fault.SheetFault.{SheetFault}
 use Rattle.kd_key_table.specs.TableFile.{file_text}
 use Rattle.kd_key_table.specs.declared.table_file.TableForm.{TableForm}
+use Rattle.kd_curator.specs.declared.command.Command.{Command}
 use Rattle.kd_curator.specs.declared.command.Command.TheVariants as commands
 use Rattle.kd_curator.specs.declared.fault.PageFault.TheVariants.{File}
 use Rattle.kd_curator.specs.RunList.{WritesList, NoList, Settings}
 use Rattle.kd_curator.specs.RunPage.{WritesPages, NoDays, NoPage, Pages}
-use Rattle.kd_curator.specs.declared.command.Command.{Command}
 use Rattle.kd_curator.specs.declared.command.Task.{Task}
 use Rattle.kd_curator.specs.declared.command.Task.TheVariants as tasks
 use Rattle.kd_curator.specs.declared.fault.Refused.{Refused}

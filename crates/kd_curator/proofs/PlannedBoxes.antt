@@ -1,13 +1,11 @@
 -- The boxes of a page, read from the top, are a planned list in an order for the hand.
-use Rattle.std.proofs.Common.{◌≡◌, ◌≢◌, ℕ, ◌+◌, ◌<◌, ◌≤◌, Bool, true, false, not, ◌&&◌, List, [], ◌∷◌, ◌++◌, length}
+use Rattle.std.proofs.Common.{◌≡◌, ℕ, ◌+◌, ◌<◌, ◌≤◌, Bool, true, false, not, ◌&&◌, List, [], ◌∷◌, ◌++◌, length}
 use Rattle.std.proofs.Common.{arith, suc}
 use Rattle.std.proofs.Common.{filter, flat_map, nat_eq, subst, sym, refl, ap, ap₂, ◌∙◌, zip, map, append_assoc}
 use Rattle.std.proofs.Common.{append-nil}
 use Rattle.std.proofs.Common.{None as Nothing, Some, Contains, zero}
-use Rattle.std.specs.List.{list_all}
 use Rattle.std.specs.Prelude.{Option, if◌then◌else◌, nat_le, nat_lt, slice_index_or}
 use Rattle.std.proofs.lemmas.Bool.{and_parts, leb-true, ltb-true}
-use Rattle.std.proofs.lemmas.Grind.{common_steps}
 use Rattle.std.proofs.lemmas.List.Elements.{filter-append}
 use Rattle.std.proofs.lemmas.List.{length-map}
 use Rattle.kd_tables.specs.declared.model.Model.{Model}
@@ -28,16 +26,16 @@ use Rattle.kd_state.specs.declared.sheet_day.rotor_entry.SheetWheel.{SheetWheel}
 use Rattle.kd_state.specs.Costs.{columns_of}
 use Rattle.kd_state.specs.Machine.{IsMachine, model_of}
 use Rattle.kd_state.specs.SameParts.{same_reflector}
-use Rattle.kd_state.specs.SheetDay.{Day, IsLegalDay, OfRotors, OfPins, RotorDay, PinDay, day_model, seats_of_wheels}
+use Rattle.kd_state.specs.SheetDay.{Day, IsLegalDay, OfRotors, OfPins, RotorDay, PinDay, day_model}
 use Rattle.kd_card.specs.Loose.{setting_unless, lines_from, slot_seat_line, slot_turn_line, wheel_ring_line}
 use Rattle.kd_card.specs.Loose.{pin_line, wheel_pin_lines, pin_wheel_turn_line}
 use Rattle.kd_card.proofs.Months.Shortest.{no_rotors}
 use Rattle.kd_plan.specs.Moves.{bar_moves, planned_lines, with_columns}
 use Rattle.kd_pictures.specs.Words.{is_converter}
 use Rattle.kd_page.specs.declared.spots.Step.{Step}
-use Rattle.kd_page.specs.declared.spots.Step.TheVariants.{Rings, Seats, PlugsOut, PlugsIn, Pins, Lugs, Turns}
+use Rattle.kd_page.specs.declared.spots.Step.TheVariants.{PlugsOut, PlugsIn, Pins, Lugs, Turns}
 use Rattle.kd_page.specs.PageOrder.{IsPinOrder, IsRanked, IsRotorOrder, page_boxes, settings_at, step_number}
-use Rattle.kd_page.specs.Spots.{cell_of, is_at, row_of, row_spot, step_of, step_rank, step_spot}
+use Rattle.kd_page.specs.Spots.{cell_of, is_at, row_of, row_spot, step_rank, step_spot}
 use Rattle.kd_page.proofs.PageOrders.{pin_boxes_are, rotor_boxes_are}
 use Rattle.kd_curator.specs.declared.stages.Stage.{Stage}
 use Rattle.kd_curator.specs.declared.stages.Stage.TheVariants.{Rings as First, Parts as Between, Windows as Last}

@@ -1,11 +1,10 @@
 -- Lists whose items come in the order of their numbers.
-use Rattle.std.proofs.Common.{◌≡◌, ◌≢◌, ℕ, zero, suc, ◌+◌, ◌<◌, ◌≤◌, Bool, true, false, not, ◌&&◌, List, [], ◌∷◌}
+use Rattle.std.proofs.Common.{◌≡◌, ℕ, ◌+◌, ◌<◌, ◌≤◌, Bool, true, false, not, List, [], ◌∷◌}
 use Rattle.std.proofs.Common.{◌++◌, length, arith}
-use Rattle.std.proofs.Common.{filter, nat_eq, subst, sym, refl, ap, ◌∙◌, zip, map}
+use Rattle.std.proofs.Common.{filter, nat_eq, subst, sym, refl, zip}
 use Rattle.std.specs.List.{list_all}
 use Rattle.std.specs.Prelude.{if◌then◌else◌}
 use Rattle.std.proofs.lemmas.Bool.{and_parts}
-use Rattle.std.proofs.lemmas.Grind.{common_steps}
 use Rattle.kd_state.specs.declared.setting.Setting.{Setting}
 use Rattle.kd_card.specs.Loose.{lines_from}
 use Rattle.kd_page.specs.PageOrder.{IsRanked}

@@ -1,21 +1,13 @@
 -- How a command line is carried out.
-use Rattle.std.proofs.Common.{◌≡◌, ◌||◌, ℕ, Bool, true, false, List, [], Option, IfSome, IsErr, IsTrue, Result, Ok}
+use Rattle.std.proofs.Common.{◌≡◌, ◌||◌, Bool, true, false, [], IsErr, IsTrue, Result, Ok}
 use Rattle.std.proofs.Common.{Err}
 use Rattle.std.proofs.Common.{OnErr, inl, refl, arith, ap, subst, sym, ◌∙◌}
-use Rattle.kd_host.specs.declared.file_fault.FileFault.{FileFault}
-use Rattle.kd_host.specs.declared.file_fault.FileFault.TheVariants as files
-use Rattle.kd_host.specs.Files.{AreAskedFor, AskedName}
-use Rattle.kd_tables.specs.Answers.{AgreesOrNoMemory}
-use Rattle.kd_tables.specs.Ports.{Port}
-use Rattle.kd_curator.specs.CommandLine.{IsCommandLineOf, NamedCommand}
 use Rattle.kd_curator.specs.Ending.{stop_after}
-use Rattle.kd_curator.specs.Program.{Carried, CarriesOut, DoesTask, IsTold, PassesOn, is_stopped_before_writing}
-use Rattle.kd_curator.specs.Program.{is_stopped_by_device, known_command, names_of}
-use Rattle.kd_curator.specs.Refusals.{is_device, is_device_fault, refused_device}
-use Rattle.kd_curator.specs.declared.command.Command.{Command}
+use Rattle.kd_curator.specs.Program.{IsTold, PassesOn, is_stopped_before_writing}
+use Rattle.kd_curator.specs.Program.{is_stopped_by_device}
+use Rattle.kd_curator.specs.Refusals.{is_device, refused_device}
 use Rattle.kd_curator.specs.declared.fault.Refused.{Refused}
 use Rattle.kd_curator.specs.declared.stop.Stop.{Stop}
-use Rattle.kd_curator.specs.declared.stop.Stop.TheVariants as stops
 
 ends_after : (told : Result (Unit {0}) Refused) → PassesOn [] (stop_after told) (stop_after told)
 ends_after (Ok done) = inl (refl, refl)

@@ -1,5 +1,5 @@
 //! Tests of the command line.
-use kd_curator::{Command, NoCommand, Task, parse_words};
+use kd_curator::{Command, Days, NoCommand, Task, parse_words};
 use kd_key_table::TableForm::{self, Csv, Page};
 use std::alloc::Global;
 
@@ -80,23 +80,35 @@ fn finds_the_files_and_the_day(rt: HostRuntime) {
     }
 }
 
+/// The days of a command line with `page`; `None` if it is another command line.
+fn page_days(alloc: Global, words: &[&str]) -> Option<Option<Days>> {
+    match parse_words(alloc, words).ok()? {
+        Command::OnMachine { task, .. } => days_of_page(task),
+        Command::Table { .. } => None,
+    }
+}
+
+/// The days of the task `page`; `None` if it is another task.
+fn days_of_page(task: Task) -> Option<Option<Days>> {
+    match task {
+        Task::Page(days) => Some(days),
+        Task::List(_) => None,
+    }
+}
+
+/// Whether these are the days `due`; there are none if no days are named.
+fn are_days(found: Option<Option<Days>>, due: &[u8]) -> bool {
+    match found {
+        Some(Some(days)) => days.as_slice() == due,
+        Some(None) => due.is_empty(),
+        None => false,
+    }
+}
+
 #[test]
 fn finds_the_days(rt: HostRuntime) {
     for (words, days) in &PAGES {
-        let found = match parse_words(rt.alloc(), words) {
-            Ok(
-                Command::OnMachine {
-                    machine: "m",
-                    sheet: "s",
-                    task: Task::Page(found),
-                },
-            ) => match found {
-                Some(found) => found.as_slice() == *days,
-                None => days.is_empty(),
-            },
-            _ => false,
-        };
-        assert!(rt; found);
+        assert!(rt; are_days(page_days(rt.alloc(), words), *days));
     }
 }
 
@@ -104,10 +116,15 @@ fn finds_the_days(rt: HostRuntime) {
 fn finds_the_sheet(rt: HostRuntime) {
     for (words, sheet, form) in &TABLES {
         let found = match parse_words(rt.alloc(), words) {
-            Ok(Command::Table { sheet, form }) => Some((sheet, form)),
-            _ => None,
+            Ok(
+                Command::Table {
+                    sheet: name,
+                    form: found,
+                },
+            ) => name == *sheet && found == *form,
+            _ => false,
         };
-        assert_eq!(rt; found, Some((*sheet, *form)));
+        assert!(rt; found);
     }
 }
 

@@ -1,4 +1,3 @@
-use Rattle.std.proofs.Common.{ap, sym, ◌∙◌, ◌||◌}
 use Rattle.kd_host.proofs.Failing.{err_is}
 use Rattle.kd_curator.specs.CommandLine.{unborrowed_command}
 use Rattle.kd_curator.specs.Program.{Carried, FileUnread, Shown}
