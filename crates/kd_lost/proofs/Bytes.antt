@@ -30,7 +30,7 @@ more_found : {X Y : Type 0} (f : X → Option Y) (n : ℕ) (xs : List X) (index 
     → take n (kept ++ option_to_list (f x)) ≡ take n (filter_map f (take (index + 1) xs))
 more_found f n xs index x kept inside is was =
     ap (λ l. take n (l ++ option_to_list (f x))) was ∙ still_kept n (filter_map f (take index xs)) (option_to_list
-        (f x))
+    (f x))
     ∙ sym (ap (λ l. take n (filter_map f l)) (take_more xs index x inside)
     ∙ ap (take n) (filter_map-append f (take index xs) (get_or xs index x ∷ []))
     ∙ ap (λ y. take n (filter_map f (take index xs) ++ cons_option (f y) [])) is

@@ -177,9 +177,13 @@ pub each_of_four : (P : Option ℕ → Type 0) (a b c d : Option ℕ) → All P 
 each_of_four P a b c d all =
     let more = All-tail P a (b ∷ c ∷ d ∷ []) all in
     let rest = All-tail P b (c ∷ d ∷ []) more in
-    let last = All-tail P c (d ∷ []) rest in
-    (All-head P a (b ∷ c ∷ d ∷ []) all, All-head P b (c ∷ d ∷ []) more, All-head P c
-    (d ∷ []) rest, All-head P d [] last)
+    let last = All-tail P c (d ∷ []) rest in (
+      All-head P a (b ∷ c ∷ d ∷ []) all,
+      All-head P b (c ∷ d ∷ []) more,
+      All-head P c
+          (d ∷ []) rest,
+      All-head P d [] last,
+    )
 
 -- ---- what `decipher_pin` says of the copies
 

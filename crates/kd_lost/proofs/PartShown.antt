@@ -105,7 +105,7 @@ pin_has_text s received keys internal some read on_wheels is_key =
     let P = λ (got : Option ℕ). IsLetterFor got chosen in
     let each = letter_of_each 0 (chosen_copies start end) chosen first.says in
     let four = each_of_four P (get_or start 0 None) (get_or start 1 None) (get_or end 0 None)
-        (get_or end 1 None) each in
+    (get_or end 1 None) each in
     let copies = key_letters_complete 1 (drop 2 start) (drop 2 end) external same rest.says in
     let at_start : Completes start (chosen ∷ chosen ∷ external) =
     copy_completes start chosen external (omega (arith, size_of_start)) four.0 four.1 copies.0 in
@@ -123,8 +123,13 @@ pin_has_text s received keys internal some read on_wheels is_key =
     key_letters_length 1 (drop 2 start) (drop 2 end) external same rest.says
     ∙ (omega (arith, length-drop {A = Option ℕ}, size_of_start)) in
     let two_letters : length last ≡ 2 =
-    omega (arith, completes_length (drop 8 back) last (filled_completes
-        (drop 8 back)), length-drop {A = Option ℕ}, some) in
+    omega (
+      arith,
+      completes_length (drop 8 back) last (filled_completes
+          (drop 8 back)),
+      length-drop {A = Option ℕ},
+      some,
+    ) in
     let whole : List ℕ = (chosen ∷ chosen ∷ external ++ middle) ++ (chosen ∷ chosen ∷ external ++ last) in
     let these : keys_of_body whole ≡ keys = keys_around chosen external middle last six ∙ sym (Yields-Ok rest.next) in
     record {

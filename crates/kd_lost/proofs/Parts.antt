@@ -164,8 +164,13 @@ restored_kind byte body letters (Other kept given is) allowed a more =
 -- letters that complete those of a body are those of a completion
 pub restored : (body letters : List ℕ) → All (λ byte. IsTrue (is_body_byte byte)) body
     → Completes (received_letters body) letters → Restored body letters
-restored [] [] allowed a = record { rest = []; completes = tt; has = refl; allowed = All-nil (λ byte. IsTrue
-    (is_text_byte byte)) }
+restored [] [] allowed a = record {
+  rest = [];
+  completes = tt;
+  has = refl;
+  allowed = All-nil (λ byte. IsTrue
+      (is_text_byte byte));
+}
 restored [] (x ∷ letters) allowed a = absurd a
 restored (byte ∷ body) letters allowed a =
     restored_kind byte body letters (kind_of byte) (All-head (λ byte. IsTrue (is_body_byte byte)) byte body allowed) a

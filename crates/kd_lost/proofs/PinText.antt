@@ -59,15 +59,15 @@ keys_there start end whole keys some more one other twice read =
     let at_zero : get_or (take 8 whole) 0 0 ≡ x = get_or-take 8 whole 0 0 (omega arith) ∙ twice in
     let P = λ (got : Option ℕ). IsLetterFor got x in
     let a = subst (IsLetterFor (get_or start 0 None)) at_zero (letter_at start (take 8 whole) 0 one (omega
-        (arith, some))) in
+    (arith, some))) in
     let b = subst (IsLetterFor (get_or start 1 None)) at_one (letter_at start (take 8 whole) 1 one (omega
-        (arith, some))) in
+    (arith, some))) in
     let c = subst (IsLetterFor (get_or end 0 None)) at_zero (letter_at end (take 8 whole) 0 other (omega
-        (arith, more))) in
+    (arith, more))) in
     let d = subst (IsLetterFor (get_or end 1 None)) at_one (letter_at end (take 8 whole) 1 other (omega
-        (arith, more))) in
+    (arith, more))) in
     let each = four_hold P (get_or start 0 None) (get_or start 1 None) (get_or end 0 None)
-        (get_or end 1 None) a b c d in
+    (get_or end 1 None) a b c d in
     let chosen = only_letter 0 (chosen_copies start end) first.found x first.says each in
     let cut : drop 2 (take 8 whole) ≡ slice_range whole 2 8 = drop-take 2 6 whole in
     let external = sym cut ∙ only_letters 1 (drop 2 start) (drop 2 end) rest.found (drop 2 (take 8 whole)) rest.says

@@ -61,8 +61,10 @@ module _ (s : Day) where
   quiet_parts p (part ∷ parts) letters (inr (read, more, is, rest, joined)) =
       let w = whole_part s p part read is in (
         subst IsQuiet (sym w.first.joined)
-            (quiet_line w.line (10 ∷ w.body) w.first.without ((λ _. no_digits w.body w.allowed),
-            quiet_body w.body w.allowed)),
+            (quiet_line w.line (10 ∷ w.body) w.first.without (
+              (λ _. no_digits w.body w.allowed),
+              quiet_body w.body w.allowed,
+            )),
         quiet_parts (next_part_start p read.parts part) parts more rest,
       )
 
@@ -88,7 +90,7 @@ heading_digit (a ∷ b ∷ c ∷ d ∷ e ∷ f ∷ bytes) long front low high =
     let four : d ≡ 84 = ap (λ l. get_or l 3 0) front in
     let five : e ≡ 32 = ap (λ l. get_or l 4 0) front in
     digit_behind a _ (omega (arith, one)) (digit_behind b _ (omega (arith, two)) (digit_behind c _ (omega
-        (arith, three))
+    (arith, three))
     (digit_behind d _ (omega (arith, four)) (digit_behind e _ (omega (arith, five))
     (digit_here f (has_digit_line bytes) low high)))))
 heading_digit [] long front low high = absurd (omega (arith, long))

@@ -221,7 +221,7 @@ same_heading : (s : Day) (part line body : List ℕ) (h other : Heading) → IsF
 same_heading s part line body h other first kept filled a b =
     let is = λ (g : Heading) (d : IsDamagedHeading s line g).
     ended_heading s line body g first.without d.is_heading (subst (λ l. IsLineText l (line_of
-        (heading_words g))) filled d.text) in
+    (heading_words g))) filled d.text) in
     (one_heading s (line ++ 10 ∷ body) other h body body (is other b) (is h a)).0
 
 -- -------- the letters of a part that `receive` reads

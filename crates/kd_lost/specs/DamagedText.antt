@@ -83,7 +83,7 @@ IsDamagedLettersAnswer s None received = do
   _ ← Finds (IsInternalKey (enciphered_choice s keys)) NoInternalKey
   FindsAlways (IsTextShown s None received)
 
--- ---- The steps of an inner function. No public contract cites this definition.
+-- ---- What the code holds. No public contract cites this definition.
 
 -- The answer for the keys `keys` and for `received`, the letters of the text between the indicators.
 abbrev pub IsKeyedTextAnswer : Day → PinKeys → List (Option ℕ) → AnswerRule PartDamage (ArrayVec (Option ℕ))

@@ -9,8 +9,9 @@ use std::test::Fail;
 /// each byte.
 ///
 /// `H`: the heading is damaged. `K`: a letter of its keys is lost. `C`: the body has a letter too many, since a lost
-/// space is read as a lost letter. `=`: nothing, since the letter is a filler. `G`: the group isn't tested. `S` and `E`:
-/// a letter is lost in the copy of the indicators at the start, or at the end. `t`: this letter of the text is lost.
+/// space is read as a lost letter. `=`: nothing, since the letter is a filler. `G`: the group isn't tested. `S`: a letter
+/// is lost in the indicators at the start. `E`: a letter is lost in the indicators at the end. `t`: this letter of the
+/// text is lost.
 type Sample = (Told, &'static str, &'static str, &'static str);
 
 static SAMPLES: [Sample; 4] = [

@@ -33,7 +33,7 @@ returns c =
     c.split_at.ensures.back c.in_ok-keys.ensures in
     let at_end : length (take 8 (drop (length received - 10) received)) ≡ 8 =
     length-take-le 8 (drop (length received - 10) received) (omega
-        (arith, length-drop {A = Option ℕ}, c.requires.some)) in
+    (arith, length-drop {A = Option ℕ}, c.requires.some)) in
     let at_start : length (take 8 received) ≡ 8 = length-take-le 8 received (omega (arith, c.requires.some)) in
     keyed_text c.args.day.now received _ c.in_ok-keys.keys c.in_ok-letters.letters _ c.requires.some refl
     at_end at_start refl keys c.in_ok-letters.ensures (

@@ -8,7 +8,7 @@ returns-then-len-eq-MOST_PARTS c =
     let (done, are, left) = c.loop-left.invariant in
     let all = damaged_parts_of c.args.form.now in
     let is = subst (λ l. MatchOption l (all ≡ done) (λ rest. all ≡ done ++ damaged_parts_of rest.now)) c.in-Some.is
-        left in
+    left in
     TooMany (too_many c.args.day.now all done c.loop-left.parts.items c.in-Some.rest.now are is
     (sym c.loop-left.parts.ok.0 ∙ sym c.len.ensures ∙ c.if-len-eq-MOST_PARTS.true)) refl
 
@@ -17,7 +17,7 @@ loop-left-preserved c =
     let (done, are, left) = c.loop-left.invariant in
     let all = damaged_parts_of c.args.form.now in
     let is = subst (λ l. MatchOption l (all ≡ done) (λ rest. all ≡ done ++ damaged_parts_of rest.now)) c.in-Some.is
-        left in
+    left in
     let part = c.split_part.result.0.now in (
       done ++ part ∷ [],
       subst (AreReadOf c.args.day.now (done ++ part ∷ [])) (sym c.in-Ok.ensures.items)

@@ -19,8 +19,14 @@ returns-then-len-heading c =
     let few = at_most _ c.args.heading.now.letters c.requires.letters in
     GoesOn tt (c.are_body_bytes.ensures.0 c.if-not-are_body_bytes.false) (HasFault _ (
       (λ _ counted. c.if-len-heading.true
-          (omega (arith, ap length c.received_letters-letters.ensures, length-take 525 received, counted, few,
-          c.len.ensures.value))),
+          (omega (
+            arith,
+            ap length c.received_letters-letters.ensures,
+            length-take 525 received,
+            counted,
+            few,
+            c.len.ensures.value,
+          ))),
       refl,
     ) refl)
 
