@@ -11,7 +11,9 @@ use Rattle.std.proofs.Common.{get_or}
 use Rattle.kd_curator.specs.declared.command.Task.{Task}
 use Rattle.kd_curator.specs.declared.command.Task.TheVariants as tasks
 use Rattle.kd_curator.specs.declared.command.Command.TheVariants as commands
-use Rattle.kd_curator.specs.CommandLine.{IsCommandOf, IsTaskWith, task_name}
+use Rattle.kd_curator.specs.CommandLine.{HasForm, IsCommandOf, IsFormNamed, IsTaskWith, task_name}
+use Rattle.kd_key_table.specs.declared.table_file.TableForm.{TableForm}
+use Rattle.kd_key_table.specs.declared.table_file.TableForm.TheVariants as forms
 use Rattle.clap.proofs.{OnLiterals.clap_on_literals, WalkLemmas.first_value-rows}
 use Rattle.clap.specs.declared.parser.matches.{ArgMatches.ArgMatches, Found.Found}
 use Rattle.kd_curator.specs.{CommandLine.curator_grammar, declared.command.NoCommand.NoCommand}
@@ -148,10 +150,19 @@ pub no_task_with : (said : List ℕ × List Row) → said.0 ≢ codes "table"
     → ((machine sheet : List ℕ) (task : Task) → IsTaskWith said machine sheet task → ⊥)
     → (command : NamedCommand) → IsCommandOf said command → ⊥
 no_task_with said other none (commands.OnMachine machine sheet task) of = none machine sheet task of
-no_task_with said other none (commands.Table sheet) of = other of.name
+no_task_with said other none (commands.Table sheet form) of = other of.name
 
 -- the command `table` without a sheet is no command
 pub no_table : (rows : List Row) → first_of (codes "SHEET") rows ≡ None → (command : NamedCommand)
     → IsCommandOf (codes "table", rows) command → ⊥
 no_table rows none (commands.OnMachine machine sheet task) of = table_is_no_task task of.task.name
-no_table rows none (commands.Table sheet) of = let wrong : None ≡ Some sheet = sym none ∙ of.sheet in cc
+no_table rows none (commands.Table sheet form) of = let wrong : None ≡ Some sheet = sym none ∙ of.sheet in cc
+
+-- the value of the option `--csv` says which form is asked for
+pub form_said : (rows : List Row) (word : List ℕ) (form : TableForm) → first_of (codes "csv") rows ≡ Some word
+    → IsFormNamed word form → HasForm rows form
+form_said rows word forms.Csv is named = is ∙ ap Some named
+form_said rows word forms.Page is other = λ csv. other (same_Some _ _ (sym is ∙ csv))
+
+pub no_form_said : (rows : List Row) → first_of (codes "csv") rows ≡ None → HasForm rows forms.Page
+no_form_said rows none = λ csv. let wrong : None ≡ Some (codes "true") = sym none ∙ csv in cc

@@ -10,6 +10,9 @@ use Rattle.kd_curator.specs.declared.command.Task.{Task}
 use Rattle.kd_curator.specs.declared.command.Task.TheVariants as tasks
 use Rattle.kd_curator.proofs.CommandLines.{first_differs, table_is_no_task}
 use Rattle.kd_curator.specs.declared.command.Command.TheVariants as commands
+use Rattle.kd_curator.specs.CommandLine.{HasForm}
+use Rattle.kd_key_table.specs.declared.table_file.TableForm.{TableForm}
+use Rattle.kd_key_table.specs.declared.table_file.TableForm.TheVariants as forms
 
 same_days : (rows : List Row) (one other : Option (List ℕ)) → HasTaskDays rows (tasks.Page one)
     → HasTaskDays rows (tasks.Page other) → one ≡ other
@@ -39,17 +42,30 @@ same_parts machine other sheet more task next is are same =
     (subst (λ s. ◌≡◌ {A = NamedCommand} (commands.OnMachine machine sheet task) (commands.OnMachine other s task)) are
     (ap (λ m. commands.OnMachine m sheet task) is))
 
+same_form : (rows : List Row) (one other : TableForm) → HasForm rows one → HasForm rows other → one ≡ other
+same_form rows forms.Page forms.Page first second = refl
+same_form rows forms.Page forms.Csv first second = absurd (first second)
+same_form rows forms.Csv forms.Page first second = absurd (second first)
+same_form rows forms.Csv forms.Csv first second = refl
+
+same_table : (sheet other : List ℕ) (form next : TableForm) → sheet ≡ other → form ≡ next
+    → ◌≡◌ {A = NamedCommand} (commands.Table sheet form) (commands.Table other next)
+same_table sheet other form next is same =
+    subst (λ f. ◌≡◌ {A = NamedCommand} (commands.Table sheet form) (commands.Table other f)) same
+    (ap (λ s. commands.Table s form) is)
+
 same_command : (said : List ℕ × List Row) (one other : NamedCommand) → IsCommandOf said one → IsCommandOf said other
     → one ≡ other
 same_command said (commands.OnMachine machine sheet task) (commands.OnMachine other more next) first second =
     same_parts machine other sheet more task next (same_Some _ _ (sym first.machine ∙ second.machine))
     (same_Some _ _ (sym first.sheet ∙ second.sheet)) (same_task said.1 said.0 task next first.task second.task)
-same_command said (commands.OnMachine machine sheet task) (commands.Table other) first second =
+same_command said (commands.OnMachine machine sheet task) (commands.Table other form) first second =
     absurd (table_is_no_task task (sym second.name ∙ first.task.name))
-same_command said (commands.Table sheet) (commands.OnMachine machine other task) first second =
+same_command said (commands.Table sheet form) (commands.OnMachine machine other task) first second =
     absurd (table_is_no_task task (sym first.name ∙ second.task.name))
-same_command said (commands.Table sheet) (commands.Table other) first second =
-    ap commands.Table (same_Some _ _ (sym first.sheet ∙ second.sheet))
+same_command said (commands.Table sheet form) (commands.Table other next) first second =
+    same_table sheet other form next (same_Some _ _ (sym first.sheet ∙ second.sheet))
+    (same_form said.1 form next first.form second.form)
 
 same_meant : (said : Option (List ℕ × List Row)) (one other : NamedCommand) → IsMeant said one → IsMeant said other
     → one ≡ other

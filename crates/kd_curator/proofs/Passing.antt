@@ -19,7 +19,8 @@ use Rattle.kd_curator.specs.Refusals.{is_device_fault, refused_device, refused_w
 use Rattle.kd_curator.specs.Tables.{WritesTables}
 use Rattle.kd_sheet.specs.SheetFile.{sheet_of}
 use Rattle.kd_sheet.specs.declared.fault.SheetFault.{SheetFault}
-use Rattle.kd_key_table.specs.TableFile.{table_text}
+use Rattle.kd_key_table.specs.TableFile.{file_text}
+use Rattle.kd_key_table.specs.declared.table_file.TableForm.{TableForm}
 use Rattle.kd_curator.specs.declared.command.Command.TheVariants as commands
 use Rattle.kd_curator.specs.declared.fault.PageFault.TheVariants.{File}
 use Rattle.kd_curator.specs.RunList.{WritesList, NoList, Settings}
@@ -77,13 +78,13 @@ module _ (one other : Port) (before : one.had ≡ other.had) (after : Keeps one.
   on_sheet_kept machine sheet Holds Other answer more (inl found) = inl (found_kept Holds Other answer more _ found)
   on_sheet_kept machine sheet Holds Other answer more (inr lacks) = inr lacks
 
-  month_kept : (told : Result (Unit {0}) Refused) (found : Result (List (Option Day)) SheetFault)
-      → MatchResult found (λ month. WritesText refused_device (table_text month) one told)
+  month_kept : (form : TableForm) (told : Result (Unit {0}) Refused) (found : Result (List (Option Day)) SheetFault)
+      → MatchResult found (λ month. WritesText refused_device (file_text form month) one told)
       (λ fault. told ≡ Err (refused_whole (File fault)))
-      → MatchResult found (λ month. WritesText refused_device (table_text month) other told)
+      → MatchResult found (λ month. WritesText refused_device (file_text form month) other told)
       (λ fault. told ≡ Err (refused_whole (File fault)))
-  month_kept told (Ok month) writes = text_kept refused_device _ told writes
-  month_kept told (Err fault) is = is
+  month_kept form told (Ok month) writes = text_kept refused_device _ told writes
+  month_kept form told (Err fault) is = is
 
   task_kept : (task : Task) (machine sheet : List ℕ) (told : Result (Unit {0}) Refused)
       → DoesTask task machine sheet one told → DoesTask task machine sheet other told
@@ -92,15 +93,15 @@ module _ (one other : Port) (before : one.had ≡ other.had) (after : Keeps one.
   task_kept (tasks.List day) machine sheet told does =
       on_sheet_kept machine sheet _ _ told (λ m month. list_kept month m day told) does
 
-  tables_kept : (sheet : List ℕ) (told : Result (Unit {0}) Refused) → WritesTables sheet one told
-      → WritesTables sheet other told
-  tables_kept sheet told (inl found) = inl (month_kept told (sheet_of sheet) found)
-  tables_kept sheet told (inr lacks) = inr lacks
+  tables_kept : (form : TableForm) (sheet : List ℕ) (told : Result (Unit {0}) Refused)
+      → WritesTables form sheet one told → WritesTables form sheet other told
+  tables_kept form sheet told (inl found) = inl (month_kept form told (sheet_of sheet) found)
+  tables_kept form sheet told (inr lacks) = inr lacks
 
   command_kept : (command : Command (List ℕ)) (told : Result (Unit {0}) Refused) → DoesCommand command one told
       → DoesCommand command other told
   command_kept (commands.OnMachine machine sheet task) told does = task_kept task machine sheet told does
-  command_kept (commands.Table sheet) told does = tables_kept sheet told does
+  command_kept (commands.Table sheet form) told does = tables_kept form sheet told does
 
 -- ---- the program's answer
 

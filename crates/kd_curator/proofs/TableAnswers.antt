@@ -7,10 +7,10 @@ use Rattle.kd_state.specs.SheetDay.{Day}
 use Rattle.kd_sheet.specs.SheetFile.{sheet_of}
 use Rattle.kd_sheet.specs.declared.fault.SheetFault.{SheetFault}
 use Rattle.kd_key_table.specs.RunTable.{IsTableAnswer, is_device as is_table_device}
-use Rattle.kd_key_table.specs.TableFile.{table_text}
+use Rattle.kd_key_table.specs.TableFile.{file_text}
 use Rattle.kd_key_table.specs.declared.fault.TableFault.{TableFault}
 use Rattle.kd_key_table.specs.declared.fault.TableFault.TheVariants as tables
-use Rattle.kd_key_table.specs.declared.table_file.TableForm.TheVariants.{Page}
+use Rattle.kd_key_table.specs.declared.table_file.TableForm.{TableForm}
 use Rattle.kd_curator.specs.Refusals.{is_device, refused_device, refused_table, refused_whole}
 use Rattle.kd_curator.specs.Tables.{WritesTables}
 use Rattle.kd_curator.specs.declared.fault.PageFault.TheVariants.{File}
@@ -20,7 +20,7 @@ abbrev pub refused_answer : Result (Unit {0}) TableFault → Result (Unit {0}) R
 refused_answer (Ok done) = Ok done
 refused_answer (Err fault) = Err (refused_table fault)
 
-module _ (sink : Port) where
+module _ (form : TableForm) (sink : Port) where
   text_told : (text : List ℕ) (told : Result (Unit {0}) TableFault) → WritesText tables.Device text sink told
       → WritesText refused_device text sink (refused_answer told)
   text_told text (Ok done) writes =
@@ -31,15 +31,15 @@ module _ (sink : Port) where
   }
 
   found_told : (told : Result (Unit {0}) TableFault) (found : Result (List (Option Day)) SheetFault)
-      → MatchResult found (λ month. WritesText tables.Device (table_text month) sink told)
+      → MatchResult found (λ month. WritesText tables.Device (file_text form month) sink told)
       (λ fault. told ≡ Err (tables.Sheet fault))
-      → MatchResult found (λ month. WritesText refused_device (table_text month) sink (refused_answer told))
+      → MatchResult found (λ month. WritesText refused_device (file_text form month) sink (refused_answer told))
       (λ fault. refused_answer told ≡ Err (refused_whole (File fault)))
   found_told told (Ok month) writes = text_told _ told writes
   found_told told (Err fault) is = ap refused_answer is
 
-  pub tables_told : (sheet : List ℕ) (told : Result (Unit {0}) TableFault) → IsTableAnswer Page sheet sink told
-      → WritesTables sheet sink (refused_answer told)
+  pub tables_told : (sheet : List ℕ) (told : Result (Unit {0}) TableFault) → IsTableAnswer form sheet sink told
+      → WritesTables form sheet sink (refused_answer told)
   tables_told sheet told (inl found) = inl (found_told told (sheet_of sheet) found)
   tables_told sheet told (inr lacks) = inr (ap refused_answer lacks)
 

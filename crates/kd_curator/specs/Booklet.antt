@@ -27,12 +27,15 @@ pub record IsBooklet (m : Parts) (first : DayPlan) (others : List DayPlan) (text
   pub are_pages : ArePages m (first ∷ others) pages
   pub whole : text ≡ file_text (model_of m) (listed_day first) (map listed_day others) pages
 
+-- ---- Days whose pages can be drawn. No public contract cites these definitions.
+
 -- The settings lead from machine `m` to machine `n`, which is ready.
 pub record IsDrawable (m : Parts) (plan : DayPlan) (n : Parts) : Type 0 where
   pub leads : Leads m plan.settings.items n
   pub ready : IsReady n
   pub few : length plan.settings.items ≤ 192
 
+-- Each day's page can be drawn, from the machine that the day before leaves.
 abbrev pub AreDrawable : Parts → List DayPlan → Type 0
 AreDrawable m [] = Unit {0}
 AreDrawable m (plan ∷ plans) = (n : Parts) × IsDrawable m plan n × AreDrawable n plans

@@ -28,12 +28,6 @@ ArePlanned month m (number ∷ numbers) (plan ∷ plans) =
     (n : Parts) × IsPlanOf month m number plan n × ArePlanned month n numbers plans
 ArePlanned month m numbers plans = ⊥
 
--- `new` is `old`, and then plans of the days `numbers`.
-pub record AddsPlans (month : List (Option Day)) (m : Parts) (numbers : List ℕ) (old new : List DayPlan) : Type 0 where
-  pub plans : List DayPlan
-  pub planned : ArePlanned month m numbers plans
-  pub joined : new ≡ old ++ plans
-
 -- Why a day can't be planned: the sheet lacks the day, or the day is of another model than the machine.
 abbrev pub LacksDay : Model → List (Option Day) → ℕ → PageFault → Type 0
 LacksDay model month number NoSuchDay = day_of month number ≡ None
@@ -61,3 +55,11 @@ pub record IsDayRefusal (model : Model) (month : List (Option Day)) (numbers : L
   pub fault : DayFault
   pub first : IsFirstFault model month numbers fault
   pub told : refused ≡ day_refusal (nat_lt 1 (length numbers)) fault
+
+-- ---- Plans that are added one by one. No public contract cites this definition.
+
+-- `new` is `old`, and then plans of the days `numbers`.
+pub record AddsPlans (month : List (Option Day)) (m : Parts) (numbers : List ℕ) (old new : List DayPlan) : Type 0 where
+  pub plans : List DayPlan
+  pub planned : ArePlanned month m numbers plans
+  pub joined : new ≡ old ++ plans

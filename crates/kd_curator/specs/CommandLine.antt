@@ -2,7 +2,7 @@
 -- Code: `grammar` builds the grammar by calls of the library `clap`.
 -- Test: refuses_other_words
 use Rattle.std.specs.Prelude.{codes, decimal, ◌≡◌, ◌≢◌, ℕ, Bool, true, false, List, [], ◌∷◌, Option, Some, None}
-use Rattle.std.specs.Prelude.{IsSomeAnd, IsTrue, All}
+use Rattle.std.specs.Prelude.{IsSomeAnd, IsTrue}
 use Rattle.std.specs.Borrow.{Bor}
 use Rattle.clap.specs.declared.builder.command.Command.{Command as Grammar, out-Command}
 use Rattle.clap.specs.declared.error.kind.ErrorKind.{ErrorKind}
@@ -11,6 +11,9 @@ use Rattle.clap.specs.Words.{App, app_of, IsAmong, Row, Rule, Shape, first_of, f
 use Rattle.clap.specs.Simple.{new_shape}
 use Rattle.kd_state.specs.SheetDay.{IsDayNumber}
 use Rattle.kd_curator.specs.Days.{AreDays}
+use Rattle.clap.specs.declared.builder.action.ArgAction.TheVariants.{SetTrue}
+use Rattle.kd_key_table.specs.declared.table_file.TableForm.{TableForm}
+use Rattle.kd_key_table.specs.declared.table_file.TableForm.TheVariants as forms
 use Rattle.kd_curator.specs.declared.command.Command.{Command}
 use Rattle.kd_curator.specs.declared.command.Command.TheVariants as commands
 use Rattle.kd_curator.specs.declared.command.NoCommand.{NoCommand}
@@ -33,8 +36,12 @@ page_shape = command_shape (codes "page") (new_rule (codes "DAYS"))
 abbrev pub list_shape : Shape
 list_shape = command_shape (codes "list") (needed (codes "DAY"))
 
+-- the option `--csv`, which has no value
+abbrev pub csv_flag : Rule
+csv_flag = record (new_rule (codes "csv")) { long = Some (codes "csv"); action = Some SetTrue }
+
 abbrev pub table_shape : Shape
-table_shape = record (new_shape (codes "table")) { rules = needed (codes "SHEET") ∷ [] }
+table_shape = record (new_shape (codes "table")) { rules = csv_flag ∷ needed (codes "SHEET") ∷ [] }
 
 -- the grammar of the program: its three commands
 unfoldable pub curator_grammar : App
@@ -49,11 +56,6 @@ curator_grammar = record {
   subs = page_shape ∷ list_shape ∷ table_shape ∷ [];
 }
 
--- `grammar` is the command `shape`, and no argument is global.
-pub record IsMadeOf (grammar : Grammar) (shape : Shape) : Type 0 where
-  pub made : app_of grammar ≡ record { top = shape; subs = [] }
-  pub local : (out-Command grammar).has_globals ≡ false
-
 -- ---- Which command a command line means.
 -- Code: `clap` parses the command line; `command_of` makes the command from the arguments that `clap` found.
 -- Test: finds_the_days, refuses_other_words
@@ -65,7 +67,7 @@ NamedCommand = Command (List ℕ)
 -- the command, with its borrowed file names replaced by the names themselves
 abbrev pub unborrowed_command : Command (Bor (List ℕ)) → NamedCommand
 unborrowed_command (commands.OnMachine machine sheet task) = commands.OnMachine machine.now sheet.now task
-unborrowed_command (commands.Table sheet) = commands.Table sheet.now
+unborrowed_command (commands.Table sheet form) = commands.Table sheet.now form
 
 abbrev pub task_name : Task → List ℕ
 task_name (tasks.Page days) = codes "page"
@@ -89,15 +91,21 @@ pub record IsTaskWith (said : List ℕ × List Row) (machine_file key_sheet : Li
   pub sheet : first_of (codes "SHEET") said.1 ≡ Some key_sheet
   pub task : IsTaskOf said its_task
 
--- They mean the command `table`, with this file.
-pub record IsTableOf (said : List ℕ × List Row) (key_sheet : List ℕ) : Type 0 where
+-- The arguments in `rows` ask for tables in this form: as CSV with the option `--csv`, as a page without it.
+abbrev pub HasForm : List Row → TableForm → Type 0
+HasForm rows forms.Csv = first_of (codes "csv") rows ≡ Some (codes "true")
+HasForm rows forms.Page = first_of (codes "csv") rows ≢ Some (codes "true")
+
+-- They mean the command `table`, with this file and this form.
+pub record IsTableOf (said : List ℕ × List Row) (key_sheet : List ℕ) (its_form : TableForm) : Type 0 where
   pub name : said.0 ≡ codes "table"
   pub sheet : first_of (codes "SHEET") said.1 ≡ Some key_sheet
+  pub form : HasForm said.1 its_form
 
 -- They mean the command `command`.
 abbrev pub IsCommandOf : List ℕ × List Row → NamedCommand → Type 0
 IsCommandOf said (commands.OnMachine machine sheet task) = IsTaskWith said machine sheet task
-IsCommandOf said (commands.Table sheet) = IsTableOf said sheet
+IsCommandOf said (commands.Table sheet form) = IsTableOf said sheet form
 
 -- What is said, if anything, means the command `command`.
 abbrev pub IsMeant : Option (List ℕ × List Row) → NamedCommand → Type 0
@@ -129,10 +137,19 @@ is_help _ = false
 abbrev pub AsksForHelp : List (List ℕ) → Type 0
 AsksForHelp words = (kind : ErrorKind) × (fault_of curator_grammar words ≡ kind ∷ []) × IsTrue (is_help kind)
 
--- The words are no command, and don't ask for help.
-pub record AreOtherWords (words : List (List ℕ)) : Type 0 where
-  pub none : IsNoCommandLine words
-  pub no_help : All (λ kind. is_help kind ≡ false) (fault_of curator_grammar words)
+-- Why there is no command. `Asked`: a word asks for help or for the version. `Usage`: the words mean no command.
+abbrev pub HasNoCommand : List (List ℕ) → NoCommand → Type 0
+HasNoCommand words (Asked text) =
+    (kind : ErrorKind) × IsAmong kind (fault_of curator_grammar words) × IsTrue (is_help kind)
+HasNoCommand words (Usage text) = IsNoCommandLine words × ¬ (AsksForHelp words)
+HasNoCommand words NoMemory = Unit {0}
+
+-- ---- What inner functions make of grammars and errors. No public contract cites these definitions.
+
+-- `grammar` is the command `shape`, and no argument is global.
+pub record IsMadeOf (grammar : Grammar) (shape : Shape) : Type 0 where
+  pub made : app_of grammar ≡ record { top = shape; subs = [] }
+  pub local : (out-Command grammar).has_globals ≡ false
 
 -- clap's error of this kind gives this reason.
 abbrev pub IsToldAs : ErrorKind → NoCommand → Type 0
@@ -140,9 +157,7 @@ IsToldAs kind (Asked text) = IsTrue (is_help kind)
 IsToldAs kind (Usage text) = (is_help kind ≡ false) × (kind ≢ OutOfMemory)
 IsToldAs kind NoMemory = Unit {0}
 
--- Why there is no command. `Asked`: a word asks for help or for the version. `Usage`: the words mean no command.
-abbrev pub HasNoCommand : List (List ℕ) → NoCommand → Type 0
-HasNoCommand words (Asked text) =
-    (kind : ErrorKind) × IsAmong kind (fault_of curator_grammar words) × IsTrue (is_help kind)
-HasNoCommand words (Usage text) = IsNoCommandLine words × ¬ (AsksForHelp words)
-HasNoCommand words NoMemory = Unit {0}
+-- `word` is a value of the option `--csv`: `true` means tables as CSV.
+abbrev pub IsFormNamed : List ℕ → TableForm → Type 0
+IsFormNamed word forms.Csv = word ≡ codes "true"
+IsFormNamed word forms.Page = word ≢ codes "true"

@@ -38,11 +38,12 @@ abbrev pub known_command : (List ℕ → Option (List ℕ)) → NamedCommand →
 known_command held (commands.OnMachine machine sheet task) =
     with_file (content_of (held machine)) (λ bytes. with_file (content_of (held sheet))
     (λ more. Ok (commands.OnMachine bytes more task)))
-known_command held (commands.Table sheet) = with_file (content_of (held sheet)) (λ bytes. Ok (commands.Table bytes))
+known_command held (commands.Table sheet form) =
+    with_file (content_of (held sheet)) (λ bytes. Ok (commands.Table bytes form))
 
 abbrev pub names_of : NamedCommand → List (List ℕ)
 names_of (commands.OnMachine machine sheet task) = machine ∷ sheet ∷ []
-names_of (commands.Table sheet) = sheet ∷ []
+names_of (commands.Table sheet form) = sheet ∷ []
 
 -- What a task writes, from the bytes of a machine file and of a key sheet.
 abbrev pub DoesTask : Task → List ℕ → List ℕ → Port → Result (Unit {0}) Refused → Type 0
@@ -54,7 +55,7 @@ DoesTask (tasks.List day) machine sheet sink answer = IsAnswerOnSheet machine sh
 -- What a command writes, from the bytes of its files.
 abbrev pub DoesCommand : Command (List ℕ) → Port → Result (Unit {0}) Refused → Type 0
 DoesCommand (commands.OnMachine machine sheet task) sink answer = DoesTask task machine sheet sink answer
-DoesCommand (commands.Table sheet) sink answer = WritesTables sheet sink answer
+DoesCommand (commands.Table sheet form) sink answer = WritesTables form sheet sink answer
 
 -- ---- The program's answer.
 

@@ -1,7 +1,8 @@
 //! The commands, and the parser of the command line.
 ghost use Rattle.std.specs.Prelude.{◌≡◌, ◌≢◌, codes, false, map, IfErr, IfOk, IfSome};
 ghost use Rattle.clap.specs.Words.{app_of, found_of, kind_of, rows_of, rule_of, subcommand_rows_of};
-ghost use Rattle.kd_curator.specs.CommandLine.{IsMadeOf, curator_grammar, command_shape, list_shape, page_shape, table_shape};
+ghost use Rattle.kd_curator.specs.CommandLine.{IsMadeOf, curator_grammar, command_shape, list_shape, page_shape};
+ghost use Rattle.kd_curator.specs.CommandLine.{HasForm, IsFormNamed, csv_flag, table_shape};
 ghost use Rattle.kd_curator.specs.CommandLine.{unborrowed_command, needed, task_name};
 ghost use Rattle.kd_curator.specs.CommandLine.{HasTaskDays, IsCommandLineOf, IsCommandOf, IsMeant, IsTaskOf};
 ghost use Rattle.kd_curator.specs.CommandLine.{NamedCommand};
@@ -9,7 +10,8 @@ ghost use Rattle.kd_curator.specs.CommandLine.{HasNoCommand, IsToldAs};
 
 use crate::days::{Days, days_of_word};
 use clap::error::ErrorKind;
-use clap::{Arg, ArgMatches, Command as Grammar, Error};
+use clap::{Arg, ArgAction, ArgMatches, Command as Grammar, Error};
+use kd_key_table::TableForm;
 use kd_state::day_of_text;
 use std::alloc::{AllocError, Global};
 use std::convert::AsStr;
@@ -36,6 +38,8 @@ pub enum Command<F> {
     Table {
         /// The key sheet.
         sheet: F,
+        /// The form in which it is written.
+        form: TableForm,
     },
 }
 
@@ -149,7 +153,29 @@ fn table_of<'a>(words: &ArgMatches<'a>) -> Option<NamedCommand<'a>>
         → ¬ (IsCommandOf (codes "table", rows_of (found_of words.now)) command) }
 {
     let sheet = words.get_str("SHEET")?;
-    Some(Command::Table { sheet })
+    let form = form_of(words);
+    Some(Command::Table { sheet, form })
+}
+
+/// The form of tables for which the arguments in `words` ask.
+fn form_of(words: &ArgMatches<'_>) -> TableForm
+    ensures { HasForm (rows_of (found_of words.now)) result }
+{
+    match words.get_str("csv") {
+        Some(word) => form_named(word),
+        None => TableForm::Page,
+    }
+}
+
+/// The form of tables, if the option `--csv` has the value `word`: `true` if the option is used.
+fn form_named(word: &str) -> TableForm
+    ensures { IsFormNamed word.now result }
+{
+    if word == "true" {
+        TableForm::Csv
+    } else {
+        TableForm::Page
+    }
 }
 
 /// The command of a task, named `name`, with the arguments in `words`; `None` if its days aren't days.
@@ -257,7 +283,19 @@ fn table_grammar<'a>(alloc: Global) -> Result<Grammar<'a>, AllocError>
 {
     Grammar::new(alloc, "table")
         .about("Writes a key sheet as an HTML page of tables to print, like the sheets of the time")
+        .arg(csv_flag(alloc))?
         .arg(needed(alloc, "SHEET", "The key sheet"))
+}
+
+/// The option `--csv`, which has no value.
+fn csv_flag<'a>(alloc: Global) -> Arg<'a>
+    ensures rule { rule_of result ≡ csv_flag }
+    ensures local { result.global ≡ false }
+{
+    Arg::new(alloc, "csv")
+        .long("csv")
+        .action(ArgAction::SetTrue)
+        .help("Writes a table for a spreadsheet instead, in the form CSV")
 }
 
 /// The grammar of a command with a machine file, a key sheet and `last`.

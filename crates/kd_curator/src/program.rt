@@ -22,6 +22,7 @@ use crate::run_page::run_page;
 use crate::stop::{Stop, end_program};
 use crate::tables::write_tables;
 use kd_host::{Content, FileFault, Files};
+use kd_key_table::TableForm;
 use kd_tables::{Failed, Sink, put_all};
 use std::alloc::Global;
 use std::convert::AsStr;
@@ -106,7 +107,7 @@ fn read_files<'n, F: Files<'n>>(
             sheet,
             task,
         } => read_task_files(alloc, machine, sheet, task, files),
-        Command::Table { sheet } => read_table_file(alloc, sheet, files),
+        Command::Table { sheet, form } => read_table_file(alloc, sheet, form, files),
     }
 }
 
@@ -137,24 +138,21 @@ fn read_task_files<'n, F: Files<'n>>(
 fn read_table_file<'n, F: Files<'n>>(
     alloc: Global,
     sheet: &'n str,
+    form: TableForm,
     files: &mut F,
 ) -> Result<Command<Content>, FileFault>
     requires { F.asked files.old ≡ [] }
     ensures read { IfSome (F.known files.old) (λ held. AgreesOrNoMemory FileFault.NoMemory
-        (known_command held (Table sheet.now)) result) }
-    ensures asked { AreAskedFor (names_of (Table sheet.now))
+        (known_command held (Table sheet.now form)) result) }
+    ensures asked { AreAskedFor (names_of (Table sheet.now form))
         (F.asked files.old) (F.asked files.new) (is_ok result) }
 {
     let sheet = files.read_content(alloc, sheet)?;
-    Ok(Command::Table { sheet })
+    Ok(Command::Table { sheet, form })
 }
 
 /// Carries out `command`, whose files have been read.
-fn carry_out<W: Sink>(
-    alloc: Global,
-    command: Command<Content>,
-    sink: &mut W,
-) -> Result<(), Refused>
+fn carry_out<W: Sink>(alloc: Global, command: Command<Content>, sink: &mut W) -> Result<(), Refused>
     ensures does { DoesCommand command (port W.taken W.has_failed sink.old sink.new) result }
     ensures untouched { IsErr result → is_device result ≡ false → sink.new ≡ sink.old }
     ensures failed { W.has_failed sink.new ≡ (W.has_failed sink.old || is_device result) }
@@ -165,7 +163,7 @@ fn carry_out<W: Sink>(
             sheet,
             task,
         } => do_task(alloc, task, machine.as_slice(), sheet.as_slice(), sink),
-        Command::Table { sheet } => write_tables(alloc, sheet.as_slice(), sink),
+        Command::Table { sheet, form } => write_tables(alloc, form, sheet.as_slice(), sink),
     }
 }
 

@@ -1,5 +1,6 @@
 //! Tests of the command line.
 use kd_curator::{Command, NoCommand, Task, parse_words};
+use kd_key_table::TableForm::{self, Csv, Page};
 use std::alloc::Global;
 
 /// A command line with `list`, and its machine file, key sheet and day.
@@ -17,15 +18,17 @@ static PAGES: [(&[&str], &[u8]); 4] = [
     (&["curator", "page", "m", "s"], &[]),
 ];
 
-/// A command line with `table`, and its key sheet.
-static TABLES: [(&[&str], &str); 3] = [
-    (&["curator", "table", "s"], "s"),
-    (&["curator", "table", "table"], "table"),
-    (&["curator", "table", "--", "-s"], "-s"),
+/// A command line with `table`, its key sheet and its form.
+static TABLES: [(&[&str], &str, TableForm); 5] = [
+    (&["curator", "table", "s"], "s", Page),
+    (&["curator", "table", "table"], "table", Page),
+    (&["curator", "table", "--", "--csv"], "--csv", Page),
+    (&["curator", "table", "--csv", "s"], "s", Csv),
+    (&["curator", "table", "s", "--csv"], "s", Csv),
 ];
 
 /// Command lines that mean no command.
-static OTHERS: [&[&str]; 17] = [
+static OTHERS: [&[&str]; 20] = [
     &["curator", "Page", "m", "s"],
     &["curator", "page"],
     &["curator", "page", "m"],
@@ -40,6 +43,9 @@ static OTHERS: [&[&str]; 17] = [
     &["curator", "table"],
     &["curator", "table", "m", "s"],
     &["curator", "table", "--list", "s"],
+    &["curator", "table", "--csv"],
+    &["curator", "table", "--csv", "--csv", "s"],
+    &["curator", "table", "--csv=true", "s"],
     &["curator", "card", "m", "s", "1"],
     &["curator", "help"],
     &["curator", "m", "s"],
@@ -96,12 +102,12 @@ fn finds_the_days(rt: HostRuntime) {
 
 #[test]
 fn finds_the_sheet(rt: HostRuntime) {
-    for (words, sheet) in &TABLES {
+    for (words, sheet, form) in &TABLES {
         let found = match parse_words(rt.alloc(), words) {
-            Ok(Command::Table { sheet }) => Some(sheet),
+            Ok(Command::Table { sheet, form }) => Some((sheet, form)),
             _ => None,
         };
-        assert_eq!(rt; found, Some(*sheet));
+        assert_eq!(rt; found, Some((*sheet, *form)));
     }
 }
 

@@ -101,7 +101,14 @@ fn says_why_it_refuses(rt: HostRuntime) {
 }
 
 /// A command line that writes a page, and texts of the page, from its top.
-static PAGES: [(&[&str], &[&str]); 5] = [
+static PAGES: [(&[&str], &[&str]); 6] = [
+    (
+        &["curator", "table", "--csv", "s"],
+        &[
+            "day,model,reflector,wheels,rings,plugs,window,groups\n1,Enigma I,B,I II III,01 01 01,-,A A A,-\n",
+            "5,M3,C,III VI VIII,A H M,AN EZ HK IJ LR MQ OT PV SX UW,U Z V,-\n",
+        ],
+    ),
     (
         &["curator", "table", "s"],
         &[

@@ -1,5 +1,5 @@
 -- What is read of the letters of a body in which letters were lost.
--- Test: letters_are_lost_in_turn
+-- Test: each_byte_is_lost_in_turn
 use Rattle.std.specs.Prelude.{◌≡◌, ◌⊎◌, ◌↔◌, ℕ, ◌-◌, List, [], ◌∷◌, length, map, take, drop, Any, IsTrue}
 use Rattle.std.specs.Prelude.{Option, Some, None}
 use Rattle.std.specs.List.{slice_range}
@@ -73,14 +73,6 @@ pub record IsTextShown (s : Day) (i : Option Indicator) (received : List (Option
       → shown.letters.items ≡ covered (text_part i received) text
   pub warnings : AreWarnings s i received shown
 
--- The answer for the keys `keys` and for `received`, the letters of the text between the indicators.
-abbrev pub IsKeyedTextAnswer : Day → PinKeys → List (Option ℕ) → AnswerRule PartDamage (ArrayVec (Option ℕ))
-IsKeyedTextAnswer s keys received = do
-  _ ← Demands (IsWindow (sheet_key s) keys.external) KeyNotOnWheel
-  internal ← Finds (IsInternalKey (enciphered_choice s keys)) NoInternalKey
-  FindsAlways (λ shown. (whole : List ℕ) → Completes received whole
-      → shown.items ≡ covered received (cipher_from s internal whole))
-
 -- The answer for the letters of a body. On a rotor machine, they always give a text. On the Converter M-209, the tests
 -- are, in order: the copies of the keys; each external letter is on its wheel; there is an internal key.
 abbrev pub IsDamagedLettersAnswer : Day → Option Indicator → List (Option ℕ) → AnswerRule PartDamage DamagedText
@@ -90,3 +82,13 @@ IsDamagedLettersAnswer s None received = do
   _ ← Demands (IsWindow (sheet_key s) keys.external) KeyNotOnWheel
   _ ← Finds (IsInternalKey (enciphered_choice s keys)) NoInternalKey
   FindsAlways (IsTextShown s None received)
+
+-- ---- The steps of an inner function. No public contract cites this definition.
+
+-- The answer for the keys `keys` and for `received`, the letters of the text between the indicators.
+abbrev pub IsKeyedTextAnswer : Day → PinKeys → List (Option ℕ) → AnswerRule PartDamage (ArrayVec (Option ℕ))
+IsKeyedTextAnswer s keys received = do
+  _ ← Demands (IsWindow (sheet_key s) keys.external) KeyNotOnWheel
+  internal ← Finds (IsInternalKey (enciphered_choice s keys)) NoInternalKey
+  FindsAlways (λ shown. (whole : List ℕ) → Completes received whole
+      → shown.items ≡ covered received (cipher_from s internal whole))

@@ -1,7 +1,9 @@
 //! Runs `run_sheet` over texts, and compares what it writes.
+ghost use Rattle.std.specs.Prelude.{◌≤◌};
+
 use kd_sheet::read_sheet;
 use kd_table::{TableFault, TableOptions, run_sheet};
-use kd_tables::{Device, MemorySink};
+use kd_tables::MemorySink;
 use std::alloc::Global;
 use std::process::Abort;
 
@@ -61,7 +63,9 @@ pub fn stops(
     options: &OptionTexts,
     due: &str,
     count: usize,
-) {
+)
+    requires { count ≤ 4096 }
+{
     let mut sink = MemorySink::<4096>::new(count);
     let mut told = MemorySink::<64>::new(64);
     let made = run_sheet(alloc, table, &options_of(options), &mut sink, &mut told);

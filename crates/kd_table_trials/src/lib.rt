@@ -6,6 +6,8 @@ mod calls;
 #[cfg(test)]
 mod converter;
 #[cfg(test)]
+mod empty;
+#[cfg(test)]
 mod faults;
 #[cfg(test)]
 mod tables;

@@ -4,5 +4,5 @@ mod limits;
 mod long_texts;
 mod memory;
 mod receiving;
-mod samples;
+pub mod samples;
 mod sending;

@@ -16,6 +16,8 @@ mod form;
 #[cfg(test)]
 mod letters;
 #[cfg(test)]
+mod lost;
+#[cfg(test)]
 mod machines;
 pub mod named;
 #[cfg(test)]

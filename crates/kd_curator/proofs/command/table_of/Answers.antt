@@ -13,4 +13,5 @@ returns-clause-said c =
     record {
       name = refl;
       sheet = read_some found (codes "SHEET") c.get_str.result c.in_ok-sheet.sheet c.get_str.ensures (search rules);
+      form = c.form_of-form.ensures;
     }

@@ -1,0 +1,113 @@
+//! Forms of several parts: damaged, missing, doubled and exchanged.
+use super::places::is_text;
+use crate::form::samples::TWO_PARTS;
+use crate::machines::{PLAIN, keyed};
+use kd_form::receive;
+use kd_lost::{DamagedFormFault, OrderNote, PartDamage, has_part, order_note, read_damaged_form};
+use std::test::Fail;
+
+/// A part of a form: its number, `None` if its heading is damaged; where it stands; the letters of its text that are
+/// lost, or why it isn't read. The text of each part is `AAAAA`.
+type Due = (Option<u8>, OrderNote, Result<&'static [usize], PartDamage>);
+
+static FORMS: [(&str, &[Due]); 7] = [
+    (
+        TWO_PARTS,
+        &[
+            (Some(1), OrderNote::InOrder, Ok(&[])),
+            (Some(2), OrderNote::InOrder, Ok(&[])),
+        ],
+    ),
+    (
+        "PART 1/2 10 AAA BDZ\nQXUGZ B?ZGO\nPART 2/2 10 AAA BDZ\nQXUGZ BDZG-\n",
+        &[
+            (Some(1), OrderNote::InOrder, Ok(&[1])),
+            (Some(2), OrderNote::InOrder, Ok(&[4])),
+        ],
+    ),
+    (
+        "P?RT 1/2 10 AAA BDZ\nQXUGZ BDZGO\nPART 2/2 10 AAA BDZ\nQXUGZ BDZGO\n",
+        &[
+            (None, OrderNote::InOrder, Err(PartDamage::HeadingDamaged)),
+            (Some(2), OrderNote::InOrder, Ok(&[])),
+        ],
+    ),
+    (
+        "PART 1/2 10 AAA BDZ\nQXUGZ BDZGO\nPA?T 2/? 10 AAA BDZ\nQXUGZ BDZGO\n",
+        &[
+            (Some(1), OrderNote::InOrder, Ok(&[])),
+            (None, OrderNote::InOrder, Err(PartDamage::HeadingDamaged)),
+        ],
+    ),
+    (
+        "PART 2/2 10 AAA BDZ\nQXUGZ BDZGO\nPART 1/2 10 AAA B-Z\nQXUGZ BDZGO\n",
+        &[
+            (Some(2), OrderNote::InOrder, Ok(&[])),
+            (Some(1), OrderNote::Late, Err(PartDamage::HeadingKeyLost)),
+        ],
+    ),
+    (
+        "PART 1/3 10 AAA BDZ\nQXUGZ BDZGO\nPART 1/3 10 AAA BDZ\nQXUGZ BDZG\n",
+        &[
+            (Some(1), OrderNote::InOrder, Ok(&[])),
+            (Some(1), OrderNote::Again, Err(PartDamage::CountWrong)),
+        ],
+    ),
+    (
+        "",
+        &[(None, OrderNote::InOrder, Err(PartDamage::HeadingDamaged))],
+    ),
+];
+
+#[test]
+fn damaged_forms_are_read(rt: HostRuntime) -> Result<(), Fail> {
+    let keyed = keyed(&rt, rt.alloc(), &PLAIN);
+    for (form, due) in &FORMS {
+        let parts = read_damaged_form(rt.alloc(), &keyed.1, form.as_bytes())
+            .ok()
+            .ok_or("memory")?;
+        assert_eq!(&rt; parts.len(), due.len());
+        for (index, (number, note, text)) in due.iter().enumerate() {
+            assert!(&rt; index < parts.len());
+            let read = &parts[index];
+            assert!(&rt; read.numbers.as_ref().map(|numbers| numbers.part) == *number);
+            if let Some(number) = number {
+                let before = &parts.as_slice()[..index];
+                assert!(&rt; order_note(before, *number) == *note);
+                assert!(&rt; has_part(parts.as_slice(), *number));
+            }
+            match text {
+                Ok(lost) => is_text(&rt, read, b"AAAAA", lost),
+                Err(damage) => assert!(&rt; read.text.as_ref().err() == Some(damage)),
+            }
+        }
+        assert!(&rt; !has_part(parts.as_slice(), 3));
+    }
+    Ok(())
+}
+
+/// A form of two parts is received as `receive` does.
+#[test]
+fn a_whole_form_is_read_as_received(rt: HostRuntime) -> Result<(), Fail> {
+    let keyed = keyed(&rt, rt.alloc(), &PLAIN);
+    let text = receive(rt.alloc(), &keyed.0, &keyed.1, TWO_PARTS.as_bytes())?;
+    assert_eq!(&rt; text.as_slice(), b"AAAAAAAAAA\n".as_slice());
+    Ok(())
+}
+
+/// A form with 255 lines with digits is read, and one with 256 isn't.
+#[test]
+fn too_many_parts_are_refused(rt: HostRuntime) -> Result<(), Fail> {
+    let keyed = keyed(&rt, rt.alloc(), &PLAIN);
+    let mut form = Vec::new(rt.alloc());
+    for _ in 0..255 {
+        form.push(b'1')?;
+        form.push(b'\n')?;
+    }
+    let read = read_damaged_form(rt.alloc(), &keyed.1, form.as_slice());
+    assert!(&rt; read.is_ok_and(|parts| parts.len() == 255));
+    form.push(b'1')?;
+    let read = read_damaged_form(rt.alloc(), &keyed.1, form.as_slice());
+    assert!(&rt; read.err() == Some(DamagedFormFault::TooManyParts));
+    Ok(())
+}
