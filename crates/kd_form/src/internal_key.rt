@@ -10,10 +10,7 @@ use arrayvec::ArrayVec;
 use kd_tables::{Letter, place_on_wheel};
 
 /// Enciphers the chosen letter of `keys` twelve times, and picks the internal key; `None` if there is none.
-pub fn internal_key_of(
-    machine: &mut DayMachine,
-    keys: &PinKeys,
-) -> Option<ArrayVec<Letter, 6>>
+pub fn internal_key_of(machine: &mut DayMachine, keys: &PinKeys) -> Option<ArrayVec<Letter, 6>>
     requires { IsWindow (sheet_key machine.old) keys.now.external }
     ensures day { machine.new ≡ machine.old }
     ensures key { MatchOption result

@@ -6,9 +6,7 @@ ghost use Rattle.kd_pictures.specs.declared.texts.TheConstants.{FOOT as FOOT_TEX
 
 use kd_pictures::draw;
 use kd_pictures::template::{Value, fill};
-use kd_pictures::texts::{
-    BODY, FOOT, HEAD, NAV, NAV_DAY, NAV_END, STYLE, TITLE_DAY, TITLE_DAYS,
-};
+use kd_pictures::texts::{BODY, FOOT, HEAD, NAV, NAV_DAY, NAV_END, STYLE, TITLE_DAY, TITLE_DAYS};
 use kd_tables::{Model, Sink};
 
 /// A day in the list of days, with its number of settings.
