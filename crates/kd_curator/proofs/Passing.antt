@@ -53,7 +53,8 @@ module _ (one other : Port) (before : one.had ≡ other.had) (after : Keeps one.
   list_kept : (month : List (Option Day)) (m : Parts) (number : ℕ) (answer : Result (Unit {0}) Refused)
       → WritesList month m number one answer → WritesList month m number other answer
   list_kept month m number answer (NoList fault is told) = NoList fault is told
-  list_kept month m number answer (Settings plan n of writes) = Settings plan n of (text_kept _ _ answer writes)
+  list_kept month m number answer (Settings plan n of is_list writes) =
+      Settings plan n of is_list (text_kept _ _ answer writes)
 
   pages_kept : (month : List (Option Day)) (m : Parts) (numbers : List ℕ) (answer : Result (Unit {0}) Refused)
       → WritesPages month m numbers one answer → WritesPages month m numbers other answer

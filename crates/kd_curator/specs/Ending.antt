@@ -1,6 +1,10 @@
 -- How the program ends: what it writes to standard error, and its exit status.
 -- Test: ends_with_a_status_and_a_line
-use Rattle.std.specs.Prelude.{codes, decimal, ℕ, List, [], ◌++◌, Option, Some, None, Result, Ok, Err, string_bytes}
+use Rattle.std.specs.Prelude.{codes, decimal, ◌≡◌, ◌⊎◌, ℕ, List, [], ◌∷◌, ◌++◌, Option, Some, None, Result, Ok, Err}
+use Rattle.std.specs.Prelude.{string_bytes}
+use Rattle.std.specs.declared.io.ErrorKind.{ErrorKind}
+use Rattle.std.specs.declared.io.ErrorKind.TheVariants.{OutOfMemory}
+use Rattle.kd_host.specs.declared.file_fault.FileFault.TheVariants.{NoMemory}
 use Rattle.kd_tables.specs.Ports.{Port}
 use Rattle.kd_host.specs.Ending.{EndsWithLine, refused_line}
 use Rattle.kd_host.specs.FileFault.{file_fault_text}
@@ -40,3 +44,17 @@ EndsAs answer errors status = EndsWithLine (error_text answer) (status_of answer
 abbrev pub stop_after : Result (Unit {0}) Refused → Result (Unit {0}) Stop
 stop_after (Ok done) = Ok done
 stop_after (Err refused) = Err (stops.Refused refused)
+
+-- ---- Why the words of the command line can't be read.
+
+-- The text says that a word isn't UTF-8.
+abbrev pub IsWordsText : Stop → Type 0
+IsWordsText (stops.Usage text) =
+    string_bytes text ≡ codes "error: a word of the command line isn't UTF-8" ++ 10 ∷ []
+IsWordsText _ = ⊥
+
+-- Why the words can't be read, by the kind of the error: no memory, or a word that isn't UTF-8. Memory may run out for
+-- the text, too.
+abbrev pub IsWordsStop : ErrorKind → Stop → Type 0
+IsWordsStop OutOfMemory stop = stop ≡ stops.Unread NoMemory
+IsWordsStop _ stop = (stop ≡ stops.Unread NoMemory) ⊎ IsWordsText stop

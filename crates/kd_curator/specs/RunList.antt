@@ -1,8 +1,8 @@
 -- What `run_list` writes, and when it refuses.
-use Rattle.std.specs.Prelude.{◌≡◌, ℕ, false, List, Option, Result, Err}
+use Rattle.std.specs.Prelude.{◌≡◌, ℕ, false, List, Option, Result, Err, OnOk}
 use Rattle.kd_tables.specs.Ports.{Port}
 use Rattle.kd_state.specs.declared.machine.parts.Parts.{Parts}
-use Rattle.kd_state.specs.Line.{list_text}
+use Rattle.kd_state.specs.Line.{list_text, IsListText}
 use Rattle.kd_state.specs.Machine.{model_of}
 use Rattle.kd_state.specs.SheetDay.{Day}
 use Rattle.kd_host.specs.Writing.{WritesText}
@@ -12,11 +12,13 @@ use Rattle.kd_curator.specs.declared.chain.DayFault.{DayFault}
 use Rattle.kd_curator.specs.declared.day_plan.DayPlan.{DayPlan}
 use Rattle.kd_curator.specs.declared.fault.Refused.{Refused}
 
--- The answer is why the day can't be planned. Or the settings of the day's page were written, in their order, or a
--- prefix of them if the device failed. They lead from machine `m` to machine `n`.
+-- The answer is why the day can't be planned. Or the settings of a plan for the day were written, in the order of a
+-- page, or a prefix of them if the device failed. They lead from machine `m` to machine `n`. The whole text is read back
+-- as these settings.
 pub data WritesList (month : List (Option Day)) (m : Parts) (number : ℕ) (sink : Port)
     (answer : Result (Unit {0}) Refused) : Type 0 where
   NoList : (fault : DayFault) → IsDayFault (model_of m) month number fault
       → answer ≡ Err (day_refusal false fault) → WritesList month m number sink answer
   Settings : (plan : DayPlan) (n : Parts) → IsPlanOf month m number plan n
+      → OnOk answer (IsListText (list_text plan.settings.items) plan.settings.items)
       → WritesText refused_device (list_text plan.settings.items) sink answer → WritesList month m number sink answer

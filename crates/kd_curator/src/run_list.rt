@@ -1,6 +1,6 @@
 //! The command `list`: writes the settings of a day's page, as a list.
-ghost use Rattle.std.specs.Prelude.{◌≡◌, ◌||◌, [], ◌∷◌, ◌++◌, false, IsErr, is_err};
-ghost use Rattle.kd_state.specs.Line.{list_text, setting_line};
+ghost use Rattle.std.specs.Prelude.{◌≡◌, ◌||◌, [], ◌∷◌, ◌++◌, false, All, IsErr, OnOk, is_err};
+ghost use Rattle.kd_state.specs.Line.{list_text, setting_line, IsSettingInRange};
 ghost use Rattle.kd_tables.specs.Ports.{port};
 ghost use Rattle.kd_tables.specs.Writing.{Writes};
 ghost use Rattle.kd_curator.specs.MachineAndSheet.{IsAnswerOnSheet};
@@ -39,7 +39,7 @@ pub fn run_list<W: Sink>(
 }
 
 /// Does what `run_list` does, for a machine and a sheet that are already read. Allocates nothing.
-fn write_list<W: Sink>(
+pub fn write_list<W: Sink>(
     machine: &Machine,
     sheet: &Sheet,
     number: u8,
@@ -62,6 +62,7 @@ fn write_list<W: Sink>(
 /// Writes the line of each setting.
 fn put_lines<W: Sink>(sink: &mut W, settings: &[Setting]) -> Result<(), Device>
     ensures text { Writes (W.taken sink.old) (W.taken sink.new) (list_text settings.now) result }
+    ensures in_range { OnOk result (All IsSettingInRange settings.now) }
     ensures failed { W.has_failed sink.new ≡ (W.has_failed sink.old || is_err result) }
 {
     if let Some((setting, rest)) = settings.split_first() {
@@ -73,6 +74,7 @@ fn put_lines<W: Sink>(sink: &mut W, settings: &[Setting]) -> Result<(), Device>
 
 /// Writes the line of a setting, and LF.
 fn put_line<W: Sink>(sink: &mut W, setting: Setting) -> Result<(), Device>
+    ensures in_range { IsSettingInRange setting }
     ensures text { Writes (W.taken sink.old) (W.taken sink.new) (setting_line setting ++ 10 ∷ []) result }
     ensures failed { W.has_failed sink.new ≡ (W.has_failed sink.old || is_err result) }
 {

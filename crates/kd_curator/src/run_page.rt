@@ -40,8 +40,8 @@ pub fn run_page<W: Sink>(
     write_days(&machine, &sheet, &days, sink)
 }
 
-/// Writes the pages of `days`. Allocates nothing.
-fn write_days<W: Sink>(
+/// Does what `run_page` does, for a machine and a sheet that are already read. Allocates nothing.
+pub fn write_days<W: Sink>(
     machine: &Machine,
     sheet: &Sheet,
     days: &Days,

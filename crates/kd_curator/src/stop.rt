@@ -2,7 +2,8 @@
 ghost use Rattle.std.specs.Prelude.{◌≡◌, ◌≤◌, ◌+◌, ◌++◌};
 ghost use Rattle.arrayvec.specs.ArrayString.{array_string_len};
 ghost use Rattle.kd_tables.specs.Ports.{port};
-ghost use Rattle.kd_curator.specs.Ending.{EndsAs, day_prefix, refusal_line, stop_after};
+ghost use Rattle.std.specs.IoError.{error_kind};
+ghost use Rattle.kd_curator.specs.Ending.{EndsAs, IsWordsStop, day_prefix, refusal_line, stop_after};
 
 use crate::fault::Refused;
 use arrayvec::ArrayString;
@@ -86,7 +87,9 @@ impl Stop {
     }
 
     /// Why the words of the command line can't be read: no memory, or a word that isn't UTF-8.
-    pub fn of_words(alloc: Global, error: &io::Error) -> Stop {
+    pub fn of_words(alloc: Global, error: &io::Error) -> Stop
+        ensures { IsWordsStop (error_kind error.now) result }
+    {
         let text = String::from_str(alloc, "error: a word of the command line isn't UTF-8\n");
         match (error.kind(), text) {
             (io::ErrorKind::OutOfMemory, _) | (_, Err(_)) => Stop::Unread(FileFault::NoMemory),

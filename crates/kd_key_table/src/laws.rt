@@ -1,5 +1,8 @@
-//! Laws of a table's words.
+//! Laws of a table's words, and of the days of a month.
+ghost use Rattle.std.specs.Prelude.{◌≡◌, reverse};
+ghost use Rattle.std.specs.List.{range_with_len};
 ghost use Rattle.kd_key_table.specs.Plain.{WordsArePlain};
+ghost use Rattle.kd_key_table.specs.declared.days.TheConstants.{DAYS, LAST_DAY_FIRST};
 
 /// What a table takes from a sheet has no markup.
 ///
@@ -7,4 +10,10 @@ ghost use Rattle.kd_key_table.specs.Plain.{WordsArePlain};
 #[tactic(auto, using(crate::proofs::PlainWords::words_are_plain))]
 pub fn words_are_plain()
     ensures { WordsArePlain }
+{}
+
+/// A month has the days 1 to 31. A table lists them from the last day on.
+pub fn days_are_a_months()
+    ensures days { DAYS ≡ range_with_len 1 31 }
+    ensures last_first { LAST_DAY_FIRST ≡ reverse (range_with_len 1 31) }
 {}

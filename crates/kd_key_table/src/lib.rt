@@ -13,4 +13,4 @@ pub mod texts;
 mod words;
 
 pub use fault::TableFault;
-pub use table_file::TableForm;
+pub use table_file::{TableForm, write_tables};

@@ -24,8 +24,8 @@ pub enum TableForm {
     Csv,
 }
 
-/// Writes the file of the sheet's tables.
-pub(crate) fn write_tables<W: Sink>(
+/// Does what `run_table` does, for a sheet that is already read. Allocates nothing.
+pub fn write_tables<W: Sink>(
     sink: &mut W,
     form: TableForm,
     sheet: &Sheet,

@@ -1,4 +1,7 @@
-//! Laws of the values of templates, and of the lines of cables.
+//! Laws of the values of templates, of the lines of cables, and of the numbers of a machine's parts.
+ghost use Rattle.std.specs.Prelude.{◌≡◌};
+ghost use Rattle.std.specs.List.{range_with_len};
+ghost use Rattle.kd_pictures.specs.declared.numbers.TheConstants.{BARS, CABLES, LATER_WHEELS, PIN_WHEELS, SLOTS};
 ghost use Rattle.kd_pictures.specs.Sockets.{LinesAreApart};
 ghost use Rattle.kd_pictures.specs.Plain.{ValuesArePlain};
 
@@ -12,4 +15,13 @@ pub fn values_are_plain()
 #[tactic(auto, using(crate::proofs::LinesApart::lines_are_apart))]
 pub fn lines_are_apart()
     ensures { LinesAreApart }
+{}
+
+/// Cables, slots, pin wheels and bars are numbered from 1. `LATER_WHEELS` begins with 2.
+pub fn parts_are_numbered_from_1()
+    ensures cables { CABLES ≡ range_with_len 1 13 }
+    ensures slots { SLOTS ≡ range_with_len 1 4 }
+    ensures pin_wheels { PIN_WHEELS ≡ range_with_len 1 6 }
+    ensures later_wheels { LATER_WHEELS ≡ range_with_len 2 5 }
+    ensures bars { BARS ≡ range_with_len 1 27 }
 {}
