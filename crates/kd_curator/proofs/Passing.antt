@@ -151,8 +151,8 @@ module _ (words : List (List ℕ)) (known : Option (List ℕ → Option (List �
     (one other : Port) (left : List ℕ) (done answer : Result (Unit {0}) Stop) (ends : PassesOn left done answer)
     (before : one.had ≡ other.had) (after : Keeps one.has other.has) where
   pub carried_on : CarriesOut words known asked one [] done → CarriesOut words known asked other left answer
-  carried_on (Carried command says read knows asks told) =
-      Carried command says read knows asks (told_on left done answer ends _ _
+  carried_on (Carried command says read alike knows asks told) =
+      Carried command says read alike knows asks (told_on left done answer ends _ _
       (λ t. command_kept one other before after read t) told)
   carried_on (FileUnread command says fault knows asks is) =
       FileUnread command says fault knows asks (stops_on left done answer ends (stops.Unread fault) is)

@@ -1,5 +1,5 @@
 -- The program: what the command line means, which files are read, and what is written.
--- Code: `carry_words` parses the words, reads the two files, and carries the command out.
+-- Code: `run_words` parses the words, reads the files, and carries the command out.
 -- Test: carries_each_command_out
 use Rattle.std.specs.Prelude.{◌≡◌, ◌⊎◌, ◌≤◌, ◌||◌, not, ℕ, Bool, true, false, List, [], ◌∷◌, length, Option, IfSome}
 use Rattle.std.specs.Prelude.{Result, Ok, Err, IsTrue}
@@ -41,6 +41,13 @@ known_command held (commands.OnMachine machine sheet task) =
 known_command held (commands.Table sheet form) =
     with_file (content_of (held sheet)) (λ bytes. Ok (commands.Table bytes form))
 
+-- Both commands do the same task, or write a sheet's tables in the same form.
+abbrev pub AreAlike : NamedCommand → Command (List ℕ) → Type 0
+AreAlike (commands.OnMachine machine sheet task) (commands.OnMachine bytes more same) = task ≡ same
+AreAlike (commands.Table sheet form) (commands.Table bytes same) = form ≡ same
+AreAlike _ _ = ⊥
+
+-- the names of a command's files, in the order in which they are read
 abbrev pub names_of : NamedCommand → List (List ℕ)
 names_of (commands.OnMachine machine sheet task) = machine ∷ sheet ∷ []
 names_of (commands.Table sheet form) = sheet ∷ []
@@ -78,13 +85,13 @@ abbrev pub is_usage : Result (Unit {0}) Stop → Bool
 is_usage (Err (stops.Usage text)) = true
 is_usage _ = false
 
--- How a command line is carried out. `Carried`: its command was carried out. `FileUnread`: a file of the command
+-- How a command line is carried out. `Carried`: its command was carried out, with the bytes of its files. `FileUnread`: a file of the command
 -- couldn't be read. `Shown`: the words ask for help or for the version. `OtherWords`: the words mean no command.
 -- `NoMemory`: memory ran out before a file was asked for.
 pub data CarriesOut (words : List (List ℕ)) (known : Option (List ℕ → Option (List ℕ))) (asked : List AskedName)
     (sink : Port) (left : List ℕ) (answer : Result (Unit {0}) Stop) : Type 0 where
   Carried : (command : NamedCommand) → IsCommandLineOf words command → (read : Command (List ℕ))
-      → IfSome known (λ held. AgreesOrNoMemory files.NoMemory (known_command held command) (Ok read))
+      → AreAlike command read → IfSome known (λ held. AgreesOrNoMemory files.NoMemory (known_command held command) (Ok read))
       → AreAskedFor (names_of command) [] asked true
       → IsTold (DoesCommand read sink) left answer
       → CarriesOut words known asked sink left answer

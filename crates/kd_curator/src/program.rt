@@ -1,5 +1,5 @@
 //! The program: reads the command line and the files, and carries the command out.
-ghost use Rattle.std.specs.Prelude.{◌≡◌, ◌||◌, [], ℕ, List, false, map, IfSome, IsErr, IsOk, IsTrue, is_ok, is_err};
+ghost use Rattle.std.specs.Prelude.{◌≡◌, ◌||◌, [], ℕ, List, false, map, IfOk, IfSome, IsErr, IsOk, IsTrue, is_ok, is_err};
 ghost use Rattle.std.specs.Io.KnownBytes.{Keeps, append_known};
 ghost use Rattle.kd_tables.specs.Answers.{AgreesOrNoMemory};
 ghost use Rattle.kd_tables.specs.Ports.{port};
@@ -8,7 +8,7 @@ ghost use Rattle.kd_host.specs.Writing.{WritesText};
 ghost use Rattle.kd_curator.specs.CommandLine.{unborrowed_command};
 ghost use Rattle.kd_curator.specs.Ending.{stop_after};
 ghost use Rattle.kd_curator.specs.declared.command.Command.TheVariants.{OnMachine, Table};
-ghost use Rattle.kd_curator.specs.Program.{CarriesOut, DoesCommand, DoesTask, HasEnded, IsRun};
+ghost use Rattle.kd_curator.specs.Program.{AreAlike, CarriesOut, DoesCommand, DoesTask, HasEnded, IsRun};
 ghost use Rattle.kd_curator.specs.Program.{gathering_port, known_command};
 ghost use Rattle.kd_curator.specs.Program.{names_of};
 ghost use Rattle.kd_curator.specs.Program.{PassesOn, is_stopped_before_writing, is_stopped_by_device};
@@ -98,6 +98,7 @@ fn read_files<'n, F: Files<'n>>(
     requires { F.asked files.old ≡ [] }
     ensures read { IfSome (F.known files.old) (λ held.
         AgreesOrNoMemory FileFault.NoMemory (known_command held (unborrowed_command command.entry)) result) }
+    ensures alike { IfOk result (AreAlike (unborrowed_command command.entry)) }
     ensures asked { AreAskedFor (names_of (unborrowed_command command.entry)) (F.asked files.old)
         (F.asked files.new) (is_ok result) }
 {
@@ -122,6 +123,7 @@ fn read_task_files<'n, F: Files<'n>>(
     requires { F.asked files.old ≡ [] }
     ensures read { IfSome (F.known files.old) (λ held. AgreesOrNoMemory FileFault.NoMemory
         (known_command held (OnMachine machine.now sheet.now task)) result) }
+    ensures alike { IfOk result (AreAlike (OnMachine machine.now sheet.now task)) }
     ensures asked { AreAskedFor (names_of (OnMachine machine.now sheet.now task))
         (F.asked files.old) (F.asked files.new) (is_ok result) }
 {
@@ -144,6 +146,7 @@ fn read_table_file<'n, F: Files<'n>>(
     requires { F.asked files.old ≡ [] }
     ensures read { IfSome (F.known files.old) (λ held. AgreesOrNoMemory FileFault.NoMemory
         (known_command held (Table sheet.now form)) result) }
+    ensures alike { IfOk result (AreAlike (Table sheet.now form)) }
     ensures asked { AreAskedFor (names_of (Table sheet.now form))
         (F.asked files.old) (F.asked files.new) (is_ok result) }
 {

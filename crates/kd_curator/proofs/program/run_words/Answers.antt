@@ -13,7 +13,8 @@ returns-in_err-command-in-Ok-clause-carried g c =
 pub returns-in_ok-command-in-Ok-clause-carried : goal.returns-in_ok-command-in-Ok-clause-carried
 returns-in_ok-command-in-Ok-clause-carried g c =
     Carried (unborrowed_command c.in-Ok.command) c.in-Ok.ensures.said c.in_ok-command-in-Ok.command
-    c.in_ok-command-in-Ok.ensures.read (rw c.requires at c.in_ok-command-in-Ok.ensures.asked)
+    c.in_ok-command-in-Ok.ensures.alike c.in_ok-command-in-Ok.ensures.read
+    (rw c.requires at c.in_ok-command-in-Ok.ensures.asked)
     (told_so _ _ _ c.carry_out.ensures.does c.of_answer.ensures)
 
 pub returns-in_ok-command-in-Ok-clause-untouched : goal.returns-in_ok-command-in-Ok-clause-untouched
