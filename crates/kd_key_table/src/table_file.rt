@@ -25,11 +25,7 @@ pub enum TableForm {
 }
 
 /// Does what `run_table` does, for a sheet that is already read. Allocates nothing.
-pub fn write_tables<W: Sink>(
-    sink: &mut W,
-    form: TableForm,
-    sheet: &Sheet,
-) -> Result<(), Device>
+pub fn write_tables<W: Sink>(sink: &mut W, form: TableForm, sheet: &Sheet) -> Result<(), Device>
     ensures text { Writes (W.taken sink.old) (W.taken sink.new) (file_text form sheet.now) result }
     ensures failed { W.has_failed sink.new ≡ (W.has_failed sink.old || is_err result) }
 {
