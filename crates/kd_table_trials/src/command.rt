@@ -17,24 +17,53 @@ type Said = (&'static [&'static str], u8, &'static str, &'static str);
 /// Command lines.
 static SAID: [Said; 10] = [
     (
-        &["t.csv", "--model", "Enigma I", "--reflector", "B", "--window", "AAA"],
+        &[
+            "t.csv",
+            "--model",
+            "Enigma I",
+            "--reflector",
+            "B",
+            "--window",
+            "AAA",
+        ],
         0,
         "[[day]]\nday = 1\nmodel = \"Enigma I\"\nreflector = \"B\"\nwheels = [\"I\", \"II\", \"III\"]\nrings = \"ABC\"\nwindow = \"AAA\"\nplugs = [\"AB\"]\ngroups = []\n",
         "",
     ),
     (
-        &["--model", "M3", "--window", "A A A", "--reflector", "c", "t.csv"],
+        &[
+            "--model",
+            "M3",
+            "--window",
+            "A A A",
+            "--reflector",
+            "c",
+            "t.csv",
+        ],
         0,
         "[[day]]\nday = 1\nmodel = \"M3\"\nreflector = \"C\"\nwheels = [\"I\", \"II\", \"III\"]\nrings = \"ABC\"\nwindow = \"AAA\"\nplugs = [\"AB\"]\ngroups = []\n",
         "",
     ),
     (
-        &["bad.csv", "--model", "Enigma I", "--reflector", "B", "--window", "AAA"],
+        &[
+            "bad.csv",
+            "--model",
+            "Enigma I",
+            "--reflector",
+            "B",
+            "--window",
+            "AAA",
+        ],
         1,
         "",
         "row 2 (day 1), wheels: 2 wheels are there, in place of 3\n",
     ),
-    (&["none.csv", "--model", "Enigma I"], 1, "", "refused 1 device\n"),
+    (
+        &["none.csv", "--model", "Enigma I"],
+        1,
+        "",
+        "refused 6 Device\n",
+    ),
     (&[], 2, "", USAGE),
     (&["t.csv", "t.csv"], 2, "", USAGE),
     (&["t.csv", "--model"], 2, "", USAGE),
@@ -44,7 +73,8 @@ static SAID: [Said; 10] = [
 ];
 
 /// What is said of other words.
-const USAGE: &str = "Usage: curator sheet TABLE [--model MODEL] [--reflector REFLECTOR] [--window LETTERS]
+const USAGE: &str =
+    "Usage: curator sheet TABLE [--model MODEL] [--reflector REFLECTOR] [--window LETTERS]
        curator sheet --empty MODEL DAYS
 ";
 

@@ -101,12 +101,24 @@ row 2 (day 1), --window: 2 letters or numbers are there, in place of 3
         ENIGMA,
         "a quote isn't closed, or something follows the closing quote of a cell\n",
     ),
-    (b"\"", ENIGMA, "a quote isn't closed, or something follows the closing quote of a cell\n"),
+    (
+        b"\"",
+        ENIGMA,
+        "a quote isn't closed, or something follows the closing quote of a cell\n",
+    ),
     // tables without days
     (b"", ENIGMA, "the table has no row with a day\n"),
     (b"\n\n", ENIGMA, "the table has no row with a day\n"),
-    (b"day,wheels,rings,plugs\n", ENIGMA, "the table has no row with a day\n"),
-    (b"day,wheels,rings,plugs\n,,,\n , - ,.,/\n", ENIGMA, "the table has no row with a day\n"),
+    (
+        b"day,wheels,rings,plugs\n",
+        ENIGMA,
+        "the table has no row with a day\n",
+    ),
+    (
+        b"day,wheels,rings,plugs\n,,,\n , - ,.,/\n",
+        ENIGMA,
+        "the table has no row with a day\n",
+    ),
     // rows are counted as a spreadsheet does: with empty rows, and without line ends in quoted cells
     (
         b"\n\nday,wheels,rings,\"plugs\nof the day\",plugs\n\n1,I II III,1 1 1,,\"AB\nCD\"\n\n2,I II III,1 1 1,,\"AB\nC\"\n",
