@@ -11,6 +11,7 @@ mod sheet;
 mod sheet_reader;
 mod values;
 
+pub use document::{find_at, parse_table};
 pub use fault::SheetFault;
 pub use key::Key;
 pub use machine_reader::read_machine;
