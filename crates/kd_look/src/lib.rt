@@ -2,5 +2,9 @@
 #![tactic(auto)]
 
 mod file;
+mod looking;
+mod machine_words;
+mod sheet_words;
 mod texts;
 
+pub use looking::{LookFault, Outcome, look_at};
