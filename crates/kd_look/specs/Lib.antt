@@ -1,4 +1,6 @@
+pub mod FaultWords
 pub mod File
+pub mod Line
 pub mod Look
 pub mod MachineWords
 pub mod SheetWords

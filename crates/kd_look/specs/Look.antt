@@ -1,10 +1,11 @@
 -- What `look_at` says of a file: what the file says, or its first fault.
 -- Test: kd_look_trials/src/slips.rt
-use Rattle.std.specs.Prelude.{codes, ◌≡◌, ℕ, ◌++◌, List, Bool, false, true, Result, Ok, Err, OnErr, IfOk}
+use Rattle.std.specs.Prelude.{codes, ◌≡◌, ◌≢◌, ℕ, ◌++◌, List, Bool, false, true, Result, Ok, Err, OnErr, IfOk}
 use Rattle.kd_tables.specs.Ports.{Port}
 use Rattle.kd_tables.specs.Writing.{Writes}
-use Rattle.kd_sheet.specs.FaultText.{sheet_fault_text}
 use Rattle.kd_sheet.specs.declared.fault.SheetFault.{SheetFault}
+use Rattle.kd_sheet.specs.declared.fault.SheetFault.TheVariants.{NotToml}
+use Rattle.kd_look.specs.FaultWords.{NamesPlace, fault_end}
 use Rattle.kd_look.specs.File.{file_of}
 use Rattle.kd_look.specs.MachineWords.{machine_words}
 use Rattle.kd_look.specs.SheetWords.{sheet_words}
@@ -30,20 +31,22 @@ pub record Describes (name : List ℕ) (file : File) (text : List ℕ) : Type 0 
   pub warnings : List ℕ
   pub whole : text ≡ file_words name file ++ warnings
 
--- The first line of the text has the file's name, words for the fault, and the fault's number and name.
-pub record NamesFault (name : List ℕ) (fault : SheetFault) (text : List ℕ) : Type 0 where
+-- The first line of the text has the file's name, words for the fault, and the fault's number and name. If the file is TOML,
+-- the words name the fault's place.
+pub record NamesFault (name bytes : List ℕ) (fault : SheetFault) (text : List ℕ) : Type 0 where
   pub words : List ℕ
   pub rest : List ℕ
-  pub whole : text ≡ name ++ words ++ codes " (" ++ sheet_fault_text fault ++ codes ")\n" ++ rest
+  pub place : fault ≢ NotToml → NamesPlace bytes fault words
+  pub whole : text ≡ name ++ words ++ fault_end fault ++ rest
 
 -- The text says what the file says, or names the file's first fault.
-abbrev pub IsReport : List ℕ → Result File SheetFault → List ℕ → Type 0
-IsReport name (Ok file) text = Describes name file text
-IsReport name (Err fault) text = NamesFault name fault text
+abbrev pub IsReport : List ℕ → List ℕ → Result File SheetFault → List ℕ → Type 0
+IsReport name bytes (Ok file) text = Describes name file text
+IsReport name bytes (Err fault) text = NamesFault name bytes fault text
 
 -- The text is a report on the file, and the outcome is what was found in the file.
 pub record IsMade (name bytes text : List ℕ) (outcome : Outcome) : Type 0 where
-  pub report : IsReport name (file_of bytes) text
+  pub report : IsReport name bytes (file_of bytes) text
   pub found : outcome ≡ outcome_of (file_of bytes)
 
 -- whether the sink failed

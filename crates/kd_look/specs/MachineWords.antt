@@ -1,5 +1,5 @@
 -- A machine in words: one line for each thing that a person compares with the metal.
--- Test: kd_look_trials/src/machines.rt
+-- Test: kd_look_trials/src/good.rt
 use Rattle.std.specs.Prelude.{codes, ℕ, ◌+◌, ◌++◌, Bool, false, List, [], ◌∷◌, Option, Some, None, decimal, if◌then◌else◌}
 use Rattle.std.specs.List.{flat_map, range_with_len}
 use Rattle.std.specs.Option.{option_map_or}
@@ -52,15 +52,16 @@ cable_line cable None None = []
 unfoldable pub cable_words : Parts → ℕ → List ℕ
 cable_words machine cable = option_map_or (λ ends. cable_line cable ends.0 ends.1) (machine_cable machine cable) []
 
--- the letter, if its pin on the pin wheel is effective
+-- the letter after a space, if its pin on the pin wheel is effective
 unfoldable pub pin_words : Parts → ℕ → ℕ → List ℕ
 pin_words machine wheel letter =
-    if option_map_or (λ effective. effective) (machine_pin machine wheel letter) false then letters_text (letter ∷ []) else []
+    if option_map_or (λ effective. effective) (machine_pin machine wheel letter) false
+    then codes " " ++ letters_text (letter ∷ []) else []
 
 -- the line of a pin wheel: the letter that it shows, and the letters of its effective pins in alphabetical order
 unfoldable pub pin_wheel_words : Parts → ℕ → List ℕ
 pin_wheel_words machine wheel = option_map_or
-    (λ shown. label (codes "wheel") wheel ++ codes "window " ++ letters_text (shown ∷ []) ++ codes ", effective pins "
+    (λ shown. label (codes "wheel") wheel ++ codes "window " ++ letters_text (shown ∷ []) ++ codes ", effective pins:"
     ++ flat_map (pin_words machine wheel) (range_with_len 0 26) ++ codes "\n")
     (machine_pin_letter machine wheel) []
 

@@ -1,10 +1,15 @@
 //! Says in words what machine files and key sheets say, or what is wrong with them.
 #![tactic(auto)]
 
+mod alike;
+mod fault_words;
 mod file;
+mod line;
 mod looking;
 mod machine_words;
 mod sheet_words;
 mod texts;
+mod warnings;
 
+pub use line::line_of;
 pub use looking::{LookFault, Outcome, look_at};

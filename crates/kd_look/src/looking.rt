@@ -3,13 +3,14 @@ ghost use Rattle.std.specs.Prelude.{codes, ◌≡◌, ◌≢◌, ◌||◌, ◌++
 ghost use Rattle.std.specs.String.{string_bytes};
 ghost use Rattle.kd_tables.specs.Answers.{AgreesOrNoMemory};
 ghost use Rattle.kd_tables.specs.Ports.{port};
-ghost use Rattle.kd_sheet.specs.FaultText.{sheet_fault_text};
 ghost use Rattle.kd_look.specs.File.{file_of};
 ghost use Rattle.kd_look.specs.Look.{outcome_of, file_words, IsReport, NamesFault, Describes, Looks, IsMade, is_device};
 
+use crate::fault_words::{Words, fault_words, push_fault};
 use crate::file::{File, read_file};
 use crate::machine_words::push_machine;
 use crate::sheet_words::push_sheet;
+use crate::warnings::file_warnings;
 use kd_sheet::SheetFault;
 use kd_tables::{Device, Sink, put_all};
 use std::alloc::{AllocError, Global};
@@ -72,33 +73,26 @@ fn push_file(text: &mut String, name: &str, file: &File) -> Result<(), AllocErro
     }
 }
 
-/// Words for what the file `name` says.
-fn description(alloc: Global, name: &str, file: &File) -> Result<String, AllocError>
+/// Words for what the file `name` says, and its warnings.
+fn description(alloc: Global, bytes: &[u8], name: &str, file: &File) -> Result<String, AllocError>
     ensures { IfOk result (λ text. Describes name.now file.now (string_bytes text)) }
 {
     let mut text = String::new(alloc);
     push_file(&mut text, name, file)?;
+    text.push_str(file_warnings(alloc, bytes, name, file)?.as_str())?;
     Ok(text)
 }
 
-/// Appends the number and the name of `fault` in parentheses, and ends the line.
-#[tactic(auto, using(std::proofs::Common::append_assoc))]
-fn push_fault(text: &mut String, fault: SheetFault) -> Result<(), AllocError>
-    ensures { OnOk result (string_bytes text.new
-        ≡ string_bytes text.old ++ (codes " (" ++ sheet_fault_text fault ++ codes ")\n")) }
-{
-    text.push_str(" (")?;
-    text.push_str(fault.text().as_str())?;
-    text.push_str(")\n")
-}
-
-/// A line for the first fault of the file `name`.
-fn refusal(alloc: Global, name: &str, fault: SheetFault) -> Result<String, AllocError>
-    ensures { IfOk result (λ text. NamesFault name.now fault (string_bytes text)) }
+/// A line for the first fault of the file `name`, and a line for each further fault.
+fn refusal(alloc: Global, bytes: &[u8], name: &str, fault: SheetFault) -> Result<String, AllocError>
+    ensures { IfOk result (λ text. NamesFault name.now bytes.now fault (string_bytes text)) }
 {
     let mut text = String::new(alloc);
     text.push_str(name)?;
+    let Words { first, rest } = fault_words(alloc, bytes, name, fault)?;
+    text.push_str(first.as_str())?;
     push_fault(&mut text, fault)?;
+    text.push_str(rest.as_str())?;
     Ok(text)
 }
 
@@ -116,12 +110,12 @@ fn make_report(alloc: Global, bytes: &[u8], name: &str) -> Result<Report, LookFa
 {
     match read_file(alloc, bytes) {
         Ok(file) => Ok(Report {
-            text: description(alloc, name, &file)?,
+            text: description(alloc, bytes, name, &file)?,
             outcome: Outcome::Faultless,
         }),
         Err(SheetFault::NoMemory) => Err(LookFault::NoMemory),
         Err(fault) => Ok(Report {
-            text: refusal(alloc, name, fault)?,
+            text: refusal(alloc, bytes, name, fault)?,
             outcome: Outcome::Faulty(fault),
         }),
     }

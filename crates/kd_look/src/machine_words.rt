@@ -1,7 +1,8 @@
 //! Says in words how a machine stands: a line for each slot, cable, pin wheel and bar.
-ghost use Rattle.std.specs.Prelude.{codes, ◌≡◌, ◌+◌, ◌<◌, ◌++◌, length, OnOk, Option, Some};
+ghost use Rattle.std.specs.Prelude.{codes, ◌≡◌, ◌<◌, ◌++◌, ◌∷◌, [], OnOk, Some, None};
 ghost use Rattle.std.specs.List.{flat_map, range_with_len};
 ghost use Rattle.std.specs.String.{string_bytes};
+ghost use Rattle.kd_tables.specs.Text.{letters_text};
 ghost use Rattle.kd_look.specs.MachineWords.{label, letter_words, ring_words, wheel_words, slot_words, cable_line};
 ghost use Rattle.kd_look.specs.MachineWords.{cable_words, pin_words, pin_wheel_words, bar_words, thing_words};
 ghost use Rattle.kd_look.specs.MachineWords.{things_words, reflector_words, machine_words};
@@ -142,8 +143,18 @@ fn push_cable(text: &mut String, machine: &Machine, cable: u8) -> Result<(), All
     }
 }
 
-/// Appends `letter`, if its pin on pin wheel `wheel` is effective.
-#[tactic(auto, unfolding(crate::specs::MachineWords::pin_words))]
+/// Appends a space and `letter`.
+#[tactic(auto, using(std::proofs::Common::append_assoc))]
+fn push_spaced_letter(text: &mut String, letter: Letter) -> Result<(), AllocError>
+    ensures { OnOk result (string_bytes text.new
+        ≡ string_bytes text.old ++ (codes " " ++ letters_text (letter ∷ []))) }
+{
+    text.push_str(" ")?;
+    push_letter(text, letter)
+}
+
+/// Appends `letter` after a space, if its pin on pin wheel `wheel` is effective.
+#[tactic(auto, using(std::proofs::Common::append_assoc), unfolding(crate::specs::MachineWords::pin_words))]
 fn push_pin(
     text: &mut String,
     machine: &Machine,
@@ -153,7 +164,7 @@ fn push_pin(
     ensures { OnOk result (string_bytes text.new ≡ string_bytes text.old ++ pin_words machine.now wheel letter) }
 {
     match machine.pin_at(wheel, letter) {
-        Some(true) => push_letter(text, letter),
+        Some(true) => push_spaced_letter(text, letter),
         _ => Ok(()),
     }
 }
@@ -180,7 +191,7 @@ fn push_pin_wheel(text: &mut String, machine: &Machine, wheel: u8) -> Result<(),
     push_label(text, "wheel", wheel)?;
     text.push_str("window ")?;
     push_letter(text, shown)?;
-    text.push_str(", effective pins ")?;
+    text.push_str(", effective pins:")?;
     push_pins(text, machine, wheel)?;
     text.push_str("\n")
 }

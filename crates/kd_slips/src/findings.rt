@@ -5,7 +5,7 @@ use kd_sheet::{Key, SheetFault};
 use std::alloc::{AllocError, Global};
 
 /// The most faults that are listed.
-const MOST: usize = 200;
+const MOST: usize = 100;
 
 /// Where in a file a fault is.
 #[derive(Clone, Copy)]

@@ -23,6 +23,6 @@ mod warnings;
 pub use findings::{Finding, Findings, Place};
 pub use machine::judge_machine;
 pub use not_toml::toml_words;
-pub use place_words::finding_words;
+pub use place_words::{day_words, wrong_words};
 pub use sheet::judge_sheet;
 pub use warnings::warning_lines;

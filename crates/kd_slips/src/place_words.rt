@@ -1,10 +1,10 @@
-//! The words that tell the place of a fault: the day, the line, the key and the item.
+//! The words for a fault: the day or the entry, the item, and what is wrong.
 
 use crate::findings::{Finding, Place};
 use std::alloc::{AllocError, Global};
 
 /// The day of a fault, or its entry, in words.
-fn day_words(alloc: Global, place: Place) -> Result<String, AllocError> {
+pub fn day_words(alloc: Global, place: Place) -> Result<String, AllocError> {
     match (place.day, place.entry) {
         (Some(day), _) => format!(in alloc; ", day {day}"),
         (None, Some(entry)) => format!(in alloc; ", entry {entry}"),
@@ -12,35 +12,10 @@ fn day_words(alloc: Global, place: Place) -> Result<String, AllocError> {
     }
 }
 
-/// The line of a fault in words, if the line is known.
-fn line_words(alloc: Global, line: Option<usize>) -> Result<String, AllocError> {
-    match line {
-        Some(line) => format!(in alloc; ", line {line}"),
-        None => Ok(String::new(alloc)),
+/// The words after the key of a fault: the number of the item, if it has to be told, and what is wrong.
+pub fn wrong_words(alloc: Global, finding: &Finding) -> Result<String, AllocError> {
+    match finding.place.item {
+        Some(item) => format!(in alloc; " {item}: {}", finding.words.as_str()),
+        None => format!(in alloc; ": {}", finding.words.as_str()),
     }
-}
-
-/// The number of an item in words, if it has to be told.
-fn item_words(alloc: Global, item: Option<usize>) -> Result<String, AllocError> {
-    match item {
-        Some(item) => format!(in alloc; " {item}"),
-        None => Ok(String::new(alloc)),
-    }
-}
-
-/// The words for a fault, after the file's name: its place, and what is wrong.
-pub fn finding_words(
-    alloc: Global,
-    finding: &Finding,
-    line: Option<usize>,
-) -> Result<String, AllocError> {
-    let place = finding.place;
-    let mut words = day_words(alloc, place)?;
-    words.push_str(line_words(alloc, line)?.as_str())?;
-    words.push_str(", ")?;
-    words.push_str(place.key.name())?;
-    words.push_str(item_words(alloc, place.item)?.as_str())?;
-    words.push_str(": ")?;
-    words.push_str(finding.words.as_str())?;
-    Ok(words)
 }

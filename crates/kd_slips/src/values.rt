@@ -86,6 +86,15 @@ pub fn items_at(alloc: Global, table: &Table, key: Key) -> Result<&[Value], Slip
     items_of(alloc, value_at(alloc, table, key)?, key)
 }
 
+/// How many items stand in a list, in words.
+fn items_words(alloc: Global, len: usize) -> Result<String, AllocError> {
+    match len {
+        0 => String::from_str(alloc, "none stands"),
+        1 => String::from_str(alloc, "1 stands"),
+        _ => format!(in alloc; "{len} stand"),
+    }
+}
+
 /// Refuses a list of `len` items, unless there are exactly `count`; `of` says of what.
 pub fn check_count(
     alloc: Global,
@@ -99,7 +108,10 @@ pub fn check_count(
     }
     refuse(
         SheetFault::BadValue(key),
-        format!(in alloc; "{len} stand there, and there are {count} {of}"),
+        format!(in alloc;
+            "{} there, and there are {count} {of}",
+            items_words(alloc, len)?.as_str()
+        ),
     )
 }
 
@@ -116,7 +128,10 @@ pub fn check_at_most(
     }
     refuse(
         SheetFault::BadValue(key),
-        format!(in alloc; "{len} stand there, and there are at most {most} {of}"),
+        format!(in alloc;
+            "{} there, and there are at most {most} {of}",
+            items_words(alloc, len)?.as_str()
+        ),
     )
 }
 

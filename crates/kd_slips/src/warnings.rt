@@ -40,6 +40,26 @@ const PIN_DAY: [Key; 6] = [
     Key::List,
 ];
 
+/// The keys of a file or an entry whose model isn't known.
+const ALL: [Key; 16] = [
+    Key::Version,
+    Key::Model,
+    Key::Reflector,
+    Key::Slots,
+    Key::Rings,
+    Key::Letters,
+    Key::Cables,
+    Key::Pins,
+    Key::Bars,
+    Key::Day,
+    Key::Wheels,
+    Key::Window,
+    Key::Plugs,
+    Key::Groups,
+    Key::Rows,
+    Key::List,
+];
+
 /// The start of a warning's line: the file's name, and the day or the entry.
 fn line_start(
     alloc: Global,
@@ -76,6 +96,11 @@ fn push_unread(
     lines.push_str("\n")
 }
 
+/// Whether `value` at `key` looks like the entries of a key sheet, under `day` or a name near it.
+fn is_entries(key: &str, value: &Value) -> bool {
+    (value.is_table() || value.is_array()) && is_near(key.as_bytes(), b"day")
+}
+
 /// Appends a warning for each key of `table` that isn't one of `keys`.
 fn push_unread_keys(
     lines: &mut String,
@@ -84,8 +109,8 @@ fn push_unread_keys(
     keys: &[Key],
     table: &Table,
 ) -> Result<(), AllocError> {
-    for (key, _value) in table.iter() {
-        if !is_known(keys, key.as_str()) {
+    for (key, value) in table.iter() {
+        if !is_known(keys, key.as_str()) && !is_entries(key.as_str(), value) {
             push_unread(lines, alloc, start, keys, key.as_str())?;
         }
     }
@@ -112,8 +137,36 @@ fn push_entry(
     match model_of(table) {
         Some(Model::M209) => push_unread_keys(lines, alloc, start.as_str(), &PIN_DAY, table),
         Some(_) => push_unread_keys(lines, alloc, start.as_str(), &ROTOR_DAY, table),
-        None => Ok(()),
+        None => push_unread_keys(lines, alloc, start.as_str(), &ALL, table),
     }
+}
+
+/// Appends a warning of entries under another name than `[[day]]`.
+fn push_entry_name(
+    lines: &mut String,
+    start: &str,
+    key: &str,
+    value: &Value,
+) -> Result<(), AllocError> {
+    if is_entries(key, value) {
+        lines.push_str(start)?;
+        lines.push_str("`")?;
+        lines.push_str(if value.is_table() { "[" } else { "[[" })?;
+        lines.push_str(key)?;
+        lines.push_str(if value.is_table() { "]" } else { "]]" })?;
+        lines.push_str("`: write `[[day]]` above the lines of each day\n")?;
+    }
+    Ok(())
+}
+
+/// Appends a warning for each key of `table` that looks like entries, but isn't the array `day`.
+fn push_entry_names(lines: &mut String, start: &str, table: &Table) -> Result<(), AllocError> {
+    for (key, value) in table.iter() {
+        if key.as_str() != "day" || value.is_table() {
+            push_entry_name(lines, start, key.as_str(), value)?;
+        }
+    }
+    Ok(())
 }
 
 /// The warnings of a key sheet with the entries `items`, a line for each.
@@ -125,30 +178,12 @@ fn sheet_warnings(
 ) -> Result<String, AllocError> {
     let mut lines = String::new(alloc);
     let start = line_start(alloc, name, document, None)?;
+    push_entry_names(&mut lines, start.as_str(), document)?;
     push_unread_keys(&mut lines, alloc, start.as_str(), &[Key::Day], document)?;
     for (place, item) in items.iter().enumerate() {
         push_entry(&mut lines, alloc, name, item, place + 1)?;
     }
     Ok(lines)
-}
-
-/// Appends a warning of entries under another name than `[[day]]`.
-fn push_entry_name(
-    lines: &mut String,
-    start: &str,
-    key: &str,
-    value: &Value,
-) -> Result<(), AllocError> {
-    let is_entries = value.is_table() || value.is_array();
-    if is_entries && is_near(key.as_bytes(), b"day") {
-        lines.push_str(start)?;
-        lines.push_str("`")?;
-        lines.push_str(if value.is_table() { "[" } else { "[[" })?;
-        lines.push_str(key)?;
-        lines.push_str(if value.is_table() { "]" } else { "]]" })?;
-        lines.push_str("`: write `[[day]]` above the lines of each day\n")?;
-    }
-    Ok(())
 }
 
 /// Appends a warning of a cable that the desk writes with its letters in another order.
@@ -162,6 +197,8 @@ fn push_cable_order(
         return Ok(());
     };
     if let [one, other] = text.as_bytes()
+        && one.is_ascii_uppercase()
+        && other.is_ascii_uppercase()
         && one > other
     {
         let (one, other) = (char::from(*one), char::from(*other));
@@ -196,16 +233,14 @@ fn push_cable_orders(
 fn machine_warnings(alloc: Global, name: &str, table: &Table) -> Result<String, AllocError> {
     let mut lines = String::new(alloc);
     let start = line_start(alloc, name, table, None)?;
-    for (key, value) in table.iter() {
-        push_entry_name(&mut lines, start.as_str(), key.as_str(), value)?;
-    }
+    push_entry_names(&mut lines, start.as_str(), table)?;
     match model_of(table) {
         Some(Model::M209) => push_unread_keys(&mut lines, alloc, start.as_str(), &PIN_FILE, table)?,
         Some(_) => {
             push_unread_keys(&mut lines, alloc, start.as_str(), &ROTOR_FILE, table)?;
             push_cable_orders(&mut lines, alloc, start.as_str(), table)?;
         }
-        None => {}
+        None => push_unread_keys(&mut lines, alloc, start.as_str(), &ALL, table)?,
     }
     Ok(lines)
 }
