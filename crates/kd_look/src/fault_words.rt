@@ -1,5 +1,5 @@
 //! The words for the faults of a file.
-ghost use Rattle.std.specs.Prelude.{◌≡◌, ◌≢◌, ◌++◌, IfOk, IfSome, OnOk, codes, decimal};
+ghost use Rattle.std.specs.Prelude.{◌≡◌, ◌≢◌, ℕ, ◌++◌, List, IfOk, IfSome, OnOk, codes, decimal};
 ghost use Rattle.std.specs.String.{string_bytes};
 ghost use Rattle.kd_sheet.specs.Key.{key_name};
 ghost use Rattle.kd_look.specs.FaultWords.{NamesPlace, fault_end, line_words, sought_key};
@@ -133,10 +133,10 @@ fn key_of(fault: SheetFault) -> Key {
 }
 
 /// The words for `fault` if nothing is known of its place.
-fn unfound_words(alloc: Global, bytes: &[u8], fault: SheetFault) -> Result<String, AllocError>
-    ensures { IfOk result (λ words. NamesPlace bytes.now fault (string_bytes words)) }
+fn unfound_words(alloc: Global, fault: SheetFault) -> Result<String, AllocError>
+    ensures { IfOk result (λ words.
+        (file : List ℕ) → NamesPlace file fault (string_bytes words)) }
 {
-    let _file = bytes;
     place_words(
         alloc,
         "",
@@ -157,7 +157,7 @@ fn first_words(
 {
     match findings.first() {
         Some(first) => found_words(alloc, bytes, fault, first),
-        None => unfound_words(alloc, bytes, fault),
+        None => unfound_words(alloc, fault),
     }
 }
 

@@ -4,7 +4,7 @@ use Rattle.kd_look.proofs.fault_words.unfound_words.Goals as goal
 
 pub returns : goal.returns
 returns c = IfOk-weaker c.place_words.result _ _
-    (λ words whole. record {
+    (λ words whole file. record {
       day = [];
       line = None;
       entry = None;
