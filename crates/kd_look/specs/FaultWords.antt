@@ -1,6 +1,6 @@
 -- The line that names a fault: the file's name, the place, what is wrong, and the fault's number and name.
 -- Test: kd_look_trials/src/slips.rt
-use Rattle.std.specs.Prelude.{codes, ◌≡◌, ◌⊎◌, ℕ, ◌++◌, List, [], Option, Some, None, IfSome, decimal}
+use Rattle.std.specs.Prelude.{codes, ◌≡◌, ℕ, ◌++◌, List, [], Option, Some, None, IfSome, decimal}
 use Rattle.std.specs.Option.{option_map_or}
 use Rattle.kd_sheet.specs.FaultText.{sheet_fault_text}
 use Rattle.kd_sheet.specs.Key.{key_name}

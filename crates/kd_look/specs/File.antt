@@ -1,5 +1,5 @@
 -- What a file says: a machine, or the days of a key sheet.
-use Rattle.std.specs.Prelude.{ℕ, Bool, List, Option, Result, Ok, is_some, if◌then◌else◌}
+use Rattle.std.specs.Prelude.{ℕ, Bool, List, Result, Ok, is_some, if◌then◌else◌}
 use Rattle.std.specs.Option.{option_and_then}
 use Rattle.toml.specs.Data.{Members, get_member, as_array}
 use Rattle.kd_sheet.specs.Document.{◌>>=◌, document_of}

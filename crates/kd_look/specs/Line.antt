@@ -2,7 +2,7 @@
 -- Code: the document is parsed up to the end of each line in turn.
 -- Test: kd_look_trials/src/slips.rt
 use Rattle.std.specs.Prelude.{◌≡◌, ◌⊎◌, ℕ, ◌+◌, ◌-◌, ◌<◌, ◌≤◌, ◌==◌, Bool, true, false, List, length, take, count_by}
-use Rattle.std.specs.Prelude.{slice_index, Option, Some, None, Result, is_some}
+use Rattle.std.specs.Prelude.{slice_index, Option, Some, None, is_some}
 use Rattle.std.specs.Option.{option_and_then, option_map_or}
 use Rattle.std.specs.Result.{result_ok}
 use Rattle.toml.specs.Data.{Data, Members, get_member, as_table}

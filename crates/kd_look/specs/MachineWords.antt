@@ -1,15 +1,13 @@
 -- A machine in words: one line for each thing that a person compares with the metal.
 -- Test: kd_look_trials/src/good.rt
-use Rattle.std.specs.Prelude.{codes, ℕ, ◌+◌, ◌++◌, Bool, false, List, [], ◌∷◌, Option, Some, None, decimal, if◌then◌else◌}
+use Rattle.std.specs.Prelude.{codes, ℕ, ◌+◌, ◌++◌, false, List, [], ◌∷◌, Option, Some, None, decimal, if◌then◌else◌}
 use Rattle.std.specs.List.{flat_map, range_with_len}
 use Rattle.std.specs.Option.{option_map_or}
 use Rattle.kd_tables.specs.Places.{standing_text}
 use Rattle.kd_tables.specs.Tables.{model_text, reflector_text, wheel_text}
 use Rattle.kd_tables.specs.Text.{letters_text}
-use Rattle.kd_tables.specs.declared.place.Place.{Place}
-use Rattle.kd_tables.specs.declared.reflector.Reflector.{Reflector}
 use Rattle.kd_tables.specs.declared.wheel.Wheel.{Wheel}
-use Rattle.kd_state.specs.Machine.{cable_letters, model_of, machine_slot, machine_reflector, machine_ring, machine_letter}
+use Rattle.kd_state.specs.Machine.{model_of, machine_slot, machine_reflector, machine_ring, machine_letter}
 use Rattle.kd_state.specs.Machine.{machine_cable, machine_pin, machine_pin_letter, machine_standing}
 use Rattle.kd_state.specs.declared.machine.parts.Parts.{Parts}
 use Rattle.kd_look.specs.Texts.{two_digits}

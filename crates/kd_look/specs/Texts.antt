@@ -1,5 +1,5 @@
 -- Pieces of text.
-use Rattle.std.specs.Prelude.{codes, ℕ, ◌+◌, ◌++◌, nat_lt, List, [], ◌∷◌, decimal, if◌then◌else◌}
+use Rattle.std.specs.Prelude.{codes, ℕ, ◌++◌, nat_lt, List, decimal, if◌then◌else◌}
 
 -- a number, with a 0 before a number of one digit, as key sheets print rings
 unfoldable pub two_digits : ℕ → List ℕ
