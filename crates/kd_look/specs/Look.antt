@@ -31,8 +31,8 @@ pub record Describes (name : List ℕ) (file : File) (text : List ℕ) : Type 0 
   pub warnings : List ℕ
   pub whole : text ≡ file_words name file ++ warnings
 
--- The first line of the text has the file's name, words for the fault, and the fault's number and name. If the file is TOML,
--- the words name the fault's place.
+-- The first line of the text has the file's name, words for the fault, and the fault's number and name. If the file is
+-- TOML, the words name the fault's place.
 pub record NamesFault (name bytes : List ℕ) (fault : SheetFault) (text : List ℕ) : Type 0 where
   pub words : List ℕ
   pub rest : List ℕ

@@ -1,4 +1,4 @@
--- A key sheet in words: for each model its days, and the days without groups. Days that follow one another share a line.
+-- A key sheet in words: for each model its days, and the days without groups. Days in a row share a line.
 -- Test: kd_look_trials/src/good.rt
 use Rattle.std.specs.Prelude.{codes, ℕ, ◌+◌, ◌-◌, ◌==◌, ◌++◌, Bool, false, List, [], length, Option, decimal}
 use Rattle.std.specs.Prelude.{if◌then◌else◌}

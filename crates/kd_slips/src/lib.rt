@@ -1,7 +1,7 @@
 //! Finds the faults of machine files and key sheets, each with its place and in words, and warns.
 //!
-//! The desk stops at a file's first fault, and proves which it is. This crate finds all faults, in the same order. That it
-//! refuses what the desk refuses is tested, not proved.
+//! The desk stops at a file's first fault, and proves which it is. This crate finds all faults, in the same order.
+//! That it refuses what the desk refuses is tested, not proved.
 #![tactic(auto)]
 
 mod cables;
