@@ -87,7 +87,7 @@ same_known (x ∷ letters) (y ∷ others) same =
     let rest = same_known letters others (ap (drop 1) same) in
     λ i. first i ∷ rest i
 
--- -------- keys of which no letter is lost
+-- -------- keys without a lost letter
 
 copy_fits : (x : ℕ) (got : Option ℕ) → got ≡ Some x → IsLetterFor got x
 copy_fits x got is = subst (λ o. IsLetterFor o x) (sym is) refl

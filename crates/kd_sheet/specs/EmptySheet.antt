@@ -11,7 +11,7 @@ use Rattle.kd_sheet.specs.SheetText.{day_head_lines, sections_text}
 use Rattle.kd_sheet.specs.declared.key.Key.{Key}
 use Rattle.kd_sheet.specs.declared.key.Key.TheVariants as keys
 
--- the line of a text of so many letters
+-- the line of a key whose text has `count` question marks, one for each letter to fill in
 unfoldable pub unknown_line : Key → ℕ → List ℕ
 unknown_line key count = key_line key (quoted_text (replicate count 63))
 

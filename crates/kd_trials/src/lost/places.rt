@@ -80,7 +80,7 @@ pub fn is_warned(
     }
 }
 
-/// Checks what is said of a form in which the byte with mark `mark` is lost; `place` is the number of `t` before it.
+/// Checks what is read of a form whose byte with mark `mark` is lost; `place` is the number of `t` before the byte.
 fn is_marked(rt: &impl Abort, read: &DamagedPart, text: &[u8], mark: u8, place: usize) {
     match mark {
         b'H' => assert!(rt; read.text.as_ref().err() == Some(&PartDamage::HeadingDamaged)),
