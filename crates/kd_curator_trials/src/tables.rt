@@ -51,7 +51,7 @@ groups = [\"IBW\", \"NOC\"]
 ";
 
 /// `ROTORS`, for the bodies of tests: the bytes of a constant would be carried through their proofs.
-static SHEET: &str = ROTORS;
+pub static SHEET: &str = ROTORS;
 
 /// A form, a sheet, and texts of its file, in their order.
 ///
