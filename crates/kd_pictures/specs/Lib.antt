@@ -1,3 +1,4 @@
+pub mod Language
 pub mod Drawing
 pub mod Words
 pub mod Template
