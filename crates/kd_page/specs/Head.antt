@@ -2,12 +2,12 @@
 use Rattle.std.specs.Prelude.{decimal, ℕ, List, [], ◌∷◌, ◌++◌, flat_map}
 use Rattle.kd_tables.specs.declared.model.Model.{Model}
 use Rattle.kd_pictures.specs.declared.language.Language.{Language}
-use Rattle.kd_pictures.specs.declared.words.Word.TheVariants as words
+use Rattle.kd_pictures.specs.FileHead.{file_head}
 use Rattle.kd_pictures.specs.Language.{text_in}
 use Rattle.kd_pictures.specs.Template.{count_text, filled}
-use Rattle.kd_pictures.specs.Words.{model_name, word_text}
+use Rattle.kd_pictures.specs.Words.{model_name}
 use Rattle.kd_page.specs.declared.head.ListedDay.{ListedDay}
-use Rattle.kd_pictures.specs.declared.texts.TheConstants.{BODY, FOOT, HEAD, NAV, NAV_DAY, NAV_END, STYLE}
+use Rattle.kd_pictures.specs.declared.texts.TheConstants.{BODY, FOOT, NAV, NAV_DAY, NAV_END, STYLE}
 use Rattle.kd_pictures.specs.declared.texts.TheConstants.{TITLE_DAY, TITLE_DAYS}
 
 -- the last of these days
@@ -32,10 +32,6 @@ list_of_days l first others =
 abbrev pub nav_text : Language → ListedDay → List ListedDay → List ℕ
 nav_text l first [] = []
 nav_text l first (next ∷ days) = list_of_days l first (next ∷ days)
-
--- the beginning of a file in language `l`, with the language's code
-unfoldable pub file_head : Language → List ℕ
-file_head l = filled HEAD.now (word_text l words.Language ∷ [])
 
 -- the head of a file with the pages of these days
 unfoldable pub head_text : Language → Model → ListedDay → List ListedDay → List ℕ

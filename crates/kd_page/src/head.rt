@@ -1,12 +1,12 @@
 //! The head and the foot of a file with the pages of one or more days.
 ghost use Rattle.std.specs.Prelude.{◌≡◌, ◌∷◌, ◌++◌, flat_map};
 ghost use Rattle.kd_pictures.specs.Drawing.{Draws};
-ghost use Rattle.kd_page.specs.Head.{file_head, head_text, last_of, list_of_days, listed_text, nav_text, title_text};
+ghost use Rattle.kd_page.specs.Head.{head_text, last_of, list_of_days, listed_text, nav_text, title_text};
 ghost use Rattle.kd_pictures.specs.declared.texts.TheConstants.{FOOT as FOOT_TEXT};
 
-use kd_pictures::template::{Value, fill, fill_in};
-use kd_pictures::texts::{BODY, FOOT, HEAD, NAV, NAV_DAY, NAV_END, STYLE, TITLE_DAY, TITLE_DAYS};
-use kd_pictures::words::Word;
+use kd_pictures::file_head::draw_file_head;
+use kd_pictures::template::{Value, fill_in};
+use kd_pictures::texts::{BODY, FOOT, NAV, NAV_DAY, NAV_END, STYLE, TITLE_DAY, TITLE_DAYS};
 use kd_pictures::{Language, draw, draw_in};
 use kd_tables::{Model, Sink};
 
@@ -32,14 +32,6 @@ pub fn draw_head<W: Sink>(
     draw(sink, STYLE);
     draw(sink, BODY);
     draw_nav(sink, language, first, others);
-}
-
-/// Writes the beginning of a file in this language.
-#[tactic(auto, unfolding(crate::specs::Head::file_head))]
-pub fn draw_file_head<W: Sink>(sink: &mut W, language: Language)
-    ensures { Draws W.taken W.has_failed sink.old sink.new (file_head language) }
-{
-    fill(sink, language, HEAD, &[Value::Word(Word::Language)]);
 }
 
 /// Writes the end of the file.

@@ -2,6 +2,7 @@ pub mod Language
 pub mod Drawing
 pub mod Words
 pub mod Template
+pub mod FileHead
 pub mod Fives
 pub mod Sockets
 pub mod Wheels

@@ -3,6 +3,7 @@
 
 pub mod board;
 mod drawing;
+pub mod file_head;
 pub mod fives;
 pub mod language;
 pub mod laws;
