@@ -20,6 +20,7 @@ use Rattle.kd_curator.specs.Tables.{WritesTables}
 use Rattle.kd_table.specs.Options.{OptionTexts}
 use Rattle.kd_sheet.specs.SheetFile.{sheet_of}
 use Rattle.kd_sheet.specs.declared.fault.SheetFault.{SheetFault}
+use Rattle.kd_pictures.specs.declared.language.Language.TheVariants.{English}
 use Rattle.kd_key_table.specs.TableFile.{file_text}
 use Rattle.kd_key_table.specs.declared.table_file.TableForm.{TableForm}
 use Rattle.kd_curator.specs.CommandLine.{ReadCommand}
@@ -81,9 +82,9 @@ module _ (one other : Port) (before : one.had ≡ other.had) (after : Keeps one.
   on_sheet_kept machine sheet Holds Other answer more (inr lacks) = inr lacks
 
   month_kept : (form : TableForm) (told : Result (Unit {0}) Refused) (found : Result (List (Option Day)) SheetFault)
-      → MatchResult found (λ month. WritesText refused_device (file_text form month) one told)
+      → MatchResult found (λ month. WritesText refused_device (file_text English form month) one told)
       (λ fault. told ≡ Err (refused_whole (File fault)))
-      → MatchResult found (λ month. WritesText refused_device (file_text form month) other told)
+      → MatchResult found (λ month. WritesText refused_device (file_text English form month) other told)
       (λ fault. told ≡ Err (refused_whole (File fault)))
   month_kept form told (Ok month) writes = text_kept refused_device _ told writes
   month_kept form told (Err fault) is = is
