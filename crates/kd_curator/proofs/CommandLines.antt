@@ -12,6 +12,9 @@ use Rattle.kd_curator.specs.declared.command.Task.{Task}
 use Rattle.kd_curator.specs.declared.command.Task.TheVariants as tasks
 use Rattle.kd_curator.specs.declared.command.Command.TheVariants as commands
 use Rattle.kd_curator.specs.CommandLine.{HasForm, IsCommandOf, IsFormNamed, IsTaskWith, task_name}
+use Rattle.kd_curator.specs.CommandLine.{IsMonthNamed, are_blank, option_text, option_texts}
+use Rattle.kd_tables.specs.declared.model.Model.{Model}
+use Rattle.std.specs.Prelude.{unwrap_or}
 use Rattle.kd_key_table.specs.declared.table_file.TableForm.{TableForm}
 use Rattle.kd_key_table.specs.declared.table_file.TableForm.TheVariants as forms
 use Rattle.clap.proofs.{OnLiterals.clap_on_literals, WalkLemmas.first_value-rows}
@@ -145,18 +148,82 @@ pub table_is_no_task : (task : Task) → codes "table" ≡ task_name task → �
 table_is_no_task (tasks.Page days) is = third_differs (ap (λ l. get_or l 0 0) is)
 table_is_no_task (tasks.List day) is = third_from_second (ap (λ l. get_or l 0 0) is)
 
--- no command is meant, if its name isn't that of `table`, and no task is meant
-pub no_task_with : (said : List ℕ × List Row) → said.0 ≢ codes "table"
+sheet_from_page : ◌≡◌ {A = ℕ} 115 112 → ⊥
+sheet_from_page wrong = omega (arith, wrong)
+
+sheet_from_list : ◌≡◌ {A = ℕ} 115 108 → ⊥
+sheet_from_list wrong = omega (arith, wrong)
+
+sheet_from_table : ◌≡◌ {A = ℕ} 115 116 → ⊥
+sheet_from_table wrong = omega (arith, wrong)
+
+-- the name of the command `sheet` is no task's
+pub sheet_is_no_task : (task : Task) → codes "sheet" ≡ task_name task → ⊥
+sheet_is_no_task (tasks.Page days) is = sheet_from_page (ap (λ l. get_or l 0 0) is)
+sheet_is_no_task (tasks.List day) is = sheet_from_list (ap (λ l. get_or l 0 0) is)
+
+pub sheet_is_no_table : codes "sheet" ≡ codes "table" → ⊥
+sheet_is_no_table is = sheet_from_table (ap (λ l. get_or l 0 0) is)
+
+-- no command is meant, if its name is neither `table` nor `sheet`, and no task is meant
+pub no_task_with : (said : List ℕ × List Row) → said.0 ≢ codes "table" → said.0 ≢ codes "sheet"
     → ((machine sheet : List ℕ) (task : Task) → IsTaskWith said machine sheet task → ⊥)
     → (command : NamedCommand) → IsCommandOf said command → ⊥
-no_task_with said other none (commands.OnMachine machine sheet task) of = none machine sheet task of
-no_task_with said other none (commands.Table sheet form) of = other of.name
+no_task_with said other another none (commands.OnMachine machine sheet task) of = none machine sheet task of
+no_task_with said other another none (commands.Table sheet form) of = other of.name
+no_task_with said other another none (commands.Sheet table options) of = another of.name
+no_task_with said other another none (commands.EmptySheet model days) of = another of.name
 
 -- the command `table` without a sheet is no command
 pub no_table : (rows : List Row) → first_of (codes "SHEET") rows ≡ None → (command : NamedCommand)
     → IsCommandOf (codes "table", rows) command → ⊥
 no_table rows none (commands.OnMachine machine sheet task) of = table_is_no_task task of.task.name
 no_table rows none (commands.Table sheet form) of = let wrong : None ≡ Some sheet = sym none ∙ of.sheet in cc
+no_table rows none (commands.Sheet table options) of = sheet_is_no_table (sym of.name)
+no_table rows none (commands.EmptySheet model days) of = sheet_is_no_table (sym of.name)
+
+module _ (rows : List Row) where
+  -- the command `sheet` without a table, or a number of days in its place, is no command
+  pub no_sheet : first_of (codes "TABLE") rows ≡ None → (command : NamedCommand)
+      → IsCommandOf (codes "sheet", rows) command → ⊥
+  no_sheet none (commands.OnMachine machine sheet task) of = sheet_is_no_task task of.task.name
+  no_sheet none (commands.Table sheet form) of = sheet_is_no_table of.name
+  no_sheet none (commands.Sheet table options) of = let wrong : None ≡ Some table = sym none ∙ of.table in cc
+  no_sheet none (commands.EmptySheet model days) of =
+      let wrong : None ≡ Some of.days_word = sym none ∙ of.table in cc
+
+  module _ (model_word days_word : List ℕ) (empty : first_of (codes "empty") rows ≡ Some model_word)
+      (table : first_of (codes "TABLE") rows ≡ Some days_word) where
+    -- words that aren't a model and a number of days are no command
+    pub no_month : ((month : Model × ℕ) → IsMonthNamed model_word days_word month.0 month.1 → ⊥)
+        → (command : NamedCommand) → IsCommandOf (codes "sheet", rows) command → ⊥
+    no_month none (commands.OnMachine machine sheet task) of = sheet_is_no_task task of.task.name
+    no_month none (commands.Table sheet form) of = sheet_is_no_table of.name
+    no_month none (commands.Sheet its_table options) of =
+        let wrong : None ≡ Some model_word = sym of.filled ∙ empty in cc
+    no_month none (commands.EmptySheet model days) of =
+        let model_same = same_Some of.model_word model_word (sym of.empty ∙ empty) in
+        let days_same = same_Some of.days_word days_word (sym of.table ∙ table) in
+        none (model, days) (subst (λ w. IsMonthNamed model_word w model days) days_same
+        (subst (λ w. IsMonthNamed w of.days_word model days) model_same of.month))
+
+    -- an empty sheet with other options is no command
+    pub not_alone : are_blank (option_texts rows) ≡ false → (command : NamedCommand)
+        → IsCommandOf (codes "sheet", rows) command → ⊥
+    not_alone other (commands.OnMachine machine sheet task) of = sheet_is_no_task task of.task.name
+    not_alone other (commands.Table sheet form) of = sheet_is_no_table of.name
+    not_alone other (commands.Sheet its_table options) of =
+        let wrong : None ≡ Some model_word = sym of.filled ∙ empty in cc
+    not_alone other (commands.EmptySheet model days) of = let wrong : true ≡ false = sym of.alone ∙ other in cc
+
+-- the text of an option, as clap's getter reads it
+pub read_text : (found : Found) (id : List ℕ) (word : Option (Bor (List ℕ))) (otherwise : Bor (List ℕ))
+    → option_map (λ s. s.now) word ≡ first_value found id → otherwise.now ≡ []
+    → (unwrap_or word otherwise).now ≡ option_text id (rows_of found)
+read_text found id None otherwise reads blank =
+    blank ∙ sym (ap (λ o. unwrap_or o []) (sym (first_value-rows found id) ∙ sym reads))
+read_text found id (Some read) otherwise reads blank =
+    sym (ap (λ o. unwrap_or o []) (sym (first_value-rows found id) ∙ sym reads))
 
 -- the value of the option `--csv` says which form is asked for
 pub form_said : (rows : List Row) (word : List ℕ) (form : TableForm) → first_of (codes "csv") rows ≡ Some word

@@ -12,7 +12,8 @@ use Rattle.std.proofs.lemmas.List.FromFn.{length-range_with_len}
 use Rattle.std.proofs.lemmas.Slice.Eq.{bytes_eq-Decides}
 use Rattle.kd_state.specs.SheetDay.{IsDayNumber}
 unfoldable use Rattle.kd_curator.specs.Days.{day_named, days_named, range_named}
-use Rattle.kd_curator.specs.Days.{AddsDays, AreDays, both, days_from, is_comma, ranges_named}
+use Rattle.kd_curator.specs.Days.{AddsDays, AreDays, both, days_from, has_twice, is_comma, ranges_named}
+use Rattle.std.proofs.lemmas.Option.{same_Some}
 
 -- ---- one day
 
@@ -127,8 +128,17 @@ adds_same first last old new done same adds =
 -- ---- the days of a word
 
 pub reads_days : (word days : List ℕ) (done : Unit {0}) → AddsDays (days_named word) [] days (Some done)
-    → AreDays word days
-reads_days word days done adds = record { named = grind (arith, common_steps, adds); few = adds.1 }
+    → has_twice days ≡ false → AreDays word days
+reads_days word days done adds once =
+    record { named = grind (arith, common_steps, adds); few = adds.1; once = once }
+
+-- a word whose days come twice names no days
+pub reads_twice : (word found days : List ℕ) (done : Unit {0}) → AddsDays (days_named word) [] found (Some done)
+    → has_twice found ≡ true → AreDays word days → ⊥
+reads_twice word found days done adds twice are =
+    let named : days_named word ≡ Some found = grind (arith, common_steps, adds) in
+    let same : found ≡ days = same_Some found days (sym named ∙ are.named) in
+    let wrong : true ≡ false = sym twice ∙ ap has_twice same ∙ are.once in cc
 
 pub reads_none : (word new days : List ℕ) → AddsDays (days_named word) [] new None → AreDays word days → ⊥
 reads_none word new days none are = grind (arith, common_steps)

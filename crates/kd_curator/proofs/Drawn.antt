@@ -2,6 +2,7 @@
 use Rattle.std.proofs.Common.{◌≡◌, ℕ, List, [], ◌∷◌, ◌++◌, Option, Result, Ok, Err, IfErr, IsOk, refl, subst, ap, ◌∙◌}
 use Rattle.std.proofs.Common.{Bool, arith, false, inl, inr, length, ◌||◌}
 use Rattle.kd_page.specs.DayPage.{day_text}
+use Rattle.kd_pictures.specs.declared.language.Language.TheVariants.{English}
 use Rattle.kd_state.specs.declared.machine.parts.Parts.{Parts}
 use Rattle.kd_state.specs.declared.setting.Setting.{Setting}
 use Rattle.kd_state.specs.declared.setting.why.IllegalAt.{IllegalAt}
@@ -40,7 +41,7 @@ drawn_first m plan rest all is drawable = let these = subst (AreDrawable m) is d
 -- a day's page, and then the pages of the days after it, are the pages of all
 pub pages_next : (m n : Parts) (plan : DayPlan) (rest all : List DayPlan) (more : List ℕ) → all ≡ plan ∷ rest
     → Leads m plan.settings.items n → ArePages n rest more
-    → ArePages m all (day_text plan.day m n plan.settings.items ++ more)
+    → ArePages m all (day_text English plan.day m n plan.settings.items ++ more)
 pages_next m n plan rest all more is leads are = rw is (n, more, leads, refl, are)
 
 -- settings that lead to a machine can be carried out
@@ -66,6 +67,7 @@ lacks_no_device : (model : Model) (month : List (Option Day)) (number : ℕ) (fa
 lacks_no_device model month number NoSuchDay lacks = refl
 lacks_no_device model month number OtherModel lacks = refl
 lacks_no_device model month number (File fault) lacks = absurd lacks
+lacks_no_device model month number faults.FaultyTable lacks = absurd lacks
 lacks_no_device model month number faults.Device lacks = absurd lacks
 
 first_no_device : (model : Model) (month : List (Option Day)) (numbers : List ℕ) (fault : DayFault)

@@ -14,6 +14,13 @@ pub one_rule_more : {old new : Command} (shape : Shape) (rules : List Rule) (wor
     → IsMadeOf new (with_rules shape (rules ++ rule_of word ∷ []))
 one_rule_more shape rules word has local adds = record { made = grind arith; local = grind arith }
 
+-- one more argument, of which the rule is known
+pub known_rule_more : {old new : Command} (shape : Shape) (rules : List Rule) (rule : Rule) (word : Arg)
+    → IsMadeOf old (with_rules shape rules) → word.global ≡ false → rule_of word ≡ rule → AddsArg old word new
+    → IsMadeOf new (with_rules shape (rules ++ rule ∷ []))
+known_rule_more shape rules rule word has local is adds =
+    rw (← is) (one_rule_more shape rules word has local adds)
+
 -- `new`, the grammar `old` with the command `sub` added, has the commands of `app` and then the command `shape`
 pub one_command_more : {app : App} {old sub new : Command} {shape : Shape}
     → app_of old ≡ app → IsMadeOf sub shape → AddsSubcommand old sub new → app_of new ≡ with_subcommand app shape

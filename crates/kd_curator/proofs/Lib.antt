@@ -14,5 +14,6 @@ pub mod OneCommand
 pub mod Passing
 pub mod Ranked
 pub mod Runs
+pub mod SheetAnswers
 pub mod TableAnswers
 pub mod Writings

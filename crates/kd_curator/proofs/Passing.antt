@@ -12,15 +12,18 @@ use Rattle.kd_state.specs.declared.machine.parts.Parts.{Parts}
 use Rattle.kd_state.specs.SheetDay.{Day}
 use Rattle.kd_curator.specs.Ending.{stop_after}
 use Rattle.kd_curator.specs.MachineAndSheet.{IsAnswerOnSheet}
-use Rattle.kd_curator.specs.Program.{CarriesOut, DoesCommand, DoesTask, IsTold, PassesOn, is_stopped_before_writing}
+use Rattle.kd_curator.specs.Program.{CarriesOut, DoesCommand, DoesTask, IsTold, IsAnswerAfterFlush, is_stopped_before_writing}
 use Rattle.kd_curator.specs.Program.{Carried, FileUnread, Shown, OtherWords, NoMemory, is_stopped_by_device, is_usage}
 use Rattle.kd_curator.specs.Refusals.{refused_device, refused_whole}
+use Rattle.kd_curator.specs.Sheets.{MakesSheet, Sheet, Faulty, NoMemory as NoSheetMemory}
 use Rattle.kd_curator.specs.Tables.{WritesTables}
+use Rattle.kd_table.specs.Options.{OptionTexts}
 use Rattle.kd_sheet.specs.SheetFile.{sheet_of}
 use Rattle.kd_sheet.specs.declared.fault.SheetFault.{SheetFault}
+use Rattle.kd_pictures.specs.declared.language.Language.TheVariants.{English}
 use Rattle.kd_key_table.specs.TableFile.{file_text}
 use Rattle.kd_key_table.specs.declared.table_file.TableForm.{TableForm}
-use Rattle.kd_curator.specs.declared.command.Command.{Command}
+use Rattle.kd_curator.specs.CommandLine.{ReadCommand}
 use Rattle.kd_curator.specs.declared.command.Command.TheVariants as commands
 use Rattle.kd_curator.specs.declared.fault.PageFault.TheVariants.{File}
 use Rattle.kd_curator.specs.RunList.{WritesList, NoList, Settings}
@@ -79,9 +82,9 @@ module _ (one other : Port) (before : one.had ≡ other.had) (after : Keeps one.
   on_sheet_kept machine sheet Holds Other answer more (inr lacks) = inr lacks
 
   month_kept : (form : TableForm) (told : Result (Unit {0}) Refused) (found : Result (List (Option Day)) SheetFault)
-      → MatchResult found (λ month. WritesText refused_device (file_text form month) one told)
+      → MatchResult found (λ month. WritesText refused_device (file_text English form month) one told)
       (λ fault. told ≡ Err (refused_whole (File fault)))
-      → MatchResult found (λ month. WritesText refused_device (file_text form month) other told)
+      → MatchResult found (λ month. WritesText refused_device (file_text English form month) other told)
       (λ fault. told ≡ Err (refused_whole (File fault)))
   month_kept form told (Ok month) writes = text_kept refused_device _ told writes
   month_kept form told (Err fault) is = is
@@ -98,22 +101,31 @@ module _ (one other : Port) (before : one.had ≡ other.had) (after : Keeps one.
   tables_kept form sheet told (inl found) = inl (month_kept form told (sheet_of sheet) found)
   tables_kept form sheet told (inr lacks) = inr lacks
 
-  command_kept : (command : Command (List ℕ)) (told : Result (Unit {0}) Refused) → DoesCommand command one told
+  sheet_kept : (options : OptionTexts) (table : List ℕ) (told : Result (Unit {0}) Refused)
+      → MakesSheet options table one told → MakesSheet options table other told
+  sheet_kept options table told (Sheet days means again writes) =
+      Sheet days means again (text_kept refused_device _ told writes)
+  sheet_kept options table told (Faulty refused is) = Faulty refused is
+  sheet_kept options table told (NoSheetMemory lacks) = NoSheetMemory lacks
+
+  command_kept : (command : ReadCommand) (told : Result (Unit {0}) Refused) → DoesCommand command one told
       → DoesCommand command other told
   command_kept (commands.OnMachine machine sheet task) told does = task_kept task machine sheet told does
   command_kept (commands.Table sheet form) told does = tables_kept form sheet told does
+  command_kept (commands.Sheet table options) told does = sheet_kept options table told does
+  command_kept (commands.EmptySheet model days) told does = text_kept refused_device _ told does
 
 -- ---- the program's answer
 
-ends_on : (left : List ℕ) (first done answer : Result (Unit {0}) Stop) → PassesOn [] first done
-    → PassesOn left done answer → PassesOn left first answer
-ends_on left (Ok fine) done answer (inl (is, none)) ends = subst (λ d. PassesOn left d answer) is ends
+ends_on : (left : List ℕ) (first done answer : Result (Unit {0}) Stop) → IsAnswerAfterFlush [] first done
+    → IsAnswerAfterFlush left done answer → IsAnswerAfterFlush left first answer
+ends_on left (Ok fine) done answer (inl (is, none)) ends = subst (λ d. IsAnswerAfterFlush left d answer) is ends
 ends_on left (Ok fine) done answer (inr (is, some)) ends = absurd (omega (arith, some))
-ends_on left (Err stop) done answer is ends = subst (λ d. PassesOn left d answer) is ends
+ends_on left (Err stop) done answer is ends = subst (λ d. IsAnswerAfterFlush left d answer) is ends
 
-module _ (left : List ℕ) (done answer : Result (Unit {0}) Stop) (ends : PassesOn left done answer) where
+module _ (left : List ℕ) (done answer : Result (Unit {0}) Stop) (ends : IsAnswerAfterFlush left done answer) where
   stops_on : (stop : Stop) → done ≡ Err stop → answer ≡ Err stop
-  stops_on stop is = subst (λ d. PassesOn left d answer) is ends
+  stops_on stop is = subst (λ d. IsAnswerAfterFlush left d answer) is ends
 
   told_on : (Does Other : Result (Unit {0}) Refused → Type 0)
       → ((told : Result (Unit {0}) Refused) → Does told → Other told) → IsTold Does [] done → IsTold Other left answer
@@ -123,20 +135,20 @@ module _ (left : List ℕ) (done answer : Result (Unit {0}) Stop) (ends : Passes
     answers = ends_on left (stop_after is.told) done answer is.answers ends;
   }
 
-usage_on : (left : List ℕ) (done answer : Result (Unit {0}) Stop) → PassesOn left done answer → IsTrue (is_usage done)
+usage_on : (left : List ℕ) (done answer : Result (Unit {0}) Stop) → IsAnswerAfterFlush left done answer → IsTrue (is_usage done)
     → IsTrue (is_usage answer)
 usage_on left (Ok fine) answer ends usage = absurd (cc)
 usage_on left (Err stop) answer ends usage = subst (λ a. IsTrue (is_usage a)) (sym ends) usage
 
 pub failed_on : (left : List ℕ) (done answer : Result (Unit {0}) Stop) (before between after : Bool)
-    → PassesOn left done answer → between ≡ (before || is_stopped_by_device done)
+    → IsAnswerAfterFlush left done answer → between ≡ (before || is_stopped_by_device done)
     → (IsErr done → after ≡ between) → (IsOk done → after ≡ (between || is_err answer))
     → after ≡ (before || is_stopped_by_device answer)
 failed_on left (Ok fine) answer before between after (inl (is, none)) failed same passed = grind (arith, passed)
 failed_on left (Ok fine) answer before between after (inr (is, some)) failed same passed = grind (arith, passed)
 failed_on left (Err stop) answer before between after is failed same passed = grind (arith, same)
 
-pub stopped_on : {X : Type 0} (left : List ℕ) (done answer : Result (Unit {0}) Stop) → PassesOn left done answer
+pub stopped_on : {X : Type 0} (left : List ℕ) (done answer : Result (Unit {0}) Stop) → IsAnswerAfterFlush left done answer
     → (IsErr done → IsTrue (is_stopped_before_writing done) → X) → IsTrue (is_stopped_before_writing answer) → X
 stopped_on left (Ok fine) answer (inl (is, none)) holds stopped = absurd (cc)
 stopped_on left (Ok fine) answer (inr (is, some)) holds stopped = absurd (cc)
@@ -148,7 +160,7 @@ none_gathered None = refl
 none_gathered (Some bytes) = ap Some (append-nil bytes)
 
 module _ (words : List (List ℕ)) (known : Option (List ℕ → Option (List ℕ))) (asked : List AskedName)
-    (one other : Port) (left : List ℕ) (done answer : Result (Unit {0}) Stop) (ends : PassesOn left done answer)
+    (one other : Port) (left : List ℕ) (done answer : Result (Unit {0}) Stop) (ends : IsAnswerAfterFlush left done answer)
     (before : one.had ≡ other.had) (after : Keeps one.has other.has) where
   pub carried_on : CarriesOut words known asked one [] done → CarriesOut words known asked other left answer
   carried_on (Carried command says read alike knows asks told) =

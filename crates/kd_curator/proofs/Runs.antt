@@ -1,15 +1,21 @@
 -- How a command line is carried out.
-use Rattle.std.proofs.Common.{◌≡◌, ◌||◌, Bool, true, false, [], IsErr, IsTrue, Result, Ok}
+use Rattle.std.proofs.Common.{◌≡◌, ◌||◌, ◌≤◌, ℕ, Bool, true, false, List, [], IsErr, IsTrue, Option, Some, None, Result, Ok}
 use Rattle.std.proofs.Common.{Err}
 use Rattle.std.proofs.Common.{OnErr, inl, refl, arith, ap, subst, sym, ◌∙◌}
+use Rattle.clap.specs.Words.{Row, subcommand_of}
+use Rattle.kd_tables.specs.Ports.{Port}
+use Rattle.kd_tables.specs.declared.model.Model.{Model}
+use Rattle.kd_curator.specs.CommandLine.{IsCommandLineOf, IsMeant, NamedCommand, ReadCommand, curator_grammar}
+use Rattle.kd_curator.specs.declared.command.Command.TheVariants as commands
+use Rattle.kd_curator.specs.Program.{AreAlike, HasMonth, HasNotes, HasTold, IsLeftAlone, NoNotes, TableNotes}
 use Rattle.kd_curator.specs.Ending.{stop_after}
-use Rattle.kd_curator.specs.Program.{IsTold, PassesOn, is_stopped_before_writing}
+use Rattle.kd_curator.specs.Program.{IsTold, IsAnswerAfterFlush, is_stopped_before_writing}
 use Rattle.kd_curator.specs.Program.{is_stopped_by_device}
 use Rattle.kd_curator.specs.Refusals.{is_device, refused_device}
 use Rattle.kd_curator.specs.declared.fault.Refused.{Refused}
 use Rattle.kd_curator.specs.declared.stop.Stop.{Stop}
 
-ends_after : (told : Result (Unit {0}) Refused) → PassesOn [] (stop_after told) (stop_after told)
+ends_after : (told : Result (Unit {0}) Refused) → IsAnswerAfterFlush [] (stop_after told) (stop_after told)
 ends_after (Ok done) = inl (refl, refl)
 ends_after (Err refused) = refl
 
@@ -17,7 +23,7 @@ ends_after (Err refused) = refl
 pub told_so : (Does : Result (Unit {0}) Refused → Type 0) (told : Result (Unit {0}) Refused)
     (answer : Result (Unit {0}) Stop) → Does told → answer ≡ stop_after told → IsTold Does [] answer
 told_so Does told answer does is =
-    record { told = told; does = does; answers = subst (PassesOn [] (stop_after told)) (sym is) (ends_after told) }
+    record { told = told; does = does; answers = subst (IsAnswerAfterFlush [] (stop_after told)) (sym is) (ends_after told) }
 
 -- a command that stopped before it wrote anything left the sink as it was
 pub stopped_so : {X : Type 0} (told : Result (Unit {0}) Refused) (answer : Result (Unit {0}) Stop)
@@ -43,3 +49,48 @@ pub device_so : (before after : Bool) (told : Result (Unit {0}) Refused) (answer
     → answer ≡ stop_after told → after ≡ (before || is_device told) → after ≡ (before || is_stopped_by_device answer)
 device_so before after told answer is failed =
     failed ∙ ap (λ b. before || b) (device_told told ∙ sym (ap is_stopped_by_device is))
+
+-- ---- what is told on standard error
+
+pub left_alone : (had : Option (List ℕ)) (failed : Bool)
+    → IsLeftAlone (record { had = had; has = had; had_failed = failed; has_failed = failed })
+left_alone had failed = record { same = refl; failed = refl }
+
+-- what the command tells, the words allow
+pub notes_so : (words : List (List ℕ)) (errors : Port) (command : NamedCommand) (read : ReadCommand)
+    → IsCommandLineOf words command → AreAlike command read → HasTold read errors → HasNotes words errors
+notes_so words errors (commands.OnMachine a b c) (commands.OnMachine d e f) says alike told = NoNotes told
+notes_so words errors (commands.Table a b) (commands.Table c d) says alike told = NoNotes told
+notes_so words errors (commands.EmptySheet a b) (commands.EmptySheet c d) says alike told = NoNotes told
+notes_so words errors (commands.Sheet table options) (commands.Sheet bytes same) says alike told =
+    TableNotes table options says told
+notes_so words errors (commands.OnMachine a b c) (commands.Table d e) says alike told = absurd alike
+notes_so words errors (commands.OnMachine a b c) (commands.Sheet d e) says alike told = absurd alike
+notes_so words errors (commands.OnMachine a b c) (commands.EmptySheet d e) says alike told = absurd alike
+notes_so words errors (commands.Table a b) (commands.OnMachine c d e) says alike told = absurd alike
+notes_so words errors (commands.Table a b) (commands.Sheet c d) says alike told = absurd alike
+notes_so words errors (commands.Table a b) (commands.EmptySheet c d) says alike told = absurd alike
+notes_so words errors (commands.Sheet a b) (commands.OnMachine c d e) says alike told = absurd alike
+notes_so words errors (commands.Sheet a b) (commands.Table c d) says alike told = absurd alike
+notes_so words errors (commands.Sheet a b) (commands.EmptySheet c d) says alike told = absurd alike
+notes_so words errors (commands.EmptySheet a b) (commands.OnMachine c d e) says alike told = absurd alike
+notes_so words errors (commands.EmptySheet a b) (commands.Table c d) says alike told = absurd alike
+notes_so words errors (commands.EmptySheet a b) (commands.Sheet c d) says alike told = absurd alike
+
+-- the number of days that the words ask for is that of a month
+meant_month : (said : Option (List ℕ × List Row)) (model : Model) (days : ℕ)
+    → IsMeant said (commands.EmptySheet model days) → days ≤ 31
+meant_month None model days meant = absurd meant
+meant_month (Some said) model days meant = let within = meant.month.within in omega (arith, within.last)
+
+pub months_so : (words : List (List ℕ)) (command : NamedCommand) (read : ReadCommand)
+    → IsCommandLineOf words command → AreAlike command read → HasMonth read
+months_so words (commands.EmptySheet model days) (commands.EmptySheet same many) says alike =
+    let here = meant_month (subcommand_of curator_grammar words) model days says.said in
+    subst (λ d. d ≤ 31) alike.1 here
+months_so words command (commands.OnMachine d e f) says alike = tt
+months_so words command (commands.Table d e) says alike = tt
+months_so words command (commands.Sheet d e) says alike = tt
+months_so words (commands.OnMachine a b c) (commands.EmptySheet d e) says alike = absurd alike
+months_so words (commands.Table a b) (commands.EmptySheet d e) says alike = absurd alike
+months_so words (commands.Sheet a b) (commands.EmptySheet d e) says alike = absurd alike

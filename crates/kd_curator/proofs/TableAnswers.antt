@@ -7,6 +7,7 @@ use Rattle.kd_state.specs.SheetDay.{Day}
 use Rattle.kd_sheet.specs.SheetFile.{sheet_of}
 use Rattle.kd_sheet.specs.declared.fault.SheetFault.{SheetFault}
 use Rattle.kd_key_table.specs.RunTable.{IsTableAnswer, is_device as is_table_device}
+use Rattle.kd_pictures.specs.declared.language.Language.TheVariants.{English}
 use Rattle.kd_key_table.specs.TableFile.{file_text}
 use Rattle.kd_key_table.specs.declared.fault.TableFault.{TableFault}
 use Rattle.kd_key_table.specs.declared.fault.TableFault.TheVariants as tables
@@ -31,14 +32,14 @@ module _ (form : TableForm) (sink : Port) where
   }
 
   found_told : (told : Result (Unit {0}) TableFault) (found : Result (List (Option Day)) SheetFault)
-      → MatchResult found (λ month. WritesText tables.Device (file_text form month) sink told)
+      → MatchResult found (λ month. WritesText tables.Device (file_text English form month) sink told)
       (λ fault. told ≡ Err (tables.Sheet fault))
-      → MatchResult found (λ month. WritesText refused_device (file_text form month) sink (refused_answer told))
+      → MatchResult found (λ month. WritesText refused_device (file_text English form month) sink (refused_answer told))
       (λ fault. refused_answer told ≡ Err (refused_whole (File fault)))
   found_told told (Ok month) writes = text_told _ told writes
   found_told told (Err fault) is = ap refused_answer is
 
-  pub tables_told : (sheet : List ℕ) (told : Result (Unit {0}) TableFault) → IsTableAnswer form sheet sink told
+  pub tables_told : (sheet : List ℕ) (told : Result (Unit {0}) TableFault) → IsTableAnswer English form sheet sink told
       → WritesTables form sheet sink (refused_answer told)
   tables_told sheet told (inl found) = inl (found_told told (sheet_of sheet) found)
   tables_told sheet told (inr lacks) = inr (ap refused_answer lacks)

@@ -4,6 +4,7 @@ use Rattle.std.specs.Prelude.{◌≡◌, ℕ, ◌≤◌, List, [], ◌∷◌, �
 use Rattle.kd_page.specs.DayPage.{day_text}
 use Rattle.kd_page.specs.Head.{file_text}
 use Rattle.kd_page.specs.declared.head.ListedDay.{ListedDay}
+use Rattle.kd_pictures.specs.declared.language.Language.TheVariants.{English}
 use Rattle.kd_state.specs.declared.machine.parts.Parts.{Parts}
 use Rattle.kd_state.specs.Machine.{model_of}
 use Rattle.kd_state.specs.Setting.{Leads}
@@ -15,7 +16,7 @@ use Rattle.kd_curator.specs.declared.day_plan.DayPlan.{DayPlan}
 abbrev pub ArePages : Parts → List DayPlan → List ℕ → Type 0
 ArePages m [] text = text ≡ []
 ArePages m (plan ∷ plans) text = (n : Parts) × (more : List ℕ) × Leads m plan.settings.items n
-    × (text ≡ day_text plan.day m n plan.settings.items ++ more) × ArePages n plans more
+    × (text ≡ day_text English plan.day m n plan.settings.items ++ more) × ArePages n plans more
 
 -- a planned day in the list of days, with its number of settings
 abbrev pub listed_day : DayPlan → ListedDay
@@ -25,7 +26,7 @@ listed_day plan = record { day = plan.day; settings = length plan.settings.items
 pub record IsBooklet (m : Parts) (first : DayPlan) (others : List DayPlan) (text : List ℕ) : Type 0 where
   pub pages : List ℕ
   pub are_pages : ArePages m (first ∷ others) pages
-  pub whole : text ≡ file_text (model_of m) (listed_day first) (map listed_day others) pages
+  pub whole : text ≡ file_text English (model_of m) (listed_day first) (map listed_day others) pages
 
 -- ---- Days whose pages can be drawn. No public contract cites these definitions.
 

@@ -1,8 +1,8 @@
--- The grammar of the command line: `page`, `list` and `table`, with their arguments and with help.
+-- The grammar of the command line: `page`, `list`, `table` and `sheet`, with their arguments and with help.
 -- Code: `grammar` builds the grammar by calls of the library `clap`.
 -- Test: refuses_other_words
 use Rattle.std.specs.Prelude.{codes, decimal, ◌≡◌, ◌≢◌, ℕ, Bool, true, false, List, [], ◌∷◌, Option, Some, None}
-use Rattle.std.specs.Prelude.{IsSomeAnd, IsTrue}
+use Rattle.std.specs.Prelude.{◌&&◌, ◌==◌, IsSomeAnd, IsTrue, length, unwrap_or}
 use Rattle.std.specs.Borrow.{Bor}
 use Rattle.clap.specs.declared.builder.command.Command.{Command as Grammar, out-Command}
 use Rattle.clap.specs.declared.error.kind.ErrorKind.{ErrorKind}
@@ -12,6 +12,9 @@ use Rattle.clap.specs.Simple.{new_shape}
 use Rattle.kd_state.specs.SheetDay.{IsDayNumber}
 use Rattle.kd_curator.specs.Days.{AreDays}
 use Rattle.clap.specs.declared.builder.action.ArgAction.TheVariants.{SetTrue}
+use Rattle.kd_tables.specs.Tables.{model_text}
+use Rattle.kd_tables.specs.declared.model.Model.{Model}
+use Rattle.kd_table.specs.Options.{OptionTexts, texts_of}
 use Rattle.kd_key_table.specs.declared.table_file.TableForm.{TableForm}
 use Rattle.kd_key_table.specs.declared.table_file.TableForm.TheVariants as forms
 use Rattle.kd_curator.specs.declared.command.Command.{Command}
@@ -43,7 +46,17 @@ csv_flag = record (new_rule (codes "csv")) { long = Some (codes "csv"); action =
 abbrev pub table_shape : Shape
 table_shape = record (new_shape (codes "table")) { rules = csv_flag ∷ needed (codes "SHEET") ∷ [] }
 
--- the grammar of the program: its three commands
+-- an option with a value
+abbrev pub option_rule : List ℕ → Rule
+option_rule name = record (new_rule name) { long = Some name; value_names = 1 }
+
+abbrev pub sheet_shape : Shape
+sheet_shape = record (new_shape (codes "sheet")) {
+  rules = option_rule (codes "model") ∷ option_rule (codes "reflector") ∷ option_rule (codes "window")
+      ∷ option_rule (codes "empty") ∷ needed (codes "TABLE") ∷ [];
+}
+
+-- the grammar of the program: its four commands
 unfoldable pub curator_grammar : App
 curator_grammar = record {
   top = record (new_shape (codes "curator")) {
@@ -53,7 +66,7 @@ curator_grammar = record {
     arg_required_else_help = true;
     is_leaf = false;
   };
-  subs = page_shape ∷ list_shape ∷ table_shape ∷ [];
+  subs = page_shape ∷ list_shape ∷ table_shape ∷ sheet_shape ∷ [];
 }
 
 -- ---- Which command a command line means.
@@ -62,12 +75,25 @@ curator_grammar = record {
 
 -- A command that has the names of its files.
 abbrev pub NamedCommand : Type 0
-NamedCommand = Command (List ℕ)
+NamedCommand = Command (List ℕ) (List ℕ)
 
--- the command, with its borrowed file names replaced by the names themselves
-abbrev pub unborrowed_command : Command (Bor (List ℕ)) → NamedCommand
+-- the command, with its borrowed texts replaced by the texts themselves
+abbrev pub unborrowed_command : Command (Bor (List ℕ)) (Bor (List ℕ)) → NamedCommand
 unborrowed_command (commands.OnMachine machine sheet task) = commands.OnMachine machine.now sheet.now task
 unborrowed_command (commands.Table sheet form) = commands.Table sheet.now form
+unborrowed_command (commands.Sheet table options) = commands.Sheet table.now (texts_of options)
+unborrowed_command (commands.EmptySheet model days) = commands.EmptySheet model days
+
+-- A command that has the bytes of its files.
+abbrev pub ReadCommand : Type 0
+ReadCommand = Command (List ℕ) (List ℕ)
+
+-- the command, with the borrowed texts of its options replaced by the texts themselves
+abbrev pub with_texts : Command (List ℕ) (Bor (List ℕ)) → ReadCommand
+with_texts (commands.OnMachine machine sheet task) = commands.OnMachine machine sheet task
+with_texts (commands.Table sheet form) = commands.Table sheet form
+with_texts (commands.Sheet table options) = commands.Sheet table (texts_of options)
+with_texts (commands.EmptySheet model days) = commands.EmptySheet model days
 
 abbrev pub task_name : Task → List ℕ
 task_name (tasks.Page days) = codes "page"
@@ -102,10 +128,52 @@ pub record IsTableOf (said : List ℕ × List Row) (key_sheet : List ℕ) (its_f
   pub sheet : first_of (codes "SHEET") said.1 ≡ Some key_sheet
   pub form : HasForm said.1 its_form
 
+-- the text of an option; an empty text if it isn't used
+abbrev pub option_text : List ℕ → List Row → List ℕ
+option_text name rows = unwrap_or (first_of name rows) []
+
+-- the options of `sheet`
+abbrev pub option_texts : List Row → OptionTexts
+option_texts rows = record {
+  model = option_text (codes "model") rows;
+  reflector = option_text (codes "reflector") rows;
+  window = option_text (codes "window") rows;
+}
+
+-- whether no option has a text
+abbrev pub are_blank : OptionTexts → Bool
+are_blank options =
+    (length options.model == 0) && (length options.reflector == 0) && (length options.window == 0)
+
+-- They mean the command `sheet`, with this table and these options, and without `--empty`.
+pub record IsSheetOf (said : List ℕ × List Row) (its_table : List ℕ) (its_options : OptionTexts) : Type 0 where
+  pub name : said.0 ≡ codes "sheet"
+  pub filled : first_of (codes "empty") said.1 ≡ None
+  pub table : first_of (codes "TABLE") said.1 ≡ Some its_table
+  pub options : its_options ≡ option_texts said.1
+
+-- The words are a model's name, and a number of days, from 1 to 31.
+pub record IsMonthNamed (model_word days_word : List ℕ) (model : Model) (days : ℕ) : Type 0 where
+  pub named : model_text model ≡ model_word
+  pub numbered : decimal days ≡ days_word
+  pub within : IsDayNumber days
+
+-- They mean the command `sheet --empty`, with this model and this number of days, and without other options.
+pub record IsEmptySheetOf (said : List ℕ × List Row) (model : Model) (days : ℕ) : Type 0 where
+  pub name : said.0 ≡ codes "sheet"
+  pub model_word : List ℕ
+  pub empty : first_of (codes "empty") said.1 ≡ Some model_word
+  pub days_word : List ℕ
+  pub table : first_of (codes "TABLE") said.1 ≡ Some days_word
+  pub month : IsMonthNamed model_word days_word model days
+  pub alone : are_blank (option_texts said.1) ≡ true
+
 -- They mean the command `command`.
 abbrev pub IsCommandOf : List ℕ × List Row → NamedCommand → Type 0
 IsCommandOf said (commands.OnMachine machine sheet task) = IsTaskWith said machine sheet task
 IsCommandOf said (commands.Table sheet form) = IsTableOf said sheet form
+IsCommandOf said (commands.Sheet table options) = IsSheetOf said table options
+IsCommandOf said (commands.EmptySheet model days) = IsEmptySheetOf said model days
 
 -- What is said, if anything, means the command `command`.
 abbrev pub IsMeant : Option (List ℕ × List Row) → NamedCommand → Type 0

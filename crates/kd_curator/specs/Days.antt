@@ -1,9 +1,9 @@
 -- The days that the argument DAYS names, such as `2`, `1-31` or `1,4,2`.
 -- Code: `days_of_word` adds the days of one range after another to an array of at most 31.
 -- Test: reads_days
-use Rattle.std.specs.Prelude.{decimal, ◌≡◌, ℕ, ◌+◌, ◌-◌, ◌<◌, ◌≤◌, ◌==◌, nat_lt, nat_le, Bool, List, [], ◌∷◌, ◌++◌}
+use Rattle.std.specs.Prelude.{decimal, ◌≡◌, ℕ, ◌+◌, ◌-◌, ◌<◌, ◌≤◌, ◌==◌, nat_lt, nat_le, ◌||◌, Bool, false, List, [], ◌∷◌, ◌++◌}
 use Rattle.std.specs.Prelude.{length, find, Option, Some, None, IfSome, option_map, if◌then◌else◌, bytes_eq}
-use Rattle.std.specs.List.{range_with_len, slice_split, position_or_len, before_first, after_first}
+use Rattle.std.specs.List.{list_any, range_with_len, slice_split, position_or_len, before_first, after_first}
 
 abbrev pub is_comma : ℕ → Bool
 is_comma byte = byte == 44
@@ -42,10 +42,16 @@ ranges_named (range ∷ ranges) = both (range_named range) (ranges_named ranges)
 unfoldable pub days_named : List ℕ → Option (List ℕ)
 days_named word = ranges_named (slice_split is_comma word)
 
--- The word names these days, in this order. There are at most 31 of them.
+-- whether a day comes twice
+abbrev pub has_twice : List ℕ → Bool
+has_twice [] = false
+has_twice (day ∷ days) = list_any (λ other. other == day) days || has_twice days
+
+-- The word names these days, in this order. There are at most 31 of them, and no day comes twice.
 pub record AreDays (word : List ℕ) (days : List ℕ) : Type 0 where
   pub named : days_named word ≡ Some days
   pub few : length days ≤ 31
+  pub once : has_twice days ≡ false
 
 -- `new` is `old` followed by the days `more`. Without an answer, there are no such days, or they are too many.
 abbrev pub AddsDays : Option (List ℕ) → List ℕ → List ℕ → Option (Unit {0}) → Type 0

@@ -11,4 +11,5 @@ pub mod Program
 pub mod Refusals
 pub mod RunList
 pub mod RunPage
+pub mod Sheets
 pub mod Tables

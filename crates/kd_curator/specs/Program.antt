@@ -3,7 +3,9 @@
 -- Test: carries_each_command_out
 use Rattle.std.specs.Prelude.{◌≡◌, ◌⊎◌, ◌≤◌, ◌||◌, not, ℕ, Bool, true, false, List, [], ◌∷◌, length, Option, IfSome}
 use Rattle.std.specs.Prelude.{Result, Ok, Err, IsTrue}
+use Rattle.std.specs.Borrow.{Bor}
 use Rattle.std.specs.Io.KnownBytes.{append_known}
+use Rattle.std.specs.Result.{result_map_both}
 use Rattle.clap.specs.Words.{IsAmong, fault_of}
 use Rattle.clap.specs.declared.error.kind.ErrorKind.{ErrorKind}
 use Rattle.kd_host.specs.declared.file_fault.FileFault.{FileFault}
@@ -11,15 +13,20 @@ use Rattle.kd_host.specs.declared.file_fault.FileFault.TheVariants as files
 use Rattle.kd_tables.specs.Answers.{AgreesOrNoMemory}
 use Rattle.kd_host.specs.Files.{AreAskedFor, AskedName, content_of}
 use Rattle.kd_host.specs.Writing.{WritesText}
+use Rattle.kd_sheet.specs.EmptySheet.{empty_month_text}
+use Rattle.kd_table.specs.Notes.{Tells}
+use Rattle.kd_table.specs.Options.{OptionTexts}
 use Rattle.kd_state.specs.Machine.{model_of}
 use Rattle.kd_tables.specs.Ports.{Port}
-use Rattle.kd_curator.specs.CommandLine.{AsksForHelp, IsCommandLineOf, IsNoCommandLine, NamedCommand, curator_grammar}
+use Rattle.kd_curator.specs.CommandLine.{AsksForHelp, IsCommandLineOf, IsNoCommandLine, NamedCommand, ReadCommand, with_texts}
+use Rattle.kd_curator.specs.CommandLine.{curator_grammar}
 use Rattle.kd_curator.specs.CommandLine.{is_help}
 use Rattle.kd_curator.specs.Ending.{EndsAs, stop_after}
 use Rattle.kd_curator.specs.MachineAndSheet.{IsAnswerOnSheet}
 use Rattle.kd_curator.specs.Refusals.{is_device_fault, refused_device}
 use Rattle.kd_curator.specs.RunList.{WritesList}
 use Rattle.kd_curator.specs.RunPage.{WritesPages, wanted_days}
+use Rattle.kd_curator.specs.Sheets.{MakesSheet}
 use Rattle.kd_curator.specs.Tables.{WritesTables}
 use Rattle.kd_curator.specs.declared.command.Command.{Command}
 use Rattle.kd_curator.specs.declared.command.Command.TheVariants as commands
@@ -34,23 +41,30 @@ with_file (Ok bytes) made = made bytes
 with_file (Err fault) made = Err fault
 
 -- the command with the bytes of its files, or the fault of the first file that can't be read
-abbrev pub known_command : (List ℕ → Option (List ℕ)) → NamedCommand → Result (Command (List ℕ)) FileFault
+abbrev pub known_command : (List ℕ → Option (List ℕ)) → NamedCommand → Result ReadCommand FileFault
 known_command held (commands.OnMachine machine sheet task) =
     with_file (content_of (held machine)) (λ bytes. with_file (content_of (held sheet))
     (λ more. Ok (commands.OnMachine bytes more task)))
 known_command held (commands.Table sheet form) =
     with_file (content_of (held sheet)) (λ bytes. Ok (commands.Table bytes form))
+known_command held (commands.Sheet table options) =
+    with_file (content_of (held table)) (λ bytes. Ok (commands.Sheet bytes options))
+known_command held (commands.EmptySheet model days) = Ok (commands.EmptySheet model days)
 
--- Both commands do the same task, or write a sheet's tables in the same form.
-abbrev pub AreAlike : NamedCommand → Command (List ℕ) → Type 0
+-- Both commands are the same, but for the names of files in the first, and the bytes of files in the second.
+abbrev pub AreAlike : NamedCommand → ReadCommand → Type 0
 AreAlike (commands.OnMachine machine sheet task) (commands.OnMachine bytes more same) = task ≡ same
 AreAlike (commands.Table sheet form) (commands.Table bytes same) = form ≡ same
+AreAlike (commands.Sheet table options) (commands.Sheet bytes same) = options ≡ same
+AreAlike (commands.EmptySheet model days) (commands.EmptySheet same many) = (model ≡ same) × (days ≡ many)
 AreAlike _ _ = ⊥
 
 -- the names of a command's files, in the order in which they are read
 abbrev pub names_of : NamedCommand → List (List ℕ)
 names_of (commands.OnMachine machine sheet task) = machine ∷ sheet ∷ []
 names_of (commands.Table sheet form) = sheet ∷ []
+names_of (commands.Sheet table options) = table ∷ []
+names_of (commands.EmptySheet model days) = []
 
 -- What a task writes, from the bytes of a machine file and of a key sheet.
 abbrev pub DoesTask : Task → List ℕ → List ℕ → Port → Result (Unit {0}) Refused → Type 0
@@ -60,25 +74,41 @@ DoesTask (tasks.List day) machine sheet sink answer = IsAnswerOnSheet machine sh
     (λ m month. WritesList month m day sink answer) answer
 
 -- What a command writes, from the bytes of its files.
-abbrev pub DoesCommand : Command (List ℕ) → Port → Result (Unit {0}) Refused → Type 0
+abbrev pub DoesCommand : ReadCommand → Port → Result (Unit {0}) Refused → Type 0
 DoesCommand (commands.OnMachine machine sheet task) sink answer = DoesTask task machine sheet sink answer
 DoesCommand (commands.Table sheet form) sink answer = WritesTables form sheet sink answer
+DoesCommand (commands.Sheet table options) sink answer = MakesSheet options table sink answer
+DoesCommand (commands.EmptySheet model days) sink answer =
+    WritesText refused_device (empty_month_text model days) sink answer
+
+-- Nothing was written to this port, and it failed only if it had failed before.
+pub record IsLeftAlone (p : Port) : Type 0 where
+  pub same : p.has ≡ p.had
+  pub failed : p.has_failed ≡ p.had_failed
+
+-- What a command tells on standard error, beside the reason of a refusal: `sheet` tells the columns that it doesn't read,
+-- and a table's faults. Other commands tell nothing.
+abbrev pub HasTold : ReadCommand → Port → Type 0
+HasTold (commands.Sheet table options) errors = Tells errors
+HasTold (commands.OnMachine machine sheet task) errors = IsLeftAlone errors
+HasTold (commands.Table sheet form) errors = IsLeftAlone errors
+HasTold (commands.EmptySheet model days) errors = IsLeftAlone errors
 
 -- ---- The program's answer.
 
 -- The program's answer, given its answer before the last gathered bytes were passed on. `left` are the bytes that the sink
 -- didn't take. After success there are none. If only they are missing, the program answers `Device`.
-abbrev pub PassesOn : List ℕ → Result (Unit {0}) Stop → Result (Unit {0}) Stop → Type 0
-PassesOn left (Ok done) answer =
+abbrev pub IsAnswerAfterFlush : List ℕ → Result (Unit {0}) Stop → Result (Unit {0}) Stop → Type 0
+IsAnswerAfterFlush left (Ok done) answer =
     ((answer ≡ Ok tt) × (left ≡ [])) ⊎ ((answer ≡ Err (stops.Refused refused_device)) × (1 ≤ length left))
-PassesOn left (Err stop) answer = answer ≡ Err stop
+IsAnswerAfterFlush left (Err stop) answer = answer ≡ Err stop
 
 -- A command answered `told`, as `Does` says, and the program answers `answer`.
 pub record IsTold (Does : Result (Unit {0}) Refused → Type 0) (left : List ℕ) (answer : Result (Unit {0}) Stop)
     : Type 0 where
   pub told : Result (Unit {0}) Refused
   pub does : Does told
-  pub answers : PassesOn left (stop_after told) answer
+  pub answers : IsAnswerAfterFlush left (stop_after told) answer
 
 -- whether the answer is a text about words that mean no command
 abbrev pub is_usage : Result (Unit {0}) Stop → Bool
@@ -90,7 +120,7 @@ is_usage _ = false
 -- `NoMemory`: memory ran out before a file was asked for.
 pub data CarriesOut (words : List (List ℕ)) (known : Option (List ℕ → Option (List ℕ))) (asked : List AskedName)
     (sink : Port) (left : List ℕ) (answer : Result (Unit {0}) Stop) : Type 0 where
-  Carried : (command : NamedCommand) → IsCommandLineOf words command → (read : Command (List ℕ))
+  Carried : (command : NamedCommand) → IsCommandLineOf words command → (read : ReadCommand)
       → AreAlike command read → IfSome known (λ held. AgreesOrNoMemory files.NoMemory (known_command held command) (Ok read))
       → AreAskedFor (names_of command) [] asked true
       → IsTold (DoesCommand read sink) left answer
@@ -117,27 +147,62 @@ is_stopped_before_writing (Ok done) = false
 is_stopped_before_writing (Err (stops.Refused refused)) = not (is_device_fault refused.fault)
 is_stopped_before_writing (Err stop) = true
 
+-- What was written to standard error before the program's answer was known: something about a table, if the words mean
+-- the command `sheet`. Otherwise nothing.
+pub data HasNotes (words : List (List ℕ)) (errors : Port) : Type 0 where
+  NoNotes : IsLeftAlone errors → HasNotes words errors
+  TableNotes : (table : List ℕ) (options : OptionTexts) → IsCommandLineOf words (commands.Sheet table options)
+      → Tells errors → HasNotes words errors
+
 -- What holds of the program's answer to a command line. `carried`: what was read and written. `untouched`: when nothing
 -- happened to the sink. `failed`: the sink has failed exactly if the program says so, or if it had failed before.
+-- `noted`: what was written to standard error, beside the text for the answer.
 pub record IsRun (words : List (List ℕ)) (known : Option (List ℕ → Option (List ℕ))) (asked : List AskedName)
-    (sink : Port) (Untouched : Type 0) (left : List ℕ) (answer : Result (Unit {0}) Stop) : Type 0 where
+    (sink : Port) (Untouched : Type 0) (errors : Port) (left : List ℕ) (answer : Result (Unit {0}) Stop)
+    : Type 0 where
   pub carried : CarriesOut words known asked sink left answer
   pub untouched : IsTrue (is_stopped_before_writing answer) → Untouched
   pub failed : sink.has_failed ≡ (sink.had_failed || is_stopped_by_device answer)
+  pub noted : HasNotes words errors
 
 -- a sink before and after a call; bytes that are gathered, and that it hasn't taken, count as taken
-abbrev pub gathering_port : {P : Type 0} → (P → Option (List ℕ)) → (P → Bool) → P → P → List ℕ → Port
-gathering_port bytes failed old new left = record {
+abbrev pub port_with_untaken : {P : Type 0} → (P → Option (List ℕ)) → (P → Bool) → P → P → List ℕ → Port
+port_with_untaken bytes failed old new left = record {
   had = bytes old;
   has = append_known (bytes new) left;
   had_failed = failed old;
   has_failed = failed new;
 }
 
+-- standard error before a call, and when the program's answer was known
+abbrev pub at_first : Port → Option (List ℕ) → Bool → Port
+at_first errors told failed = record errors { has = told; has_failed = failed }
+
+-- standard error when the program's answer was known, and after a call
+abbrev pub at_last : Port → Option (List ℕ) → Bool → Port
+at_last errors told failed = record errors { had = told; had_failed = failed }
+
 -- The program's answer satisfies `IsSo`, and the program ended with the text and the exit status for this answer.
--- `left` are the gathered bytes that the sink didn't take.
-pub record HasEnded (IsSo : List ℕ → Result (Unit {0}) Stop → Type 0) (errors : Port) (status : ℕ) : Type 0 where
+-- `left` are the gathered bytes that the sink didn't take. `told` and `failed` are what standard error had taken when
+-- the answer was known, and whether it had failed.
+pub record HasEnded (IsSo : Port → List ℕ → Result (Unit {0}) Stop → Type 0) (errors : Port) (status : ℕ)
+    : Type 0 where
   pub left : List ℕ
   pub answer : Result (Unit {0}) Stop
-  pub is_so : IsSo left answer
-  pub ends : EndsAs answer errors status
+  pub told : Option (List ℕ)
+  pub failed : Bool
+  pub is_so : IsSo (at_first errors told failed) left answer
+  pub ends : EndsAs answer (at_last errors told failed) status
+
+-- ---- What inner functions read and require. No public contract cites these definitions.
+
+-- a command with the bytes of its files, or why they can't be read; borrowed texts are replaced by the texts themselves
+abbrev pub read_with_texts : Result (Command (List ℕ) (Bor (List ℕ))) FileFault → Result ReadCommand FileFault
+read_with_texts read = result_map_both with_texts (λ fault. fault) read
+
+-- A sheet to fill in has at most 31 days.
+abbrev pub HasMonth : ReadCommand → Type 0
+HasMonth (commands.EmptySheet model days) = days ≤ 31
+HasMonth (commands.OnMachine machine sheet task) = Unit {0}
+HasMonth (commands.Table sheet form) = Unit {0}
+HasMonth (commands.Sheet table options) = Unit {0}

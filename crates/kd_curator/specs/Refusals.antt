@@ -1,9 +1,12 @@
 -- Why a command is refused, and the text of the refusal.
 -- Test: says_why_it_refuses
-use Rattle.std.specs.Prelude.{ℕ, Bool, true, false, List, None, Result, Ok, Err}
+use Rattle.std.specs.Prelude.{codes, ℕ, Bool, true, false, List, None, Result, Ok, Err}
 use Rattle.kd_tables.specs.declared.refusal.Refusal.TheVariants as refusals
 use Rattle.kd_tables.specs.Refusals.{refusal_name}
 use Rattle.kd_sheet.specs.FaultText.{sheet_fault_text}
+use Rattle.kd_sheet.specs.declared.fault.SheetFault.TheVariants.{NoMemory}
+use Rattle.kd_table.specs.declared.fault.SpreadsheetFault.{SpreadsheetFault}
+use Rattle.kd_table.specs.declared.fault.SpreadsheetFault.TheVariants as spreadsheets
 use Rattle.kd_curator.specs.declared.fault.PageFault.{PageFault}
 use Rattle.kd_curator.specs.declared.fault.PageFault.TheVariants as faults
 use Rattle.kd_curator.specs.declared.fault.Refused.{Refused}
@@ -14,6 +17,7 @@ abbrev pub page_fault_text : PageFault → List ℕ
 page_fault_text (faults.File fault) = sheet_fault_text fault
 page_fault_text faults.NoSuchDay = refusal_name refusals.NoSuchDay
 page_fault_text faults.OtherModel = refusal_name refusals.OtherModel
+page_fault_text faults.FaultyTable = codes "because the table has faults"
 page_fault_text faults.Device = refusal_name refusals.Device
 
 -- a refusal that is of no day, or of the only one
@@ -36,3 +40,9 @@ is_device (Err refused) = is_device_fault refused.fault
 abbrev pub refused_table : TableFault → Refused
 refused_table (tables.Sheet fault) = refused_whole (faults.File fault)
 refused_table tables.Device = refused_device
+
+-- why no key sheet is made of a table, as a refusal
+abbrev pub refused_spreadsheet : SpreadsheetFault → Refused
+refused_spreadsheet spreadsheets.Refused = refused_whole faults.FaultyTable
+refused_spreadsheet spreadsheets.Device = refused_device
+refused_spreadsheet spreadsheets.NoMemory = refused_whole (faults.File NoMemory)

@@ -3,6 +3,7 @@ use Rattle.std.specs.Prelude.{◌≡◌, ◌⊎◌, ℕ, List, Result, Err, Matc
 use Rattle.kd_tables.specs.Ports.{Port}
 use Rattle.kd_host.specs.Writing.{WritesText}
 use Rattle.kd_sheet.specs.SheetFile.{sheet_of}
+use Rattle.kd_pictures.specs.declared.language.Language.TheVariants.{English}
 use Rattle.kd_key_table.specs.TableFile.{file_text}
 use Rattle.kd_key_table.specs.declared.table_file.TableForm.{TableForm}
 use Rattle.kd_curator.specs.MachineAndSheet.{LacksMemory}
@@ -14,6 +15,6 @@ use Rattle.kd_curator.specs.declared.fault.Refused.{Refused}
 -- the sheet's first fault. Or memory ran out.
 abbrev pub WritesTables : TableForm → List ℕ → Port → Result (Unit {0}) Refused → Type 0
 WritesTables form sheet sink answer =
-    MatchResult (sheet_of sheet) (λ month. WritesText refused_device (file_text form month) sink answer)
+    MatchResult (sheet_of sheet) (λ month. WritesText refused_device (file_text English form month) sink answer)
     (λ fault. answer ≡ Err (refused_whole (File fault)))
     ⊎ LacksMemory answer

@@ -1,8 +1,10 @@
 //! The commands, and the parser of the command line.
-ghost use Rattle.std.specs.Prelude.{◌≡◌, ◌≢◌, codes, false, map, IfErr, IfOk, IfSome};
+ghost use Rattle.std.specs.Prelude.{◌≡◌, ◌≢◌, ℕ, codes, false, map, IfErr, IfOk, IfSome};
 ghost use Rattle.clap.specs.Words.{app_of, found_of, kind_of, rows_of, rule_of, subcommand_rows_of};
 ghost use Rattle.kd_curator.specs.CommandLine.{IsMadeOf, curator_grammar, command_shape, list_shape, page_shape};
 ghost use Rattle.kd_curator.specs.CommandLine.{HasForm, IsFormNamed, csv_flag, table_shape};
+ghost use Rattle.kd_curator.specs.CommandLine.{are_blank, option_rule, option_text, option_texts, sheet_shape, IsMonthNamed};
+ghost use Rattle.kd_table.specs.Options.{texts_of};
 ghost use Rattle.kd_curator.specs.CommandLine.{unborrowed_command, needed, task_name};
 ghost use Rattle.kd_curator.specs.CommandLine.{HasTaskDays, IsCommandLineOf, IsCommandOf, IsMeant, IsTaskOf};
 ghost use Rattle.kd_curator.specs.CommandLine.{NamedCommand};
@@ -13,18 +15,24 @@ use clap::error::ErrorKind;
 use clap::{Arg, ArgAction, ArgMatches, Command as Grammar, Error};
 use kd_key_table::TableForm;
 use kd_state::day_of_text;
+use kd_table::TableOptions;
+use kd_tables::Model;
 use std::alloc::{AllocError, Global};
 use std::convert::AsStr;
 
 /// The version that `--version` shows.
 const VERSION: &str = "1.0";
 
-/// The text of the error for an argument that names no days.
-const NO_DAYS: &str = "days are numbers from 1 to 31, such as 2, 1-31 or 1,4,2";
+/// The text of the error for `sheet --empty` with other words than a model and a number of days.
+const NO_MONTH: &str =
+    "--empty needs Enigma I, M3, M4 or M-209, then a number of days from 1 to 31, and no other option";
 
-/// A command, with its files or their names.
+/// The text of the error for an argument that names no days.
+const NO_DAYS: &str = "days are numbers from 1 to 31, each once, such as 2, 1-31 or 1,4,2";
+
+/// A command, with its files or their names, and with the texts of its options.
 #[derive(Drop)]
-pub enum Command<F> {
+pub enum Command<F, T> {
     /// Writes how a machine is set to days of a key sheet.
     OnMachine {
         /// The machine file.
@@ -41,6 +49,19 @@ pub enum Command<F> {
         /// The form in which it is written.
         form: TableForm,
     },
+    /// Makes a key sheet of a spreadsheet's table.
+    Sheet {
+        /// The table.
+        table: F,
+        /// What is used where the table says nothing.
+        options: TableOptions<T>,
+    },
+    /// Writes a key sheet to fill in.
+    EmptySheet {
+        model: Model,
+        /// How many days the sheet has.
+        days: u8,
+    },
 }
 
 /// What is written of a machine and of days.
@@ -53,7 +74,7 @@ pub enum Task {
 }
 
 /// A command with the names of its files, before any file is read.
-pub type NamedCommand<'a> = Command<&'a str>;
+pub type NamedCommand<'a> = Command<&'a str, &'a str>;
 
 /// Why a command line gives no command.
 #[derive(Drop)]
@@ -82,15 +103,23 @@ pub fn parse_words<'a, S: AsStr>(
     };
     match meant_command(&matches) {
         Some(command) => Ok(command),
-        None => Err(no_days(alloc, &mut grammar)),
+        None => Err(no_days(alloc, &mut grammar, why_not(&matches))),
     }
 }
 
-/// Why there is no command, if clap takes the words, but a word doesn't name days.
-fn no_days(alloc: Global, grammar: &mut Grammar<'_>) -> NoCommand
+/// What is wrong with words that clap takes, but that mean no command.
+fn why_not(matches: &ArgMatches<'_>) -> &'static str {
+    match matches.subcommand() {
+        Some(("sheet", _)) => NO_MONTH,
+        _ => NO_DAYS,
+    }
+}
+
+/// Why there is no command, if clap takes the words, but a word doesn't name days, or a model.
+fn no_days(alloc: Global, grammar: &mut Grammar<'_>, why: &str) -> NoCommand
     ensures { IsToldAs ErrorKind.InvalidValue result }
 {
-    match grammar.error(ErrorKind::InvalidValue, NO_DAYS) {
+    match grammar.error(ErrorKind::InvalidValue, why) {
         Ok(error) => no_command(alloc, &error),
         Err(_) => NoCommand::NoMemory,
     }
@@ -141,6 +170,7 @@ fn command_of<'a>(name: &str, words: &ArgMatches<'a>) -> Option<NamedCommand<'a>
 {
     match name {
         "table" => table_of(words),
+        "sheet" => sheet_of(words),
         _ => task_with_files(name, words),
     }
 }
@@ -178,9 +208,65 @@ fn form_named(word: &str) -> TableForm
     }
 }
 
+/// The command `sheet`, with the table or the month in `words`; `None` if the month isn't one.
+fn sheet_of<'a>(words: &ArgMatches<'a>) -> Option<NamedCommand<'a>>
+    ensures said { IfSome result (λ command.
+        IsCommandOf (codes "sheet", rows_of (found_of words.now)) (unborrowed_command command)) }
+    ensures none { result ≡ None → (command : NamedCommand)
+        → ¬ (IsCommandOf (codes "sheet", rows_of (found_of words.now)) command) }
+{
+    let table = words.get_str("TABLE")?;
+    let options = options_of(words);
+    let Some(model) = words.get_str("empty") else {
+        return Some(Command::Sheet { table, options });
+    };
+    if !are_blank(&options) {
+        return None;
+    }
+    let (model, days) = month_named(model, table)?;
+    Some(Command::EmptySheet { model, days })
+}
+
+/// The options of `sheet` in `words`.
+fn options_of<'a>(words: &ArgMatches<'a>) -> TableOptions<&'a str>
+    ensures { texts_of result ≡ option_texts (rows_of (found_of words.now)) }
+{
+    TableOptions {
+        model: option_text(words, "model"),
+        reflector: option_text(words, "reflector"),
+        window: option_text(words, "window"),
+    }
+}
+
+/// The text of an option; an empty text if it isn't used.
+fn option_text<'a>(words: &ArgMatches<'a>, name: &str) -> &'a str
+    ensures { result.now ≡ option_text name.now (rows_of (found_of words.now)) }
+{
+    words.get_str(name).unwrap_or("")
+}
+
+/// Whether no option has a text.
+fn are_blank(options: &TableOptions<&str>) -> bool
+    ensures { result ≡ are_blank (texts_of options.now) }
+{
+    options.model.is_empty() && options.reflector.is_empty() && options.window.is_empty()
+}
+
+/// The model with this name, and this number of days; `None` if there is no such model or month.
+fn month_named(model: &str, days: &str) -> Option<(Model, u8)>
+    ensures said { IfSome result (λ month. IsMonthNamed model.now days.now month.0 month.1) }
+    ensures none { result ≡ None → (month : Model × ℕ)
+        → ¬ (IsMonthNamed model.now days.now month.0 month.1) }
+{
+    let model = Model::from_text(model.as_bytes())?;
+    let days = day_of_text(days.as_bytes())?;
+    Some((model, days))
+}
+
 /// The command of a task, named `name`, with the arguments in `words`; `None` if its days aren't days.
 fn task_with_files<'a>(name: &str, words: &ArgMatches<'a>) -> Option<NamedCommand<'a>>
-    requires { name.now ≢ codes "table" }
+    requires table { name.now ≢ codes "table" }
+    requires sheet { name.now ≢ codes "sheet" }
     ensures said { IfSome result (λ command.
         IsCommandOf (name.now, rows_of (found_of words.now)) (unborrowed_command command)) }
     ensures none { result ≡ None → (command : NamedCommand)
@@ -239,6 +325,7 @@ fn grammar<'a>(alloc: Global) -> Result<Grammar<'a>, AllocError>
     let page = page_grammar(alloc)?;
     let list = list_grammar(alloc)?;
     let table = table_grammar(alloc)?;
+    let sheet = sheet_grammar(alloc)?;
     Grammar::new(alloc, "curator")
         .about("Writes pages to hang beside a cipher machine: what to set for a day, with pictures")
         .version(VERSION)
@@ -247,7 +334,8 @@ fn grammar<'a>(alloc: Global) -> Result<Grammar<'a>, AllocError>
         .arg_required_else_help(true)
         .subcommand(page)?
         .subcommand(list)?
-        .subcommand(table)
+        .subcommand(table)?
+        .subcommand(sheet)
 }
 
 /// The grammar of `page`.
@@ -285,6 +373,56 @@ fn table_grammar<'a>(alloc: Global) -> Result<Grammar<'a>, AllocError>
         .about("Writes a key sheet as an HTML page of tables to print, like the sheets of the time")
         .arg(csv_flag(alloc))?
         .arg(needed(alloc, "SHEET", "The key sheet"))
+}
+
+/// The grammar of `sheet`.
+fn sheet_grammar<'a>(alloc: Global) -> Result<Grammar<'a>, AllocError>
+    ensures { IfOk result (λ grammar. IsMadeOf grammar sheet_shape) }
+{
+    Grammar::new(alloc, "sheet")
+        .about(
+            "Makes a key sheet of a table that a spreadsheet saved as CSV, or an empty key sheet",
+        )
+        .arg(option(
+            alloc,
+            "model",
+            "MODEL",
+            "The model, for a table that has no column model",
+        ))?
+        .arg(option(
+            alloc,
+            "reflector",
+            "REFLECTOR",
+            "The reflector, for days that lack it",
+        ))?
+        .arg(option(
+            alloc,
+            "window",
+            "LETTERS",
+            "The letters in the windows, for days that lack them",
+        ))?
+        .arg(option(
+            alloc,
+            "empty",
+            "MODEL",
+            "Writes a sheet of this model to fill in; then TABLE is the number of its days",
+        ))?
+        .arg(needed(
+            alloc,
+            "TABLE",
+            "The table: CSV, or values separated by semicolons or tabs",
+        ))
+}
+
+/// An option with a value, which help calls `value`.
+fn option<'a>(alloc: Global, name: &'a str, value: &'a str, help: &'a str) -> Arg<'a>
+    ensures rule { rule_of result ≡ option_rule name.entry.now }
+    ensures local { result.global ≡ false }
+{
+    Arg::new(alloc, name)
+        .long(name)
+        .value_name(value)
+        .help(help)
 }
 
 /// The option `--csv`, which has no value.

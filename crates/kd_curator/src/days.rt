@@ -3,7 +3,7 @@ ghost use Rattle.std.specs.Prelude.{◌≡◌, ◌<◌, ◌≤◌, ◌+◌, [], 
 ghost use Rattle.std.specs.Prelude.{if◌then◌else◌};
 ghost use Rattle.std.specs.List.{before_first, after_first};
 ghost use Rattle.kd_curator.specs.Days.{AddsDays, AreDays, day_named, days_from, days_named, is_comma, is_hyphen};
-ghost use Rattle.kd_curator.specs.Days.{range_named};
+ghost use Rattle.kd_curator.specs.Days.{has_twice, range_named};
 
 use arrayvec::ArrayVec;
 use kd_state::day_of_text;
@@ -64,7 +64,7 @@ impl Days {
     }
 }
 
-/// The days that `word` names, such as `2`, `1-31` or `1,4,2`. `None` for other words, and if there are more than 31.
+/// The days that `word` names, such as `2`, `1-31` or `1,4,2`. `None` for other words, and if a day comes twice.
 pub fn days_of_word(word: &str) -> Option<Days>
     ensures { MatchOption result
         ((days : List ℕ) → ¬ (AreDays word.now days))
@@ -72,7 +72,20 @@ pub fn days_of_word(word: &str) -> Option<Days>
 {
     let mut days = Days::new();
     add_ranges(&mut days, word)?;
+    if has_twice(days.as_slice()) {
+        return None;
+    }
     Some(days)
+}
+
+/// Whether a day comes twice.
+fn has_twice(days: &[u8]) -> bool
+    ensures { result ≡ has_twice days.now }
+{
+    match days {
+        [day, rest @ ..] => rest.contains(day) || has_twice(rest),
+        [] => false,
+    }
 }
 
 /// Adds the days of ranges that are joined by commas.

@@ -1,12 +1,13 @@
 //! `Refused`: why a command is refused.
-ghost use Rattle.std.specs.Prelude.{◌≡◌};
+ghost use Rattle.std.specs.Prelude.{◌≡◌, codes};
 ghost use Rattle.kd_curator.specs.Refusals.{page_fault_text};
 
 use kd_key_table::TableFault;
 use kd_sheet::SheetFault;
+use kd_table::SpreadsheetFault;
 use kd_tables::{Device, Refusal, Text};
 
-/// Why there is no page, or no list.
+/// Why a command doesn't write what it is asked for.
 #[derive(Clone, Copy, Debug, PartialEq, Eq)]
 pub enum PageFault {
     /// The machine file or the key sheet has this fault, or memory ran out.
@@ -15,12 +16,16 @@ pub enum PageFault {
     NoSuchDay,
     /// The machine and the sheet's day are of different models.
     OtherModel,
+    /// A spreadsheet's table has faults, which are told in words.
+    FaultyTable,
     /// A write failed.
     Device,
 }
 
 impl PageFault {
     /// Returns the refusal's number and name, followed by the fault's values, such as a key, if it has any.
+    ///
+    /// A table's faults have no number.
     pub fn text(&self) -> Text
         ensures { result.bytes ≡ page_fault_text self.now }
     {
@@ -28,9 +33,19 @@ impl PageFault {
             PageFault::File(fault) => fault.text(),
             PageFault::NoSuchDay => Refusal::NoSuchDay.text(),
             PageFault::OtherModel => Refusal::OtherModel.text(),
+            PageFault::FaultyTable => faulty_table_text(),
             PageFault::Device => Refusal::Device.text(),
         }
     }
+}
+
+/// The text of the refusal of a faulty table.
+fn faulty_table_text() -> Text
+    ensures { result.bytes ≡ codes "because the table has faults" }
+{
+    let mut text = Text::new();
+    text.push_str("because the table has faults");
+    text
 }
 
 /// Why a command is refused: the first fault, in the order of testing.
@@ -97,6 +112,21 @@ impl From<TableFault> for Refused {
         match fault {
             TableFault::Sheet(fault) => Refused::from(fault),
             TableFault::Device => Refused::from(PageFault::Device),
+        }
+    }
+}
+
+impl From<SpreadsheetFault> for Refused {
+    ghost use Rattle.std.specs.Prelude.{◌≡◌};
+    ghost use Rattle.kd_curator.specs.Refusals.{refused_spreadsheet};
+
+    ghost from_gives = { λ fault refused. refused ≡ refused_spreadsheet fault };
+
+    fn from(fault: SpreadsheetFault) -> Refused {
+        match fault {
+            SpreadsheetFault::Refused => Refused::from(PageFault::FaultyTable),
+            SpreadsheetFault::Device => Refused::from(PageFault::Device),
+            SpreadsheetFault::NoMemory => Refused::from(SheetFault::NoMemory),
         }
     }
 }

@@ -14,6 +14,7 @@ mod pages;
 mod program;
 pub mod run_list;
 pub mod run_page;
+mod sheets;
 mod stages;
 mod stop;
 mod tables;

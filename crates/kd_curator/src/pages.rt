@@ -4,6 +4,7 @@ ghost use Rattle.arrayvec.specs.ArrayVec.{array_vec_len};
 ghost use Rattle.kd_page.specs.DayPage.{day_text};
 ghost use Rattle.kd_page.specs.Drawing.{Draws};
 ghost use Rattle.kd_page.specs.Head.{head_text};
+ghost use Rattle.kd_pictures.specs.declared.language.Language.TheVariants.{English};
 ghost use Rattle.kd_state.specs.Machine.{model_of};
 ghost use Rattle.kd_state.specs.Setting.{Leads};
 ghost use Rattle.kd_tables.specs.Writing.{Writes};
@@ -11,7 +12,7 @@ ghost use Rattle.kd_curator.specs.Booklet.{ArePages, AreDrawable, IsBooklet, IsD
 
 use crate::day_plan::DayPlan;
 use arrayvec::ArrayVec;
-use kd_page::{ListedDay, draw, draw_day, draw_foot, draw_head};
+use kd_page::{Language, ListedDay, draw, draw_day, draw_foot, draw_head};
 use kd_state::{Machine, Parts, carry_all};
 use kd_tables::{Device, Sink};
 
@@ -49,11 +50,17 @@ fn draw_pages<W: Sink>(sink: &mut W, machine: &Machine, first: &DayPlan, others:
 fn draw_listed<W: Sink>(sink: &mut W, machine: &Machine, first: &DayPlan, others: &[DayPlan])
     requires { length others.now ≤ 31 }
     ensures { Draws W.taken W.has_failed sink.old sink.new
-        (head_text (model_of machine.now) (listed_day first.now) (map listed_day others.now)) }
+        (head_text English (model_of machine.now) (listed_day first.now) (map listed_day others.now)) }
 {
     let mut listed = ArrayVec::new();
     list_days(&mut listed, others);
-    draw_head(sink, machine.model(), listed_day(first), listed.as_slice());
+    draw_head(
+        sink,
+        Language::English,
+        machine.model(),
+        listed_day(first),
+        listed.as_slice(),
+    );
 }
 
 /// Adds the days that are planned to `listed`.
@@ -82,11 +89,11 @@ fn draw_plan<W: Sink>(sink: &mut W, machine: &Machine, plan: &DayPlan) -> Machin
     requires { (n : Parts) × IsDrawable machine.now plan.now n }
     ensures leads { Leads machine.now plan.now.settings.items result }
     ensures draws { Draws W.taken W.has_failed sink.old sink.new
-        (day_text plan.now.day machine.now result plan.now.settings.items) }
+        (day_text English plan.now.day machine.now result plan.now.settings.items) }
 {
     let settings = plan.settings.as_slice();
     let after = carry_all(machine, settings).unwrap();
-    draw_day(sink, plan.day, machine, &after, settings);
+    draw_day(sink, Language::English, plan.day, machine, &after, settings);
     after
 }
 

@@ -5,13 +5,14 @@ ghost use Rattle.kd_tables.specs.Answers.{AgreesOrNoMemory};
 ghost use Rattle.kd_tables.specs.Ports.{port};
 ghost use Rattle.kd_host.specs.Files.{AreAskedFor};
 ghost use Rattle.kd_host.specs.Writing.{WritesText};
-ghost use Rattle.kd_curator.specs.CommandLine.{unborrowed_command};
+ghost use Rattle.kd_curator.specs.CommandLine.{unborrowed_command, with_texts};
+ghost use Rattle.kd_table.specs.Options.{texts_of};
 ghost use Rattle.kd_curator.specs.Ending.{stop_after};
-ghost use Rattle.kd_curator.specs.declared.command.Command.TheVariants.{OnMachine, Table};
+ghost use Rattle.kd_curator.specs.declared.command.Command.TheVariants.{OnMachine, Sheet, Table};
 ghost use Rattle.kd_curator.specs.Program.{AreAlike, CarriesOut, DoesCommand, DoesTask, HasEnded, IsRun};
-ghost use Rattle.kd_curator.specs.Program.{gathering_port, known_command};
-ghost use Rattle.kd_curator.specs.Program.{names_of};
-ghost use Rattle.kd_curator.specs.Program.{PassesOn, is_stopped_before_writing, is_stopped_by_device};
+ghost use Rattle.kd_curator.specs.Program.{port_with_untaken, known_command};
+ghost use Rattle.kd_curator.specs.Program.{HasMonth, HasNotes, HasTold, names_of, read_with_texts};
+ghost use Rattle.kd_curator.specs.Program.{IsAnswerAfterFlush, is_stopped_before_writing, is_stopped_by_device};
 ghost use Rattle.kd_curator.specs.Refusals.{is_device, refused_device};
 
 use crate::buffered_sink::BufferedSink;
@@ -19,10 +20,12 @@ use crate::command::{Command, NamedCommand, NoCommand, Task, parse_words};
 use crate::fault::{PageFault, Refused};
 use crate::run_list::run_list;
 use crate::run_page::run_page;
+use crate::sheets::{make_sheet, write_empty_sheet};
 use crate::stop::{Stop, end_program};
 use crate::tables::write_tables;
 use kd_host::{Content, FileFault, Files};
 use kd_key_table::TableForm;
+use kd_table::TableOptions;
 use kd_tables::{Failed, Sink, put_all};
 use std::alloc::Global;
 use std::convert::AsStr;
@@ -30,7 +33,8 @@ use std::convert::AsStr;
 /// Carries out the command line `words`, which begins with the program's own name.
 ///
 /// Returns the exit status and the sink. The status is 0 for success, 2 for other words than a command's, and 1 for a
-/// refusal. With status 1 or 2, a text that says why is written to `errors`. Each file is read once, in the order of
+/// refusal. With status 1 or 2, a text that says why is written to `errors`; the command `sheet` tells there a table's
+/// faults, and the columns that it doesn't read, too. Each file is read once, in the order of
 /// the command line. If a file can't be read, no later file is asked for, and nothing is written to `sink`.
 pub fn run_curator<'n, S: AsStr, F: Files<'n>, W: Sink + Drop, E: Sink>(
     alloc: Global,
@@ -40,48 +44,53 @@ pub fn run_curator<'n, S: AsStr, F: Files<'n>, W: Sink + Drop, E: Sink>(
     errors: &mut E,
 ) -> (u8, W)
     requires { F.asked files.old ≡ [] }
-    ensures { HasEnded (λ left. IsRun (map S.text words.entry.now) (F.known files.old) (F.asked files.new)
-        (gathering_port W.taken W.has_failed sink result.1 left) (result.1 ≡ sink) left)
+    ensures { HasEnded (λ told left. IsRun (map S.text words.entry.now) (F.known files.old) (F.asked files.new)
+        (port_with_untaken W.taken W.has_failed sink result.1 left) (result.1 ≡ sink) told left)
         (port E.taken E.has_failed errors.old errors.new) result.0 }
 {
-    let (answer, sink) = run_gathering(alloc, words, files, sink);
+    let (answer, sink) = run_gathering(alloc, words, files, sink, errors);
     (end_program(&answer, errors), sink)
 }
 
 /// Carries the command line out, and gathers what is written before it is passed on to `sink`.
-fn run_gathering<'n, S: AsStr, F: Files<'n>, W: Sink + Drop>(
+fn run_gathering<'n, S: AsStr, F: Files<'n>, W: Sink + Drop, E: Sink>(
     alloc: Global,
     words: &'n [S],
     files: &mut F,
     sink: W,
+    errors: &mut E,
 ) -> (Result<(), Stop>, W)
     requires { F.asked files.old ≡ [] }
     ensures { (left : List ℕ) × IsRun (map S.text words.entry.now) (F.known files.old) (F.asked files.new)
-        (gathering_port W.taken W.has_failed sink result.1 left) (result.1 ≡ sink) left result.0 }
+        (port_with_untaken W.taken W.has_failed sink result.1 left) (result.1 ≡ sink)
+        (port E.taken E.has_failed errors.old errors.new) left result.0 }
 {
     let mut gathering = BufferedSink::new(sink);
-    let done = run_words(alloc, words, files, &mut gathering);
+    let done = run_words(alloc, words, files, &mut gathering, errors);
     let answer = pass_rest_on(done, &mut gathering);
     (answer, gathering.into_sink())
 }
 
 /// Parses the command line, reads the files that it names, and carries the command out.
-fn run_words<'n, S: AsStr, F: Files<'n>, W: Sink>(
+fn run_words<'n, S: AsStr, F: Files<'n>, W: Sink, E: Sink>(
     alloc: Global,
     words: &'n [S],
     files: &mut F,
     sink: &mut W,
+    errors: &mut E,
 ) -> Result<(), Stop>
     requires { F.asked files.old ≡ [] }
     ensures carried { CarriesOut (map S.text words.entry.now) (F.known files.old) (F.asked files.new)
         (port W.taken W.has_failed sink.old sink.new) [] result }
     ensures untouched { IsTrue (is_stopped_before_writing result) → sink.new ≡ sink.old }
     ensures failed { W.has_failed sink.new ≡ (W.has_failed sink.old || is_stopped_by_device result) }
+    ensures noted { HasNotes (map S.text words.entry.now)
+        (port E.taken E.has_failed errors.old errors.new) }
 {
     match parse_words(alloc, words) {
         Ok(command) => {
             let command = read_files(alloc, command, files)?;
-            Stop::of_answer(carry_out(alloc, command, sink))
+            Stop::of_answer(carry_out(alloc, command, sink, errors))
         }
         Err(NoCommand::Asked(text)) => Stop::of_answer(show(text.as_str(), sink)),
         Err(NoCommand::Usage(text)) => Err(Stop::Usage(text)),
@@ -94,11 +103,12 @@ fn read_files<'n, F: Files<'n>>(
     alloc: Global,
     command: NamedCommand<'n>,
     files: &mut F,
-) -> Result<Command<Content>, FileFault>
+) -> Result<Command<Content, &'n str>, FileFault>
     requires { F.asked files.old ≡ [] }
-    ensures read { IfSome (F.known files.old) (λ held.
-        AgreesOrNoMemory FileFault.NoMemory (known_command held (unborrowed_command command.entry)) result) }
-    ensures alike { IfOk result (AreAlike (unborrowed_command command.entry)) }
+    ensures read { IfSome (F.known files.old) (λ held. AgreesOrNoMemory FileFault.NoMemory
+        (known_command held (unborrowed_command command.entry)) (read_with_texts result)) }
+    ensures alike { IfOk result
+        (λ read. AreAlike (unborrowed_command command.entry) (with_texts read)) }
     ensures asked { AreAskedFor (names_of (unborrowed_command command.entry)) (F.asked files.old)
         (F.asked files.new) (is_ok result) }
 {
@@ -109,6 +119,8 @@ fn read_files<'n, F: Files<'n>>(
             task,
         } => read_task_files(alloc, machine, sheet, task, files),
         Command::Table { sheet, form } => read_table_file(alloc, sheet, form, files),
+        Command::Sheet { table, options } => read_spreadsheet(alloc, table, options, files),
+        Command::EmptySheet { model, days } => Ok(Command::EmptySheet { model, days }),
     }
 }
 
@@ -119,11 +131,12 @@ fn read_task_files<'n, F: Files<'n>>(
     sheet: &'n str,
     task: Task,
     files: &mut F,
-) -> Result<Command<Content>, FileFault>
+) -> Result<Command<Content, &'n str>, FileFault>
     requires { F.asked files.old ≡ [] }
     ensures read { IfSome (F.known files.old) (λ held. AgreesOrNoMemory FileFault.NoMemory
-        (known_command held (OnMachine machine.now sheet.now task)) result) }
-    ensures alike { IfOk result (AreAlike (OnMachine machine.now sheet.now task)) }
+        (known_command held (OnMachine machine.now sheet.now task)) (read_with_texts result)) }
+    ensures alike { IfOk result
+        (λ read. AreAlike (OnMachine machine.now sheet.now task) (with_texts read)) }
     ensures asked { AreAskedFor (names_of (OnMachine machine.now sheet.now task))
         (F.asked files.old) (F.asked files.new) (is_ok result) }
 {
@@ -142,11 +155,11 @@ fn read_table_file<'n, F: Files<'n>>(
     sheet: &'n str,
     form: TableForm,
     files: &mut F,
-) -> Result<Command<Content>, FileFault>
+) -> Result<Command<Content, &'n str>, FileFault>
     requires { F.asked files.old ≡ [] }
     ensures read { IfSome (F.known files.old) (λ held. AgreesOrNoMemory FileFault.NoMemory
-        (known_command held (Table sheet.now form)) result) }
-    ensures alike { IfOk result (AreAlike (Table sheet.now form)) }
+        (known_command held (Table sheet.now form)) (read_with_texts result)) }
+    ensures alike { IfOk result (λ read. AreAlike (Table sheet.now form) (with_texts read)) }
     ensures asked { AreAskedFor (names_of (Table sheet.now form))
         (F.asked files.old) (F.asked files.new) (is_ok result) }
 {
@@ -154,11 +167,38 @@ fn read_table_file<'n, F: Files<'n>>(
     Ok(Command::Table { sheet, form })
 }
 
+/// Reads a spreadsheet's table, for the command `sheet`.
+fn read_spreadsheet<'n, F: Files<'n>>(
+    alloc: Global,
+    table: &'n str,
+    options: TableOptions<&'n str>,
+    files: &mut F,
+) -> Result<Command<Content, &'n str>, FileFault>
+    requires { F.asked files.old ≡ [] }
+    ensures read { IfSome (F.known files.old) (λ held. AgreesOrNoMemory FileFault.NoMemory
+        (known_command held (Sheet table.now (texts_of options.entry))) (read_with_texts result)) }
+    ensures alike { IfOk result
+        (λ read. AreAlike (Sheet table.now (texts_of options.entry)) (with_texts read)) }
+    ensures asked { AreAskedFor (names_of (Sheet table.now (texts_of options.entry)))
+        (F.asked files.old) (F.asked files.new) (is_ok result) }
+{
+    let table = files.read_content(alloc, table)?;
+    Ok(Command::Sheet { table, options })
+}
+
 /// Carries out `command`, whose files have been read.
-fn carry_out<W: Sink>(alloc: Global, command: Command<Content>, sink: &mut W) -> Result<(), Refused>
-    ensures does { DoesCommand command (port W.taken W.has_failed sink.old sink.new) result }
+fn carry_out<W: Sink, E: Sink>(
+    alloc: Global,
+    command: Command<Content, &str>,
+    sink: &mut W,
+    errors: &mut E,
+) -> Result<(), Refused>
+    requires { HasMonth (with_texts command) }
+    ensures does { DoesCommand (with_texts command.entry)
+        (port W.taken W.has_failed sink.old sink.new) result }
     ensures untouched { IsErr result → is_device result ≡ false → sink.new ≡ sink.old }
     ensures failed { W.has_failed sink.new ≡ (W.has_failed sink.old || is_device result) }
+    ensures told { HasTold (with_texts command.entry) (port E.taken E.has_failed errors.old errors.new) }
 {
     match command {
         Command::OnMachine {
@@ -167,6 +207,10 @@ fn carry_out<W: Sink>(alloc: Global, command: Command<Content>, sink: &mut W) ->
             task,
         } => do_task(alloc, task, machine.as_slice(), sheet.as_slice(), sink),
         Command::Table { sheet, form } => write_tables(alloc, form, sheet.as_slice(), sink),
+        Command::Sheet { table, options } => {
+            make_sheet(alloc, table.as_slice(), &options, sink, errors)
+        }
+        Command::EmptySheet { model, days } => write_empty_sheet(model, days, sink),
     }
 }
 
@@ -205,7 +249,7 @@ fn pass_rest_on<W: Sink + Drop>(
 ) -> Result<(), Stop>
     ensures kept { Keeps (append_known (W.taken sink.old.sink) sink.old.gathered.items)
         (append_known (W.taken sink.new.sink) sink.new.gathered.items) }
-    ensures ends { PassesOn sink.new.gathered.items done result }
+    ensures ends { IsAnswerAfterFlush sink.new.gathered.items done result }
     ensures untouched { IsErr done → sink.new ≡ sink.old }
     ensures failed { IsOk done → W.has_failed sink.new.sink ≡ (W.has_failed sink.old.sink || is_err result) }
 {

@@ -5,8 +5,8 @@ ghost use Rattle.kd_curator.specs.Refusals.{is_device};
 ghost use Rattle.kd_curator.specs.Tables.{WritesTables};
 
 use crate::fault::Refused;
-use kd_key_table::TableForm;
 use kd_key_table::run_table::run_table;
+use kd_key_table::{Language, TableForm};
 use kd_tables::Sink;
 use std::alloc::Global;
 
@@ -22,7 +22,7 @@ pub(crate) fn write_tables<W: Sink>(
     ensures untouched { IsErr result → is_device result ≡ false → sink.new ≡ sink.old }
     ensures failed { W.has_failed sink.new ≡ (W.has_failed sink.old || is_device result) }
 {
-    match run_table(alloc, form, sheet, sink) {
+    match run_table(alloc, Language::English, form, sheet, sink) {
         Ok(()) => Ok(()),
         Err(fault) => Err(Refused::from(fault)),
     }

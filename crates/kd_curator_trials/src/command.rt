@@ -1,6 +1,7 @@
 //! Tests of the command line.
 use kd_curator::{Command, Days, NoCommand, Task, parse_words};
 use kd_key_table::TableForm::{self, Csv, Page};
+use kd_tables::Model;
 use std::alloc::Global;
 
 /// A command line with `list`, and its machine file, key sheet and day.
@@ -27,8 +28,54 @@ static TABLES: [(&[&str], &str, TableForm); 5] = [
     (&["curator", "table", "s", "--csv"], "s", Csv),
 ];
 
+/// A command line with `sheet`, its table, and the texts of its options: model, reflector and window.
+static SHEETS: [(&[&str], [&str; 4]); 4] = [
+    (&["curator", "sheet", "t"], ["t", "", "", ""]),
+    (
+        &["curator", "sheet", "t", "--model", "M4"],
+        ["t", "M4", "", ""],
+    ),
+    (
+        &[
+            "curator",
+            "sheet",
+            "--window=AAA",
+            "--reflector",
+            "B",
+            "--model",
+            "Enigma I",
+            "--",
+            "--empty",
+        ],
+        ["--empty", "Enigma I", "B", "AAA"],
+    ),
+    (
+        &["curator", "sheet", "31", "--model", ""],
+        ["31", "", "", ""],
+    ),
+];
+
+/// A command line with `sheet --empty`, its model and its number of days.
+static EMPTY_SHEETS: [(&[&str], Model, u8); 3] = [
+    (
+        &["curator", "sheet", "--empty", "Enigma I", "31"],
+        Model::EnigmaI,
+        31,
+    ),
+    (
+        &["curator", "sheet", "1", "--empty", "M-209"],
+        Model::M209,
+        1,
+    ),
+    (
+        &["curator", "sheet", "--empty=M4", "28", "--model", ""],
+        Model::M4,
+        28,
+    ),
+];
+
 /// Command lines that mean no command.
-static OTHERS: [&[&str]; 20] = [
+static OTHERS: [&[&str]; 30] = [
     &["curator", "Page", "m", "s"],
     &["curator", "page"],
     &["curator", "page", "m"],
@@ -46,13 +93,23 @@ static OTHERS: [&[&str]; 20] = [
     &["curator", "table", "--csv"],
     &["curator", "table", "--csv", "--csv", "s"],
     &["curator", "table", "--csv=true", "s"],
+    &["curator", "sheet"],
+    &["curator", "sheet", "t", "u"],
+    &["curator", "sheet", "--model", "M4"],
+    &["curator", "sheet", "t", "--model"],
+    &["curator", "sheet", "t", "--model", "M3", "--model", "M4"],
+    &["curator", "sheet", "--empty", "Enigma I"],
+    &["curator", "sheet", "--empty", "Enigma", "31"],
+    &["curator", "sheet", "--empty", "M3", "32"],
+    &["curator", "sheet", "--empty", "M3", "0"],
+    &["curator", "sheet", "--empty", "M3", "--window", "AAA", "31"],
     &["curator", "card", "m", "s", "1"],
     &["curator", "help"],
     &["curator", "m", "s"],
 ];
 
 /// Command lines that ask for help or for the version.
-static HELP: [&[&str]; 8] = [
+static HELP: [&[&str]; 9] = [
     &["curator", "--help"],
     &["curator", "-h"],
     &["curator", "--version"],
@@ -60,6 +117,7 @@ static HELP: [&[&str]; 8] = [
     &["curator", "page", "--help"],
     &["curator", "list", "-h"],
     &["curator", "table", "--help"],
+    &["curator", "sheet", "--help"],
     &["curator"],
 ];
 
@@ -84,7 +142,7 @@ fn finds_the_files_and_the_day(rt: HostRuntime) {
 fn page_days(alloc: Global, words: &[&str]) -> Option<Option<Days>> {
     match parse_words(alloc, words).ok()? {
         Command::OnMachine { task, .. } => days_of_page(task),
-        Command::Table { .. } => None,
+        _ => None,
     }
 }
 
@@ -125,6 +183,38 @@ fn finds_the_sheet(rt: HostRuntime) {
             _ => false,
         };
         assert!(rt; found);
+    }
+}
+
+/// The table and the options of a command line with `sheet`; `None` if it is another command line.
+fn sheet_texts<'a>(alloc: Global, words: &'a [&'a str]) -> Option<[&'a str; 4]> {
+    match parse_words(alloc, words).ok()? {
+        Command::Sheet { table, options } => {
+            Some([table, options.model, options.reflector, options.window])
+        }
+        _ => None,
+    }
+}
+
+#[test]
+fn finds_the_table_and_its_options(rt: HostRuntime) {
+    for (words, texts) in &SHEETS {
+        assert_eq!(rt; sheet_texts(rt.alloc(), words), Some(*texts));
+    }
+}
+
+/// The model and the number of days of a command line with `sheet --empty`; `None` if it is another command line.
+fn empty_sheet(alloc: Global, words: &[&str]) -> Option<(Model, u8)> {
+    match parse_words(alloc, words).ok()? {
+        Command::EmptySheet { model, days } => Some((model, days)),
+        _ => None,
+    }
+}
+
+#[test]
+fn finds_the_month_to_fill_in(rt: HostRuntime) {
+    for (words, model, days) in &EMPTY_SHEETS {
+        assert!(rt; empty_sheet(rt.alloc(), words) == Some((*model, *days)));
     }
 }
 

@@ -12,6 +12,8 @@ mod program;
 #[cfg(test)]
 mod samples;
 #[cfg(test)]
+mod sheets;
+#[cfg(test)]
 mod sinks;
 #[cfg(test)]
 mod tables;

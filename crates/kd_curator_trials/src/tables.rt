@@ -1,4 +1,5 @@
 //! Tests of the tables of a key sheet.
+use kd_key_table::Language::English;
 use kd_key_table::TableFault;
 use kd_key_table::TableForm::{self, Csv, Page};
 use kd_key_table::run_table::run_table;
@@ -51,7 +52,7 @@ groups = [\"IBW\", \"NOC\"]
 ";
 
 /// `ROTORS`, for the bodies of tests: the bytes of a constant would be carried through their proofs.
-static SHEET: &str = ROTORS;
+pub static SHEET: &str = ROTORS;
 
 /// A form, a sheet, and texts of its file, in their order.
 ///
@@ -120,7 +121,7 @@ fn table(
     room: usize,
 ) -> (Result<(), TableFault>, MemorySink<16384>) {
     let mut sink = MemorySink::new(room.min(16384));
-    let answer = run_table(alloc, form, sheet.as_bytes(), &mut sink);
+    let answer = run_table(alloc, English, form, sheet.as_bytes(), &mut sink);
     (answer, sink)
 }
 

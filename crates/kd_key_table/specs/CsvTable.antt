@@ -11,7 +11,7 @@ use Rattle.kd_pins.specs.declared.pin_set.PinSet.{PinSet}
 use Rattle.kd_pins.specs.PinWheels.{pin_wheels, pins_of, pins_on}
 use Rattle.kd_state.specs.SheetDay.{Day, OfRotors, OfPins, PinDay, RotorDay}
 use Rattle.kd_sheet.specs.Sheet.{day_of}
-use Rattle.kd_pictures.specs.Template.{filled, letter_text}
+use Rattle.kd_pictures.specs.Template.{letter_text}
 use Rattle.kd_key_table.specs.declared.days.TheConstants.{DAYS}
 use Rattle.kd_key_table.specs.declared.texts.TheConstants as texts
 use Rattle.kd_key_table.specs.Days.{has_day_of}
@@ -55,7 +55,7 @@ effective_cells pins = flat_map (λ wheel. effective_cell (ring_of wheel) (pins_
 
 unfoldable pub pin_line : PinDay → List ℕ
 pin_line day =
-    filled texts.PIN_DAY.now (decimal day.day ∷ []) ++ words_text letter_text day.window ++ texts.NO_GROUPS.now
+    decimal day.day ++ texts.PIN_MODEL.now ++ words_text letter_text day.window ++ texts.NO_GROUPS.now
     ++ letters_text day.list ++ effective_cells day.pins ++ texts.COMMA.now ++ words_text reading_text day.rows
     ++ texts.ROW_END.now
 

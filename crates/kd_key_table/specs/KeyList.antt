@@ -1,4 +1,5 @@
--- The key list of a Converter's day, as its manual prints it: the bars' lugs, the effective pins, and the check.
+-- The key list of a Converter's day, as its manual prints it: the bars' lugs, the effective pins, and the check. Words
+-- are in language `l`.
 -- Source: War Department TM 11-380.
 use Rattle.std.specs.Prelude.{decimal, ℕ, ◌+◌, nat_lt, Bool, if◌then◌else◌, List, [], ◌∷◌, ◌++◌, flat_map, replicate}
 use Rattle.std.specs.Prelude.{slice_get, Option, Some, None}
@@ -11,7 +12,9 @@ use Rattle.kd_pins.specs.PinWheel.{is_effective}
 use Rattle.kd_pins.specs.PinWheels.{pin_wheels, pins_of, pins_on}
 use Rattle.kd_state.specs.SheetDay.{Day, OfRotors, OfPins, PinDay}
 use Rattle.kd_state.specs.TwoCiphers.{sheet_cipher}
+use Rattle.kd_pictures.specs.declared.language.Language.{Language}
 use Rattle.kd_pictures.specs.Fives.{fives_from}
+use Rattle.kd_pictures.specs.Language.{text_in}
 use Rattle.kd_pictures.specs.Template.{filled, letter_text}
 use Rattle.kd_pictures.specs.Words.{model_name}
 use Rattle.kd_key_table.specs.declared.texts.TheConstants as texts
@@ -49,15 +52,15 @@ bar_line pins numbered = bar_head (numbered.0 + 1) numbered.1 ++ pin_cells pins 
 unfoldable pub check_of : PinDay → List ℕ
 check_of day = sheet_cipher (OfPins (record day { window = replicate 6 0 })) (replicate 26 0)
 
-unfoldable pub key_list : PinDay → List ℕ
-key_list day =
-    filled texts.KEY_LIST.now (model_name M209 ∷ decimal day.day ∷ []) ++ letters_text day.list
-    ++ texts.KEY_LIST_COLUMNS.now ++ flat_map (bar_line day.pins) (enumerate_from 0 day.rows)
-    ++ texts.CHECK.now ++ fives_from 0 (check_of day)
-    ++ texts.CHECK_END.now ++ words_text letter_text day.window ++ texts.KEY_LIST_END.now
+unfoldable pub key_list : Language → PinDay → List ℕ
+key_list l day =
+    filled (text_in l texts.KEY_LIST) (model_name M209 ∷ decimal day.day ∷ []) ++ letters_text day.list
+    ++ text_in l texts.KEY_LIST_COLUMNS ++ flat_map (bar_line day.pins) (enumerate_from 0 day.rows)
+    ++ text_in l texts.CHECK ++ fives_from 0 (check_of day)
+    ++ text_in l texts.CHECK_END ++ words_text letter_text day.window ++ texts.KEY_LIST_END.now
 
 -- the key list of a Converter's day
-abbrev pub key_list_of : Option Day → List ℕ
-key_list_of None = []
-key_list_of (Some (OfRotors values)) = []
-key_list_of (Some (OfPins values)) = key_list values
+abbrev pub key_list_of : Language → Option Day → List ℕ
+key_list_of l None = []
+key_list_of l (Some (OfRotors values)) = []
+key_list_of l (Some (OfPins values)) = key_list l values

@@ -1,4 +1,5 @@
 -- The table of a rotor model: a row for each day, the last day on top, so that a used day is cut off below.
+-- Words are in language `l`.
 use Rattle.std.specs.Prelude.{decimal, ℕ, Bool, true, false, List, [], ◌∷◌, ◌++◌, flat_map, Option, Some, None}
 use Rattle.kd_tables.specs.declared.model.Model.{Model}
 use Rattle.kd_tables.specs.declared.model.Model.TheVariants.{EnigmaI, M3, M4, M209}
@@ -6,6 +7,8 @@ use Rattle.kd_tables.specs.Tables.{reflector_text, slots_of}
 use Rattle.kd_state.specs.declared.sheet_day.rotor_entry.SheetWheel.{SheetWheel}
 use Rattle.kd_state.specs.SheetDay.{Day, OfRotors, OfPins, RotorDay}
 use Rattle.kd_sheet.specs.Sheet.{day_of}
+use Rattle.kd_pictures.specs.declared.language.Language.{Language}
+use Rattle.kd_pictures.specs.Language.{text_in}
 use Rattle.kd_pictures.specs.Template.{filled}
 use Rattle.kd_pictures.specs.Words.{model_name}
 use Rattle.kd_key_table.specs.declared.texts.TheConstants as texts
@@ -51,29 +54,29 @@ row_of (Some (OfPins values)) = []
 -- ---- The table.
 
 -- the day, or the first day and the last
-abbrev pub span_text : ℕ → List ℕ → List ℕ
-span_text last [] = filled texts.ONE_DAY.now (decimal last ∷ [])
-span_text last (day ∷ earlier) =
-    filled texts.FIRST_TO_LAST.now (decimal (first_of last (day ∷ earlier)) ∷ decimal last ∷ [])
+abbrev pub span_text : Language → ℕ → List ℕ → List ℕ
+span_text l last [] = filled (text_in l texts.ONE_DAY) (decimal last ∷ [])
+span_text l last (day ∷ earlier) =
+    filled (text_in l texts.FIRST_TO_LAST) (decimal (first_of last (day ∷ earlier)) ∷ decimal last ∷ [])
 
 -- the head of a model's table, and the names of its columns
-unfoldable pub month_head : Model → ℕ → List ℕ → List ℕ
-month_head model last earlier =
+unfoldable pub month_head : Language → Model → ℕ → List ℕ → List ℕ
+month_head l model last earlier =
     let slots = decimal (slots_of model) in
-    filled texts.MONTH.now (model_name model ∷ []) ++ span_text last earlier
-    ++ filled texts.COLUMNS.now (slots ∷ slots ∷ slots ∷ slots ∷ [])
+    filled (text_in l texts.MONTH) (model_name model ∷ []) ++ span_text l last earlier
+    ++ filled (text_in l texts.COLUMNS) (slots ∷ slots ∷ slots ∷ slots ∷ [])
 
 -- the table of the day `last`, and of the days `earlier`, the last of them first
-unfoldable pub table_text : Model → List (Option Day) → ℕ → List ℕ → List ℕ
-table_text model month last earlier =
-    month_head model last earlier ++ flat_map (λ number. row_of (day_of month number)) (last ∷ earlier)
+unfoldable pub table_text : Language → Model → List (Option Day) → ℕ → List ℕ → List ℕ
+table_text l model month last earlier =
+    month_head l model last earlier ++ flat_map (λ number. row_of (day_of month number)) (last ∷ earlier)
     ++ texts.MONTH_END.now
 
 -- the table of the days of a model, the last day first; no table without days
-abbrev pub table_of_days : Model → List (Option Day) → List ℕ → List ℕ
-table_of_days model month [] = []
-table_of_days model month (last ∷ earlier) = table_text model month last earlier
+abbrev pub table_of_days : Language → Model → List (Option Day) → List ℕ → List ℕ
+table_of_days l model month [] = []
+table_of_days l model month (last ∷ earlier) = table_text l model month last earlier
 
 -- the table of all days that the month has for the model
-unfoldable pub month_table : Model → List (Option Day) → List ℕ
-month_table model month = table_of_days model month (days_of model month)
+unfoldable pub month_table : Language → Model → List (Option Day) → List ℕ
+month_table l model month = table_of_days l model month (days_of model month)

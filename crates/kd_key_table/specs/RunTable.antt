@@ -2,6 +2,7 @@
 use Rattle.std.specs.Prelude.{◌≡◌, ◌⊎◌, ℕ, Bool, true, false, List, Result, Ok, Err, MatchResult}
 use Rattle.kd_tables.specs.Ports.{Port}
 use Rattle.kd_host.specs.Writing.{WritesText}
+use Rattle.kd_pictures.specs.declared.language.Language.{Language}
 use Rattle.kd_sheet.specs.declared.fault.SheetFault.TheVariants.{NoMemory}
 use Rattle.kd_sheet.specs.SheetFile.{sheet_of}
 use Rattle.kd_key_table.specs.declared.fault.TableFault.{TableFault}
@@ -15,10 +16,10 @@ is_device (Ok done) = false
 is_device (Err Device) = true
 is_device (Err (Sheet fault)) = false
 
--- The tables of the sheet's month were written in this form, or a prefix of them if the sink failed. Or the answer is
+-- The tables of the sheet's month were written in this form and language, or a prefix of them if the sink failed. Or the answer is
 -- the sheet's first fault. Or memory ran out; no clause says that it really did.
-abbrev pub IsTableAnswer : TableForm → List ℕ → Port → Result (Unit {0}) TableFault → Type 0
-IsTableAnswer form sheet sink answer =
-    MatchResult (sheet_of sheet) (λ month. WritesText Device (file_text form month) sink answer)
+abbrev pub IsTableAnswer : Language → TableForm → List ℕ → Port → Result (Unit {0}) TableFault → Type 0
+IsTableAnswer l form sheet sink answer =
+    MatchResult (sheet_of sheet) (λ month. WritesText Device (file_text l form month) sink answer)
     (λ fault. answer ≡ Err (Sheet fault))
     ⊎ (answer ≡ Err (Sheet NoMemory))

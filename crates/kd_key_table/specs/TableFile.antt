@@ -3,7 +3,10 @@ use Rattle.std.specs.Prelude.{ℕ, Bool, if◌then◌else◌, List, [], ◌++◌
 use Rattle.kd_tables.specs.declared.model.Model.TheVariants.{EnigmaI, M3, M4}
 use Rattle.kd_state.specs.SheetDay.{Day}
 use Rattle.kd_sheet.specs.Sheet.{day_of}
-use Rattle.kd_pictures.specs.declared.texts.TheConstants.{FOOT, HEAD, STYLE}
+use Rattle.kd_pictures.specs.declared.language.Language.{Language}
+use Rattle.kd_pictures.specs.declared.texts.TheConstants.{FOOT, STYLE}
+use Rattle.kd_pictures.specs.FileHead.{file_head}
+use Rattle.kd_pictures.specs.Language.{text_in}
 use Rattle.kd_key_table.specs.declared.days.TheConstants.{DAYS}
 use Rattle.kd_key_table.specs.declared.texts.TheConstants.{NO_DAYS, TABLE_STYLE, TITLE, WIDE_BODY}
 use Rattle.kd_key_table.specs.declared.table_file.TableForm.{TableForm}
@@ -14,22 +17,22 @@ use Rattle.kd_key_table.specs.KeyList.{key_list_of}
 use Rattle.kd_key_table.specs.MonthTable.{month_table}
 
 -- what stands in place of the tables if the month has no days
-abbrev pub no_days : Bool → List ℕ
-no_days has_days = if has_days then [] else NO_DAYS.now
+abbrev pub no_days : Language → Bool → List ℕ
+no_days l has_days = if has_days then [] else text_in l NO_DAYS
 
 -- a table for each rotor model that has days, and a key list for each day of a Converter
-unfoldable pub tables_of : List (Option Day) → List ℕ
-tables_of month =
-    month_table EnigmaI month ++ month_table M3 month ++ month_table M4 month
-    ++ flat_map (λ number. key_list_of (day_of month number)) DAYS
+unfoldable pub tables_of : Language → List (Option Day) → List ℕ
+tables_of l month =
+    month_table l EnigmaI month ++ month_table l M3 month ++ month_table l M4 month
+    ++ flat_map (λ number. key_list_of l (day_of month number)) DAYS
 
 -- the whole page
-unfoldable pub table_text : List (Option Day) → List ℕ
-table_text month =
-    HEAD.now ++ TITLE.now ++ STYLE.now ++ TABLE_STYLE.now ++ WIDE_BODY.now ++ no_days (has_days month)
-    ++ tables_of month ++ FOOT.now
+unfoldable pub table_text : Language → List (Option Day) → List ℕ
+table_text l month =
+    file_head l ++ text_in l TITLE ++ STYLE.now ++ TABLE_STYLE.now ++ WIDE_BODY.now ++ no_days l (has_days month)
+    ++ tables_of l month ++ FOOT.now
 
--- the file in this form
-abbrev pub file_text : TableForm → List (Option Day) → List ℕ
-file_text Page month = table_text month
-file_text Csv month = csv_text month
+-- the file in this form, in language `l`; a table for a spreadsheet is the same in all languages
+abbrev pub file_text : Language → TableForm → List (Option Day) → List ℕ
+file_text l Page month = table_text l month
+file_text l Csv month = csv_text month

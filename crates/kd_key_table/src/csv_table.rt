@@ -12,11 +12,13 @@ ghost use Rattle.kd_key_table.specs.Words.{ring_text, words_text};
 
 use crate::days::{DAYS, has_day_of};
 use crate::month_table::has_numbered_rings;
-use crate::texts::{COLUMN_NAMES, COMMA, LIST_COLUMN_NAMES, NO_GROUPS, NO_LIST, PIN_DAY, ROW_END};
+use crate::texts::{
+    COLUMN_NAMES, COMMA, LIST_COLUMN_NAMES, NO_GROUPS, NO_LIST, PIN_MODEL, ROW_END,
+};
 use crate::words::{Ground, Name, RingLetter, RingNumber, Whole, draw_letters, draw_words};
 use itoa::Buffer;
 use kd_pictures::draw;
-use kd_pictures::template::{Value, draw_letter, fill};
+use kd_pictures::template::draw_letter;
 use kd_pins::PinSet;
 use kd_sheet::Sheet;
 use kd_state::{Entry, PinEntry, RotorEntry, SheetDay, SheetWheel};
@@ -153,7 +155,8 @@ fn draw_list_cells<W: Sink>(sink: &mut W, has_lists: bool)
 fn draw_pin_line<W: Sink>(sink: &mut W, entry: &PinEntry)
     ensures { Draws W.taken W.has_failed sink.old sink.new (pin_line (pin_values entry.now)) }
 {
-    fill(sink, PIN_DAY, &[Value::Number(u16::from(entry.day))]);
+    draw(sink, Buffer::new().format(entry.day));
+    draw(sink, PIN_MODEL);
     draw_words::<Whole, W, Letter>(sink, &entry.window);
     draw(sink, NO_GROUPS);
     draw_letters(sink, &entry.list);

@@ -13,82 +13,88 @@ use crate::texts::{
     KEY_LIST_END, NO_PIN, ROW_END,
 };
 use crate::words::{Whole, draw_letters, draw_words};
-use kd_pictures::draw;
 use kd_pictures::fives::draw_fives;
-use kd_pictures::template::{Value, fill};
+use kd_pictures::template::{Value, fill, fill_in};
+use kd_pictures::{Language, draw, draw_in};
 use kd_pins::PinSet;
 use kd_sheet::Sheet;
 use kd_state::{Entry, PinEntry, SheetDay, own_engine};
 use kd_tables::{Letter, Model, Reading, Sink, ring1, ring2, ring3, ring4, ring5, ring6};
 
 /// Writes the key lists of those of the days `numbers` that are a Converter's.
-pub(crate) fn draw_key_lists<W: Sink>(sink: &mut W, sheet: &Sheet, numbers: &[u8])
+pub(crate) fn draw_key_lists<W: Sink>(
+    sink: &mut W,
+    language: Language,
+    sheet: &Sheet,
+    numbers: &[u8],
+)
     ensures { Draws W.taken W.has_failed sink.old sink.new
-        (flat_map (λ number. key_list_of (day_of sheet.now number)) numbers.now) }
+        (flat_map (λ number. key_list_of language (day_of sheet.now number)) numbers.now) }
 {
     if let [number, rest @ ..] = numbers {
-        draw_day(sink, sheet.day(*number));
-        draw_key_lists(sink, sheet, rest);
+        draw_day(sink, language, sheet.day(*number));
+        draw_key_lists(sink, language, sheet, rest);
     }
 }
 
 /// Writes the key list of a Converter's day.
-fn draw_day<W: Sink>(sink: &mut W, day: Option<&SheetDay>)
-    ensures { Draws W.taken W.has_failed sink.old sink.new (key_list_of (option_copied day.entry)) }
+fn draw_day<W: Sink>(sink: &mut W, language: Language, day: Option<&SheetDay>)
+    ensures { Draws W.taken W.has_failed sink.old sink.new (key_list_of language (option_copied day.entry)) }
 {
     match day {
-        Some(day) => draw_list_of(sink, day),
+        Some(day) => draw_list_of(sink, language, day),
         None => draw(sink, ""),
     }
 }
 
-fn draw_list_of<W: Sink>(sink: &mut W, day: &SheetDay)
-    ensures { Draws W.taken W.has_failed sink.old sink.new (key_list_of (Some day.now)) }
+fn draw_list_of<W: Sink>(sink: &mut W, language: Language, day: &SheetDay)
+    ensures { Draws W.taken W.has_failed sink.old sink.new (key_list_of language (Some day.now)) }
 {
     match day.entry() {
         Entry::Rotor(_) => draw(sink, ""),
-        Entry::Pin(entry) => draw_list(sink, entry, &check_of(day, entry)),
+        Entry::Pin(entry) => draw_list(sink, language, entry, &check_of(day, entry)),
     }
 }
 
 /// Writes the key list of the day with these values and this check.
-fn draw_list<W: Sink>(sink: &mut W, entry: &PinEntry, check: &[Letter; 26])
+fn draw_list<W: Sink>(sink: &mut W, language: Language, entry: &PinEntry, check: &[Letter; 26])
     requires { check.now ≡ check_of (pin_values entry.now) }
-    ensures { Draws W.taken W.has_failed sink.old sink.new (key_list (pin_values entry.now)) }
+    ensures { Draws W.taken W.has_failed sink.old sink.new (key_list language (pin_values entry.now)) }
 {
     let day = Value::Number(u16::from(entry.day));
-    fill(sink, KEY_LIST, &[Value::Model(Model::M209), day]);
+    fill_in(sink, language, KEY_LIST, &[Value::Model(Model::M209), day]);
     draw_letters(sink, &entry.list);
-    draw(sink, KEY_LIST_COLUMNS);
-    draw_lines(sink, &entry.pins, 0, &entry.rows);
-    draw(sink, CHECK);
+    draw_in(sink, language, KEY_LIST_COLUMNS);
+    draw_lines(sink, language, &entry.pins, 0, &entry.rows);
+    draw_in(sink, language, CHECK);
     draw_fives(sink, 0, check);
-    draw(sink, CHECK_END);
+    draw_in(sink, language, CHECK_END);
     draw_words::<Whole, W, Letter>(sink, &entry.window);
     draw(sink, KEY_LIST_END);
 }
 
 /// Writes the lines of bars, of which the first has `place` bars before it.
-fn draw_lines<W: Sink>(sink: &mut W, pins: &PinSet, place: u8, rows: &[Reading])
+fn draw_lines<W: Sink>(sink: &mut W, language: Language, pins: &PinSet, place: u8, rows: &[Reading])
     requires { place + length rows.now ≤ 27 }
     ensures { Draws W.taken W.has_failed sink.old sink.new
         (flat_map (bar_line pins.now) (enumerate_from place rows.now)) }
 {
     if let [row, rest @ ..] = rows {
-        draw_bar(sink, place + 1, *row);
-        draw_pins(sink, pins, place);
+        draw_bar(sink, language, place + 1, *row);
+        draw_pins(sink, language, pins, place);
         draw(sink, ROW_END);
-        draw_lines(sink, pins, place + 1, rest);
+        draw_lines(sink, language, pins, place + 1, rest);
     }
 }
 
 /// Writes the number of bar `bar`, and its lugs.
-fn draw_bar<W: Sink>(sink: &mut W, bar: u8, row: Reading)
+fn draw_bar<W: Sink>(sink: &mut W, language: Language, bar: u8, row: Reading)
     ensures { Draws W.taken W.has_failed sink.old sink.new (bar_head bar row) }
 {
     let (smaller, larger) = row.numbers();
     fill(
         sink,
+        language,
         if bar < 10 { BAR_BELOW_TEN } else { BAR },
         &[
             Value::Number(u16::from(bar)),
@@ -99,41 +105,41 @@ fn draw_bar<W: Sink>(sink: &mut W, bar: u8, row: Reading)
 }
 
 /// Writes the pins at `place` of the six wheels.
-fn draw_pins<W: Sink>(sink: &mut W, pins: &PinSet, place: u8)
+fn draw_pins<W: Sink>(sink: &mut W, language: Language, pins: &PinSet, place: u8)
     ensures { Draws W.taken W.has_failed sink.old sink.new (pin_cells pins.now place) }
 {
-    draw_pin(sink, &ring1().letters(), &pins.w1, place);
-    draw_pin(sink, &ring2().letters(), &pins.w2, place);
-    draw_pin(sink, &ring3().letters(), &pins.w3, place);
-    draw_pin(sink, &ring4().letters(), &pins.w4, place);
-    draw_pin(sink, &ring5().letters(), &pins.w5, place);
-    draw_pin(sink, &ring6().letters(), &pins.w6, place);
+    draw_pin(sink, language, &ring1().letters(), &pins.w1, place);
+    draw_pin(sink, language, &ring2().letters(), &pins.w2, place);
+    draw_pin(sink, language, &ring3().letters(), &pins.w3, place);
+    draw_pin(sink, language, &ring4().letters(), &pins.w4, place);
+    draw_pin(sink, language, &ring5().letters(), &pins.w5, place);
+    draw_pin(sink, language, &ring6().letters(), &pins.w6, place);
 }
 
 /// Writes the pin at `place` of the wheel with these letters and pins.
-fn draw_pin<W: Sink>(sink: &mut W, letters: &[Letter], pins: &[bool], place: u8)
+fn draw_pin<W: Sink>(sink: &mut W, language: Language, letters: &[Letter], pins: &[bool], place: u8)
     ensures { Draws W.taken W.has_failed sink.old sink.new
         (pin_shown (slice_get letters.now place) (is_effective pins.now place)) }
 {
     let place = usize::from(place);
     let effective = pins.get(place).copied().unwrap_or(false);
-    draw_pin_cell(sink, letters.get(place).copied(), effective);
+    draw_pin_cell(sink, language, letters.get(place).copied(), effective);
 }
 
-fn draw_pin_cell<W: Sink>(sink: &mut W, letter: Option<Letter>, effective: bool)
+fn draw_pin_cell<W: Sink>(sink: &mut W, language: Language, letter: Option<Letter>, effective: bool)
     ensures { Draws W.taken W.has_failed sink.old sink.new (pin_shown letter effective) }
 {
     match letter {
         None => draw(sink, NO_PIN),
-        Some(letter) => draw_letter_cell(sink, letter, effective),
+        Some(letter) => draw_letter_cell(sink, language, letter, effective),
     }
 }
 
-fn draw_letter_cell<W: Sink>(sink: &mut W, letter: Letter, effective: bool)
+fn draw_letter_cell<W: Sink>(sink: &mut W, language: Language, letter: Letter, effective: bool)
     ensures { Draws W.taken W.has_failed sink.old sink.new (pin_shown (Some letter) effective) }
 {
     if effective {
-        fill(sink, EFFECTIVE, &[Value::Letter(letter)]);
+        fill(sink, language, EFFECTIVE, &[Value::Letter(letter)]);
     } else {
         draw(sink, INEFFECTIVE);
     }

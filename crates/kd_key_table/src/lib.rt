@@ -13,4 +13,5 @@ pub mod texts;
 mod words;
 
 pub use fault::TableFault;
+pub use kd_pictures::Language;
 pub use table_file::{TableForm, write_tables};

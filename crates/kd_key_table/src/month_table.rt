@@ -12,52 +12,66 @@ use crate::texts::{
     CELL, COLUMNS, FIRST_TO_LAST, MONTH, MONTH_END, ONE_DAY, RING, ROW, ROW_END, WHEEL,
 };
 use crate::words::{Ground, Whole, draw_words};
-use kd_pictures::draw;
-use kd_pictures::template::{Value, fill};
+use kd_pictures::template::{Value, fill, fill_in};
+use kd_pictures::{Language, draw};
 use kd_sheet::Sheet;
 use kd_state::{Entry, RotorEntry, SheetDay, SheetWheel};
 use kd_tables::{Letter, Model, Sink};
 
 /// Writes the table of the days that the sheet has for `model`; nothing if it has none.
 #[tactic(auto, unfolding(crate::specs::MonthTable::month_table))]
-pub(crate) fn draw_month<W: Sink>(sink: &mut W, model: Model, sheet: &Sheet)
-    ensures { Draws W.taken W.has_failed sink.old sink.new (month_table model sheet.now) }
+pub(crate) fn draw_month<W: Sink>(sink: &mut W, language: Language, model: Model, sheet: &Sheet)
+    ensures { Draws W.taken W.has_failed sink.old sink.new (month_table language model sheet.now) }
 {
     let days = days_of(model, sheet);
-    draw_days(sink, model, sheet, days.as_slice());
+    draw_days(sink, language, model, sheet, days.as_slice());
 }
 
 /// Writes the table of the days `days`, of which the first is the last of the month.
-fn draw_days<W: Sink>(sink: &mut W, model: Model, sheet: &Sheet, days: &[u8])
+fn draw_days<W: Sink>(sink: &mut W, language: Language, model: Model, sheet: &Sheet, days: &[u8])
     ensures { Draws W.taken W.has_failed sink.old sink.new
-        (table_of_days model sheet.now days.now) }
+        (table_of_days language model sheet.now days.now) }
 {
     if let [last, earlier @ ..] = days {
-        draw_table(sink, model, sheet, *last, earlier);
+        draw_table(sink, language, model, sheet, *last, earlier);
     } else {
         draw(sink, "");
     }
 }
 
 /// Writes the table of the day `last`, and of the days `earlier`.
-fn draw_table<W: Sink>(sink: &mut W, model: Model, sheet: &Sheet, last: u8, earlier: &[u8])
+fn draw_table<W: Sink>(
+    sink: &mut W,
+    language: Language,
+    model: Model,
+    sheet: &Sheet,
+    last: u8,
+    earlier: &[u8],
+)
     ensures { Draws W.taken W.has_failed sink.old sink.new
-        (table_text model sheet.now last earlier.now) }
+        (table_text language model sheet.now last earlier.now) }
 {
-    draw_month_head(sink, model, last, earlier);
-    draw_day(sink, sheet.day(last));
-    draw_rows(sink, sheet, earlier);
+    draw_month_head(sink, language, model, last, earlier);
+    draw_day(sink, language, sheet.day(last));
+    draw_rows(sink, language, sheet, earlier);
     draw(sink, MONTH_END);
 }
 
-fn draw_month_head<W: Sink>(sink: &mut W, model: Model, last: u8, earlier: &[u8])
-    ensures { Draws W.taken W.has_failed sink.old sink.new (month_head model last earlier.now) }
+fn draw_month_head<W: Sink>(
+    sink: &mut W,
+    language: Language,
+    model: Model,
+    last: u8,
+    earlier: &[u8],
+)
+    ensures { Draws W.taken W.has_failed sink.old sink.new (month_head language model last earlier.now) }
 {
     let slots = u16::from(model.slots());
-    fill(sink, MONTH, &[Value::Model(model)]);
-    draw_span(sink, last, earlier);
-    fill(
+    fill_in(sink, language, MONTH, &[Value::Model(model)]);
+    draw_span(sink, language, last, earlier);
+    fill_in(
         sink,
+        language,
         COLUMNS,
         &[
             Value::Number(slots),
@@ -69,63 +83,68 @@ fn draw_month_head<W: Sink>(sink: &mut W, model: Model, last: u8, earlier: &[u8]
 }
 
 /// Writes the day, or the first day and the last.
-fn draw_span<W: Sink>(sink: &mut W, last: u8, earlier: &[u8])
-    ensures { Draws W.taken W.has_failed sink.old sink.new (span_text last earlier.now) }
+fn draw_span<W: Sink>(sink: &mut W, language: Language, last: u8, earlier: &[u8])
+    ensures { Draws W.taken W.has_failed sink.old sink.new (span_text language last earlier.now) }
 {
     let last_number = Value::Number(u16::from(last));
     if let [_, ..] = earlier {
         let first = Value::Number(u16::from(first_of(last, earlier)));
-        fill(sink, FIRST_TO_LAST, &[first, last_number]);
+        fill_in(sink, language, FIRST_TO_LAST, &[first, last_number]);
     } else {
-        fill(sink, ONE_DAY, &[last_number]);
+        fill_in(sink, language, ONE_DAY, &[last_number]);
     }
 }
 
-fn draw_rows<W: Sink>(sink: &mut W, sheet: &Sheet, days: &[u8])
+fn draw_rows<W: Sink>(sink: &mut W, language: Language, sheet: &Sheet, days: &[u8])
     ensures { Draws W.taken W.has_failed sink.old sink.new
         (flat_map (λ number. row_of (day_of sheet.now number)) days.now) }
 {
     if let [number, rest @ ..] = days {
-        draw_day(sink, sheet.day(*number));
-        draw_rows(sink, sheet, rest);
+        draw_day(sink, language, sheet.day(*number));
+        draw_rows(sink, language, sheet, rest);
     }
 }
 
 /// Writes the row of a rotor machine's day.
-fn draw_day<W: Sink>(sink: &mut W, day: Option<&SheetDay>)
+fn draw_day<W: Sink>(sink: &mut W, language: Language, day: Option<&SheetDay>)
     ensures { Draws W.taken W.has_failed sink.old sink.new (row_of (option_copied day.entry)) }
 {
     match day {
-        Some(day) => draw_entry(sink, day.entry()),
+        Some(day) => draw_entry(sink, language, day.entry()),
         None => draw(sink, ""),
     }
 }
 
-fn draw_entry<W: Sink>(sink: &mut W, entry: &Entry)
+fn draw_entry<W: Sink>(sink: &mut W, language: Language, entry: &Entry)
     ensures { Draws W.taken W.has_failed sink.old sink.new (row_of (Some (values_of entry.now))) }
 {
     match entry {
-        Entry::Rotor(entry) => draw_row(sink, entry),
+        Entry::Rotor(entry) => draw_row(sink, language, entry),
         Entry::Pin(_) => draw(sink, ""),
     }
 }
 
-fn draw_row<W: Sink>(sink: &mut W, entry: &RotorEntry)
+fn draw_row<W: Sink>(sink: &mut W, language: Language, entry: &RotorEntry)
     ensures { Draws W.taken W.has_failed sink.old sink.new (row_text (rotor_values entry.now)) }
 {
-    draw_setting_cells(sink, entry);
+    draw_setting_cells(sink, language, entry);
     draw_word_cells(sink, entry);
 }
 
 /// Writes the day, the reflector, the wheels and their rings.
-fn draw_setting_cells<W: Sink>(sink: &mut W, entry: &RotorEntry)
+fn draw_setting_cells<W: Sink>(sink: &mut W, language: Language, entry: &RotorEntry)
     ensures { Draws W.taken W.has_failed sink.old sink.new (setting_cells (rotor_values entry.now)) }
 {
     let wheels = entry.wheels.as_slice();
     let day = Value::Number(u16::from(entry.day));
-    fill(sink, ROW, &[day, Value::Reflector(entry.reflector)]);
-    draw_wheels(sink, wheels);
-    draw_rings(sink, has_numbered_rings(entry.model), wheels);
+    fill(
+        sink,
+        language,
+        ROW,
+        &[day, Value::Reflector(entry.reflector)],
+    );
+    draw_wheels(sink, language, wheels);
+    draw_rings(sink, language, has_numbered_rings(entry.model), wheels);
 }
 
 /// Writes the cables, the ground and the groups.
@@ -141,12 +160,12 @@ fn draw_word_cells<W: Sink>(sink: &mut W, entry: &RotorEntry)
     draw(sink, ROW_END);
 }
 
-fn draw_wheels<W: Sink>(sink: &mut W, wheels: &[SheetWheel])
+fn draw_wheels<W: Sink>(sink: &mut W, language: Language, wheels: &[SheetWheel])
     ensures { Draws W.taken W.has_failed sink.old sink.new (flat_map wheel_cell wheels.now) }
 {
     if let [wheel, rest @ ..] = wheels {
-        fill(sink, WHEEL, &[Value::Wheel(wheel.wheel)]);
-        draw_wheels(sink, rest);
+        fill(sink, language, WHEEL, &[Value::Wheel(wheel.wheel)]);
+        draw_wheels(sink, language, rest);
     }
 }
 
@@ -161,22 +180,22 @@ pub(crate) fn has_numbered_rings(model: Model) -> bool
 }
 
 /// Writes the rings of the wheels, as numbers or as letters.
-fn draw_rings<W: Sink>(sink: &mut W, are_numbers: bool, wheels: &[SheetWheel])
+fn draw_rings<W: Sink>(sink: &mut W, language: Language, are_numbers: bool, wheels: &[SheetWheel])
     ensures { Draws W.taken W.has_failed sink.old sink.new
         (flat_map (ring_cell are_numbers) wheels.now) }
 {
     if let [wheel, rest @ ..] = wheels {
-        draw_ring(sink, are_numbers, wheel);
-        draw_rings(sink, are_numbers, rest);
+        draw_ring(sink, language, are_numbers, wheel);
+        draw_rings(sink, language, are_numbers, rest);
     }
 }
 
-fn draw_ring<W: Sink>(sink: &mut W, is_number: bool, wheel: &SheetWheel)
+fn draw_ring<W: Sink>(sink: &mut W, language: Language, is_number: bool, wheel: &SheetWheel)
     ensures { Draws W.taken W.has_failed sink.old sink.new (ring_cell is_number wheel.now) }
 {
     if is_number {
-        fill(sink, RING, &[Value::Ordinal(wheel.ring)]);
+        fill(sink, language, RING, &[Value::Ordinal(wheel.ring)]);
     } else {
-        fill(sink, RING, &[Value::Letter(wheel.ring)]);
+        fill(sink, language, RING, &[Value::Letter(wheel.ring)]);
     }
 }

@@ -6,28 +6,30 @@ ghost use Rattle.kd_key_table.specs.declared.fault.TableFault.TheVariants.{Devic
 
 use crate::fault::TableFault;
 use crate::table_file::{TableForm, write_tables};
+use kd_pictures::Language;
 use kd_sheet::read_sheet;
 use kd_tables::Sink;
 use std::alloc::Global;
 
-/// Writes the tables of the key sheet `sheet`.
+/// Writes the tables of the key sheet `sheet` in this language.
 ///
 /// A page has a table for each rotor model, with the last day on top, and a key list for each day of a Converter. A
-/// table for a spreadsheet has a row for each day, from the first day on.
+/// table for a spreadsheet has a row for each day, from the first day on, and is the same in all languages.
 ///
 /// For a fault of the sheet, nothing is written. For `Device`, only a prefix of the file is written.
 pub fn run_table<W: Sink>(
     alloc: Global,
+    language: Language,
     form: TableForm,
     sheet: &[u8],
     sink: &mut W,
 ) -> Result<(), TableFault>
-    ensures table { IsTableAnswer form sheet.now
+    ensures table { IsTableAnswer language form sheet.now
         (port W.taken W.has_failed sink.old sink.new) result }
     ensures untouched { IsErr result → result ≢ Err Device → sink.new ≡ sink.old }
     ensures failed { W.has_failed sink.new ≡ (W.has_failed sink.old || is_device result) }
 {
     let sheet = read_sheet(alloc, sheet)?;
-    write_tables(sink, form, &sheet)?;
+    write_tables(sink, language, form, &sheet)?;
     Ok(())
 }

@@ -10,8 +10,9 @@ use crate::days::{DAYS, has_any_day};
 use crate::key_list::draw_key_lists;
 use crate::month_table::draw_month;
 use crate::texts::{NO_DAYS, TABLE_STYLE, TITLE, WIDE_BODY};
-use kd_pictures::draw;
-use kd_pictures::texts::{FOOT, HEAD, STYLE};
+use kd_pictures::file_head::draw_file_head;
+use kd_pictures::texts::{FOOT, STYLE};
+use kd_pictures::{Language, draw, draw_in};
 use kd_sheet::Sheet;
 use kd_tables::{Device, Model, Sink};
 
@@ -25,54 +26,59 @@ pub enum TableForm {
 }
 
 /// Does what `run_table` does, for a sheet that is already read. Allocates nothing.
-pub fn write_tables<W: Sink>(sink: &mut W, form: TableForm, sheet: &Sheet) -> Result<(), Device>
-    ensures text { Writes (W.taken sink.old) (W.taken sink.new) (file_text form sheet.now) result }
+pub fn write_tables<W: Sink>(
+    sink: &mut W,
+    language: Language,
+    form: TableForm,
+    sheet: &Sheet,
+) -> Result<(), Device>
+    ensures text { Writes (W.taken sink.old) (W.taken sink.new) (file_text language form sheet.now) result }
     ensures failed { W.has_failed sink.new ≡ (W.has_failed sink.old || is_err result) }
 {
-    draw_file(sink, form, sheet);
+    draw_file(sink, language, form, sheet);
     if sink.failed() { Err(Device) } else { Ok(()) }
 }
 
-fn draw_file<W: Sink>(sink: &mut W, form: TableForm, sheet: &Sheet)
-    ensures { Draws W.taken W.has_failed sink.old sink.new (file_text form sheet.now) }
+fn draw_file<W: Sink>(sink: &mut W, language: Language, form: TableForm, sheet: &Sheet)
+    ensures { Draws W.taken W.has_failed sink.old sink.new (file_text language form sheet.now) }
 {
     match form {
-        TableForm::Page => draw_page(sink, sheet),
+        TableForm::Page => draw_page(sink, language, sheet),
         TableForm::Csv => draw_csv(sink, sheet),
     }
 }
 
 /// Writes the page.
-fn draw_page<W: Sink>(sink: &mut W, sheet: &Sheet)
-    ensures { Draws W.taken W.has_failed sink.old sink.new (table_text sheet.now) }
+fn draw_page<W: Sink>(sink: &mut W, language: Language, sheet: &Sheet)
+    ensures { Draws W.taken W.has_failed sink.old sink.new (table_text language sheet.now) }
 {
-    draw(sink, HEAD);
-    draw(sink, TITLE);
+    draw_file_head(sink, language);
+    draw_in(sink, language, TITLE);
     draw(sink, STYLE);
     draw(sink, TABLE_STYLE);
     draw(sink, WIDE_BODY);
-    draw_no_days(sink, sheet);
-    draw_tables(sink, sheet);
+    draw_no_days(sink, language, sheet);
+    draw_tables(sink, language, sheet);
     draw(sink, FOOT);
 }
 
 /// Writes that the sheet has no days, if it has none.
-fn draw_no_days<W: Sink>(sink: &mut W, sheet: &Sheet)
-    ensures { Draws W.taken W.has_failed sink.old sink.new (no_days (has_days sheet.now)) }
+fn draw_no_days<W: Sink>(sink: &mut W, language: Language, sheet: &Sheet)
+    ensures { Draws W.taken W.has_failed sink.old sink.new (no_days language (has_days sheet.now)) }
 {
     if has_any_day(sheet, &DAYS) {
         draw(sink, "");
     } else {
-        draw(sink, NO_DAYS);
+        draw_in(sink, language, NO_DAYS);
     }
 }
 
 /// Writes a table for each rotor model that has days, and a key list for each day of a Converter.
-fn draw_tables<W: Sink>(sink: &mut W, sheet: &Sheet)
-    ensures { Draws W.taken W.has_failed sink.old sink.new (tables_of sheet.now) }
+fn draw_tables<W: Sink>(sink: &mut W, language: Language, sheet: &Sheet)
+    ensures { Draws W.taken W.has_failed sink.old sink.new (tables_of language sheet.now) }
 {
-    draw_month(sink, Model::EnigmaI, sheet);
-    draw_month(sink, Model::M3, sheet);
-    draw_month(sink, Model::M4, sheet);
-    draw_key_lists(sink, sheet, &DAYS);
+    draw_month(sink, language, Model::EnigmaI, sheet);
+    draw_month(sink, language, Model::M3, sheet);
+    draw_month(sink, language, Model::M4, sheet);
+    draw_key_lists(sink, language, sheet, &DAYS);
 }

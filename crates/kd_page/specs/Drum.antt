@@ -11,25 +11,34 @@ use Rattle.kd_state.specs.Setting.{is_same_place}
 use Rattle.kd_pictures.specs.declared.numbers.TheConstants.{BARS}
 use Rattle.kd_page.specs.declared.spots.Step.TheVariants.{Lugs}
 use Rattle.kd_page.specs.declared.steps.Heading.{Heading}
+use Rattle.kd_pictures.specs.declared.language.Language.{Language}
+use Rattle.kd_pictures.specs.declared.words.Mark.{Mark}
+use Rattle.kd_pictures.specs.declared.words.Mark.TheVariants.{LugComes, LugLeaves, LugStays}
 use Rattle.kd_pictures.specs.declared.words.Word.TheVariants as words
 use Rattle.kd_pictures.specs.declared.texts.TheConstants as texts
+use Rattle.kd_pictures.specs.Language.{text_in}
 use Rattle.kd_page.specs.Boxes.{boxes_at}
 use Rattle.kd_page.specs.Spots.{count_at, row_spot, step_spot}
 use Rattle.kd_page.specs.Steps.{step_text}
 use Rattle.kd_pictures.specs.Template.{filled}
+use Rattle.kd_pictures.specs.Words.{mark_text}
 
 abbrev pub has_lug : Place × Place → Place → Bool
 has_lug bar place = is_same_place bar.0 place || is_same_place bar.1 place
 
 -- the cell of a place that had a lug before, or has one after
-abbrev pub cell_mark : Bool → Bool → List ℕ
-cell_mark true true = texts.STAYS_HERE.now
-cell_mark true false = texts.LEAVES.now
-cell_mark false true = texts.COMES.now
-cell_mark false false = texts.NO_LUG.now
+abbrev pub cell_mark : Bool → Bool → Option Mark
+cell_mark true true = Some LugStays
+cell_mark true false = Some LugLeaves
+cell_mark false true = Some LugComes
+cell_mark false false = None
+
+abbrev pub marked_cell : Option Mark → List ℕ
+marked_cell None = texts.NO_LUG.now
+marked_cell (Some mark) = filled texts.MARKED_LUG.now (mark_text mark ∷ [])
 
 unfoldable pub lug_cell : Place × Place → Place × Place → Place → List ℕ
-lug_cell was is place = cell_mark (has_lug was place) (has_lug is place)
+lug_cell was is place = marked_cell (cell_mark (has_lug was place) (has_lug is place))
 
 abbrev pub is_same_standing : Place × Place → Place × Place → Bool
 is_same_standing was is = is_same_place was.0 is.0 && is_same_place was.1 is.1
@@ -44,18 +53,23 @@ abbrev pub bar_end : ℕ → List ℕ
 bar_end count = if count == 0 then texts.NO_BOXES.now else if count == 1 then texts.ONE_BOX.now else texts.BOXES.now
 
 -- the row of a bar with its standing before and after
-abbrev pub bar_item : Parts → List Setting → ℕ → Place × Place → Place × Place → List ℕ
-bar_item m settings bar was is =
-    bar_head bar was is ++ flat_map (lug_cell was is) places ++ boxes_at m (row_spot Lugs bar) settings
+abbrev pub bar_item : Language → Parts → List Setting → ℕ → Place × Place → Place × Place → List ℕ
+bar_item l m settings bar was is =
+    bar_head bar was is ++ flat_map (lug_cell was is) places ++ boxes_at l m (row_spot Lugs bar) settings
     ++ bar_end (count_at (row_spot Lugs bar) settings)
 
-abbrev pub bar_row : Parts → List Setting → ℕ → Option (Place × Place) → Option (Place × Place) → List ℕ
-bar_row m settings bar (Some was) (Some is) = bar_item m settings bar was is
-bar_row m settings bar (Some was) None = []
-bar_row m settings bar None is = []
+abbrev pub bar_row : Language → Parts → List Setting → ℕ → Option (Place × Place) → Option (Place × Place) → List ℕ
+bar_row l m settings bar (Some was) (Some is) = bar_item l m settings bar was is
+bar_row l m settings bar (Some was) None = []
+bar_row l m settings bar None is = []
 
-unfoldable pub lugs_step : Heading → Parts → Parts → List Setting → List ℕ
-lugs_step heading m n settings =
-    step_text heading words.Lugs (count_at (step_spot Lugs) settings) ++ texts.DRUM.now
-    ++ flat_map (λ bar. bar_row m settings bar (machine_standing m bar) (machine_standing n bar)) BARS
+-- what the marks mean, and the head of the table
+unfoldable pub drum_head : Language → List ℕ
+drum_head l =
+    filled (text_in l texts.DRUM) (mark_text LugStays ∷ mark_text LugLeaves ∷ mark_text LugComes ∷ [])
+
+unfoldable pub lugs_step : Language → Heading → Parts → Parts → List Setting → List ℕ
+lugs_step l heading m n settings =
+    step_text l heading words.Lugs (count_at (step_spot Lugs) settings) ++ drum_head l
+    ++ flat_map (λ bar. bar_row l m settings bar (machine_standing m bar) (machine_standing n bar)) BARS
     ++ texts.DRUM_END.now

@@ -11,12 +11,16 @@ use Rattle.kd_pictures.specs.declared.numbers.TheConstants.{PIN_WHEELS}
 use Rattle.kd_page.specs.declared.spots.Spot.{Spot}
 use Rattle.kd_page.specs.declared.spots.Step.TheVariants.{Pins}
 use Rattle.kd_page.specs.declared.steps.Heading.{Heading}
+use Rattle.kd_pictures.specs.declared.language.Language.{Language}
+use Rattle.kd_pictures.specs.declared.words.Mark.TheVariants.{Effective, Ineffective}
 use Rattle.kd_pictures.specs.declared.words.Word.TheVariants as words
 use Rattle.kd_pictures.specs.declared.texts.TheConstants as texts
-use Rattle.kd_page.specs.Boxes.{boxes_at}
+use Rattle.kd_pictures.specs.Language.{text_in}
+use Rattle.kd_page.specs.Boxes.{boxes_at, pin_mark}
 use Rattle.kd_page.specs.Spots.{count_at, row_spot, step_spot}
 use Rattle.kd_page.specs.Steps.{step_text}
 use Rattle.kd_pictures.specs.Template.{count_text, filled, letter_text}
+use Rattle.kd_pictures.specs.Words.{mark_text}
 
 abbrev pub pin_spot : ℕ → ℕ → Spot
 pin_spot wheel letter = record { step = Pins; row = Some wheel; cell = Some letter }
@@ -27,29 +31,28 @@ is_same_pin effective was = option_map_or (λ old. if old then effective else no
 
 -- a pin that stays, with its letter and a mark: effective or not
 abbrev pub pin_shown : ℕ → Bool → List ℕ
-pin_shown letter effective =
-    filled (if effective then texts.EFFECTIVE.now else texts.INEFFECTIVE.now) (letter_text letter ∷ [])
+pin_shown letter effective = filled texts.PIN_SHOWN.now (letter_text letter ∷ mark_text (pin_mark effective) ∷ [])
 
 -- what the cell of a pin has inside: its box, or the pin
-abbrev pub pin_inside : Parts → List Setting → Spot → ℕ → Bool → List ℕ
-pin_inside m settings spot letter effective =
-    if count_at spot settings == 0 then pin_shown letter effective else boxes_at m spot settings
+abbrev pub pin_inside : Language → Parts → List Setting → Spot → ℕ → Bool → List ℕ
+pin_inside l m settings spot letter effective =
+    if count_at spot settings == 0 then pin_shown letter effective else boxes_at l m spot settings
 
 abbrev pub cell_text : Bool → List ℕ
 cell_text is_same = if is_same then texts.CELL.now else texts.SET_CELL.now
 
-abbrev pub pin_item : Parts → List Setting → Spot → ℕ → Option Bool → Bool → List ℕ
-pin_item m settings spot letter was effective =
-    cell_text (is_same_pin effective was) ++ pin_inside m settings spot letter effective
+abbrev pub pin_item : Language → Parts → List Setting → Spot → ℕ → Option Bool → Bool → List ℕ
+pin_item l m settings spot letter was effective =
+    cell_text (is_same_pin effective was) ++ pin_inside l m settings spot letter effective
 
 -- the cell of a pin after the settings, which is framed unless it was so before; empty if the wheel lacks the letter
-abbrev pub pin_cell : Parts → List Setting → Spot → ℕ → Option Bool → Option Bool → List ℕ
-pin_cell m settings spot letter was None = texts.NO_PIN.now
-pin_cell m settings spot letter was (Some effective) = pin_item m settings spot letter was effective
+abbrev pub pin_cell : Language → Parts → List Setting → Spot → ℕ → Option Bool → Option Bool → List ℕ
+pin_cell l m settings spot letter was None = texts.NO_PIN.now
+pin_cell l m settings spot letter was (Some effective) = pin_item l m settings spot letter was effective
 
-abbrev pub pin_cells : Parts → Parts → List Setting → ℕ → List ℕ → List ℕ
-pin_cells m n settings wheel letters = flat_map
-    (λ letter. pin_cell m settings (pin_spot wheel letter) letter (machine_pin m wheel letter)
+abbrev pub pin_cells : Language → Parts → Parts → List Setting → ℕ → List ℕ → List ℕ
+pin_cells l m n settings wheel letters = flat_map
+    (λ letter. pin_cell l m settings (pin_spot wheel letter) letter (machine_pin m wheel letter)
     (machine_pin n wheel letter))
     letters
 
@@ -58,17 +61,22 @@ abbrev pub pin_lines : ℕ → ℕ → List ℕ
 pin_lines wheel count = if count == 0 then [] else filled texts.PIN_LINES.now (decimal wheel ∷ [])
 
 -- the head of a wheel of which this many pins change
-abbrev pub pin_head : ℕ → ℕ → List ℕ
-pin_head wheel count = filled texts.PIN_WHEEL.now (decimal wheel ∷ count_text count ∷ []) ++ pin_lines wheel count
+abbrev pub pin_head : Language → ℕ → ℕ → List ℕ
+pin_head l wheel count =
+    filled (text_in l texts.PIN_WHEEL) (decimal wheel ∷ count_text l count ∷ []) ++ pin_lines wheel count
 
 -- a wheel: its head, and two rows of letters, each letter in its own column
-abbrev pub pin_wheel : Parts → Parts → List Setting → ℕ → List ℕ
-pin_wheel m n settings wheel =
-    pin_head wheel (count_at (row_spot Pins wheel) settings)
-    ++ texts.PIN_ROW.now ++ pin_cells m n settings wheel (take 13 alphabet)
-    ++ texts.PIN_ROW.now ++ pin_cells m n settings wheel (drop 13 alphabet) ++ texts.ROW_END.now
+abbrev pub pin_wheel : Language → Parts → Parts → List Setting → ℕ → List ℕ
+pin_wheel l m n settings wheel =
+    pin_head l wheel (count_at (row_spot Pins wheel) settings)
+    ++ texts.PIN_ROW.now ++ pin_cells l m n settings wheel (take 13 alphabet)
+    ++ texts.PIN_ROW.now ++ pin_cells l m n settings wheel (drop 13 alphabet) ++ texts.ROW_END.now
 
-unfoldable pub pins_step : Heading → Parts → Parts → List Setting → List ℕ
-pins_step heading m n settings =
-    step_text heading words.Pins (count_at (step_spot Pins) settings) ++ texts.PINS.now
-    ++ flat_map (pin_wheel m n settings) PIN_WHEELS ++ texts.PINS_END.now
+-- what the marks mean
+unfoldable pub pins_caption : Language → List ℕ
+pins_caption l = filled (text_in l texts.PINS) (mark_text Effective ∷ mark_text Ineffective ∷ [])
+
+unfoldable pub pins_step : Language → Heading → Parts → Parts → List Setting → List ℕ
+pins_step l heading m n settings =
+    step_text l heading words.Pins (count_at (step_spot Pins) settings) ++ pins_caption l
+    ++ flat_map (pin_wheel l m n settings) PIN_WHEELS ++ texts.PINS_END.now

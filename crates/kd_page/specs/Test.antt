@@ -11,9 +11,11 @@ use Rattle.kd_state.specs.TwoCiphers.{physical_cipher}
 use Rattle.kd_card.specs.Proving.{priced_count}
 use Rattle.kd_pictures.specs.declared.numbers.TheConstants.{LATER_WHEELS}
 use Rattle.kd_page.specs.declared.steps.Heading.{Heading}
+use Rattle.kd_pictures.specs.declared.language.Language.{Language}
 use Rattle.kd_pictures.specs.declared.words.Word.{Word}
 use Rattle.kd_pictures.specs.declared.words.Word.TheVariants as words
 use Rattle.kd_pictures.specs.declared.texts.TheConstants as texts
+use Rattle.kd_pictures.specs.Language.{text_in}
 use Rattle.kd_page.specs.Steps.{full_step_text}
 use Rattle.kd_pictures.specs.Fives.{fives_from}
 use Rattle.kd_pictures.specs.Template.{filled, letter_text, ordinal_text}
@@ -25,10 +27,10 @@ abbrev pub test_keys : Parts → List ℕ
 test_keys m = if is_converter (model_of m) then replicate 26 0 else alphabet
 
 -- the keys in groups of five, and below them what the machine makes of them
-unfoldable pub test_text : Parts → List ℕ
-test_text m =
+unfoldable pub test_text : Language → Parts → List ℕ
+test_text l m =
     fives_from 0 (test_keys m) ++ texts.TEST_LAMPS.now ++ fives_from 0 (physical_cipher m (test_keys m))
-    ++ texts.TEST_END.now
+    ++ text_in l texts.TEST_END
 
 -- a letter that is to show again, on a rotor machine with its number
 abbrev pub again_text : Bool → ℕ → List ℕ
@@ -51,21 +53,21 @@ abbrev pub letters_again : Parts → List ℕ
 letters_again m = if is_converter (model_of m) then again_all (codes " ") false m else again_all (codes ", ") true m
 
 -- the numbers of settings; those for cables and bars are as many as the sum of a shortest card's prices
-abbrev pub note_text : Model → List Setting → List ℕ
-note_text model settings =
+abbrev pub note_text : Language → Model → List Setting → List ℕ
+note_text l model settings =
     let priced = priced_count settings in
-    filled (if is_converter model then texts.NOTE_PIN.now else texts.NOTE_ROTOR.now)
+    filled (if is_converter model then text_in l texts.NOTE_PIN else text_in l texts.NOTE_ROTOR)
     (decimal (length settings - priced) ∷ decimal priced ∷ decimal (length settings) ∷ [])
 
 -- the title of the test, and what to do
 abbrev pub test_title : Model → Word
 test_title model = if is_converter model then words.PrintTest else words.LampTest
 
-abbrev pub test_words : Model → List ℕ
-test_words model = if is_converter model then texts.TEST_PIN.now else texts.TEST_ROTOR.now
+abbrev pub test_words : Language → Model → List ℕ
+test_words l model = if is_converter model then text_in l texts.TEST_PIN else text_in l texts.TEST_ROTOR
 
 -- the step of the test
-unfoldable pub test_step : Heading → Parts → List Setting → List ℕ
-test_step heading m settings =
-    full_step_text heading (test_title heading.model) 0 ++ test_words heading.model ++ test_text m ++ letters_again m
-    ++ note_text heading.model settings
+unfoldable pub test_step : Language → Heading → Parts → List Setting → List ℕ
+test_step l heading m settings =
+    full_step_text l heading (test_title heading.model) 0 ++ test_words l heading.model ++ test_text l m
+    ++ letters_again m ++ note_text l heading.model settings

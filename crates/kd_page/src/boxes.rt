@@ -2,58 +2,75 @@
 ghost use Rattle.std.specs.Prelude.{◌≡◌, flat_map};
 ghost use Rattle.kd_state.specs.declared.setting.Setting.TheVariants.{Seat};
 ghost use Rattle.kd_pictures.specs.Drawing.{Draws};
-ghost use Rattle.kd_page.specs.Boxes.{box_at, box_text, boxes_at, lug_template, seat_text, slot_holding, slot_name};
+ghost use Rattle.kd_page.specs.Boxes.{box_at, box_text, boxes_at, lug_word, pin_mark, pin_word};
+ghost use Rattle.kd_page.specs.Boxes.{seat_text, slot_holding, slot_name};
 ghost use Rattle.kd_pictures.specs.declared.numbers.TheConstants.{SLOTS as ALL_SLOTS};
 
 use crate::spots::{Spot, is_at};
-use kd_pictures::draw;
 use kd_pictures::numbers::SLOTS;
-use kd_pictures::template::{Value, fill};
-use kd_pictures::texts::{
-    LUG_LEFT, LUG_RIGHT, PIN_OFF, PIN_ON, PLUG, REFLECTOR, RING, SEAT, SEAT_FROM, TURN,
-};
+use kd_pictures::template::{Value, fill, fill_in};
+use kd_pictures::texts::{LUG, PIN, PLUG, REFLECTOR, RING, SEAT, SEAT_FROM, TURN};
 use kd_pictures::wheels::is_seated;
-use kd_pictures::words::Word;
+use kd_pictures::words::{Mark, Word};
+use kd_pictures::{Language, draw};
 use kd_state::{Machine, Setting};
 use kd_tables::{Lug, Model, Sink, Wheel};
 
 /// Writes the boxes of those of `settings` that have them at `spot`. `before` is the machine before all settings.
-pub(crate) fn draw_boxes<W: Sink>(sink: &mut W, before: &Machine, spot: &Spot, settings: &[Setting])
+pub(crate) fn draw_boxes<W: Sink>(
+    sink: &mut W,
+    language: Language,
+    before: &Machine,
+    spot: &Spot,
+    settings: &[Setting],
+)
     ensures { Draws W.taken W.has_failed sink.old sink.new
-        (boxes_at before.now spot.now settings.now) }
+        (boxes_at language before.now spot.now settings.now) }
 {
     if let [setting, rest @ ..] = settings {
-        draw_box_at(sink, before, spot, setting);
-        draw_boxes(sink, before, spot, rest);
+        draw_box_at(sink, language, before, spot, setting);
+        draw_boxes(sink, language, before, spot, rest);
     }
 }
 
 /// Writes the box of `setting`, if it is at `spot`.
-fn draw_box_at<W: Sink>(sink: &mut W, before: &Machine, spot: &Spot, setting: &Setting)
+fn draw_box_at<W: Sink>(
+    sink: &mut W,
+    language: Language,
+    before: &Machine,
+    spot: &Spot,
+    setting: &Setting,
+)
     ensures { Draws W.taken W.has_failed sink.old sink.new
-        (box_at before.now spot.now setting.now) }
+        (box_at language before.now spot.now setting.now) }
 {
     if is_at(spot, setting) {
-        draw_box(sink, before, setting);
+        draw_box(sink, language, before, setting);
     } else {
         draw(sink, "");
     }
 }
 
-fn draw_box<W: Sink>(sink: &mut W, before: &Machine, setting: &Setting)
-    ensures { Draws W.taken W.has_failed sink.old sink.new (box_text before.now setting.now) }
+fn draw_box<W: Sink>(sink: &mut W, language: Language, before: &Machine, setting: &Setting)
+    ensures { Draws W.taken W.has_failed sink.old sink.new (box_text language before.now setting.now) }
 {
     let line = Value::Line(*setting);
     match *setting {
         Setting::Pull { letter, .. } | Setting::Put { letter, .. } => {
-            fill(sink, PLUG, &[Value::Letter(letter), line])
+            fill(sink, language, PLUG, &[Value::Letter(letter), line])
         }
-        Setting::Seat { slot, wheel } => draw_seat(sink, before, slot, wheel),
+        Setting::Seat { slot, wheel } => draw_seat(sink, language, before, slot, wheel),
         Setting::SeatReflector { reflector } => {
-            fill(sink, REFLECTOR, &[Value::Reflector(reflector), line])
+            fill_in(
+                sink,
+                language,
+                REFLECTOR,
+                &[Value::Reflector(reflector), line],
+            )
         }
-        Setting::RingTo { wheel, letter } => fill(
+        Setting::RingTo { wheel, letter } => fill_in(
             sink,
+            language,
             RING,
             &[
                 Value::Wheel(wheel),
@@ -62,35 +79,51 @@ fn draw_box<W: Sink>(sink: &mut W, before: &Machine, setting: &Setting)
                 line,
             ],
         ),
-        Setting::Turn { .. } => fill(sink, TURN, &[line]),
+        Setting::Turn { .. } => fill(sink, language, TURN, &[line]),
         Setting::PinTo {
             letter,
             effective,
             ..
         } => fill(
             sink,
-            if effective { PIN_ON } else { PIN_OFF },
-            &[Value::Letter(letter)],
+            language,
+            PIN,
+            &[
+                Value::Letter(letter),
+                Value::Mark(pin_mark(effective)),
+                Value::Word(pin_word(effective)),
+            ],
         ),
         Setting::LugTo { lug, place, .. } => {
-            fill(sink, lug_template(lug), &[Value::Place(place), line])
+            fill(
+                sink,
+                language,
+                LUG,
+                &[Value::Word(lug_word(lug)), Value::Place(place), line],
+            )
         }
     }
 }
 
 /// Writes the box of a wheel to be put into a slot. If another slot holds the wheel before, it says so.
-fn draw_seat<W: Sink>(sink: &mut W, before: &Machine, slot: u8, wheel: Wheel)
+fn draw_seat<W: Sink>(sink: &mut W, language: Language, before: &Machine, slot: u8, wheel: Wheel)
     ensures { Draws W.taken W.has_failed sink.old sink.new
-        (seat_text before.now (Seat slot wheel) slot wheel
+        (seat_text language before.now (Seat slot wheel) slot wheel
         (slot_holding before.now wheel ALL_SLOTS)) }
 {
     let name = Value::Word(slot_name(before.model(), slot));
     let line = Value::Line(Setting::Seat { slot, wheel });
     let number = Value::Number(u16::from(slot));
     match slot_holding(before, wheel, &SLOTS) {
-        None => fill(sink, SEAT, &[number, name, Value::Wheel(wheel), line]),
-        Some(old) => fill(
+        None => fill_in(
             sink,
+            language,
+            SEAT,
+            &[number, name, Value::Wheel(wheel), line],
+        ),
+        Some(old) => fill_in(
+            sink,
+            language,
             SEAT_FROM,
             &[
                 number,
@@ -126,11 +159,27 @@ fn slot_holding(machine: &Machine, wheel: Wheel, slots: &[u8]) -> Option<u8>
     }
 }
 
-fn lug_template(lug: Lug) -> &'static str
-    ensures { result.now ≡ lug_template lug }
+fn lug_word(lug: Lug) -> Word
+    ensures { result ≡ lug_word lug }
 {
     match lug {
-        Lug::Left => LUG_LEFT,
-        Lug::Right => LUG_RIGHT,
+        Lug::Left => Word::LeftLug,
+        Lug::Right => Word::RightLug,
     }
+}
+
+pub(crate) fn pin_mark(effective: bool) -> Mark
+    ensures { result ≡ pin_mark effective }
+{
+    if effective {
+        Mark::Effective
+    } else {
+        Mark::Ineffective
+    }
+}
+
+fn pin_word(effective: bool) -> Word
+    ensures { result ≡ pin_word effective }
+{
+    if effective { Word::On } else { Word::Off }
 }

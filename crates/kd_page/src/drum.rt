@@ -3,25 +3,26 @@ ghost use Rattle.std.specs.Prelude.{◌≡◌, ◌≤◌, ◌++◌, flat_map, le
 ghost use Rattle.kd_tables.specs.Places.{places};
 ghost use Rattle.kd_state.specs.Machine.{machine_standing};
 ghost use Rattle.kd_pictures.specs.Drawing.{Draws};
-ghost use Rattle.kd_page.specs.Drum.{bar_item, bar_end, bar_head, bar_row, cell_mark, has_lug, is_same_standing};
-ghost use Rattle.kd_page.specs.Drum.{lug_cell, lugs_step};
+ghost use Rattle.kd_page.specs.Drum.{bar_item, bar_end, bar_head, bar_row, cell_mark, drum_head, has_lug};
+ghost use Rattle.kd_page.specs.Drum.{is_same_standing, lug_cell, lugs_step, marked_cell};
 
 use crate::boxes::draw_boxes;
 use crate::spots::{Step, count_at};
 use crate::steps::{Heading, draw_step};
-use kd_pictures::draw;
 use kd_pictures::numbers::BARS;
-use kd_pictures::template::{Value, fill};
+use kd_pictures::template::{Value, fill, fill_in};
 use kd_pictures::texts::{
-    BAR, BOXES, COMES, DRUM, DRUM_END, LEAVES, NO_BOXES, NO_LUG, ONE_BOX, SET_BAR, STAYS_HERE,
+    BAR, BOXES, DRUM, DRUM_END, MARKED_LUG, NO_BOXES, NO_LUG, ONE_BOX, SET_BAR,
 };
-use kd_pictures::words::Word;
+use kd_pictures::words::{Mark, Word};
+use kd_pictures::{Language, draw};
 use kd_state::{Machine, Setting};
 use kd_tables::{Place, Sink, Standing};
 
 /// Writes the step of the lugs.
 pub(crate) fn draw_lugs_step<W: Sink>(
     sink: &mut W,
+    language: Language,
     heading: Heading,
     before: &Machine,
     after: &Machine,
@@ -29,21 +30,40 @@ pub(crate) fn draw_lugs_step<W: Sink>(
 )
     requires { length settings.now ≤ 192 }
     ensures { Draws W.taken W.has_failed sink.old sink.new
-        (lugs_step heading before.now after.now settings.now) }
+        (lugs_step language heading before.now after.now settings.now) }
 {
     draw_step(
         sink,
+        language,
         heading,
         Word::Lugs,
         count_at(&Step::Lugs.spot(), settings),
     );
-    draw(sink, DRUM);
-    draw_bars(sink, before, after, settings, &BARS);
+    draw_drum_head(sink, language);
+    draw_bars(sink, language, before, after, settings, &BARS);
     draw(sink, DRUM_END);
+}
+
+/// Writes what the marks mean, and the head of the table.
+#[tactic(auto, unfolding(crate::specs::Drum::drum_head))]
+fn draw_drum_head<W: Sink>(sink: &mut W, language: Language)
+    ensures { Draws W.taken W.has_failed sink.old sink.new (drum_head language) }
+{
+    fill_in(
+        sink,
+        language,
+        DRUM,
+        &[
+            Value::Mark(Mark::LugStays),
+            Value::Mark(Mark::LugLeaves),
+            Value::Mark(Mark::LugComes),
+        ],
+    );
 }
 
 fn draw_bars<W: Sink>(
     sink: &mut W,
+    language: Language,
     before: &Machine,
     after: &Machine,
     settings: &[Setting],
@@ -51,20 +71,29 @@ fn draw_bars<W: Sink>(
 )
     requires { length settings.now ≤ 192 }
     ensures { Draws W.taken W.has_failed sink.old sink.new
-        (flat_map (λ bar. bar_row before.now settings.now bar
+        (flat_map (λ bar. bar_row language before.now settings.now bar
         (machine_standing before.now bar) (machine_standing after.now bar))
         bars.now) }
 {
     if let [bar, rest @ ..] = bars {
         let was = before.standing(*bar);
-        draw_bar(sink, before, settings, *bar, was, after.standing(*bar));
-        draw_bars(sink, before, after, settings, rest);
+        draw_bar(
+            sink,
+            language,
+            before,
+            settings,
+            *bar,
+            was,
+            after.standing(*bar),
+        );
+        draw_bars(sink, language, before, after, settings, rest);
     }
 }
 
 /// Writes the row of a bar with its standing before and after.
 fn draw_bar<W: Sink>(
     sink: &mut W,
+    language: Language,
     before: &Machine,
     settings: &[Setting],
     bar: u8,
@@ -73,16 +102,17 @@ fn draw_bar<W: Sink>(
 )
     requires { length settings.now ≤ 192 }
     ensures { Draws W.taken W.has_failed sink.old sink.new
-        (bar_row before.now settings.now bar was is) }
+        (bar_row language before.now settings.now bar was is) }
 {
     match (was, is) {
-        (Some(was), Some(is)) => draw_bar_item(sink, before, settings, bar, was, is),
+        (Some(was), Some(is)) => draw_bar_item(sink, language, before, settings, bar, was, is),
         _ => draw(sink, ""),
     }
 }
 
 fn draw_bar_item<W: Sink>(
     sink: &mut W,
+    language: Language,
     before: &Machine,
     settings: &[Setting],
     bar: u8,
@@ -91,20 +121,21 @@ fn draw_bar_item<W: Sink>(
 )
     requires { length settings.now ≤ 192 }
     ensures { Draws W.taken W.has_failed sink.old sink.new
-        (bar_item before.now settings.now bar was is) }
+        (bar_item language before.now settings.now bar was is) }
 {
     let spot = Step::Lugs.row(bar);
-    draw_bar_head(sink, bar, was, is);
-    draw_cells(sink, was, is, &Place::all());
-    draw_boxes(sink, before, &spot, settings);
+    draw_bar_head(sink, language, bar, was, is);
+    draw_cells(sink, language, was, is, &Place::all());
+    draw_boxes(sink, language, before, &spot, settings);
     draw(sink, bar_end(count_at(&spot, settings)));
 }
 
-fn draw_bar_head<W: Sink>(sink: &mut W, bar: u8, was: Standing, is: Standing)
+fn draw_bar_head<W: Sink>(sink: &mut W, language: Language, bar: u8, was: Standing, is: Standing)
     ensures { Draws W.taken W.has_failed sink.old sink.new (bar_head bar was is) }
 {
     fill(
         sink,
+        language,
         if is_same_standing(was, is) {
             BAR
         } else {
@@ -132,31 +163,50 @@ fn bar_end(count: u8) -> &'static str
 }
 
 /// Writes a cell for each of `places` of a bar.
-fn draw_cells<W: Sink>(sink: &mut W, was: Standing, is: Standing, places: &[Place])
+fn draw_cells<W: Sink>(
+    sink: &mut W,
+    language: Language,
+    was: Standing,
+    is: Standing,
+    places: &[Place],
+)
     ensures { Draws W.taken W.has_failed sink.old sink.new
         (flat_map (lug_cell was is) places.now) }
 {
     if let [place, rest @ ..] = places {
-        draw_cell(sink, was, is, *place);
-        draw_cells(sink, was, is, rest);
+        draw_cell(sink, language, was, is, *place);
+        draw_cells(sink, language, was, is, rest);
     }
 }
 
 #[tactic(auto, unfolding(crate::specs::Drum::lug_cell))]
-fn draw_cell<W: Sink>(sink: &mut W, was: Standing, is: Standing, place: Place)
+fn draw_cell<W: Sink>(sink: &mut W, language: Language, was: Standing, is: Standing, place: Place)
     ensures { Draws W.taken W.has_failed sink.old sink.new (lug_cell was is place) }
 {
-    draw(sink, cell_mark(has_lug(was, place), has_lug(is, place)));
+    draw_marked_cell(
+        sink,
+        language,
+        cell_mark(has_lug(was, place), has_lug(is, place)),
+    );
 }
 
-fn cell_mark(was_here: bool, is_here: bool) -> &'static str
-    ensures { result.now ≡ cell_mark was_here is_here }
+fn cell_mark(was_here: bool, is_here: bool) -> Option<Mark>
+    ensures { result ≡ cell_mark was_here is_here }
 {
     match (was_here, is_here) {
-        (true, true) => STAYS_HERE,
-        (true, false) => LEAVES,
-        (false, true) => COMES,
-        (false, false) => NO_LUG,
+        (true, true) => Some(Mark::LugStays),
+        (true, false) => Some(Mark::LugLeaves),
+        (false, true) => Some(Mark::LugComes),
+        (false, false) => None,
+    }
+}
+
+fn draw_marked_cell<W: Sink>(sink: &mut W, language: Language, mark: Option<Mark>)
+    ensures { Draws W.taken W.has_failed sink.old sink.new (marked_cell mark) }
+{
+    match mark {
+        None => draw(sink, NO_LUG),
+        Some(mark) => fill(sink, language, MARKED_LUG, &[Value::Mark(mark)]),
     }
 }
 

@@ -4,9 +4,10 @@ ghost use Rattle.kd_pictures.specs.Drawing.{Draws};
 ghost use Rattle.kd_page.specs.Head.{head_text, last_of, list_of_days, listed_text, nav_text, title_text};
 ghost use Rattle.kd_pictures.specs.declared.texts.TheConstants.{FOOT as FOOT_TEXT};
 
-use kd_pictures::draw;
-use kd_pictures::template::{Value, fill};
-use kd_pictures::texts::{BODY, FOOT, HEAD, NAV, NAV_DAY, NAV_END, STYLE, TITLE_DAY, TITLE_DAYS};
+use kd_pictures::file_head::draw_file_head;
+use kd_pictures::template::{Value, fill_in};
+use kd_pictures::texts::{BODY, FOOT, NAV, NAV_DAY, NAV_END, STYLE, TITLE_DAY, TITLE_DAYS};
+use kd_pictures::{Language, draw, draw_in};
 use kd_tables::{Model, Sink};
 
 /// A day in the list of days, with its number of settings.
@@ -17,14 +18,20 @@ pub struct ListedDay {
 }
 
 /// Writes the head of a file with the page of the day `first`, and the pages of the days `others` after it.
-pub fn draw_head<W: Sink>(sink: &mut W, model: Model, first: ListedDay, others: &[ListedDay])
-    ensures { Draws W.taken W.has_failed sink.old sink.new (head_text model first others.now) }
+pub fn draw_head<W: Sink>(
+    sink: &mut W,
+    language: Language,
+    model: Model,
+    first: ListedDay,
+    others: &[ListedDay],
+)
+    ensures { Draws W.taken W.has_failed sink.old sink.new (head_text language model first others.now) }
 {
-    draw(sink, HEAD);
-    draw_title(sink, model, first, others);
+    draw_file_head(sink, language);
+    draw_title(sink, language, model, first, others);
     draw(sink, STYLE);
     draw(sink, BODY);
-    draw_nav(sink, first, others);
+    draw_nav(sink, language, first, others);
 }
 
 /// Writes the end of the file.
@@ -34,20 +41,27 @@ pub fn draw_foot<W: Sink>(sink: &mut W)
     draw(sink, FOOT);
 }
 
-fn draw_title<W: Sink>(sink: &mut W, model: Model, first: ListedDay, others: &[ListedDay])
-    ensures { Draws W.taken W.has_failed sink.old sink.new (title_text model first others.now) }
+fn draw_title<W: Sink>(
+    sink: &mut W,
+    language: Language,
+    model: Model,
+    first: ListedDay,
+    others: &[ListedDay],
+)
+    ensures { Draws W.taken W.has_failed sink.old sink.new (title_text language model first others.now) }
 {
     let name = Value::Model(model);
     let first = Value::Number(u16::from(first.day));
     if let [next, rest @ ..] = others {
         let last = last_of(*next, rest);
-        fill(
+        fill_in(
             sink,
+            language,
             TITLE_DAYS,
             &[name, first, Value::Number(u16::from(last.day))],
         );
     } else {
-        fill(sink, TITLE_DAY, &[name, first]);
+        fill_in(sink, language, TITLE_DAY, &[name, first]);
     }
 }
 
@@ -62,41 +76,47 @@ fn last_of(day: ListedDay, others: &[ListedDay]) -> ListedDay
 }
 
 /// Writes the list of the days, if there are several.
-fn draw_nav<W: Sink>(sink: &mut W, first: ListedDay, others: &[ListedDay])
-    ensures { Draws W.taken W.has_failed sink.old sink.new (nav_text first others.now) }
+fn draw_nav<W: Sink>(sink: &mut W, language: Language, first: ListedDay, others: &[ListedDay])
+    ensures { Draws W.taken W.has_failed sink.old sink.new (nav_text language first others.now) }
 {
     if let [_, ..] = others {
-        draw_list_of_days(sink, first, others);
+        draw_list_of_days(sink, language, first, others);
     } else {
         draw(sink, "");
     }
 }
 
-fn draw_list_of_days<W: Sink>(sink: &mut W, first: ListedDay, others: &[ListedDay])
-    ensures { Draws W.taken W.has_failed sink.old sink.new (list_of_days first others.now) }
+fn draw_list_of_days<W: Sink>(
+    sink: &mut W,
+    language: Language,
+    first: ListedDay,
+    others: &[ListedDay],
+)
+    ensures { Draws W.taken W.has_failed sink.old sink.new (list_of_days language first others.now) }
 {
-    draw(sink, NAV);
-    draw_listed(sink, first);
-    draw_all_listed(sink, others);
+    draw_in(sink, language, NAV);
+    draw_listed(sink, language, first);
+    draw_all_listed(sink, language, others);
     draw(sink, NAV_END);
 }
 
-fn draw_all_listed<W: Sink>(sink: &mut W, days: &[ListedDay])
-    ensures { Draws W.taken W.has_failed sink.old sink.new (flat_map listed_text days.now) }
+fn draw_all_listed<W: Sink>(sink: &mut W, language: Language, days: &[ListedDay])
+    ensures { Draws W.taken W.has_failed sink.old sink.new (flat_map (listed_text language) days.now) }
 {
     if let [day, rest @ ..] = days {
-        draw_listed(sink, *day);
-        draw_all_listed(sink, rest);
+        draw_listed(sink, language, *day);
+        draw_all_listed(sink, language, rest);
     }
 }
 
 #[tactic(auto, unfolding(crate::specs::Head::listed_text))]
-fn draw_listed<W: Sink>(sink: &mut W, day: ListedDay)
-    ensures { Draws W.taken W.has_failed sink.old sink.new (listed_text day) }
+fn draw_listed<W: Sink>(sink: &mut W, language: Language, day: ListedDay)
+    ensures { Draws W.taken W.has_failed sink.old sink.new (listed_text language day) }
 {
     let number = Value::Number(u16::from(day.day));
-    fill(
+    fill_in(
         sink,
+        language,
         NAV_DAY,
         &[
             number,

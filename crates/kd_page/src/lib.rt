@@ -15,5 +15,5 @@ mod windows;
 
 pub use day_page::draw_day;
 pub use head::{ListedDay, draw_foot, draw_head};
-pub use kd_pictures::draw;
+pub use kd_pictures::{Language, draw};
 pub use spots::{Spot, Step};

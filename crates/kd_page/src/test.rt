@@ -10,20 +10,21 @@ ghost use Rattle.kd_page.specs.Windows.{letter_shown};
 use crate::pins::alphabet;
 use crate::steps::{Heading, draw_full_step};
 use crate::windows::letter_shown;
-use kd_pictures::draw;
 use kd_pictures::fives::draw_fives;
 use kd_pictures::numbers::LATER_WHEELS;
-use kd_pictures::template::{Value, draw_letter, fill};
+use kd_pictures::template::{Value, draw_letter, fill, fill_in};
 use kd_pictures::texts::{
     AGAIN_ROTOR, NOTE_PIN, NOTE_ROTOR, TEST_END, TEST_LAMPS, TEST_PIN, TEST_ROTOR,
 };
 use kd_pictures::words::{Word, is_converter};
+use kd_pictures::{Language, draw, draw_in};
 use kd_state::{Machine, Setting};
 use kd_tables::{Letter, Model, Sink};
 
 /// Writes the step of the test of `machine`, to which `settings` lead.
 pub(crate) fn draw_test_step<W: Sink>(
     sink: &mut W,
+    language: Language,
     heading: Heading,
     machine: &Machine,
     settings: &[Setting],
@@ -31,13 +32,13 @@ pub(crate) fn draw_test_step<W: Sink>(
     requires ready { IsReady machine.now }
     requires few { length settings.now ≤ 192 }
     ensures { Draws W.taken W.has_failed sink.old sink.new
-        (test_step heading machine.now settings.now) }
+        (test_step language heading machine.now settings.now) }
 {
-    draw_full_step(sink, heading, test_title(heading.model), 0);
-    draw(sink, test_words(heading.model));
-    draw_test(sink, machine);
-    draw_letters_again(sink, machine);
-    draw_note(sink, heading.model, settings);
+    draw_full_step(sink, language, heading, test_title(heading.model), 0);
+    draw_test_words(sink, language, heading.model);
+    draw_test(sink, language, machine);
+    draw_letters_again(sink, language, machine);
+    draw_note(sink, language, heading.model, settings);
 }
 
 fn test_title(model: Model) -> Word
@@ -50,27 +51,27 @@ fn test_title(model: Model) -> Word
     }
 }
 
-/// What to do to test the machine.
-fn test_words(model: Model) -> &'static str
-    ensures { result.now ≡ test_words model }
+/// Writes what to do to test the machine.
+fn draw_test_words<W: Sink>(sink: &mut W, language: Language, model: Model)
+    ensures { Draws W.taken W.has_failed sink.old sink.new (test_words language model) }
 {
     if is_converter(model) {
-        TEST_PIN
+        draw_in(sink, language, TEST_PIN);
     } else {
-        TEST_ROTOR
+        draw_in(sink, language, TEST_ROTOR);
     }
 }
 
 /// Writes the keys, and what the machine makes of them.
-fn draw_test<W: Sink>(sink: &mut W, machine: &Machine)
+fn draw_test<W: Sink>(sink: &mut W, language: Language, machine: &Machine)
     requires { IsReady machine.now }
-    ensures { Draws W.taken W.has_failed sink.old sink.new (test_text machine.now) }
+    ensures { Draws W.taken W.has_failed sink.old sink.new (test_text language machine.now) }
 {
     let keys = test_keys(machine);
     draw_fives(sink, 0, &keys);
     draw(sink, TEST_LAMPS);
     draw_fives(sink, 0, &enciphered(machine, keys));
-    draw(sink, TEST_END);
+    draw_in(sink, language, TEST_END);
 }
 
 /// The alphabet, or on a Converter 26 times A.
@@ -97,27 +98,41 @@ fn enciphered(machine: &Machine, keys: [Letter; 26]) -> [Letter; 26]
 }
 
 /// Writes the letters that the machine shows.
-fn draw_letters_again<W: Sink>(sink: &mut W, machine: &Machine)
+fn draw_letters_again<W: Sink>(sink: &mut W, language: Language, machine: &Machine)
     ensures { Draws W.taken W.has_failed sink.old sink.new (letters_again machine.now) }
 {
     if is_converter(machine.model()) {
-        draw_again_all(sink, " ", false, machine);
+        draw_again_all(sink, language, " ", false, machine);
     } else {
-        draw_again_all(sink, ", ", true, machine);
+        draw_again_all(sink, language, ", ", true, machine);
     }
 }
 
-fn draw_again_all<W: Sink>(sink: &mut W, separator: &str, has_number: bool, machine: &Machine)
+fn draw_again_all<W: Sink>(
+    sink: &mut W,
+    language: Language,
+    separator: &str,
+    has_number: bool,
+    machine: &Machine,
+)
     ensures { Draws W.taken W.has_failed sink.old sink.new
         (again_all separator.now has_number machine.now) }
 {
-    draw_again_at(sink, "", has_number, letter_shown(machine, 1));
-    draw_again_from(sink, separator, has_number, machine, &LATER_WHEELS);
+    draw_again_at(sink, language, "", has_number, letter_shown(machine, 1));
+    draw_again_from(
+        sink,
+        language,
+        separator,
+        has_number,
+        machine,
+        &LATER_WHEELS,
+    );
 }
 
 /// Writes the letters that these slots or pin wheels show, each after `separator`.
 fn draw_again_from<W: Sink>(
     sink: &mut W,
+    language: Language,
     separator: &str,
     has_number: bool,
     machine: &Machine,
@@ -128,36 +143,55 @@ fn draw_again_from<W: Sink>(
         numbers.now) }
 {
     if let [number, rest @ ..] = numbers {
-        draw_again_at(sink, separator, has_number, letter_shown(machine, *number));
-        draw_again_from(sink, separator, has_number, machine, rest);
+        draw_again_at(
+            sink,
+            language,
+            separator,
+            has_number,
+            letter_shown(machine, *number),
+        );
+        draw_again_from(sink, language, separator, has_number, machine, rest);
     }
 }
 
-fn draw_again_at<W: Sink>(sink: &mut W, separator: &str, has_number: bool, shown: Option<Letter>)
+fn draw_again_at<W: Sink>(
+    sink: &mut W,
+    language: Language,
+    separator: &str,
+    has_number: bool,
+    shown: Option<Letter>,
+)
     ensures { Draws W.taken W.has_failed sink.old sink.new
         (again_at separator.now has_number shown) }
 {
     match shown {
         None => draw(sink, ""),
-        Some(letter) => draw_separated(sink, separator, has_number, letter),
+        Some(letter) => draw_separated(sink, language, separator, has_number, letter),
     }
 }
 
-fn draw_separated<W: Sink>(sink: &mut W, separator: &str, has_number: bool, letter: Letter)
+fn draw_separated<W: Sink>(
+    sink: &mut W,
+    language: Language,
+    separator: &str,
+    has_number: bool,
+    letter: Letter,
+)
     ensures { Draws W.taken W.has_failed sink.old sink.new
         (separator.now ++ again_text has_number letter) }
 {
     draw(sink, separator);
-    draw_again(sink, has_number, letter);
+    draw_again(sink, language, has_number, letter);
 }
 
 /// Writes a letter, on a rotor machine with its number.
-fn draw_again<W: Sink>(sink: &mut W, has_number: bool, letter: Letter)
+fn draw_again<W: Sink>(sink: &mut W, language: Language, has_number: bool, letter: Letter)
     ensures { Draws W.taken W.has_failed sink.old sink.new (again_text has_number letter) }
 {
     if has_number {
         fill(
             sink,
+            language,
             AGAIN_ROTOR,
             &[Value::Letter(letter), Value::Ordinal(letter)],
         );
@@ -167,14 +201,15 @@ fn draw_again<W: Sink>(sink: &mut W, has_number: bool, letter: Letter)
 }
 
 /// Writes the numbers of settings.
-fn draw_note<W: Sink>(sink: &mut W, model: Model, settings: &[Setting])
+fn draw_note<W: Sink>(sink: &mut W, language: Language, model: Model, settings: &[Setting])
     requires { length settings.now ≤ 192 }
-    ensures { Draws W.taken W.has_failed sink.old sink.new (note_text model settings.now) }
+    ensures { Draws W.taken W.has_failed sink.old sink.new (note_text language model settings.now) }
 {
     let priced = priced_count(settings);
     let all = settings.len() as u16;
-    fill(
+    fill_in(
         sink,
+        language,
         if is_converter(model) {
             NOTE_PIN
         } else {

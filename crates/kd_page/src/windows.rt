@@ -8,19 +8,20 @@ ghost use Rattle.kd_page.specs.Windows.{window_item, window_box, windows_step};
 use crate::boxes::draw_boxes;
 use crate::spots::{Step, count_at};
 use crate::steps::{Heading, draw_full_step};
-use kd_pictures::draw;
 use kd_pictures::numbers::{PIN_WHEELS, SLOTS};
-use kd_pictures::template::{Value, fill};
+use kd_pictures::template::{Value, fill, fill_in};
 use kd_pictures::texts::{
     LETTER_BOX, LETTER_BOX_END, LETTERS, LETTERS_END, LIST_END, WINDOW_BOX, WINDOW_BOX_END, WINDOWS,
 };
 use kd_pictures::words::Word;
+use kd_pictures::{Language, draw, draw_in};
 use kd_state::{Machine, Setting};
 use kd_tables::{Letter, Sink};
 
 /// Writes the step of the windows.
 pub(crate) fn draw_windows_step<W: Sink>(
     sink: &mut W,
+    language: Language,
     heading: Heading,
     before: &Machine,
     after: &Machine,
@@ -28,17 +29,18 @@ pub(crate) fn draw_windows_step<W: Sink>(
 )
     requires { length settings.now ≤ 192 }
     ensures { Draws W.taken W.has_failed sink.old sink.new
-        (windows_step heading before.now after.now settings.now) }
+        (windows_step language heading before.now after.now settings.now) }
 {
     let count = count_at(&Step::Turns.spot(), settings);
-    draw_full_step(sink, heading, Word::Windows, count);
-    draw(sink, WINDOWS);
-    draw_window_boxes(sink, before, after, settings, &SLOTS);
+    draw_full_step(sink, language, heading, Word::Windows, count);
+    draw_in(sink, language, WINDOWS);
+    draw_window_boxes(sink, language, before, after, settings, &SLOTS);
     draw(sink, LIST_END);
 }
 
 fn draw_window_boxes<W: Sink>(
     sink: &mut W,
+    language: Language,
     before: &Machine,
     after: &Machine,
     settings: &[Setting],
@@ -46,54 +48,65 @@ fn draw_window_boxes<W: Sink>(
 )
     ensures { Draws W.taken W.has_failed sink.old sink.new
         (flat_map (λ slot.
-        window_box before.now settings.now slot (letter_in_slot after.now slot))
+        window_box language before.now settings.now slot (letter_in_slot after.now slot))
         slots.now) }
 {
     if let [slot, rest @ ..] = slots {
-        draw_window_box(sink, before, settings, *slot, letter_in_slot(after, *slot));
-        draw_window_boxes(sink, before, after, settings, rest);
+        draw_window_box(
+            sink,
+            language,
+            before,
+            settings,
+            *slot,
+            letter_in_slot(after, *slot),
+        );
+        draw_window_boxes(sink, language, before, after, settings, rest);
     }
 }
 
 fn draw_window_box<W: Sink>(
     sink: &mut W,
+    language: Language,
     before: &Machine,
     settings: &[Setting],
     slot: u8,
     shown: Option<Letter>,
 )
     ensures { Draws W.taken W.has_failed sink.old sink.new
-        (window_box before.now settings.now slot shown) }
+        (window_box language before.now settings.now slot shown) }
 {
     match shown {
         None => draw(sink, ""),
-        Some(letter) => draw_window_item(sink, before, settings, slot, letter),
+        Some(letter) => draw_window_item(sink, language, before, settings, slot, letter),
     }
 }
 
 fn draw_window_item<W: Sink>(
     sink: &mut W,
+    language: Language,
     before: &Machine,
     settings: &[Setting],
     slot: u8,
     letter: Letter,
 )
     ensures { Draws W.taken W.has_failed sink.old sink.new
-        (window_item before.now settings.now slot letter) }
+        (window_item language before.now settings.now slot letter) }
 {
     let number = Value::Number(u16::from(slot));
-    fill(
+    fill_in(
         sink,
+        language,
         WINDOW_BOX,
         &[number, Value::Letter(letter), Value::Ordinal(letter)],
     );
-    draw_boxes(sink, before, &Step::Turns.row(slot), settings);
+    draw_boxes(sink, language, before, &Step::Turns.row(slot), settings);
     draw(sink, WINDOW_BOX_END);
 }
 
 /// Writes the step of the letters of the pin wheels.
 pub(crate) fn draw_letters_step<W: Sink>(
     sink: &mut W,
+    language: Language,
     heading: Heading,
     before: &Machine,
     after: &Machine,
@@ -101,17 +114,18 @@ pub(crate) fn draw_letters_step<W: Sink>(
 )
     requires { length settings.now ≤ 192 }
     ensures { Draws W.taken W.has_failed sink.old sink.new
-        (letters_step heading before.now after.now settings.now) }
+        (letters_step language heading before.now after.now settings.now) }
 {
     let count = count_at(&Step::Turns.spot(), settings);
-    draw_full_step(sink, heading, Word::Letters, count);
-    draw(sink, LETTERS);
-    draw_letter_boxes(sink, before, after, settings, &PIN_WHEELS);
+    draw_full_step(sink, language, heading, Word::Letters, count);
+    draw_in(sink, language, LETTERS);
+    draw_letter_boxes(sink, language, before, after, settings, &PIN_WHEELS);
     draw(sink, LETTERS_END);
 }
 
 fn draw_letter_boxes<W: Sink>(
     sink: &mut W,
+    language: Language,
     before: &Machine,
     after: &Machine,
     settings: &[Setting],
@@ -119,43 +133,52 @@ fn draw_letter_boxes<W: Sink>(
 )
     ensures { Draws W.taken W.has_failed sink.old sink.new
         (flat_map (λ wheel.
-        letter_box before.now settings.now wheel (machine_pin_letter after.now wheel))
+        letter_box language before.now settings.now wheel (machine_pin_letter after.now wheel))
         wheels.now) }
 {
     if let [wheel, rest @ ..] = wheels {
-        draw_letter_box(sink, before, settings, *wheel, after.shown(*wheel));
-        draw_letter_boxes(sink, before, after, settings, rest);
+        draw_letter_box(
+            sink,
+            language,
+            before,
+            settings,
+            *wheel,
+            after.shown(*wheel),
+        );
+        draw_letter_boxes(sink, language, before, after, settings, rest);
     }
 }
 
 fn draw_letter_box<W: Sink>(
     sink: &mut W,
+    language: Language,
     before: &Machine,
     settings: &[Setting],
     wheel: u8,
     shown: Option<Letter>,
 )
     ensures { Draws W.taken W.has_failed sink.old sink.new
-        (letter_box before.now settings.now wheel shown) }
+        (letter_box language before.now settings.now wheel shown) }
 {
     match shown {
         None => draw(sink, ""),
-        Some(letter) => draw_letter_item(sink, before, settings, wheel, letter),
+        Some(letter) => draw_letter_item(sink, language, before, settings, wheel, letter),
     }
 }
 
 fn draw_letter_item<W: Sink>(
     sink: &mut W,
+    language: Language,
     before: &Machine,
     settings: &[Setting],
     wheel: u8,
     letter: Letter,
 )
     ensures { Draws W.taken W.has_failed sink.old sink.new
-        (letter_item before.now settings.now wheel letter) }
+        (letter_item language before.now settings.now wheel letter) }
 {
-    fill(sink, LETTER_BOX, &[Value::Letter(letter)]);
-    draw_boxes(sink, before, &Step::Turns.row(wheel), settings);
+    fill(sink, language, LETTER_BOX, &[Value::Letter(letter)]);
+    draw_boxes(sink, language, before, &Step::Turns.row(wheel), settings);
     draw(sink, LETTER_BOX_END);
 }
 

@@ -24,11 +24,17 @@ use Rattle.kd_state.specs.declared.setting.Setting.{Setting}
 use Rattle.kd_state.specs.declared.setting.Setting.TheVariants as settings
 use Rattle.kd_state.proofs.Lines.{IsNumeralModel-digits}
 use Rattle.kd_pictures.specs.declared.template.Value.TheVariants as values
+use Rattle.kd_pictures.specs.declared.language.Language.{Language}
+use Rattle.kd_pictures.specs.declared.language.Language.TheVariants.{English, German}
+use Rattle.kd_pictures.specs.declared.words.Class.{Class}
+use Rattle.kd_pictures.specs.declared.words.Class.TheVariants.{Plain}
+use Rattle.kd_pictures.specs.declared.words.Mark.{Mark}
+use Rattle.kd_pictures.specs.declared.words.Mark.TheVariants.{LugStays}
 use Rattle.kd_pictures.specs.declared.words.Word.{Word}
 use Rattle.kd_pictures.specs.declared.words.Word.TheVariants.{Rings}
 use Rattle.kd_pictures.specs.Plain.{ValuesArePlain, is_plain}
 use Rattle.kd_pictures.specs.Template.{count_text, letter_text, ordinal_text}
-use Rattle.kd_pictures.specs.Words.{model_name, word_text}
+use Rattle.kd_pictures.specs.Words.{class_text, mark_text, model_name, word_text}
 
 abbrev ArePlain : List ℕ → Type 0
 ArePlain text = list_all is_plain text ≡ true
@@ -65,9 +71,19 @@ plain_model : (model : Model) → ArePlain (model_name model)
 plain_model EnigmaI = refl
 plain_model _ = refl
 
-plain_word : (word : Word) → ArePlain (word_text word)
-plain_word Rings = refl
-plain_word _ = refl
+plain_word : (l : Language) (word : Word) → ArePlain (word_text l word)
+plain_word English Rings = refl
+plain_word English _ = refl
+plain_word German Rings = refl
+plain_word German _ = refl
+
+plain_class : (class : Class) → ArePlain (class_text class)
+plain_class Plain = refl
+plain_class _ = refl
+
+plain_mark : (mark : Mark) → ArePlain (mark_text mark)
+plain_mark LugStays = refl
+plain_mark _ = refl
 
 plain_on_off : (effective : Bool) → ArePlain (on_off_text effective)
 plain_on_off true = refl
@@ -105,17 +121,20 @@ plain_line x small = plain_words (setting_words x) (words_are_plain x small)
 plain_ordinal : (letter : ℕ) → letter < 26 → ArePlain (ordinal_text letter)
 plain_ordinal letter small = grind (arith, common_steps, list_all-append, plain_decimal (letter + 1) (omega arith))
 
-plain_count : (number : ℕ) → number < 2 ^ 64 → ArePlain (count_text number)
-plain_count number small = grind (arith, common_steps, list_all-append, plain_decimal number small)
+plain_count : (l : Language) (number : ℕ) → number < 2 ^ 64 → ArePlain (count_text l number)
+plain_count English number small = grind (arith, common_steps, list_all-append, plain_decimal number small)
+plain_count German number small = grind (arith, common_steps, list_all-append, plain_decimal number small)
 
 pub values_are_plain : ValuesArePlain
-values_are_plain (values.Number number) small = plain_decimal number small
-values_are_plain (values.Letter letter) small = plain_letter letter
-values_are_plain (values.Ordinal letter) small = plain_ordinal letter small
-values_are_plain (values.Wheel wheel) small = plain_wheel wheel
-values_are_plain (values.Reflector reflector) small = plain_reflector reflector
-values_are_plain (values.Place place) small = plain_place place
-values_are_plain (values.Line setting) small = plain_line setting small
-values_are_plain (values.Count number) small = plain_count number small
-values_are_plain (values.Model model) small = plain_model model
-values_are_plain (values.Word word) small = plain_word word
+values_are_plain l (values.Number number) small = plain_decimal number small
+values_are_plain l (values.Letter letter) small = plain_letter letter
+values_are_plain l (values.Ordinal letter) small = plain_ordinal letter small
+values_are_plain l (values.Wheel wheel) small = plain_wheel wheel
+values_are_plain l (values.Reflector reflector) small = plain_reflector reflector
+values_are_plain l (values.Place place) small = plain_place place
+values_are_plain l (values.Line setting) small = plain_line setting small
+values_are_plain l (values.Count number) small = plain_count l number small
+values_are_plain l (values.Model model) small = plain_model model
+values_are_plain l (values.Word word) small = plain_word l word
+values_are_plain l (values.Class class) small = plain_class class
+values_are_plain l (values.Mark mark) small = plain_mark mark

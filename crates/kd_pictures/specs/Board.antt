@@ -1,5 +1,5 @@
 -- The picture of a plugboard: lines of cables, and sockets. It is drawn twice: before, with the plugs to take out, and
--- after, with the plugs to put in.
+-- after, with the plugs to put in. Words are in language `l`.
 use Rattle.std.specs.Prelude.{codes, decimal, ℕ, ◌+◌, ◌-◌, ◌*◌, nat_lt, Bool, false, not, ◌||◌, if◌then◌else◌}
 use Rattle.std.specs.Prelude.{is_some}
 use Rattle.std.specs.Prelude.{List, [], ◌∷◌, ◌++◌, flat_map, Option, Some, None, unwrap_or}
@@ -11,12 +11,16 @@ use Rattle.kd_tables.specs.Pairs.{has_letter}
 use Rattle.kd_pictures.specs.declared.board.Plugs.{Plugs}
 use Rattle.kd_pictures.specs.declared.board.Plugs.TheVariants.{In, Out}
 use Rattle.kd_pictures.specs.declared.numbers.TheConstants.{CABLES}
+use Rattle.kd_pictures.specs.declared.language.Language.{Language}
+use Rattle.kd_pictures.specs.declared.words.Class.{Class}
+use Rattle.kd_pictures.specs.declared.words.Class.TheVariants as classes
 use Rattle.kd_pictures.specs.declared.words.Word.{Word}
-use Rattle.kd_pictures.specs.declared.words.Word.TheVariants.{After, Before, InClass, OutClass, Plain}
+use Rattle.kd_pictures.specs.declared.words.Word.TheVariants.{After, Before}
 use Rattle.kd_pictures.specs.declared.texts.TheConstants as texts
+use Rattle.kd_pictures.specs.Language.{text_in}
 use Rattle.kd_pictures.specs.Sockets.{keyboard, label_y, line_x, socket_x, socket_y}
 use Rattle.kd_pictures.specs.Template.{filled, letter_text}
-use Rattle.kd_pictures.specs.Words.{word_text}
+use Rattle.kd_pictures.specs.Words.{class_text, word_text}
 
 -- the letters at the ends of a cable of the machine
 abbrev pub cable_of : Parts → ℕ → Option ℕ × Option ℕ
@@ -56,8 +60,8 @@ cables_after separator m (number ∷ numbers) =
 abbrev pub has_cables : Parts → List ℕ → Bool
 has_cables m numbers = list_any (is_plugged m) numbers
 
-unfoldable pub all_cables : Parts → List ℕ
-all_cables m = if has_cables m CABLES then cables_after [] m CABLES else texts.NO_CABLES.now
+unfoldable pub all_cables : Language → Parts → List ℕ
+all_cables l m = if has_cables m CABLES then cables_after [] m CABLES else text_in l texts.NO_CABLES
 
 -- ---- The lines of the cables.
 
@@ -70,9 +74,9 @@ abbrev pub bend : ℕ → ℕ → ℕ
 bend y lane = if nat_lt y lane then lane - 5 else lane + 5
 
 -- a line from a socket into its lane; along its lane, and to a socket; open
-abbrev pub left_half : Word → ℕ → ℕ → List ℕ
+abbrev pub left_half : Class → ℕ → ℕ → List ℕ
 left_half class lane letter = filled texts.LEFT_HALF.now (
-    word_text class ∷ decimal (line_x letter) ∷ decimal (socket_y letter) ∷ decimal (bend (socket_y letter) lane)
+    class_text class ∷ decimal (line_x letter) ∷ decimal (socket_y letter) ∷ decimal (bend (socket_y letter) lane)
     ∷ decimal (line_x letter) ∷ decimal lane ∷ decimal (line_x letter + 5) ∷ decimal lane ∷ [])
 
 abbrev pub right_half : ℕ → ℕ → List ℕ
@@ -84,27 +88,27 @@ abbrev pub open_end : ℕ → List ℕ
 open_end letter = filled texts.OPEN_END.now (decimal (line_x letter + 20) ∷ [])
 
 -- the line of a cable from its left end to its right end: down to its lane, along the lane, and up
-abbrev pub line_between : Word → ℕ → ℕ → ℕ → List ℕ
+abbrev pub line_between : Class → ℕ → ℕ → ℕ → List ℕ
 line_between class lane left right = left_half class lane left ++ right_half lane right
 
 -- the line of a cable with one plug: it ends open, in its lane
-abbrev pub open_line : Word → ℕ → ℕ → List ℕ
+abbrev pub open_line : Class → ℕ → ℕ → List ℕ
 open_line class lane letter = left_half class lane letter ++ open_end letter
 
-abbrev pub cable_line : Word → ℕ → Option ℕ × Option ℕ → List ℕ
+abbrev pub cable_line : Class → ℕ → Option ℕ × Option ℕ → List ℕ
 cable_line class lane (Some one, Some other) =
     if nat_lt (line_x one) (line_x other) then line_between class lane one other else line_between class lane other one
 cable_line class lane (Some one, None) = open_line class lane one
 cable_line class lane (None, other) = []
 
-abbrev pub moving_class : Plugs → Word
-moving_class Out = OutClass
-moving_class In = InClass
+abbrev pub moving_class : Plugs → Class
+moving_class Out = classes.Out
+moving_class In = classes.In
 
 -- thick, if a plug of the cable isn't there on machine `n`
-abbrev pub line_class : Plugs → Parts → ℕ → Option ℕ × Option ℕ → Word
+abbrev pub line_class : Plugs → Parts → ℕ → Option ℕ × Option ℕ → Class
 line_class plugs n number cable =
-    if end_moves n number cable.0 || end_moves n number cable.1 then moving_class plugs else Plain
+    if end_moves n number cable.0 || end_moves n number cable.1 then moving_class plugs else classes.Plain
 
 abbrev pub line_text : Plugs → Parts → Parts → ℕ → List ℕ
 line_text plugs m n number =
@@ -153,11 +157,11 @@ abbrev pub picture_name : Plugs → Word
 picture_name Out = Before
 picture_name In = After
 
-unfoldable pub board_head : Plugs → List ℕ
-board_head plugs = filled texts.BOARD.now (word_text (picture_name plugs) ∷ [])
+unfoldable pub board_head : Language → Plugs → List ℕ
+board_head l plugs = filled (text_in l texts.BOARD) (word_text l (picture_name plugs) ∷ [])
 
 -- the plugboard of machine `m`, which marks the plugs that aren't there on machine `n`
-unfoldable pub board_text : Plugs → Parts → Parts → List ℕ
-board_text plugs m n =
-    board_head plugs ++ all_cables m ++ texts.TITLE_END.now
+unfoldable pub board_text : Language → Plugs → Parts → Parts → List ℕ
+board_text l plugs m n =
+    board_head l plugs ++ all_cables l m ++ texts.TITLE_END.now
     ++ flat_map (line_text plugs m n) CABLES ++ flat_map (socket_text plugs m n) keyboard ++ texts.BOARD_END.now

@@ -1,6 +1,8 @@
+pub mod Language
 pub mod Drawing
 pub mod Words
 pub mod Template
+pub mod FileHead
 pub mod Fives
 pub mod Sockets
 pub mod Wheels

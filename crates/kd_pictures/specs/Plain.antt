@@ -2,6 +2,7 @@
 use Rattle.std.specs.Prelude.{ℕ, ◌^◌, ◌<◌, ◌==◌, Bool, not, ◌||◌, IsTrue}
 use Rattle.std.specs.List.{list_all}
 use Rattle.kd_state.specs.Line.{IsSettingInRange}
+use Rattle.kd_pictures.specs.declared.language.Language.{Language}
 use Rattle.kd_pictures.specs.declared.template.Value.{Value}
 use Rattle.kd_pictures.specs.declared.template.Value.TheVariants as values
 use Rattle.kd_pictures.specs.Template.{value_text}
@@ -22,7 +23,10 @@ IsValueInRange (values.Line setting) = IsSettingInRange setting
 IsValueInRange (values.Count number) = number < 2 ^ 64
 IsValueInRange (values.Model model) = Unit {0}
 IsValueInRange (values.Word word) = Unit {0}
+IsValueInRange (values.Class class) = Unit {0}
+IsValueInRange (values.Mark mark) = Unit {0}
 
 -- The values that are filled into templates have no markup. All else on a page is fixed text.
 abbrev pub ValuesArePlain : Type 0
-ValuesArePlain = (value : Value) → IsValueInRange value → IsTrue (list_all is_plain (value_text value))
+ValuesArePlain =
+    (l : Language) (value : Value) → IsValueInRange value → IsTrue (list_all is_plain (value_text l value))

@@ -5,7 +5,9 @@ use Rattle.kd_tables.specs.Text.{letters_text}
 use Rattle.kd_tables.specs.Tables.{wheel_text, reflector_text}
 use Rattle.kd_tables.specs.Places.{place_text}
 use Rattle.kd_state.specs.Line.{setting_line}
-use Rattle.kd_pictures.specs.Words.{model_name, word_text}
+use Rattle.kd_pictures.specs.declared.language.Language.{Language}
+use Rattle.kd_pictures.specs.Language.{text_in}
+use Rattle.kd_pictures.specs.Words.{class_text, mark_text, model_name, word_text}
 use Rattle.kd_pictures.specs.declared.template.Value.{Value}
 use Rattle.kd_pictures.specs.declared.template.Value.TheVariants as values
 use Rattle.kd_pictures.specs.declared.texts.TheConstants.{NO_SETTINGS, ONE_SETTING, SETTINGS}
@@ -18,21 +20,25 @@ abbrev pub ordinal_text : ℕ → List ℕ
 ordinal_text letter = (if nat_lt (letter + 1) 10 then codes "0" else []) ++ decimal (letter + 1)
 
 -- how many settings there are
-abbrev pub count_text : ℕ → List ℕ
-count_text number =
-    if number == 0 then NO_SETTINGS.now else if number == 1 then ONE_SETTING.now else decimal number ++ SETTINGS.now
+abbrev pub count_text : Language → ℕ → List ℕ
+count_text l number =
+    if number == 0 then text_in l NO_SETTINGS else if number == 1 then text_in l ONE_SETTING
+    else decimal number ++ text_in l SETTINGS
 
-abbrev pub value_text : Value → List ℕ
-value_text (values.Number number) = decimal number
-value_text (values.Letter letter) = letter_text letter
-value_text (values.Ordinal letter) = ordinal_text letter
-value_text (values.Wheel wheel) = wheel_text wheel
-value_text (values.Reflector reflector) = reflector_text reflector
-value_text (values.Place place) = place_text place
-value_text (values.Line setting) = setting_line setting
-value_text (values.Count number) = count_text number
-value_text (values.Model model) = model_name model
-value_text (values.Word word) = word_text word
+-- a value; words are in language `l`
+abbrev pub value_text : Language → Value → List ℕ
+value_text l (values.Number number) = decimal number
+value_text l (values.Letter letter) = letter_text letter
+value_text l (values.Ordinal letter) = ordinal_text letter
+value_text l (values.Wheel wheel) = wheel_text wheel
+value_text l (values.Reflector reflector) = reflector_text reflector
+value_text l (values.Place place) = place_text place
+value_text l (values.Line setting) = setting_line setting
+value_text l (values.Count number) = count_text l number
+value_text l (values.Model model) = model_name model
+value_text l (values.Word word) = word_text l word
+value_text l (values.Class class) = class_text class
+value_text l (values.Mark mark) = mark_text mark
 
 -- whether the byte is the sign `~`, which stands for a value
 abbrev pub is_gap : ℕ → Bool

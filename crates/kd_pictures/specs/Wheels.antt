@@ -1,4 +1,5 @@
--- The picture of a rotor machine's wheels: a band for the machine before, and a band for the machine after.
+-- The picture of a rotor machine's wheels: a band for the machine before, and a band for the machine after. Words are
+-- in language `l`.
 use Rattle.std.specs.Prelude.{decimal, ℕ, ◌+◌, ◌*◌, nat_eq, Bool, false, if◌then◌else◌, List, [], ◌∷◌, ◌++◌, flat_map}
 use Rattle.std.specs.Prelude.{Option, Some, None}
 use Rattle.std.specs.Option.{option_map_or}
@@ -9,9 +10,11 @@ use Rattle.kd_state.specs.declared.machine.parts.Parts.{Parts}
 use Rattle.kd_state.specs.Machine.{machine_letter, machine_reflector, machine_ring, machine_slot}
 use Rattle.kd_state.specs.SameParts.{same_reflector, same_wheel}
 use Rattle.kd_pictures.specs.declared.numbers.TheConstants.{SLOTS}
+use Rattle.kd_pictures.specs.declared.language.Language.{Language}
 use Rattle.kd_pictures.specs.declared.words.Word.{Word}
 use Rattle.kd_pictures.specs.declared.words.Word.TheVariants.{After, Before}
 use Rattle.kd_pictures.specs.declared.texts.TheConstants as texts
+use Rattle.kd_pictures.specs.Language.{text_in}
 use Rattle.kd_pictures.specs.Template.{filled, letter_text, ordinal_text}
 use Rattle.kd_pictures.specs.Words.{word_text}
 
@@ -22,9 +25,9 @@ is_seated m slot wheel =
 
 -- ---- The machine in words, for the picture's title.
 
-abbrev pub reflector_words : Option Reflector → List ℕ
-reflector_words None = []
-reflector_words (Some reflector) = filled texts.REFLECTOR_WORDS.now (reflector_text reflector ∷ [])
+abbrev pub reflector_words : Language → Option Reflector → List ℕ
+reflector_words l None = []
+reflector_words l (Some reflector) = filled (text_in l texts.REFLECTOR_WORDS) (reflector_text reflector ∷ [])
 
 -- a letter after the words in this template
 abbrev pub letter_words : List ℕ → Option ℕ → List ℕ
@@ -32,21 +35,21 @@ letter_words template None = []
 letter_words template (Some letter) = filled template (letter_text letter ∷ [])
 
 -- a wheel in its slot, its ring and its window letter
-abbrev pub wheel_words : Parts → ℕ → Wheel → List ℕ
-wheel_words m slot wheel =
-    filled texts.WHEEL_WORDS.now (decimal slot ∷ wheel_text wheel ∷ [])
-    ++ letter_words texts.RING_WORDS.now (machine_ring m wheel)
-    ++ letter_words texts.WINDOW_WORDS.now (machine_letter m wheel)
+abbrev pub wheel_words : Language → Parts → ℕ → Wheel → List ℕ
+wheel_words l m slot wheel =
+    filled (text_in l texts.WHEEL_WORDS) (decimal slot ∷ wheel_text wheel ∷ [])
+    ++ letter_words (text_in l texts.RING_WORDS) (machine_ring m wheel)
+    ++ letter_words (text_in l texts.WINDOW_WORDS) (machine_letter m wheel)
 
 -- what a slot holds: nothing, or a wheel with its ring and its window letter
-abbrev pub slot_words : Parts → ℕ → Option (Option Wheel) → List ℕ
-slot_words m slot None = []
-slot_words m slot (Some None) = filled texts.EMPTY_WORDS.now (decimal slot ∷ [])
-slot_words m slot (Some (Some wheel)) = wheel_words m slot wheel
+abbrev pub slot_words : Language → Parts → ℕ → Option (Option Wheel) → List ℕ
+slot_words l m slot None = []
+slot_words l m slot (Some None) = filled (text_in l texts.EMPTY_WORDS) (decimal slot ∷ [])
+slot_words l m slot (Some (Some wheel)) = wheel_words l m slot wheel
 
-unfoldable pub machine_words : Parts → List ℕ
-machine_words m =
-    reflector_words (machine_reflector m) ++ flat_map (λ slot. slot_words m slot (machine_slot m slot)) SLOTS
+unfoldable pub machine_words : Language → Parts → List ℕ
+machine_words l m =
+    reflector_words l (machine_reflector m) ++ flat_map (λ slot. slot_words l m slot (machine_slot m slot)) SLOTS
 
 -- ---- A band at height `y`. What differs from the other machine is marked.
 
@@ -63,9 +66,9 @@ abbrev pub slot_x : ℕ → ℕ
 slot_x slot = 80 + 104 * slot
 
 -- a wheel; it is marked unless it is in this slot on the other machine
-abbrev pub wheel_shown : ℕ → ℕ → ℕ → Bool → Wheel → List ℕ
-wheel_shown x y slot is_old wheel =
-    filled (if is_old then texts.WHEEL.now else texts.NEW_WHEEL.now) (
+abbrev pub wheel_shown : Language → ℕ → ℕ → ℕ → Bool → Wheel → List ℕ
+wheel_shown l x y slot is_old wheel =
+    filled (if is_old then text_in l texts.WHEEL else text_in l texts.NEW_WHEEL) (
     decimal (x + 48) ∷ decimal (y + 16) ∷ decimal slot ∷ decimal x ∷ decimal (y + 24)
     ∷ decimal (x + 48) ∷ decimal (y + 54) ∷ wheel_text wheel ∷ [])
 
@@ -87,40 +90,40 @@ window_shown x y (Some letter) other =
     decimal (x + 10) ∷ decimal (y + 99) ∷ decimal (x + 30) ∷ decimal (y + 128) ∷ letter_text letter
     ∷ decimal (x + 70) ∷ decimal (y + 126) ∷ ordinal_text letter ∷ [])
 
-abbrev pub empty_shown : ℕ → ℕ → ℕ → List ℕ
-empty_shown x y slot = filled texts.EMPTY.now (
+abbrev pub empty_shown : Language → ℕ → ℕ → ℕ → List ℕ
+empty_shown l x y slot = filled (text_in l texts.EMPTY) (
     decimal (x + 48) ∷ decimal (y + 16) ∷ decimal slot ∷ decimal x ∷ decimal (y + 24)
     ∷ decimal (x + 48) ∷ decimal (y + 54) ∷ [])
 
 -- a wheel in its slot, its ring and its window
-abbrev pub seated_shown : ℕ → ℕ → Parts → Parts → ℕ → Wheel → List ℕ
-seated_shown x y m n slot wheel =
-    wheel_shown x y slot (is_seated n slot wheel) wheel
+abbrev pub seated_shown : Language → ℕ → ℕ → Parts → Parts → ℕ → Wheel → List ℕ
+seated_shown l x y m n slot wheel =
+    wheel_shown l x y slot (is_seated n slot wheel) wheel
     ++ ring_shown x y (machine_ring m wheel) (machine_ring n wheel)
     ++ window_shown x y (machine_letter m wheel) (machine_letter n wheel)
 
-abbrev pub slot_shown : ℕ → ℕ → Parts → Parts → ℕ → Option (Option Wheel) → List ℕ
-slot_shown x y m n slot None = []
-slot_shown x y m n slot (Some None) = empty_shown x y slot
-slot_shown x y m n slot (Some (Some wheel)) = seated_shown x y m n slot wheel
+abbrev pub slot_shown : Language → ℕ → ℕ → Parts → Parts → ℕ → Option (Option Wheel) → List ℕ
+slot_shown l x y m n slot None = []
+slot_shown l x y m n slot (Some None) = empty_shown l x y slot
+slot_shown l x y m n slot (Some (Some wheel)) = seated_shown l x y m n slot wheel
 
-unfoldable pub band_head : ℕ → Word → List ℕ
-band_head y name = filled texts.BAND.now (
-    decimal (y + 16) ∷ word_text name ∷ decimal (y + 54) ∷ decimal (y + 84) ∷ decimal (y + 125) ∷ decimal (y + 16) ∷ [])
+unfoldable pub band_head : Language → ℕ → Word → List ℕ
+band_head l y name = filled (text_in l texts.BAND) (
+    decimal (y + 16) ∷ word_text l name ∷ decimal (y + 54) ∷ decimal (y + 84) ∷ decimal (y + 125) ∷ decimal (y + 16) ∷ [])
 
 -- the band of machine `m`, which marks what differs in machine `n`
-unfoldable pub band_text : ℕ → Word → Parts → Parts → List ℕ
-band_text y name m n =
-    band_head y name ++ reflector_shown y (machine_reflector m) (machine_reflector n)
-    ++ flat_map (λ slot. slot_shown (slot_x slot) y m n slot (machine_slot m slot)) SLOTS
+unfoldable pub band_text : Language → ℕ → Word → Parts → Parts → List ℕ
+band_text l y name m n =
+    band_head l y name ++ reflector_shown y (machine_reflector m) (machine_reflector n)
+    ++ flat_map (λ slot. slot_shown l (slot_x slot) y m n slot (machine_slot m slot)) SLOTS
 
 -- ---- The picture: the machine before, without marks, and the machine after; or the machine after alone.
 
-unfoldable pub both_bands : Parts → Parts → List ℕ
-both_bands m n =
-    texts.WHEELS.now ++ machine_words m ++ texts.WHEELS_THEN.now ++ machine_words n ++ texts.TITLE_END.now
-    ++ band_text 0 Before m m ++ band_text 164 After n m ++ texts.WHEELS_END.now
+unfoldable pub both_bands : Language → Parts → Parts → List ℕ
+both_bands l m n =
+    text_in l texts.WHEELS ++ machine_words l m ++ text_in l texts.WHEELS_THEN ++ machine_words l n
+    ++ texts.TITLE_END.now ++ band_text l 0 Before m m ++ band_text l 164 After n m ++ texts.WHEELS_END.now
 
-unfoldable pub one_band : Parts → List ℕ
-one_band n =
-    texts.WHEELS_ONCE.now ++ machine_words n ++ texts.TITLE_END.now ++ band_text 0 After n n ++ texts.WHEELS_END.now
+unfoldable pub one_band : Language → Parts → List ℕ
+one_band l n =
+    text_in l texts.WHEELS_ONCE ++ machine_words l n ++ texts.TITLE_END.now ++ band_text l 0 After n n ++ texts.WHEELS_END.now

@@ -1,10 +1,16 @@
--- Words that are filled into templates: names of models, titles of steps, names of slots, classes.
-use Rattle.std.specs.Prelude.{ℕ, Bool, true, false, List}
+-- Words and marks that are filled into templates: names of models, titles of steps, names of slots, classes.
+use Rattle.std.specs.Prelude.{ℕ, Bool, true, false, List, [], ◌∷◌}
 use Rattle.kd_tables.specs.declared.model.Model.{Model}
 use Rattle.kd_tables.specs.declared.model.Model.TheVariants.{EnigmaI, M3, M4, M209}
+use Rattle.kd_pictures.specs.declared.language.Language.{Language}
+use Rattle.kd_pictures.specs.declared.words.Class.{Class}
+use Rattle.kd_pictures.specs.declared.words.Class.TheVariants as classes
+use Rattle.kd_pictures.specs.declared.words.Mark.{Mark}
+use Rattle.kd_pictures.specs.declared.words.Mark.TheVariants.{Effective, Ineffective, LugComes, LugLeaves, LugStays}
 use Rattle.kd_pictures.specs.declared.words.Word.{Word}
 use Rattle.kd_pictures.specs.declared.words.Word.TheVariants as words
 use Rattle.kd_pictures.specs.declared.texts.TheConstants as texts
+use Rattle.kd_pictures.specs.Language.{text_in}
 
 -- the model's name in words
 abbrev pub model_name : Model → List ℕ
@@ -19,24 +25,40 @@ is_converter M3 = false
 is_converter M4 = false
 is_converter M209 = true
 
-abbrev pub word_text : Word → List ℕ
-word_text words.Rings = texts.RINGS.now
-word_text words.RingsOut = texts.RINGS_OUT.now
-word_text words.Seats = texts.SEATS.now
-word_text words.PlugsOut = texts.OUT_STEP.now
-word_text words.PlugsIn = texts.IN_STEP.now
-word_text words.Windows = texts.WINDOW_STEP.now
-word_text words.LampTest = texts.LAMP_STEP.now
-word_text words.Pins = texts.PIN_STEP.now
-word_text words.Lugs = texts.LUG_STEP.now
-word_text words.Letters = texts.LETTER_STEP.now
-word_text words.PrintTest = texts.PRINT_STEP.now
-word_text words.Greek = texts.GREEK.now
-word_text words.Left = texts.LEFT.now
-word_text words.Middle = texts.MIDDLE.now
-word_text words.Right = texts.RIGHT.now
-word_text words.Before = texts.BEFORE.now
-word_text words.After = texts.AFTER.now
-word_text words.OutClass = texts.OUT_CLASS.now
-word_text words.InClass = texts.IN_CLASS.now
-word_text words.Plain = texts.PLAIN.now
+-- A word in language `l`.
+abbrev pub word_text : Language → Word → List ℕ
+word_text l words.Language = text_in l texts.LANGUAGE
+word_text l words.Rings = text_in l texts.RINGS
+word_text l words.RingsOut = text_in l texts.RINGS_OUT
+word_text l words.Seats = text_in l texts.SEATS
+word_text l words.PlugsOut = text_in l texts.OUT_STEP
+word_text l words.PlugsIn = text_in l texts.IN_STEP
+word_text l words.Windows = text_in l texts.WINDOW_STEP
+word_text l words.LampTest = text_in l texts.LAMP_STEP
+word_text l words.Pins = text_in l texts.PIN_STEP
+word_text l words.Lugs = text_in l texts.LUG_STEP
+word_text l words.Letters = text_in l texts.LETTER_STEP
+word_text l words.PrintTest = text_in l texts.PRINT_STEP
+word_text l words.Greek = text_in l texts.GREEK
+word_text l words.Left = text_in l texts.LEFT
+word_text l words.Middle = text_in l texts.MIDDLE
+word_text l words.Right = text_in l texts.RIGHT
+word_text l words.Before = text_in l texts.BEFORE
+word_text l words.After = text_in l texts.AFTER
+word_text l words.On = text_in l texts.ON
+word_text l words.Off = text_in l texts.OFF
+word_text l words.LeftLug = text_in l texts.LEFT_LUG
+word_text l words.RightLug = text_in l texts.RIGHT_LUG
+
+abbrev pub class_text : Class → List ℕ
+class_text classes.Plain = texts.PLAIN.now
+class_text classes.Out = texts.OUT_CLASS.now
+class_text classes.In = texts.IN_CLASS.now
+
+-- the signs ● ○ for pins, and ▪ × ■ for lugs, in UTF-8
+abbrev pub mark_text : Mark → List ℕ
+mark_text Effective = 226 ∷ 151 ∷ 143 ∷ []
+mark_text Ineffective = 226 ∷ 151 ∷ 139 ∷ []
+mark_text LugStays = 226 ∷ 150 ∷ 170 ∷ []
+mark_text LugLeaves = 195 ∷ 151 ∷ []
+mark_text LugComes = 226 ∷ 150 ∷ 160 ∷ []

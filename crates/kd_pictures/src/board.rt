@@ -9,15 +9,16 @@ ghost use Rattle.kd_pictures.specs.Board.{right_half, end_moves, free_socket, ha
 ghost use Rattle.kd_pictures.specs.Board.{line_between, line_class, line_text, moving_class, moving_plug, open_line};
 ghost use Rattle.kd_pictures.specs.Board.{picture_name, round_plug, socket_holding, socket_text};
 
-use crate::drawing::draw;
+use crate::drawing::{draw, draw_in};
+use crate::language::Language;
 use crate::numbers::CABLES;
 use crate::sockets::{KEYBOARD, label_y, line_x, socket_x, socket_y};
-use crate::template::{Value, fill};
+use crate::template::{Value, fill, fill_in};
 use crate::texts::{
     BOARD, BOARD_END, CABLE_WORDS, FREE, GOES_IN, GOES_OUT, LEFT_HALF, LOOSE_WORDS, NO_CABLES,
     OPEN_END, RIGHT_HALF, STAYS, TITLE_END,
 };
-use crate::words::Word;
+use crate::words::{Class, Word};
 use kd_state::{Cable, Machine, lies_in};
 use kd_tables::{Letter, Sink};
 
@@ -29,23 +30,29 @@ pub enum Plugs {
 }
 
 /// Writes the plugboard of `machine`, with the plugs marked that aren't there on `other`.
-pub fn draw_board<W: Sink>(sink: &mut W, plugs: Plugs, machine: &Machine, other: &Machine)
+pub fn draw_board<W: Sink>(
+    sink: &mut W,
+    language: Language,
+    plugs: Plugs,
+    machine: &Machine,
+    other: &Machine,
+)
     ensures { Draws W.taken W.has_failed sink.old sink.new
-        (board_text plugs machine.now other.now) }
+        (board_text language plugs machine.now other.now) }
 {
-    draw_board_head(sink, plugs);
-    draw_all_cables(sink, machine);
+    draw_board_head(sink, language, plugs);
+    draw_all_cables(sink, language, machine);
     draw(sink, TITLE_END);
-    draw_lines(sink, plugs, machine, other, &CABLES);
-    draw_sockets(sink, plugs, machine, other, &KEYBOARD);
+    draw_lines(sink, language, plugs, machine, other, &CABLES);
+    draw_sockets(sink, language, plugs, machine, other, &KEYBOARD);
     draw(sink, BOARD_END);
 }
 
 #[tactic(auto, unfolding(crate::specs::Board::board_head))]
-fn draw_board_head<W: Sink>(sink: &mut W, plugs: Plugs)
-    ensures { Draws W.taken W.has_failed sink.old sink.new (board_head plugs) }
+fn draw_board_head<W: Sink>(sink: &mut W, language: Language, plugs: Plugs)
+    ensures { Draws W.taken W.has_failed sink.old sink.new (board_head language plugs) }
 {
-    fill(sink, BOARD, &[Value::Word(picture_name(plugs))]);
+    fill_in(sink, language, BOARD, &[Value::Word(picture_name(plugs))]);
 }
 
 fn picture_name(plugs: Plugs) -> Word
@@ -59,13 +66,13 @@ fn picture_name(plugs: Plugs) -> Word
 
 /// Writes the cables in words.
 #[tactic(auto, unfolding(crate::specs::Board::all_cables))]
-fn draw_all_cables<W: Sink>(sink: &mut W, machine: &Machine)
-    ensures { Draws W.taken W.has_failed sink.old sink.new (all_cables machine.now) }
+fn draw_all_cables<W: Sink>(sink: &mut W, language: Language, machine: &Machine)
+    ensures { Draws W.taken W.has_failed sink.old sink.new (all_cables language machine.now) }
 {
     if has_cables(machine, &CABLES) {
-        draw_cables_after(sink, "", machine, &CABLES);
+        draw_cables_after(sink, language, "", machine, &CABLES);
     } else {
-        draw(sink, NO_CABLES);
+        draw_in(sink, language, NO_CABLES);
     }
 }
 
@@ -89,40 +96,53 @@ fn is_plugged(machine: &Machine, number: u8) -> bool
 }
 
 /// Writes the cables that have letters, in words: the first after `separator`, the others after a comma.
-fn draw_cables_after<W: Sink>(sink: &mut W, separator: &str, machine: &Machine, numbers: &[u8])
+fn draw_cables_after<W: Sink>(
+    sink: &mut W,
+    language: Language,
+    separator: &str,
+    machine: &Machine,
+    numbers: &[u8],
+)
     ensures { Draws W.taken W.has_failed sink.old sink.new
         (cables_after separator.now machine.now numbers.now) }
 {
     match numbers {
         [number, rest @ ..] if is_plugged(machine, *number) => {
-            draw_cable_after(sink, separator, machine, *number);
-            draw_cables_after(sink, ", ", machine, rest);
+            draw_cable_after(sink, language, separator, machine, *number);
+            draw_cables_after(sink, language, ", ", machine, rest);
         }
-        [_, rest @ ..] => draw_cables_after(sink, separator, machine, rest),
+        [_, rest @ ..] => draw_cables_after(sink, language, separator, machine, rest),
         [] => draw(sink, ""),
     }
 }
 
 /// Writes a cable that has letters, in words, after `separator`.
-fn draw_cable_after<W: Sink>(sink: &mut W, separator: &str, machine: &Machine, number: u8)
+fn draw_cable_after<W: Sink>(
+    sink: &mut W,
+    language: Language,
+    separator: &str,
+    machine: &Machine,
+    number: u8,
+)
     ensures { Draws W.taken W.has_failed sink.old sink.new
         (cable_after separator.now machine.now number) }
 {
     draw(sink, separator);
-    draw_cable_words(sink, number, cable_of(machine, number));
+    draw_cable_words(sink, language, number, cable_of(machine, number));
 }
 
-fn draw_cable_words<W: Sink>(sink: &mut W, number: u8, cable: Cable)
+fn draw_cable_words<W: Sink>(sink: &mut W, language: Language, number: u8, cable: Cable)
     ensures { Draws W.taken W.has_failed sink.old sink.new (cable_words number cable) }
 {
     let number = Value::Number(u16::from(number));
     match cable {
         (Some(one), Some(other)) => fill(
             sink,
+            language,
             CABLE_WORDS,
             &[number, Value::Letter(one), Value::Letter(other)],
         ),
-        (Some(one), None) => fill(sink, LOOSE_WORDS, &[number, Value::Letter(one)]),
+        (Some(one), None) => fill(sink, language, LOOSE_WORDS, &[number, Value::Letter(one)]),
         (None, _) => draw(sink, ""),
     }
 }
@@ -143,6 +163,7 @@ fn has_plug(machine: &Machine, number: u8, letter: Letter) -> bool
 /// Writes the lines of the cables.
 fn draw_lines<W: Sink>(
     sink: &mut W,
+    language: Language,
     plugs: Plugs,
     machine: &Machine,
     other: &Machine,
@@ -152,28 +173,35 @@ fn draw_lines<W: Sink>(
         (flat_map (line_text plugs machine.now other.now) numbers.now) }
 {
     if let [number, rest @ ..] = numbers {
-        draw_line(sink, plugs, machine, other, *number);
-        draw_lines(sink, plugs, machine, other, rest);
+        draw_line(sink, language, plugs, machine, other, *number);
+        draw_lines(sink, language, plugs, machine, other, rest);
     }
 }
 
-fn draw_line<W: Sink>(sink: &mut W, plugs: Plugs, machine: &Machine, other: &Machine, number: u8)
+fn draw_line<W: Sink>(
+    sink: &mut W,
+    language: Language,
+    plugs: Plugs,
+    machine: &Machine,
+    other: &Machine,
+    number: u8,
+)
     ensures { Draws W.taken W.has_failed sink.old sink.new
         (line_text plugs machine.now other.now number) }
 {
     let class = line_class(plugs, other, number, cable_of(machine, number));
     let lane = 139 + 9 * u16::from(number);
-    draw_cable_line(sink, class, lane, cable_of(machine, number));
+    draw_cable_line(sink, language, class, lane, cable_of(machine, number));
 }
 
 /// The class of a cable's line: thick, if one of its plugs isn't there on `other`.
-fn line_class(plugs: Plugs, other: &Machine, number: u8, cable: Cable) -> Word
+fn line_class(plugs: Plugs, other: &Machine, number: u8, cable: Cable) -> Class
     ensures { result ≡ line_class plugs other.now number cable }
 {
     if end_moves(other, number, cable.0) || end_moves(other, number, cable.1) {
         moving_class(plugs)
     } else {
-        Word::Plain
+        Class::Plain
     }
 }
 
@@ -186,61 +214,75 @@ fn end_moves(other: &Machine, number: u8, end: Option<Letter>) -> bool
     }
 }
 
-fn moving_class(plugs: Plugs) -> Word
+fn moving_class(plugs: Plugs) -> Class
     ensures { result ≡ moving_class plugs }
 {
     match plugs {
-        Plugs::Out => Word::OutClass,
-        Plugs::In => Word::InClass,
+        Plugs::Out => Class::Out,
+        Plugs::In => Class::In,
     }
 }
 
-fn draw_cable_line<W: Sink>(sink: &mut W, class: Word, lane: u16, cable: Cable)
+fn draw_cable_line<W: Sink>(sink: &mut W, language: Language, class: Class, lane: u16, cable: Cable)
     requires low { 100 ≤ lane }
     requires high { lane < 10000 }
     ensures { Draws W.taken W.has_failed sink.old sink.new (cable_line class lane cable) }
 {
     match cable {
         (Some(one), Some(other)) if line_x(one) < line_x(other) => {
-            draw_between(sink, class, lane, one, other)
+            draw_between(sink, language, class, lane, one, other)
         }
-        (Some(one), Some(other)) => draw_between(sink, class, lane, other, one),
-        (Some(one), None) => draw_open(sink, class, lane, one),
+        (Some(one), Some(other)) => draw_between(sink, language, class, lane, other, one),
+        (Some(one), None) => draw_open(sink, language, class, lane, one),
         (None, _) => draw(sink, ""),
     }
 }
 
 /// Writes the line of a cable from its left end to its right end.
-fn draw_between<W: Sink>(sink: &mut W, class: Word, lane: u16, left: Letter, right: Letter)
+fn draw_between<W: Sink>(
+    sink: &mut W,
+    language: Language,
+    class: Class,
+    lane: u16,
+    left: Letter,
+    right: Letter,
+)
     requires low { 100 ≤ lane }
     requires high { lane < 10000 }
     ensures { Draws W.taken W.has_failed sink.old sink.new (line_between class lane left right) }
 {
-    draw_left_half(sink, class, lane, left);
-    draw_right_half(sink, lane, right);
+    draw_left_half(sink, language, class, lane, left);
+    draw_right_half(sink, language, lane, right);
 }
 
 /// Writes the line of a cable with one plug.
-fn draw_open<W: Sink>(sink: &mut W, class: Word, lane: u16, letter: Letter)
+fn draw_open<W: Sink>(sink: &mut W, language: Language, class: Class, lane: u16, letter: Letter)
     requires low { 100 ≤ lane }
     requires high { lane < 10000 }
     ensures { Draws W.taken W.has_failed sink.old sink.new (open_line class lane letter) }
 {
-    draw_left_half(sink, class, lane, letter);
-    draw_open_end(sink, letter);
+    draw_left_half(sink, language, class, lane, letter);
+    draw_open_end(sink, language, letter);
 }
 
 /// Writes a line from a socket into its lane.
-fn draw_left_half<W: Sink>(sink: &mut W, class: Word, lane: u16, letter: Letter)
+fn draw_left_half<W: Sink>(
+    sink: &mut W,
+    language: Language,
+    class: Class,
+    lane: u16,
+    letter: Letter,
+)
     requires low { 100 ≤ lane }
     requires high { lane < 10000 }
     ensures { Draws W.taken W.has_failed sink.old sink.new (left_half class lane letter) }
 {
     fill(
         sink,
+        language,
         LEFT_HALF,
         &[
-            Value::Word(class),
+            Value::Class(class),
             Value::Number(line_x(letter)),
             Value::Number(socket_y(letter)),
             Value::Number(bend(socket_y(letter), lane)),
@@ -253,13 +295,14 @@ fn draw_left_half<W: Sink>(sink: &mut W, class: Word, lane: u16, letter: Letter)
 }
 
 /// Writes a line along its lane, and to a socket.
-fn draw_right_half<W: Sink>(sink: &mut W, lane: u16, letter: Letter)
+fn draw_right_half<W: Sink>(sink: &mut W, language: Language, lane: u16, letter: Letter)
     requires low { 100 ≤ lane }
     requires high { lane < 10000 }
     ensures { Draws W.taken W.has_failed sink.old sink.new (right_half lane letter) }
 {
     fill(
         sink,
+        language,
         RIGHT_HALF,
         &[
             Value::Number(line_x(letter) - 5),
@@ -272,10 +315,15 @@ fn draw_right_half<W: Sink>(sink: &mut W, lane: u16, letter: Letter)
     );
 }
 
-fn draw_open_end<W: Sink>(sink: &mut W, letter: Letter)
+fn draw_open_end<W: Sink>(sink: &mut W, language: Language, letter: Letter)
     ensures { Draws W.taken W.has_failed sink.old sink.new (open_end letter) }
 {
-    fill(sink, OPEN_END, &[Value::Number(line_x(letter) + 20)]);
+    fill(
+        sink,
+        language,
+        OPEN_END,
+        &[Value::Number(line_x(letter) + 20)],
+    );
 }
 
 /// Where a line from a socket at height `y` begins to turn into its lane.
@@ -290,6 +338,7 @@ fn bend(y: u16, lane: u16) -> u16
 /// Writes the sockets of the letters with these places in the alphabet.
 fn draw_sockets<W: Sink>(
     sink: &mut W,
+    language: Language,
     plugs: Plugs,
     machine: &Machine,
     other: &Machine,
@@ -300,13 +349,14 @@ fn draw_sockets<W: Sink>(
         (flat_map (socket_text plugs machine.now other.now) letters.now) }
 {
     if let [letter, rest @ ..] = letters {
-        draw_socket(sink, plugs, machine, other, Letter::at(*letter));
-        draw_sockets(sink, plugs, machine, other, rest);
+        draw_socket(sink, language, plugs, machine, other, Letter::at(*letter));
+        draw_sockets(sink, language, plugs, machine, other, rest);
     }
 }
 
 fn draw_socket<W: Sink>(
     sink: &mut W,
+    language: Language,
     plugs: Plugs,
     machine: &Machine,
     other: &Machine,
@@ -316,11 +366,11 @@ fn draw_socket<W: Sink>(
         (socket_text plugs machine.now other.now letter) }
 {
     match cable_holding(machine, letter, &CABLES) {
-        None => draw_free(sink, letter),
+        None => draw_free(sink, language, letter),
         Some(number) if has_plug(other, number, letter) => {
-            draw_round(sink, STAYS, letter, number)
+            draw_round(sink, language, STAYS, letter, number)
         },
-        Some(number) => draw_moving(sink, plugs, letter, number),
+        Some(number) => draw_moving(sink, language, plugs, letter, number),
     }
 }
 
@@ -335,11 +385,12 @@ fn cable_holding(machine: &Machine, letter: Letter, numbers: &[u8]) -> Option<u8
     }
 }
 
-fn draw_free<W: Sink>(sink: &mut W, letter: Letter)
+fn draw_free<W: Sink>(sink: &mut W, language: Language, letter: Letter)
     ensures { Draws W.taken W.has_failed sink.old sink.new (free_socket letter) }
 {
     fill(
         sink,
+        language,
         FREE,
         &[
             Value::Number(socket_x(letter)),
@@ -352,20 +403,21 @@ fn draw_free<W: Sink>(sink: &mut W, letter: Letter)
 }
 
 /// Writes a plug that moves: to take out, a square; to put in, a disc.
-fn draw_moving<W: Sink>(sink: &mut W, plugs: Plugs, letter: Letter, number: u8)
+fn draw_moving<W: Sink>(sink: &mut W, language: Language, plugs: Plugs, letter: Letter, number: u8)
     ensures { Draws W.taken W.has_failed sink.old sink.new (moving_plug plugs letter number) }
 {
     match plugs {
-        Plugs::Out => draw_square(sink, letter, number),
-        Plugs::In => draw_round(sink, GOES_IN, letter, number),
+        Plugs::Out => draw_square(sink, language, letter, number),
+        Plugs::In => draw_round(sink, language, GOES_IN, letter, number),
     }
 }
 
-fn draw_square<W: Sink>(sink: &mut W, letter: Letter, number: u8)
+fn draw_square<W: Sink>(sink: &mut W, language: Language, letter: Letter, number: u8)
     ensures { Draws W.taken W.has_failed sink.old sink.new (moving_plug Plugs.Out letter number) }
 {
     fill(
         sink,
+        language,
         GOES_OUT,
         &[
             Value::Number(socket_x(letter)),
@@ -381,12 +433,13 @@ fn draw_square<W: Sink>(sink: &mut W, letter: Letter, number: u8)
 }
 
 /// Writes a plug with a circle round the cable's number.
-fn draw_round<W: Sink>(sink: &mut W, template: &str, letter: Letter, number: u8)
+fn draw_round<W: Sink>(sink: &mut W, language: Language, template: &str, letter: Letter, number: u8)
     ensures { Draws W.taken W.has_failed sink.old sink.new
         (round_plug template.now letter number) }
 {
     fill(
         sink,
+        language,
         template,
         &[
             Value::Number(socket_x(letter)),

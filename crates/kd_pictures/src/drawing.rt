@@ -1,6 +1,9 @@
 //! Writes text to a sink that may have failed.
 ghost use Rattle.kd_pictures.specs.Drawing.{Draws};
+ghost use Rattle.kd_pictures.specs.Language.{in_language};
 
+use crate::language::Language;
+use crate::texts::Text;
 use kd_tables::{Sink, put_all};
 
 /// Writes `text`, unless the sink has failed.
@@ -11,4 +14,12 @@ pub fn draw<W: Sink>(sink: &mut W, text: &str)
     if !sink.failed() {
         let _ = put_all(sink, text.as_bytes());
     }
+}
+
+/// Writes `text` in this language, unless the sink has failed.
+pub fn draw_in<W: Sink>(sink: &mut W, language: Language, text: Text)
+    ensures { Draws W.taken W.has_failed sink.old sink.new
+        (in_language language text.entry.0.now text.entry.1.now) }
+{
+    draw(sink, language.text(text));
 }

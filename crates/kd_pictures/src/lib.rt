@@ -3,7 +3,9 @@
 
 pub mod board;
 mod drawing;
+pub mod file_head;
 pub mod fives;
+pub mod language;
 pub mod laws;
 pub mod numbers;
 mod sockets;
@@ -12,4 +14,5 @@ pub mod texts;
 pub mod wheels;
 pub mod words;
 
-pub use drawing::draw;
+pub use drawing::{draw, draw_in};
+pub use language::Language;

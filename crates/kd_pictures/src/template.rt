@@ -2,12 +2,14 @@
 ghost use Rattle.std.specs.Prelude.{codes, decimal, ◌≡◌, [], ◌∷◌, ◌++◌, map, if◌then◌else◌};
 ghost use Rattle.std.specs.List.{before_first, after_first};
 ghost use Rattle.kd_pictures.specs.Drawing.{Draws};
+ghost use Rattle.kd_pictures.specs.Language.{in_language, text_in};
 ghost use Rattle.kd_pictures.specs.declared.texts.TheConstants.{SETTINGS as SETTINGS_TEXT};
 ghost use Rattle.kd_pictures.specs.Template.{count_text, filled, is_gap, letter_text, ordinal_text, value_text};
 
-use crate::drawing::draw;
-use crate::texts::{NO_SETTINGS, ONE_SETTING, SETTINGS};
-use crate::words::{Word, model_name};
+use crate::drawing::{draw, draw_in};
+use crate::language::Language;
+use crate::texts::{NO_SETTINGS, ONE_SETTING, SETTINGS, Text};
+use crate::words::{Class, Mark, Word, model_name};
 use arrayvec::ArrayString;
 use itoa::Buffer;
 use kd_state::{Setting, push_letter};
@@ -26,22 +28,32 @@ pub enum Value {
     Count(u8),
     Model(Model),
     Word(Word),
+    Class(Class),
+    Mark(Mark),
 }
 
-/// Writes `template` with its signs `~` replaced by the values, in their order.
-#[tactic(auto, using(crate::proofs::Templates::fills_none))]
-pub fn fill<W: Sink>(sink: &mut W, template: &str, values: &[Value])
+/// Writes `template` with its signs `~` replaced by the values, in their order. Words are in this language.
+pub fn fill<W: Sink>(sink: &mut W, language: Language, template: &str, values: &[Value])
     ensures { Draws W.taken W.has_failed sink.old sink.new
-        (filled template.now (map value_text values.now)) }
+        (filled template.now (map (value_text language) values.now)) }
 {
     if let [value, values @ ..] = values {
         let (piece, rest) = cut(template);
         draw(sink, piece);
-        draw_value(sink, *value);
-        fill(sink, rest, values);
+        draw_value(sink, language, *value);
+        fill(sink, language, rest, values);
     } else {
         draw(sink, template);
     }
+}
+
+/// Writes the template `text` in this language, with its signs `~` replaced by the values, in their order.
+pub fn fill_in<W: Sink>(sink: &mut W, language: Language, text: Text, values: &[Value])
+    ensures { Draws W.taken W.has_failed sink.old sink.new
+        (filled (in_language language text.entry.0.now text.entry.1.now)
+        (map (value_text language) values.now)) }
+{
+    fill(sink, language, language.text(text), values);
 }
 
 /// The parts of `template` before and after its first sign `~`; all of it and nothing if it has no such sign.
@@ -56,8 +68,8 @@ fn cut(template: &str) -> (&str, &str)
     }
 }
 
-fn draw_value<W: Sink>(sink: &mut W, value: Value)
-    ensures { Draws W.taken W.has_failed sink.old sink.new (value_text value) }
+fn draw_value<W: Sink>(sink: &mut W, language: Language, value: Value)
+    ensures { Draws W.taken W.has_failed sink.old sink.new (value_text language value) }
 {
     match value {
         Value::Number(number) => draw(sink, Buffer::new().format(number)),
@@ -67,9 +79,11 @@ fn draw_value<W: Sink>(sink: &mut W, value: Value)
         Value::Reflector(reflector) => draw(sink, reflector.text().as_str()),
         Value::Place(place) => draw(sink, place.text().as_str()),
         Value::Line(setting) => draw(sink, setting.line().as_str()),
-        Value::Count(number) => draw_count(sink, number),
+        Value::Count(number) => draw_count(sink, language, number),
         Value::Model(model) => draw(sink, model_name(model)),
-        Value::Word(word) => draw(sink, word.text()),
+        Value::Word(word) => draw(sink, word.text(language)),
+        Value::Class(class) => draw(sink, class.text()),
+        Value::Mark(mark) => draw(sink, mark.text()),
     }
 }
 
@@ -101,19 +115,20 @@ fn draw_zero<W: Sink>(sink: &mut W, is_short: bool)
 }
 
 /// Writes how many settings there are.
-fn draw_count<W: Sink>(sink: &mut W, number: u8)
-    ensures { Draws W.taken W.has_failed sink.old sink.new (count_text number) }
+fn draw_count<W: Sink>(sink: &mut W, language: Language, number: u8)
+    ensures { Draws W.taken W.has_failed sink.old sink.new (count_text language number) }
 {
     match number {
-        0 => draw(sink, NO_SETTINGS),
-        1 => draw(sink, ONE_SETTING),
-        _ => draw_several(sink, number),
+        0 => draw_in(sink, language, NO_SETTINGS),
+        1 => draw_in(sink, language, ONE_SETTING),
+        _ => draw_several(sink, language, number),
     }
 }
 
-fn draw_several<W: Sink>(sink: &mut W, number: u8)
-    ensures { Draws W.taken W.has_failed sink.old sink.new (decimal number ++ SETTINGS_TEXT.now) }
+fn draw_several<W: Sink>(sink: &mut W, language: Language, number: u8)
+    ensures { Draws W.taken W.has_failed sink.old sink.new
+        (decimal number ++ text_in language SETTINGS_TEXT) }
 {
     draw(sink, Buffer::new().format(number));
-    draw(sink, SETTINGS);
+    draw_in(sink, language, SETTINGS);
 }

@@ -1,8 +1,14 @@
-//! The fixed texts of a page. In a template, each sign `~` stands for a value.
+//! The fixed texts of a page, those with words in English and in German. In a template, each sign `~` stands for a value.
+
+/// A text in English and in German.
+pub type Text = (&'static str, &'static str);
+
+/// The code of the language, for the file's head.
+pub const LANGUAGE: Text = ("en", "de");
 
 /// The head of the file: before its title, and after it, with the style sheet. The foot of the file.
 pub const HEAD: &str =
-    "<!DOCTYPE html>\n<html lang=en>\n<meta charset=utf-8>\n<meta name=viewport content=\"width=device-width,initial-scale=1\">\n<title>";
+    "<!DOCTYPE html>\n<html lang=~>\n<meta charset=utf-8>\n<meta name=viewport content=\"width=device-width,initial-scale=1\">\n<title>";
 
 pub const STYLE: &str = "</title>
 <style>
@@ -126,40 +132,58 @@ pub const BODY: &str = "</style>\n<body>\n<main>\n";
 pub const FOOT: &str = "</main>\n";
 
 /// The title of a file with one day, and with several: the model, and the first and the last day.
-pub const TITLE_DAY: &str = "~, day ~";
+pub const TITLE_DAY: Text = ("~, day ~", "~, Tag ~");
 
-pub const TITLE_DAYS: &str = "~, days ~ to ~";
+pub const TITLE_DAYS: Text = ("~, days ~ to ~", "~, Tage ~ bis ~");
 
 /// The list of the days in a file with several days: a day, and its number of settings.
-pub const NAV: &str = "<nav aria-label=\"Days\">\n<ul>\n";
+pub const NAV: Text = (
+    "<nav aria-label=\"Days\">\n<ul>\n",
+    "<nav aria-label=\"Tage\">\n<ul>\n",
+);
 
-pub const NAV_DAY: &str = "<li><a href=\"#day-~\">Day ~</a>, ~\n";
+pub const NAV_DAY: Text = (
+    "<li><a href=\"#day-~\">Day ~</a>, ~\n",
+    "<li><a href=\"#day-~\">Tag ~</a>, ~\n",
+);
 
 pub const NAV_END: &str = "</ul>\n</nav>\n";
 
 /// How many settings there are: none, one, or several.
-pub const NO_SETTINGS: &str = "nothing to change";
+pub const NO_SETTINGS: Text = ("nothing to change", "nichts zu \u{e4}ndern");
 
-pub const ONE_SETTING: &str = "1 setting";
+pub const ONE_SETTING: Text = ("1 setting", "1 Handgriff");
 
-pub const SETTINGS: &str = " settings";
+pub const SETTINGS: Text = (" settings", " Handgriffe");
 
 /// The head of a day: the day, the model, the day again, and the number of settings. Then what to compare first.
-pub const DAY: &str =
-    "<article id=day-~>\n<header>\n<h1>~, day ~ <small>~</small></h1>\n<p class=fields><span>Machine</span><span>Date</span><span>Done by</span></p>\n<p>";
+pub const DAY: Text = (
+    "<article id=day-~>\n<header>\n<h1>~, day ~ <small>~</small></h1>\n<p class=fields><span>Machine</span><span>Date</span><span>Done by</span></p>\n<p>",
+    "<article id=day-~>\n<header>\n<h1>~, Tag ~ <small>~</small></h1>\n<p class=fields><span>Maschine</span><span>Datum</span><span>Ausgef\u{fc}hrt von</span></p>\n<p>",
+);
 
-pub const COMPARE_PIN: &str =
-    "First compare: framed pins the other way, other pins as shown, lugs at \u{25aa} and \u{d7}.</p>\n</header>\n";
+pub const COMPARE_PIN: Text = (
+    "First compare: framed pins the other way, other pins as shown, lugs at ~ and ~.</p>\n</header>\n",
+    "Zuerst vergleichen: umrahmte Stifte umgekehrt, die \u{fc}brigen wie gezeigt, Reiter bei ~ und ~.</p>\n</header>\n",
+);
 
 pub const DAY_END: &str = "</article>\n";
 
 /// The head of a step: its title, its number of settings, the model, and the day. Without anything to do; without a number.
-pub const STEP: &str = "<section>\n<h2>~ <small>~</small><span>~, day ~</span></h2>\n";
+pub const STEP: Text = (
+    "<section>\n<h2>~ <small>~</small><span>~, day ~</span></h2>\n",
+    "<section>\n<h2>~ <small>~</small><span>~, Tag ~</span></h2>\n",
+);
 
-pub const IDLE_STEP: &str =
-    "<section>\n<h2 class=idle>~ <small>~</small><span>~, day ~</span></h2>\n</section>\n";
+pub const IDLE_STEP: Text = (
+    "<section>\n<h2 class=idle>~ <small>~</small><span>~, day ~</span></h2>\n</section>\n",
+    "<section>\n<h2 class=idle>~ <small>~</small><span>~, Tag ~</span></h2>\n</section>\n",
+);
 
-pub const PLAIN_STEP: &str = "<section>\n<h2>~<span>~, day ~</span></h2>\n";
+pub const PLAIN_STEP: Text = (
+    "<section>\n<h2>~<span>~, day ~</span></h2>\n",
+    "<section>\n<h2>~<span>~, Tag ~</span></h2>\n",
+);
 
 pub const STEP_END: &str = "</section>\n";
 
@@ -169,47 +193,64 @@ pub const LIST: &str = "<ul>\n";
 pub const LIST_END: &str = "</ul>\n</section>\n";
 
 /// A box to tick, with the words for the hand and the setting's line.
-pub const RING: &str =
-    "<li><label><input type=checkbox> wheel <b>~</b>: set the ring to <b>~\u{a0}~</b> <code>~</code></label>\n";
+pub const RING: Text = (
+    "<li><label><input type=checkbox> wheel <b>~</b>: set the ring to <b>~\u{a0}~</b> <code>~</code></label>\n",
+    "<li><label><input type=checkbox> Walze <b>~</b>: Ring auf <b>~\u{a0}~</b> stellen <code>~</code></label>\n",
+);
 
-pub const SEAT: &str =
-    "<li><label><input type=checkbox> slot ~, ~: put in wheel <b>~</b>, from the box <code>~</code></label>\n";
+pub const SEAT: Text = (
+    "<li><label><input type=checkbox> slot ~, ~: put in wheel <b>~</b>, from the box <code>~</code></label>\n",
+    "<li><label><input type=checkbox> Platz ~, ~: Walze <b>~</b> einsetzen, aus dem Kasten <code>~</code></label>\n",
+);
 
-pub const SEAT_FROM: &str =
-    "<li><label><input type=checkbox> slot ~, ~: put in wheel <b>~</b>, from slot ~ <code>~</code></label>\n";
+pub const SEAT_FROM: Text = (
+    "<li><label><input type=checkbox> slot ~, ~: put in wheel <b>~</b>, from slot ~ <code>~</code></label>\n",
+    "<li><label><input type=checkbox> Platz ~, ~: Walze <b>~</b> einsetzen, aus Platz ~ <code>~</code></label>\n",
+);
 
-pub const REFLECTOR: &str =
-    "<li><label><input type=checkbox> put in reflector <b>~</b> <code>~</code></label>\n";
+pub const REFLECTOR: Text = (
+    "<li><label><input type=checkbox> put in reflector <b>~</b> <code>~</code></label>\n",
+    "<li><label><input type=checkbox> Umkehrwalze <b>~</b> einsetzen <code>~</code></label>\n",
+);
 
 pub const PLUG: &str = "<td><label><input type=checkbox> <b>~</b> <code>~</code></label>";
 
-/// A pin with its box. Its line is split: the head of its wheel has the beginning.
-pub const PIN_ON: &str =
-    "<label><input type=checkbox><b>~</b><br>\u{25cf}<small>ON</small></label>";
+/// A pin with its box: its letter, its mark, and which way to set it. Its line is split: the head of its wheel has the
+/// beginning.
+pub const PIN: &str = "<label><input type=checkbox><b>~</b><br>~<small>~</small></label>";
 
-pub const PIN_OFF: &str =
-    "<label><input type=checkbox><b>~</b><br>\u{25cb}<small>OFF</small></label>";
+pub const ON: Text = ("ON", "EIN");
 
-pub const LUG_LEFT: &str =
-    "<td><label><input type=checkbox> left to <b>~</b> <code>~</code></label>";
+pub const OFF: Text = ("OFF", "AUS");
 
-pub const LUG_RIGHT: &str =
-    "<td><label><input type=checkbox> right to <b>~</b> <code>~</code></label>";
+/// A lug with its box: which of the bar's two lugs it is, where it goes, and its line.
+pub const LUG: &str = "<td><label><input type=checkbox> ~ <b>~</b> <code>~</code></label>";
+
+pub const LEFT_LUG: Text = ("left to", "linker auf");
+
+pub const RIGHT_LUG: Text = ("right to", "rechter auf");
 
 /// The line of a turn. It stands in the box of the window.
 pub const TURN: &str = " <code>~</code>";
 
 /// The windows of a rotor machine: all have a box.
-pub const WINDOWS: &str = "<p>Set all of them: typing may have turned the wheels.</p>\n<ul>\n";
+pub const WINDOWS: Text = (
+    "<p>Set all of them: typing may have turned the wheels.</p>\n<ul>\n",
+    "<p>Alle einstellen: Beim Tasten k\u{f6}nnen sich die Walzen gedreht haben.</p>\n<ul>\n",
+);
 
-pub const WINDOW_BOX: &str =
-    "<li><label><input type=checkbox> slot ~: turn the wheel until <b>~\u{a0}~</b> shows";
+pub const WINDOW_BOX: Text = (
+    "<li><label><input type=checkbox> slot ~: turn the wheel until <b>~\u{a0}~</b> shows",
+    "<li><label><input type=checkbox> Platz ~: Walze drehen, bis <b>~\u{a0}~</b> erscheint",
+);
 
 pub const WINDOW_BOX_END: &str = "</label>\n";
 
 /// The letters of a Converter's wheels: all have a box.
-pub const LETTERS: &str =
-    "<p>Set all of them: enciphering may have turned the wheels.</p>\n<table class=letters>\n<tr><th scope=row>Wheel<th scope=col>1<th scope=col>2<th scope=col>3<th scope=col>4<th scope=col>5<th scope=col>6\n<tr><th scope=row>letter";
+pub const LETTERS: Text = (
+    "<p>Set all of them: enciphering may have turned the wheels.</p>\n<table class=letters>\n<tr><th scope=row>Wheel<th scope=col>1<th scope=col>2<th scope=col>3<th scope=col>4<th scope=col>5<th scope=col>6\n<tr><th scope=row>letter",
+    "<p>Alle einstellen: Beim Schl\u{fc}sseln k\u{f6}nnen sich die R\u{e4}der gedreht haben.</p>\n<table class=letters>\n<tr><th scope=row>Rad<th scope=col>1<th scope=col>2<th scope=col>3<th scope=col>4<th scope=col>5<th scope=col>6\n<tr><th scope=row>Buchstabe",
+);
 
 pub const LETTER_BOX: &str = "<td><label><input type=checkbox> <b>~</b>";
 
@@ -218,32 +259,38 @@ pub const LETTER_BOX_END: &str = "</label>";
 pub const LETTERS_END: &str = "\n</table>\n</section>\n";
 
 /// The picture of the wheels before and after, and in words; if nothing changes, only after.
-pub const WHEELS: &str =
-    "First compare the machine with <i>before</i>; only windows may differ. Thick frames: to set.</p>\n</header>\n<figure class=wheels><svg role=\"img\" viewBox=\"0 0 600 314\"><title>The wheels, from the left. Before: ";
+pub const WHEELS: Text = (
+    "First compare the machine with <i>before</i>; only windows may differ. Thick frames: to set.</p>\n</header>\n<figure class=wheels><svg role=\"img\" viewBox=\"0 0 600 314\"><title>The wheels, from the left. Before: ",
+    "Zuerst die Maschine mit <i>vorher</i> vergleichen; nur die Fenster d\u{fc}rfen abweichen. Dicke Rahmen: einzustellen.</p>\n</header>\n<figure class=wheels><svg role=\"img\" viewBox=\"0 0 600 314\"><title>Die Walzen, von links. Vorher: ",
+);
 
-pub const WHEELS_THEN: &str = ". After: ";
+pub const WHEELS_THEN: Text = (". After: ", ". Nachher: ");
 
-pub const WHEELS_ONCE: &str =
-    "The machine has to stand as shown; only windows may differ.</p>\n</header>\n<figure class=wheels><svg role=\"img\" viewBox=\"0 0 600 150\"><title>The wheels, from the left: ";
+pub const WHEELS_ONCE: Text = (
+    "The machine has to stand as shown; only windows may differ.</p>\n</header>\n<figure class=wheels><svg role=\"img\" viewBox=\"0 0 600 150\"><title>The wheels, from the left: ",
+    "Die Maschine muss wie gezeigt stehen; nur die Fenster d\u{fc}rfen abweichen.</p>\n</header>\n<figure class=wheels><svg role=\"img\" viewBox=\"0 0 600 150\"><title>Die Walzen, von links: ",
+);
 
 pub const TITLE_END: &str = ".</title>\n";
 
 pub const WHEELS_END: &str = "</svg>\n</figure>\n";
 
 /// A reflector, an empty slot, and a wheel with ring and window, in words.
-pub const REFLECTOR_WORDS: &str = "reflector ~";
+pub const REFLECTOR_WORDS: Text = ("reflector ~", "Umkehrwalze ~");
 
-pub const EMPTY_WORDS: &str = "; slot ~: empty";
+pub const EMPTY_WORDS: Text = ("; slot ~: empty", "; Platz ~: leer");
 
-pub const WHEEL_WORDS: &str = "; slot ~: wheel ~";
+pub const WHEEL_WORDS: Text = ("; slot ~: wheel ~", "; Platz ~: Walze ~");
 
-pub const RING_WORDS: &str = ", ring ~";
+pub const RING_WORDS: Text = (", ring ~", ", Ring ~");
 
-pub const WINDOW_WORDS: &str = ", window ~";
+pub const WINDOW_WORDS: Text = (", window ~", ", Fenster ~");
 
 /// A band of the picture: its name, its labels, and a reflector, which may be new.
-pub const BAND: &str =
-    "<text class=\"label bold\" x=\"2\" y=\"~\" font-size=\"20\">~</text>\n<text class=\"label\" x=\"2\" y=\"~\" font-size=\"18\">wheel</text>\n<text class=\"label\" x=\"2\" y=\"~\" font-size=\"18\">ring</text>\n<text class=\"label\" x=\"2\" y=\"~\" font-size=\"18\">window</text>\n<text x=\"134\" y=\"~\" font-size=\"18\">reflector</text>\n";
+pub const BAND: Text = (
+    "<text class=\"label bold\" x=\"2\" y=\"~\" font-size=\"20\">~</text>\n<text class=\"label\" x=\"2\" y=\"~\" font-size=\"18\">wheel</text>\n<text class=\"label\" x=\"2\" y=\"~\" font-size=\"18\">ring</text>\n<text class=\"label\" x=\"2\" y=\"~\" font-size=\"18\">window</text>\n<text x=\"134\" y=\"~\" font-size=\"18\">reflector</text>\n",
+    "<text class=\"label bold\" x=\"2\" y=\"~\" font-size=\"20\">~</text>\n<text class=\"label\" x=\"2\" y=\"~\" font-size=\"18\">Walze</text>\n<text class=\"label\" x=\"2\" y=\"~\" font-size=\"18\">Ring</text>\n<text class=\"label\" x=\"2\" y=\"~\" font-size=\"18\">Fenster</text>\n<text x=\"134\" y=\"~\" font-size=\"18\">UKW</text>\n",
+);
 
 pub const REFLECTOR_SHOWN: &str =
     "<rect x=\"96\" y=\"~\" width=\"76\" height=\"122\"/>\n<text x=\"134\" y=\"~\" font-size=\"20\">~</text>\n";
@@ -252,14 +299,20 @@ pub const NEW_REFLECTOR: &str =
     "<rect class=\"set\" x=\"96\" y=\"~\" width=\"76\" height=\"122\"/>\n<text class=\"bold\" x=\"134\" y=\"~\" font-size=\"20\">~</text>\n";
 
 /// A slot, empty or with a wheel; a ring; a window. Each may be new.
-pub const EMPTY: &str =
-    "<text x=\"~\" y=\"~\" font-size=\"18\">slot ~</text>\n<rect x=\"~\" y=\"~\" width=\"96\" height=\"122\"/>\n<text x=\"~\" y=\"~\" font-size=\"20\">empty</text>\n";
+pub const EMPTY: Text = (
+    "<text x=\"~\" y=\"~\" font-size=\"18\">slot ~</text>\n<rect x=\"~\" y=\"~\" width=\"96\" height=\"122\"/>\n<text x=\"~\" y=\"~\" font-size=\"20\">empty</text>\n",
+    "<text x=\"~\" y=\"~\" font-size=\"18\">Platz ~</text>\n<rect x=\"~\" y=\"~\" width=\"96\" height=\"122\"/>\n<text x=\"~\" y=\"~\" font-size=\"20\">leer</text>\n",
+);
 
-pub const WHEEL: &str =
-    "<text x=\"~\" y=\"~\" font-size=\"18\">slot ~</text>\n<rect x=\"~\" y=\"~\" width=\"96\" height=\"122\"/>\n<text x=\"~\" y=\"~\" font-size=\"20\">~</text>\n";
+pub const WHEEL: Text = (
+    "<text x=\"~\" y=\"~\" font-size=\"18\">slot ~</text>\n<rect x=\"~\" y=\"~\" width=\"96\" height=\"122\"/>\n<text x=\"~\" y=\"~\" font-size=\"20\">~</text>\n",
+    "<text x=\"~\" y=\"~\" font-size=\"18\">Platz ~</text>\n<rect x=\"~\" y=\"~\" width=\"96\" height=\"122\"/>\n<text x=\"~\" y=\"~\" font-size=\"20\">~</text>\n",
+);
 
-pub const NEW_WHEEL: &str =
-    "<text x=\"~\" y=\"~\" font-size=\"18\">slot ~</text>\n<rect class=\"set\" x=\"~\" y=\"~\" width=\"96\" height=\"122\"/>\n<text class=\"bold\" x=\"~\" y=\"~\" font-size=\"20\">~</text>\n";
+pub const NEW_WHEEL: Text = (
+    "<text x=\"~\" y=\"~\" font-size=\"18\">slot ~</text>\n<rect class=\"set\" x=\"~\" y=\"~\" width=\"96\" height=\"122\"/>\n<text class=\"bold\" x=\"~\" y=\"~\" font-size=\"20\">~</text>\n",
+    "<text x=\"~\" y=\"~\" font-size=\"18\">Platz ~</text>\n<rect class=\"set\" x=\"~\" y=\"~\" width=\"96\" height=\"122\"/>\n<text class=\"bold\" x=\"~\" y=\"~\" font-size=\"20\">~</text>\n",
+);
 
 pub const RING_SHOWN: &str = "<text x=\"~\" y=\"~\" font-size=\"20\">~\u{a0}~</text>\n";
 
@@ -273,14 +326,16 @@ pub const NEW_WINDOW: &str =
     "<rect class=\"set\" x=\"~\" y=\"~\" width=\"40\" height=\"40\"/>\n<text class=\"bold\" x=\"~\" y=\"~\" font-size=\"26\">~</text>\n<text class=\"bold\" x=\"~\" y=\"~\" font-size=\"20\">~</text>\n";
 
 /// The picture of a plugboard: its title, which has the cables in words.
-pub const BOARD: &str =
-    "<div class=beside><figure><svg role=\"img\" viewBox=\"0 0 560 336\"><title>The plugboard ~. Cables: ";
+pub const BOARD: Text = (
+    "<div class=beside><figure><svg role=\"img\" viewBox=\"0 0 560 336\"><title>The plugboard ~. Cables: ",
+    "<div class=beside><figure><svg role=\"img\" viewBox=\"0 0 560 336\"><title>Das Steckerbrett ~. Steckerverbindungen: ",
+);
 
 pub const CABLE_WORDS: &str = "~ ~-~";
 
 pub const LOOSE_WORDS: &str = "~ ~";
 
-pub const NO_CABLES: &str = "none";
+pub const NO_CABLES: Text = ("none", "keine");
 
 pub const BOARD_END: &str = "</svg>\n<figcaption>";
 
@@ -305,14 +360,20 @@ pub const GOES_IN: &str =
     "<text class=\"bold\" x=\"~\" y=\"~\" font-size=\"22\">~</text>\n<circle class=\"in\" cx=\"~\" cy=\"~\" r=\"15\"/>\n<text class=\"on\" x=\"~\" y=\"~\" font-size=\"17\">~</text>\n";
 
 /// What the marks of a plugboard mean. The table of the plugs to move, with a row for each cable.
-pub const CAPTION_SAME: &str =
-    "After. Circle: stays. Number: the cable\u{2019}s.</figcaption></figure>\n";
+pub const CAPTION_SAME: Text = (
+    "After. Circle: stays. Number: the cable\u{2019}s.</figcaption></figure>\n",
+    "Nachher. Kreis: bleibt. Zahl: Nummer der Schnur.</figcaption></figure>\n",
+);
 
-pub const PLUGS_OUT: &str =
-    "Before. Square: take out. Circle: stays. Number: the cable\u{2019}s.</figcaption></figure>\n<table class=plugs>\n<tr><th scope=col>Cable<th scope=col colspan=2>take out at\n";
+pub const PLUGS_OUT: Text = (
+    "Before. Square: take out. Circle: stays. Number: the cable\u{2019}s.</figcaption></figure>\n<table class=plugs>\n<tr><th scope=col>Cable<th scope=col colspan=2>take out at\n",
+    "Vorher. Quadrat: ziehen. Kreis: bleibt. Zahl: Nummer der Schnur.</figcaption></figure>\n<table class=plugs>\n<tr><th scope=col>Schnur<th scope=col colspan=2>ziehen bei\n",
+);
 
-pub const PLUGS_IN: &str =
-    "After. Disc: put in. Circle: stays. Number: the cable\u{2019}s.</figcaption></figure>\n<table class=plugs>\n<tr><th scope=col>Cable<th scope=col colspan=2>put in at\n";
+pub const PLUGS_IN: Text = (
+    "After. Disc: put in. Circle: stays. Number: the cable\u{2019}s.</figcaption></figure>\n<table class=plugs>\n<tr><th scope=col>Cable<th scope=col colspan=2>put in at\n",
+    "Nachher. Scheibe: stecken. Kreis: bleibt. Zahl: Nummer der Schnur.</figcaption></figure>\n<table class=plugs>\n<tr><th scope=col>Schnur<th scope=col colspan=2>stecken bei\n",
+);
 
 pub const PLUG_ROW: &str = "<tr><th scope=row>~";
 
@@ -323,10 +384,15 @@ pub const PLUGS_END: &str = "</table>\n";
 pub const BOARD_STEP_END: &str = "</div>\n</section>\n";
 
 /// The table of the pins: a wheel, with the beginning of its lines; a pin, which may change.
-pub const PINS: &str =
-    "<table class=pins>\n<caption>Pins after: \u{25cf} effective, \u{25cb} not. Framed pins are to change: ON makes a pin effective, OFF not.</caption>\n";
+pub const PINS: Text = (
+    "<table class=pins>\n<caption>Pins after: ~ effective, ~ not. Framed pins are to change: ON makes a pin effective, OFF not.</caption>\n",
+    "<table class=pins>\n<caption>Stifte nachher: ~ wirksam, ~ unwirksam. Umrahmte Stifte umstellen: EIN macht wirksam, AUS unwirksam.</caption>\n",
+);
 
-pub const PIN_WHEEL: &str = "<tbody>\n<tr><th scope=rowgroup colspan=13>Wheel ~ <small>~</small>";
+pub const PIN_WHEEL: Text = (
+    "<tbody>\n<tr><th scope=rowgroup colspan=13>Wheel ~ <small>~</small>",
+    "<tbody>\n<tr><th scope=rowgroup colspan=13>Rad ~ <small>~</small>",
+);
 
 pub const PIN_LINES: &str = " <code>PIN ~</code>";
 
@@ -338,15 +404,15 @@ pub const CELL: &str = "<td>";
 
 pub const SET_CELL: &str = "<td class=set>";
 
-pub const EFFECTIVE: &str = "~<br>\u{25cf}";
-
-pub const INEFFECTIVE: &str = "~<br>\u{25cb}";
+pub const PIN_SHOWN: &str = "~<br>~";
 
 pub const PINS_END: &str = "</table>\n</section>\n";
 
 /// The table of the bars: a bar, which may change; the cell of a place; cells for boxes.
-pub const DRUM: &str =
-    "<table class=drum>\n<caption>\u{25aa} a lug stays here, \u{d7} a lug leaves, \u{25a0} a lug comes. Move the lugs of a bar in the order shown.</caption>\n<thead>\n<tr><th scope=col>Bar<th scope=col>1<th scope=col>0L<th scope=col>2<th scope=col>3<th scope=col>4<th scope=col>5<th scope=col>0R<th scope=col>6<th scope=col colspan=2>Lugs to move\n<tbody>\n";
+pub const DRUM: Text = (
+    "<table class=drum>\n<caption>~ a lug stays here, ~ a lug leaves, ~ a lug comes. Move the lugs of a bar in the order shown.</caption>\n<thead>\n<tr><th scope=col>Bar<th scope=col>1<th scope=col>0L<th scope=col>2<th scope=col>3<th scope=col>4<th scope=col>5<th scope=col>0R<th scope=col>6<th scope=col colspan=2>Lugs to move\n<tbody>\n",
+    "<table class=drum>\n<caption>~ Reiter bleibt, ~ Reiter geht, ~ Reiter kommt. Die Reiter einer Stange in der gezeigten Reihenfolge versetzen.</caption>\n<thead>\n<tr><th scope=col>Stange<th scope=col>1<th scope=col>0L<th scope=col>2<th scope=col>3<th scope=col>4<th scope=col>5<th scope=col>0R<th scope=col>6<th scope=col colspan=2>Reiter versetzen\n<tbody>\n",
+);
 
 pub const BAR: &str = "<tr><th scope=row>~";
 
@@ -354,11 +420,7 @@ pub const SET_BAR: &str = "<tr class=set><th scope=row>~";
 
 pub const NO_LUG: &str = "<td>";
 
-pub const STAYS_HERE: &str = "<td>\u{25aa}";
-
-pub const LEAVES: &str = "<td>\u{d7}";
-
-pub const COMES: &str = "<td>\u{25a0}";
+pub const MARKED_LUG: &str = "<td>~";
 
 pub const NO_BOXES: &str = "<td><td>\n";
 
@@ -369,23 +431,34 @@ pub const BOXES: &str = "\n";
 pub const DRUM_END: &str = "</table>\n</section>\n";
 
 /// The test: the keys, and what the machine makes of them. Then the letters to set again, and the numbers of settings.
-pub const TEST_ROTOR: &str =
-    "<p>Type the alphabet. The lamps have to give the second line:</p>\n<pre>";
+pub const TEST_ROTOR: Text = (
+    "<p>Type the alphabet. The lamps have to give the second line:</p>\n<pre>",
+    "<p>Das Alphabet tasten. Die Lampen m\u{fc}ssen die zweite Zeile ergeben:</p>\n<pre>",
+);
 
-pub const TEST_PIN: &str =
-    "<p>Set the knob to C, and encipher 26 times A. The machine has to print the second line:</p>\n<pre>";
+pub const TEST_PIN: Text = (
+    "<p>Set the knob to C, and encipher 26 times A. The machine has to print the second line:</p>\n<pre>",
+    "<p>Den Knopf auf C stellen und 26-mal A schl\u{fc}sseln. Die Maschine muss die zweite Zeile drucken:</p>\n<pre>",
+);
 
 pub const TEST_LAMPS: &str = "\n<b>";
 
-pub const TEST_END: &str = "</b></pre>\n<p>Then set the windows to <b>";
+pub const TEST_END: Text = (
+    "</b></pre>\n<p>Then set the windows to <b>",
+    "</b></pre>\n<p>Danach wieder <b>",
+);
 
 pub const AGAIN_ROTOR: &str = "~\u{a0}~";
 
-pub const NOTE_ROTOR: &str =
-    "</b> again.</p>\n<p class=fields><span>Windows when put away</span></p>\n<p class=note>No shorter list leads to this day. Differences in rings, slots, reflector and windows: ~. Least number of plugs to move, by the prices\u{2019} sum: ~. Together: ~.</p>\n</section>\n";
+pub const NOTE_ROTOR: Text = (
+    "</b> again.</p>\n<p class=fields><span>Windows when put away</span></p>\n<p class=note>No shorter list leads to this day. Differences in rings, slots, reflector and windows: ~. Least number of plugs to move, by the prices\u{2019} sum: ~. Together: ~.</p>\n</section>\n",
+    "</b> einstellen.</p>\n<p class=fields><span>Fenster beim Wegstellen</span></p>\n<p class=note>Keine k\u{fc}rzere Liste f\u{fc}hrt zu diesem Tag. Abweichungen bei Ringen, Pl\u{e4}tzen, Umkehrwalze und Fenstern: ~. Mindestzahl der Stecker, nach der Summe der Preise: ~. Zusammen: ~.</p>\n</section>\n",
+);
 
-pub const NOTE_PIN: &str =
-    "</b> again.</p>\n<p class=fields><span>Letters when put away</span></p>\n<p class=note>No shorter list leads to this day. Differences in pins and letters: ~. Least number of lugs to move, by the prices\u{2019} sum: ~. Together: ~.</p>\n</section>\n";
+pub const NOTE_PIN: Text = (
+    "</b> again.</p>\n<p class=fields><span>Letters when put away</span></p>\n<p class=note>No shorter list leads to this day. Differences in pins and letters: ~. Least number of lugs to move, by the prices\u{2019} sum: ~. Together: ~.</p>\n</section>\n",
+    "</b> einstellen.</p>\n<p class=fields><span>Buchstaben beim Wegstellen</span></p>\n<p class=note>Keine k\u{fc}rzere Liste f\u{fc}hrt zu diesem Tag. Abweichungen bei Stiften und Buchstaben: ~. Mindestzahl der Reiter, nach der Summe der Preise: ~. Zusammen: ~.</p>\n</section>\n",
+);
 
 /// The names of the models.
 pub const ENIGMA_I: &str = "Enigma I";
@@ -397,41 +470,44 @@ pub const ENIGMA_M4: &str = "Enigma M4";
 pub const CONVERTER: &str = "Converter M-209";
 
 /// The titles of the steps.
-pub const RINGS_OUT: &str = "1 Rings, with the wheels out";
+pub const RINGS_OUT: Text = (
+    "1 Rings, with the wheels out",
+    "1 Ringstellung, bei herausgenommenen Walzen",
+);
 
-pub const RINGS: &str = "1 Rings";
+pub const RINGS: Text = ("1 Rings", "1 Ringstellung");
 
-pub const SEATS: &str = "2 Wheels and reflector";
+pub const SEATS: Text = ("2 Wheels and reflector", "2 Walzenlage und Umkehrwalze");
 
-pub const OUT_STEP: &str = "3 Plugs out";
+pub const OUT_STEP: Text = ("3 Plugs out", "3 Stecker ziehen");
 
-pub const IN_STEP: &str = "4 Plugs in";
+pub const IN_STEP: Text = ("4 Plugs in", "4 Stecker stecken");
 
-pub const WINDOW_STEP: &str = "5 Windows";
+pub const WINDOW_STEP: Text = ("5 Windows", "5 Fenster");
 
-pub const LAMP_STEP: &str = "6 Test";
+pub const LAMP_STEP: Text = ("6 Test", "6 Probe");
 
-pub const PIN_STEP: &str = "1 Pins";
+pub const PIN_STEP: Text = ("1 Pins", "1 Stifte");
 
-pub const LUG_STEP: &str = "2 Lugs";
+pub const LUG_STEP: Text = ("2 Lugs", "2 Reiter");
 
-pub const LETTER_STEP: &str = "3 Letters";
+pub const LETTER_STEP: Text = ("3 Letters", "3 Buchstaben");
 
-pub const PRINT_STEP: &str = "4 Test";
+pub const PRINT_STEP: Text = ("4 Test", "4 Probe");
 
 /// The slots' names.
-pub const GREEK: &str = "Greek";
+pub const GREEK: Text = ("Greek", "Griechenwalze");
 
-pub const LEFT: &str = "left";
+pub const LEFT: Text = ("left", "links");
 
-pub const MIDDLE: &str = "middle";
+pub const MIDDLE: Text = ("middle", "Mitte");
 
-pub const RIGHT: &str = "right";
+pub const RIGHT: Text = ("right", "rechts");
 
 /// The names of the pictures, and the classes of moving cables.
-pub const BEFORE: &str = "before";
+pub const BEFORE: Text = ("before", "vorher");
 
-pub const AFTER: &str = "after";
+pub const AFTER: Text = ("after", "nachher");
 
 pub const OUT_CLASS: &str = " class=\"out\"";
 

@@ -2,6 +2,7 @@
 ghost use Rattle.std.specs.Prelude.{◌≡◌, ◌+◌, ◌*◌, ◌<◌, ◌++◌, flat_map};
 ghost use Rattle.kd_state.specs.Machine.{machine_slot};
 ghost use Rattle.kd_pictures.specs.Drawing.{Draws};
+ghost use Rattle.kd_pictures.specs.Language.{in_language};
 ghost use Rattle.kd_pictures.specs.Wheels.{is_seated};
 ghost use Rattle.kd_pictures.specs.Wheels.{band_head, band_text, both_bands, is_same_letter, letter_words};
 ghost use Rattle.kd_pictures.specs.Wheels.{machine_words};
@@ -9,120 +10,157 @@ ghost use Rattle.kd_pictures.specs.Wheels.{one_band, reflector_shown, reflector_
 ghost use Rattle.kd_pictures.specs.Wheels.{slot_shown};
 ghost use Rattle.kd_pictures.specs.Wheels.{empty_shown, slot_words, slot_x, wheel_shown, wheel_words, window_shown};
 
-use crate::drawing::draw;
+use crate::drawing::{draw, draw_in};
+use crate::language::Language;
 use crate::numbers::SLOTS;
-use crate::template::{Value, fill};
+use crate::template::{Value, fill, fill_in};
 use crate::texts::{
     BAND, EMPTY, EMPTY_WORDS, NEW_REFLECTOR, NEW_RING, NEW_WHEEL, NEW_WINDOW, REFLECTOR_SHOWN,
-    REFLECTOR_WORDS, RING_SHOWN, RING_WORDS, TITLE_END, WHEEL, WHEEL_WORDS, WHEELS, WHEELS_END,
-    WHEELS_ONCE, WHEELS_THEN, WINDOW, WINDOW_WORDS,
+    REFLECTOR_WORDS, RING_SHOWN, RING_WORDS, TITLE_END, Text, WHEEL, WHEEL_WORDS, WHEELS,
+    WHEELS_END, WHEELS_ONCE, WHEELS_THEN, WINDOW, WINDOW_WORDS,
 };
 use crate::words::Word;
 use kd_state::Machine;
 use kd_tables::{Letter, Reflector, Sink, Wheel};
 
 /// Writes the picture of the machine before, and below it of the machine after. What differs is marked there.
-pub fn draw_both<W: Sink>(sink: &mut W, before: &Machine, after: &Machine)
-    ensures { Draws W.taken W.has_failed sink.old sink.new (both_bands before.now after.now) }
+pub fn draw_both<W: Sink>(sink: &mut W, language: Language, before: &Machine, after: &Machine)
+    ensures { Draws W.taken W.has_failed sink.old sink.new (both_bands language before.now after.now) }
 {
-    draw(sink, WHEELS);
-    draw_words(sink, before);
-    draw(sink, WHEELS_THEN);
-    draw_words(sink, after);
+    draw_in(sink, language, WHEELS);
+    draw_words(sink, language, before);
+    draw_in(sink, language, WHEELS_THEN);
+    draw_words(sink, language, after);
     draw(sink, TITLE_END);
-    draw_band(sink, 0, Word::Before, before, before);
-    draw_band(sink, 164, Word::After, after, before);
+    draw_band(sink, language, 0, Word::Before, before, before);
+    draw_band(sink, language, 164, Word::After, after, before);
     draw(sink, WHEELS_END);
 }
 
 /// Writes the picture of the machine if nothing changes.
-pub fn draw_one<W: Sink>(sink: &mut W, after: &Machine)
-    ensures { Draws W.taken W.has_failed sink.old sink.new (one_band after.now) }
+pub fn draw_one<W: Sink>(sink: &mut W, language: Language, after: &Machine)
+    ensures { Draws W.taken W.has_failed sink.old sink.new (one_band language after.now) }
 {
-    draw(sink, WHEELS_ONCE);
-    draw_words(sink, after);
+    draw_in(sink, language, WHEELS_ONCE);
+    draw_words(sink, language, after);
     draw(sink, TITLE_END);
-    draw_band(sink, 0, Word::After, after, after);
+    draw_band(sink, language, 0, Word::After, after, after);
     draw(sink, WHEELS_END);
 }
 
 /// Writes the machine in words.
-fn draw_words<W: Sink>(sink: &mut W, machine: &Machine)
-    ensures { Draws W.taken W.has_failed sink.old sink.new (machine_words machine.now) }
+fn draw_words<W: Sink>(sink: &mut W, language: Language, machine: &Machine)
+    ensures { Draws W.taken W.has_failed sink.old sink.new (machine_words language machine.now) }
 {
-    draw_reflector_words(sink, machine.reflector());
-    draw_all_slot_words(sink, machine, &SLOTS);
+    draw_reflector_words(sink, language, machine.reflector());
+    draw_all_slot_words(sink, language, machine, &SLOTS);
 }
 
-fn draw_reflector_words<W: Sink>(sink: &mut W, reflector: Option<Reflector>)
-    ensures { Draws W.taken W.has_failed sink.old sink.new (reflector_words reflector) }
+fn draw_reflector_words<W: Sink>(sink: &mut W, language: Language, reflector: Option<Reflector>)
+    ensures { Draws W.taken W.has_failed sink.old sink.new (reflector_words language reflector) }
 {
     match reflector {
         None => draw(sink, ""),
-        Some(reflector) => fill(sink, REFLECTOR_WORDS, &[Value::Reflector(reflector)]),
+        Some(reflector) => fill_in(
+            sink,
+            language,
+            REFLECTOR_WORDS,
+            &[Value::Reflector(reflector)],
+        ),
     }
 }
 
-fn draw_all_slot_words<W: Sink>(sink: &mut W, machine: &Machine, slots: &[u8])
+fn draw_all_slot_words<W: Sink>(sink: &mut W, language: Language, machine: &Machine, slots: &[u8])
     ensures { Draws W.taken W.has_failed sink.old sink.new
-        (flat_map (λ slot. slot_words machine.now slot (machine_slot machine.now slot)) slots.now) }
+        (flat_map (λ slot. slot_words language machine.now slot (machine_slot machine.now slot)) slots.now) }
 {
     if let [slot, rest @ ..] = slots {
-        draw_slot_words(sink, machine, *slot, machine.slot(*slot));
-        draw_all_slot_words(sink, machine, rest);
+        draw_slot_words(sink, language, machine, *slot, machine.slot(*slot));
+        draw_all_slot_words(sink, language, machine, rest);
     }
 }
 
-fn draw_slot_words<W: Sink>(sink: &mut W, machine: &Machine, slot: u8, held: Option<Option<Wheel>>)
-    ensures { Draws W.taken W.has_failed sink.old sink.new (slot_words machine.now slot held) }
+fn draw_slot_words<W: Sink>(
+    sink: &mut W,
+    language: Language,
+    machine: &Machine,
+    slot: u8,
+    held: Option<Option<Wheel>>,
+)
+    ensures { Draws W.taken W.has_failed sink.old sink.new (slot_words language machine.now slot held) }
 {
     match held {
         None => draw(sink, ""),
-        Some(None) => fill(sink, EMPTY_WORDS, &[Value::Number(u16::from(slot))]),
-        Some(Some(wheel)) => draw_wheel_words(sink, machine, slot, wheel),
+        Some(None) => fill_in(
+            sink,
+            language,
+            EMPTY_WORDS,
+            &[Value::Number(u16::from(slot))],
+        ),
+        Some(Some(wheel)) => draw_wheel_words(sink, language, machine, slot, wheel),
     }
 }
 
 /// Writes a wheel in its slot, its ring and its window letter, in words.
-fn draw_wheel_words<W: Sink>(sink: &mut W, machine: &Machine, slot: u8, wheel: Wheel)
-    ensures { Draws W.taken W.has_failed sink.old sink.new (wheel_words machine.now slot wheel) }
+fn draw_wheel_words<W: Sink>(
+    sink: &mut W,
+    language: Language,
+    machine: &Machine,
+    slot: u8,
+    wheel: Wheel,
+)
+    ensures { Draws W.taken W.has_failed sink.old sink.new (wheel_words language machine.now slot wheel) }
 {
-    fill(
+    fill_in(
         sink,
+        language,
         WHEEL_WORDS,
         &[Value::Number(u16::from(slot)), Value::Wheel(wheel)],
     );
-    draw_letter_words(sink, RING_WORDS, machine.ring(wheel));
-    draw_letter_words(sink, WINDOW_WORDS, machine.letter(wheel));
+    draw_letter_words(sink, language, RING_WORDS, machine.ring(wheel));
+    draw_letter_words(sink, language, WINDOW_WORDS, machine.letter(wheel));
 }
 
-fn draw_letter_words<W: Sink>(sink: &mut W, template: &str, letter: Option<Letter>)
-    ensures { Draws W.taken W.has_failed sink.old sink.new (letter_words template.now letter) }
+fn draw_letter_words<W: Sink>(
+    sink: &mut W,
+    language: Language,
+    template: Text,
+    letter: Option<Letter>,
+)
+    ensures { Draws W.taken W.has_failed sink.old sink.new (letter_words (in_language language template.entry.0.now template.entry.1.now) letter) }
 {
     match letter {
         None => draw(sink, ""),
-        Some(letter) => fill(sink, template, &[Value::Letter(letter)]),
+        Some(letter) => fill_in(sink, language, template, &[Value::Letter(letter)]),
     }
 }
 
 /// Writes a band at height `y`: `machine`, with what differs in `other` marked.
-fn draw_band<W: Sink>(sink: &mut W, y: u16, name: Word, machine: &Machine, other: &Machine)
+fn draw_band<W: Sink>(
+    sink: &mut W,
+    language: Language,
+    y: u16,
+    name: Word,
+    machine: &Machine,
+    other: &Machine,
+)
     requires { y < 1000 }
     ensures { Draws W.taken W.has_failed sink.old sink.new
-        (band_text y name machine.now other.now) }
+        (band_text language y name machine.now other.now) }
 {
-    draw_band_head(sink, y, name);
-    draw_reflector(sink, y, machine.reflector(), other.reflector());
-    draw_slots(sink, y, machine, other, &SLOTS);
+    draw_band_head(sink, language, y, name);
+    draw_reflector(sink, language, y, machine.reflector(), other.reflector());
+    draw_slots(sink, language, y, machine, other, &SLOTS);
 }
 
 #[tactic(auto, unfolding(crate::specs::Wheels::band_head))]
-fn draw_band_head<W: Sink>(sink: &mut W, y: u16, name: Word)
+fn draw_band_head<W: Sink>(sink: &mut W, language: Language, y: u16, name: Word)
     requires { y < 1000 }
-    ensures { Draws W.taken W.has_failed sink.old sink.new (band_head y name) }
+    ensures { Draws W.taken W.has_failed sink.old sink.new (band_head language y name) }
 {
-    fill(
+    fill_in(
         sink,
+        language,
         BAND,
         &[
             Value::Number(y + 16),
@@ -137,6 +175,7 @@ fn draw_band_head<W: Sink>(sink: &mut W, y: u16, name: Word)
 
 fn draw_reflector<W: Sink>(
     sink: &mut W,
+    language: Language,
     y: u16,
     reflector: Option<Reflector>,
     other: Option<Reflector>,
@@ -148,6 +187,7 @@ fn draw_reflector<W: Sink>(
         None => draw(sink, ""),
         Some(shown) => fill(
             sink,
+            language,
             if other == Some(shown) {
                 REFLECTOR_SHOWN
             } else {
@@ -162,40 +202,55 @@ fn draw_reflector<W: Sink>(
     }
 }
 
-fn draw_slots<W: Sink>(sink: &mut W, y: u16, machine: &Machine, other: &Machine, slots: &[u8])
+fn draw_slots<W: Sink>(
+    sink: &mut W,
+    language: Language,
+    y: u16,
+    machine: &Machine,
+    other: &Machine,
+    slots: &[u8],
+)
     requires { y < 1000 }
     ensures { Draws W.taken W.has_failed sink.old sink.new
         (flat_map (λ slot.
-        slot_shown (slot_x slot) y machine.now other.now slot (machine_slot machine.now slot))
+        slot_shown language (slot_x slot) y machine.now other.now slot (machine_slot machine.now slot))
         slots.now) }
 {
     if let [slot, rest @ ..] = slots {
-        draw_slot(sink, y, machine, other, *slot);
-        draw_slots(sink, y, machine, other, rest);
+        draw_slot(sink, language, y, machine, other, *slot);
+        draw_slots(sink, language, y, machine, other, rest);
     }
 }
 
 /// Writes a slot, and the wheel in it.
-fn draw_slot<W: Sink>(sink: &mut W, y: u16, machine: &Machine, other: &Machine, slot: u8)
+fn draw_slot<W: Sink>(
+    sink: &mut W,
+    language: Language,
+    y: u16,
+    machine: &Machine,
+    other: &Machine,
+    slot: u8,
+)
     requires { y < 1000 }
     ensures { Draws W.taken W.has_failed sink.old sink.new
-        (slot_shown (slot_x slot) y machine.now other.now slot (machine_slot machine.now slot)) }
+        (slot_shown language (slot_x slot) y machine.now other.now slot (machine_slot machine.now slot)) }
 {
     let x = 80 + 104 * u16::from(slot);
     match machine.slot(slot) {
         None => draw(sink, ""),
-        Some(None) => draw_empty(sink, x, y, slot),
-        Some(Some(wheel)) => draw_seated(sink, x, y, machine, other, slot, wheel),
+        Some(None) => draw_empty(sink, language, x, y, slot),
+        Some(Some(wheel)) => draw_seated(sink, language, x, y, machine, other, slot, wheel),
     }
 }
 
-fn draw_empty<W: Sink>(sink: &mut W, x: u16, y: u16, slot: u8)
+fn draw_empty<W: Sink>(sink: &mut W, language: Language, x: u16, y: u16, slot: u8)
     requires x { x < 30000 }
     requires y { y < 1000 }
-    ensures { Draws W.taken W.has_failed sink.old sink.new (empty_shown x y slot) }
+    ensures { Draws W.taken W.has_failed sink.old sink.new (empty_shown language x y slot) }
 {
-    fill(
+    fill_in(
         sink,
+        language,
         EMPTY,
         &[
             Value::Number(x + 48),
@@ -212,6 +267,7 @@ fn draw_empty<W: Sink>(sink: &mut W, x: u16, y: u16, slot: u8)
 /// Writes a wheel in its slot, its ring and its window.
 fn draw_seated<W: Sink>(
     sink: &mut W,
+    language: Language,
     x: u16,
     y: u16,
     machine: &Machine,
@@ -222,20 +278,44 @@ fn draw_seated<W: Sink>(
     requires x { x < 30000 }
     requires y { y < 1000 }
     ensures { Draws W.taken W.has_failed sink.old sink.new
-        (seated_shown x y machine.now other.now slot wheel) }
+        (seated_shown language x y machine.now other.now slot wheel) }
 {
-    draw_wheel(sink, x, y, slot, is_seated(other, slot, wheel), wheel);
-    draw_ring(sink, x, y, machine.ring(wheel), other.ring(wheel));
-    draw_window(sink, x, y, machine.letter(wheel), other.letter(wheel));
+    draw_wheel(
+        sink,
+        language,
+        x,
+        y,
+        slot,
+        is_seated(other, slot, wheel),
+        wheel,
+    );
+    draw_ring(sink, language, x, y, machine.ring(wheel), other.ring(wheel));
+    draw_window(
+        sink,
+        language,
+        x,
+        y,
+        machine.letter(wheel),
+        other.letter(wheel),
+    );
 }
 
-fn draw_wheel<W: Sink>(sink: &mut W, x: u16, y: u16, slot: u8, is_old: bool, wheel: Wheel)
+fn draw_wheel<W: Sink>(
+    sink: &mut W,
+    language: Language,
+    x: u16,
+    y: u16,
+    slot: u8,
+    is_old: bool,
+    wheel: Wheel,
+)
     requires x { x < 30000 }
     requires y { y < 1000 }
-    ensures { Draws W.taken W.has_failed sink.old sink.new (wheel_shown x y slot is_old wheel) }
+    ensures { Draws W.taken W.has_failed sink.old sink.new (wheel_shown language x y slot is_old wheel) }
 {
-    fill(
+    fill_in(
         sink,
+        language,
         if is_old { WHEEL } else { NEW_WHEEL },
         &[
             Value::Number(x + 48),
@@ -250,7 +330,14 @@ fn draw_wheel<W: Sink>(sink: &mut W, x: u16, y: u16, slot: u8, is_old: bool, whe
     );
 }
 
-fn draw_ring<W: Sink>(sink: &mut W, x: u16, y: u16, ring: Option<Letter>, other: Option<Letter>)
+fn draw_ring<W: Sink>(
+    sink: &mut W,
+    language: Language,
+    x: u16,
+    y: u16,
+    ring: Option<Letter>,
+    other: Option<Letter>,
+)
     requires x { x < 30000 }
     requires y { y < 1000 }
     ensures { Draws W.taken W.has_failed sink.old sink.new (ring_shown x y ring other) }
@@ -259,6 +346,7 @@ fn draw_ring<W: Sink>(sink: &mut W, x: u16, y: u16, ring: Option<Letter>, other:
         None => draw(sink, ""),
         Some(letter) if other == Some(letter) => fill(
             sink,
+            language,
             RING_SHOWN,
             &[
                 Value::Number(x + 48),
@@ -269,6 +357,7 @@ fn draw_ring<W: Sink>(sink: &mut W, x: u16, y: u16, ring: Option<Letter>, other:
         ),
         Some(letter) => fill(
             sink,
+            language,
             NEW_RING,
             &[
                 Value::Number(x + 10),
@@ -282,7 +371,14 @@ fn draw_ring<W: Sink>(sink: &mut W, x: u16, y: u16, ring: Option<Letter>, other:
     }
 }
 
-fn draw_window<W: Sink>(sink: &mut W, x: u16, y: u16, shown: Option<Letter>, other: Option<Letter>)
+fn draw_window<W: Sink>(
+    sink: &mut W,
+    language: Language,
+    x: u16,
+    y: u16,
+    shown: Option<Letter>,
+    other: Option<Letter>,
+)
     requires x { x < 30000 }
     requires y { y < 1000 }
     ensures { Draws W.taken W.has_failed sink.old sink.new (window_shown x y shown other) }
@@ -291,6 +387,7 @@ fn draw_window<W: Sink>(sink: &mut W, x: u16, y: u16, shown: Option<Letter>, oth
         None => draw(sink, ""),
         Some(letter) => fill(
             sink,
+            language,
             if other == Some(letter) {
                 WINDOW
             } else {

@@ -1,13 +1,15 @@
 //! Words that are filled into templates.
 ghost use Rattle.std.specs.Prelude.{◌≡◌};
-ghost use Rattle.kd_pictures.specs.Words.{is_converter, model_name, word_text};
+ghost use Rattle.kd_pictures.specs.Words.{class_text, is_converter, mark_text, model_name, word_text};
 
+use crate::language::Language;
 use crate::texts;
 use kd_tables::Model;
 
-/// A fixed word: a title, the name of a slot or of a picture, or the class of a cable's line.
+/// A fixed word: the language's code, or the name of a step, a slot, a picture, a pin's state or a lug.
 #[derive(Clone, Copy)]
 pub enum Word {
+    Language,
     Rings,
     RingsOut,
     Seats,
@@ -25,36 +27,83 @@ pub enum Word {
     Right,
     Before,
     After,
-    OutClass,
-    InClass,
-    Plain,
+    On,
+    Off,
+    LeftLug,
+    RightLug,
 }
 
 impl Word {
-    pub fn text(self) -> &'static str
-        ensures { result.now ≡ word_text self }
+    pub fn text(self, language: Language) -> &'static str
+        ensures { result.now ≡ word_text language self }
     {
         match self {
-            Word::Rings => texts::RINGS,
-            Word::RingsOut => texts::RINGS_OUT,
-            Word::Seats => texts::SEATS,
-            Word::PlugsOut => texts::OUT_STEP,
-            Word::PlugsIn => texts::IN_STEP,
-            Word::Windows => texts::WINDOW_STEP,
-            Word::LampTest => texts::LAMP_STEP,
-            Word::Pins => texts::PIN_STEP,
-            Word::Lugs => texts::LUG_STEP,
-            Word::Letters => texts::LETTER_STEP,
-            Word::PrintTest => texts::PRINT_STEP,
-            Word::Greek => texts::GREEK,
-            Word::Left => texts::LEFT,
-            Word::Middle => texts::MIDDLE,
-            Word::Right => texts::RIGHT,
-            Word::Before => texts::BEFORE,
-            Word::After => texts::AFTER,
-            Word::OutClass => texts::OUT_CLASS,
-            Word::InClass => texts::IN_CLASS,
-            Word::Plain => texts::PLAIN,
+            Word::Language => language.text(texts::LANGUAGE),
+            Word::Rings => language.text(texts::RINGS),
+            Word::RingsOut => language.text(texts::RINGS_OUT),
+            Word::Seats => language.text(texts::SEATS),
+            Word::PlugsOut => language.text(texts::OUT_STEP),
+            Word::PlugsIn => language.text(texts::IN_STEP),
+            Word::Windows => language.text(texts::WINDOW_STEP),
+            Word::LampTest => language.text(texts::LAMP_STEP),
+            Word::Pins => language.text(texts::PIN_STEP),
+            Word::Lugs => language.text(texts::LUG_STEP),
+            Word::Letters => language.text(texts::LETTER_STEP),
+            Word::PrintTest => language.text(texts::PRINT_STEP),
+            Word::Greek => language.text(texts::GREEK),
+            Word::Left => language.text(texts::LEFT),
+            Word::Middle => language.text(texts::MIDDLE),
+            Word::Right => language.text(texts::RIGHT),
+            Word::Before => language.text(texts::BEFORE),
+            Word::After => language.text(texts::AFTER),
+            Word::On => language.text(texts::ON),
+            Word::Off => language.text(texts::OFF),
+            Word::LeftLug => language.text(texts::LEFT_LUG),
+            Word::RightLug => language.text(texts::RIGHT_LUG),
+        }
+    }
+}
+
+/// The class of a cable's line.
+#[derive(Clone, Copy)]
+pub enum Class {
+    Plain,
+    Out,
+    In,
+}
+
+impl Class {
+    pub fn text(self) -> &'static str
+        ensures { result.now ≡ class_text self }
+    {
+        match self {
+            Class::Plain => texts::PLAIN,
+            Class::Out => texts::OUT_CLASS,
+            Class::In => texts::IN_CLASS,
+        }
+    }
+}
+
+/// A mark of a table: of a pin, or of a place on a bar.
+#[derive(Clone, Copy)]
+pub enum Mark {
+    Effective,
+    Ineffective,
+    LugStays,
+    LugLeaves,
+    LugComes,
+}
+
+impl Mark {
+    pub fn text(self) -> &'static str
+        ensures { result.now ≡ mark_text self }
+    {
+        match self {
+            Mark::Effective => "\u{25cf}",
+            Mark::Ineffective => "\u{25cb}",
+            Mark::LugStays => "\u{25aa}",
+            Mark::LugLeaves => "\u{d7}",
+            Mark::LugComes => "\u{25a0}",
         }
     }
 }

@@ -1,6 +1,7 @@
 //! Reads and writes machine files and key sheets.
 #![tactic(auto)]
 
+pub mod by_key;
 mod document;
 mod empty_month;
 mod fault;

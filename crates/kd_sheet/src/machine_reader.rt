@@ -26,7 +26,7 @@ const VERSION: u8 = 2;
 
 /// Reads the text at `key`: a letter for each wheel of the model's box, in box order.
 #[tactic(auto, unfolding(crate::specs::Letters::letters_at))]
-fn box_letters_in(table: &Table, key: Key, model: Model) -> Result<PerWheel<Letter>, SheetFault>
+pub fn box_letters_in(table: &Table, key: Key, model: Model) -> Result<PerWheel<Letter>, SheetFault>
     requires { 0 < slots_of model }
     ensures { result ≡ letters_at key (length (box_of model)) (table_view table.now) }
 {

@@ -6,7 +6,7 @@ ghost use Rattle.kd_state.specs.SheetDay.{Day};
 ghost use Rattle.kd_sheet.specs.{Document.{read_items, result_map}, Sheet.{month_of}};
 ghost use Rattle.kd_sheet.specs.SheetFile.{day_for, sheet_of};
 
-mod day_entry;
+pub(crate) mod day_entry;
 
 use crate::document::{items_at, parse_table};
 use crate::sheet::{DAYS, Sheet};

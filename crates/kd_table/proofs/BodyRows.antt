@@ -6,9 +6,9 @@ use Rattle.kd_table.specs.Columns.{columns_of}
 use Rattle.kd_table.specs.Row.{row_values, is_blank_row, IsDayOfRow, IsNoDay}
 use Rattle.kd_table.specs.Table.{AreDaysOfRows, NoRows, BlankRow, DayRow, IsRefusedRow, HasRefusedRow, IsBodyRead, IsRead, is_taken}
 use Rattle.kd_table.specs.declared.columns.Columns.{Columns}
-use Rattle.kd_table.specs.declared.options.TableOptions.{TableOptions}
+use Rattle.kd_table.specs.Options.{OptionTexts}
 
-module _ (options : TableOptions) (columns : Columns) where
+module _ (options : OptionTexts) (columns : Columns) where
   refused_before : (rows : List (List (List ℕ))) (row : List (List ℕ)) → HasRefusedRow options columns rows
       → HasRefusedRow options columns (rows ++ row ∷ [])
   refused_before rows row has = record {
@@ -41,7 +41,7 @@ module _ (options : TableOptions) (columns : Columns) where
   body_day false rows days row day filled is free are = DayRow rows days row day are filled is free
   body_day true rows days row day filled is free has = refused_before rows row has
 
-pub head_read : (options : TableOptions) (rows : List (List (List ℕ))) (days : List Day) (refused : Bool)
+pub head_read : (options : OptionTexts) (rows : List (List (List ℕ))) (days : List Day) (refused : Bool)
     (head : List (List ℕ)) → IsRead options rows None days refused
     → IsRead options (rows ++ head ∷ []) (Some (columns_of head)) days refused
 head_read options [] days refused head is =
@@ -50,7 +50,7 @@ head_read options [] days refused head is =
     (refl, subst P (sym is.2) (subst Q (sym is.1) NoRows))
 head_read options (first ∷ rows) days refused head is = let e = is.0 in cc
 
-pub body_read : (options : TableOptions) (rows : List (List (List ℕ))) (columns : Columns) (days more : List Day)
+pub body_read : (options : OptionTexts) (rows : List (List (List ℕ))) (columns : Columns) (days more : List Day)
     (refused now : Bool) (row : List (List ℕ)) → IsRead options rows (Some columns) days refused
     → ((body : List (List (List ℕ))) → IsBodyRead options columns body days refused
     → IsBodyRead options columns (body ++ row ∷ []) more now)

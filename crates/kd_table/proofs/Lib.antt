@@ -1,3 +1,5 @@
 pub mod Marks
 pub mod BodyRows
 pub mod TableAnswers
+pub mod Telling
+pub mod OneTable

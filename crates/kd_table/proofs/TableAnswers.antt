@@ -10,9 +10,9 @@ use Rattle.kd_table.specs.Columns.{columns_of}
 use Rattle.kd_table.specs.Rows.{is_well_quoted}
 use Rattle.kd_table.specs.Table.{AreRows, TableMeans, IsRefusedTable, RefusedRow, NoDays, NoFirstRow, IsRead, AreDaysOfRows, BlankRow, DayRow, NoRows, is_taken}
 use Rattle.kd_table.specs.declared.columns.Columns.{Columns}
-use Rattle.kd_table.specs.declared.options.TableOptions.{TableOptions}
+use Rattle.kd_table.specs.Options.{OptionTexts}
 
-module _ (options : TableOptions) (table : List ℕ) where
+module _ (options : OptionTexts) (table : List ℕ) where
   -- all rows were read, and none is refused
   pub table_means : (rows : List (List (List ℕ))) (columns : Option Columns) (days : List Day)
       → is_well_quoted table ≡ true → AreRows table rows → IsRead options rows columns days false → 0 < length days
@@ -45,7 +45,7 @@ sheet_days_more earlier (first ∷ days) day are legal free =
           (subst P (sym (append_assoc earlier (first ∷ []) days)) free),
     )
 
-sheet_days : (options : TableOptions) (columns : Columns) (rows : List (List (List ℕ))) (days : List Day)
+sheet_days : (options : OptionTexts) (columns : Columns) (rows : List (List (List ℕ))) (days : List Day)
     → AreDaysOfRows options columns rows days → AreSheetDays [] days
 sheet_days options columns _ _ NoRows = tt
 sheet_days options columns _ _ (BlankRow rows days row are blank) = sheet_days options columns rows days are
@@ -53,7 +53,7 @@ sheet_days options columns _ _ (DayRow rows days row day are filled is free) =
     sheet_days_more [] days day (sheet_days options columns rows days are) is.legal free
 
 -- the sheet written for a table's days is read as exactly these days
-pub read_back : (options : TableOptions) (table : List ℕ) (days : List Day) → TableMeans options table days
+pub read_back : (options : OptionTexts) (table : List ℕ) (days : List Day) → TableMeans options table days
     → sheet_of (sheet_text days) ≡ Ok (month_of days)
 read_back options table [] means = let some = means.some in absurd (omega arith)
 read_back options table (day ∷ days) means =

@@ -1,5 +1,8 @@
 pub mod Steps
+pub mod Laws
 pub mod Names
+pub mod Notes
+pub mod Options
 pub mod Items
 pub mod Columns
 pub mod RotorRow

@@ -9,7 +9,7 @@ use Rattle.kd_table.specs.Columns.{cell_at, cell_or}
 use Rattle.kd_table.specs.Items.{number_in, letters_in, readings_in, exactly, joined}
 use Rattle.kd_table.specs.Steps.{◌>>=◌}
 use Rattle.kd_table.specs.declared.columns.Columns.{Columns}
-use Rattle.kd_table.specs.declared.options.TableOptions.{TableOptions}
+use Rattle.kd_table.specs.Options.{OptionTexts}
 
 -- The pins of a wheel whose letters are `ring`, from the letters in a column, which must be there.
 abbrev pub pins_at : List ℕ → Option ℕ → List (List ℕ) → Option (List Bool)
@@ -30,11 +30,11 @@ pins_in columns row = do
   Some (record { w1 = one; w2 = two; w3 = three; w4 = four; w5 = five; w6 = six })
 
 -- the values of a row's day; an option may stand for a window without anything
-unfoldable pub pin_values : TableOptions → Columns → List (List ℕ) → Option PinDay
+unfoldable pub pin_values : OptionTexts → Columns → List (List ℕ) → Option PinDay
 pin_values options columns row = do
   number ← number_in (cell_at columns.day row)
   list ← letters_in (cell_at columns.list row) >>= exactly 2
   pins ← pins_in columns.pins row
-  window ← letters_in (cell_or options.window.now columns.window row) >>= exactly 6
+  window ← letters_in (cell_or options.window columns.window row) >>= exactly 6
   rows ← readings_in (cell_at columns.bars row) >>= exactly 27
   Some (pin_day_of number rows pins window list)

@@ -11,7 +11,7 @@ use Rattle.kd_table.specs.Items.{number_in, wheels_in, letters_in, pairs_in, gro
 use Rattle.kd_table.specs.Names.{reflector_named}
 use Rattle.kd_table.specs.Steps.{◌>>=◌}
 use Rattle.kd_table.specs.declared.columns.Columns.{Columns}
-use Rattle.kd_table.specs.declared.options.TableOptions.{TableOptions}
+use Rattle.kd_table.specs.Options.{OptionTexts}
 
 -- each wheel with its ring and its window letter; there must be as many rings and letters as wheels
 abbrev pub wheels_with : List (Option Wheel) → List ℕ → List ℕ → Option (List SheetWheel)
@@ -22,13 +22,13 @@ wheels_with _ _ _ = None
 
 -- The values of a row's day. For the reflector and the window, options may stand for cells without anything. The column
 -- of the plugged pairs must be there, so that a slip in its name isn't taken for a day without pairs.
-unfoldable pub rotor_values : TableOptions → Columns → List (List ℕ) → Model → Option RotorDay
+unfoldable pub rotor_values : OptionTexts → Columns → List (List ℕ) → Model → Option RotorDay
 rotor_values options columns row model = do
   number ← number_in (cell_at columns.day row)
-  reflector ← reflector_named model (cell_or options.reflector.now columns.reflector row)
+  reflector ← reflector_named model (cell_or options.reflector columns.reflector row)
   wheels ← wheels_in (cell_at columns.wheels row)
   rings ← letters_in (cell_at columns.rings row)
-  window ← letters_in (cell_or options.window.now columns.window row)
+  window ← letters_in (cell_or options.window columns.window row)
   seated ← wheels_with wheels rings window
   plugs ← columns.plugs
   pairs ← pairs_in (cell_at (Some plugs) row)

@@ -13,7 +13,7 @@ use Rattle.kd_table.specs.PinRow.{pin_values}
 use Rattle.kd_table.specs.RotorRow.{rotor_values}
 use Rattle.kd_table.specs.Steps.{◌>>=◌}
 use Rattle.kd_table.specs.declared.columns.Columns.{Columns}
-use Rattle.kd_table.specs.declared.options.TableOptions.{TableOptions}
+use Rattle.kd_table.specs.Options.{OptionTexts}
 
 -- the columns whose values are read, but for the columns of pins
 abbrev pub places_of : Columns → List (Option ℕ)
@@ -27,18 +27,18 @@ is_blank_row columns row =
     && list_all (λ column. is_blank (cell_at column row)) columns.pins
 
 -- the values of a row's day of this model
-abbrev pub values_of_model : TableOptions → Columns → List (List ℕ) → Model → Option Day
+abbrev pub values_of_model : OptionTexts → Columns → List (List ℕ) → Model → Option Day
 values_of_model options columns row M209 = option_map OfPins (pin_values options columns row)
 values_of_model options columns row model = option_map OfRotors (rotor_values options columns row model)
 
 -- the values of a row's day
-abbrev pub row_values : TableOptions → Columns → List (List ℕ) → Option Day
+abbrev pub row_values : OptionTexts → Columns → List (List ℕ) → Option Day
 row_values options columns row = do
-  model ← model_named (cell_or options.model.now columns.model row)
+  model ← model_named (cell_or options.model columns.model row)
   values_of_model options columns row model
 
 -- The row describes this day, which is legal.
-pub record IsDayOfRow (options : TableOptions) (columns : Columns) (row : List (List ℕ)) (day : Day) : Type 0 where
+pub record IsDayOfRow (options : OptionTexts) (columns : Columns) (row : List (List ℕ)) (day : Day) : Type 0 where
   pub values : row_values options columns row ≡ Some day
   pub legal : IsLegalDay day
 

@@ -9,9 +9,9 @@ use Rattle.kd_table.specs.Columns.{columns_of}
 use Rattle.kd_table.specs.Row.{row_values, is_blank_row, IsDayOfRow, IsNoDay}
 use Rattle.kd_table.specs.Rows.{separated, separator_of, is_well_quoted}
 use Rattle.kd_table.specs.declared.columns.Columns.{Columns}
-use Rattle.kd_table.specs.declared.fault.TableFault.{TableFault}
-use Rattle.kd_table.specs.declared.fault.TableFault.TheVariants.{Refused, Device, NoMemory}
-use Rattle.kd_table.specs.declared.options.TableOptions.{TableOptions}
+use Rattle.kd_table.specs.declared.fault.SpreadsheetFault.{SpreadsheetFault}
+use Rattle.kd_table.specs.declared.fault.SpreadsheetFault.TheVariants.{Refused, Device, NoMemory}
+use Rattle.kd_table.specs.Options.{OptionTexts}
 
 -- whether one of the days has this number
 abbrev pub is_taken : List Day → ℕ → Bool
@@ -19,7 +19,7 @@ is_taken days number = list_any (λ day. day_number day == number) days
 
 -- The rows under a table's first row describe these days, in order. Blank rows describe none, and no two rows describe
 -- days with the same number.
-pub data AreDaysOfRows (options : TableOptions) (columns : Columns) : List (List (List ℕ)) → List Day → Type 0 where
+pub data AreDaysOfRows (options : OptionTexts) (columns : Columns) : List (List (List ℕ)) → List Day → Type 0 where
   NoRows : AreDaysOfRows options columns [] []
   BlankRow : (rows : List (List (List ℕ))) (days : List Day) (row : List (List ℕ)) → AreDaysOfRows options columns rows days
       → is_blank_row columns row ≡ true → AreDaysOfRows options columns (rows ++ row ∷ []) days
@@ -28,13 +28,13 @@ pub data AreDaysOfRows (options : TableOptions) (columns : Columns) : List (List
       → is_taken days (day_number day) ≡ false → AreDaysOfRows options columns (rows ++ row ∷ []) (days ++ day ∷ [])
 
 -- The row isn't blank, and describes no day, or a day whose number one of `days` has.
-pub record IsRefusedRow (options : TableOptions) (columns : Columns) (days : List Day) (row : List (List ℕ)) : Type 0 where
+pub record IsRefusedRow (options : OptionTexts) (columns : Columns) (days : List Day) (row : List (List ℕ)) : Type 0 where
   pub filled : is_blank_row columns row ≡ false
   pub why : IsNoDay (row_values options columns row)
       ⊎ ((day : Day) × IsDayOfRow options columns row day × (is_taken days (day_number day) ≡ true))
 
 -- Some row is refused; the rows before it describe days.
-pub record HasRefusedRow (options : TableOptions) (columns : Columns) (rows : List (List (List ℕ))) : Type 0 where
+pub record HasRefusedRow (options : OptionTexts) (columns : Columns) (rows : List (List (List ℕ))) : Type 0 where
   pub before : List (List (List ℕ))
   pub row : List (List ℕ)
   pub after : List (List (List ℕ))
@@ -48,7 +48,7 @@ abbrev pub AreRows : List ℕ → List (List (List ℕ)) → Type 0
 AreRows table rows = AreRecords (separated (separator_of table)) st.StartRecord (strip_bom table) rows
 
 -- The table means these days: at least one, each described by a row.
-pub record TableMeans (options : TableOptions) (table : List ℕ) (days : List Day) : Type 0 where
+pub record TableMeans (options : OptionTexts) (table : List ℕ) (days : List Day) : Type 0 where
   pub quoted : is_well_quoted table ≡ true
   pub head : List (List ℕ)
   pub rows : List (List (List ℕ))
@@ -57,7 +57,7 @@ pub record TableMeans (options : TableOptions) (table : List ℕ) (days : List D
   pub some : 0 < length days
 
 -- The table is refused: its quotes are wrong, one of its rows is refused, or its rows describe no day.
-pub data IsRefusedTable (options : TableOptions) (table : List ℕ) : Type 0 where
+pub data IsRefusedTable (options : OptionTexts) (table : List ℕ) : Type 0 where
   WrongQuotes : is_well_quoted table ≡ false → IsRefusedTable options table
   RefusedRow : (head : List (List ℕ)) (rows : List (List (List ℕ))) → AreRows table (head ∷ rows)
       → HasRefusedRow options (columns_of head) rows → IsRefusedTable options table
@@ -66,7 +66,7 @@ pub data IsRefusedTable (options : TableOptions) (table : List ℕ) : Type 0 whe
   NoFirstRow : AreRows table [] → IsRefusedTable options table
 
 -- whether the sink failed
-abbrev pub is_device : {T : Type 0} → Result T TableFault → Bool
+abbrev pub is_device : {T : Type 0} → Result T SpreadsheetFault → Bool
 is_device (Ok done) = false
 is_device (Err Refused) = false
 is_device (Err Device) = true
@@ -75,12 +75,12 @@ is_device (Err NoMemory) = false
 -- ---- Reading row by row. No public contract cites these definitions.
 
 -- What was read of the rows under the first row: days, or that a row is refused.
-abbrev pub IsBodyRead : TableOptions → Columns → List (List (List ℕ)) → List Day → Bool → Type 0
+abbrev pub IsBodyRead : OptionTexts → Columns → List (List (List ℕ)) → List Day → Bool → Type 0
 IsBodyRead options columns rows days false = AreDaysOfRows options columns rows days
 IsBodyRead options columns rows days true = HasRefusedRow options columns rows
 
 -- What was read of all rows: nothing yet, or the columns, and what the rows under the first row describe.
-abbrev pub IsRead : TableOptions → List (List (List ℕ)) → Option Columns → List Day → Bool → Type 0
+abbrev pub IsRead : OptionTexts → List (List (List ℕ)) → Option Columns → List Day → Bool → Type 0
 IsRead options [] columns days refused = (columns ≡ None) × (days ≡ []) × (refused ≡ false)
 IsRead options (head ∷ rows) columns days refused =
     (columns ≡ Some (columns_of head)) × IsBodyRead options (columns_of head) rows days refused

@@ -1,9 +1,9 @@
-//! `TableFault`: why a table isn't made a key sheet.
+//! `SpreadsheetFault`: why a table isn't made a key sheet.
 use thiserror::Error;
 
 /// Why no key sheet, or only a part of it, is written.
 #[derive(Clone, Copy, Debug, PartialEq, Eq, Error)]
-pub enum TableFault {
+pub enum SpreadsheetFault {
     /// The table has faults, which were told.
     #[error("the table has faults")]
     Refused,

@@ -4,6 +4,7 @@
 mod columns;
 mod fault;
 mod items;
+pub mod laws;
 mod names;
 mod notes;
 mod options;
@@ -14,6 +15,6 @@ mod rotor_row;
 mod row;
 mod sheet;
 
-pub use fault::TableFault;
+pub use fault::SpreadsheetFault;
 pub use options::TableOptions;
 pub use sheet::run_sheet;

@@ -1,4 +1,7 @@
-//! Tells in words what is wrong with a table. Nothing here is proved but that it is safe and ends; tests try the words.
+//! Tells in words what is wrong with a table. The words aren't proved; tests try them.
+ghost use Rattle.kd_tables.specs.Ports.{port};
+ghost use Rattle.kd_table.specs.Notes.{Tells};
+
 mod cell_faults;
 mod head_faults;
 mod pin_faults;
@@ -36,10 +39,12 @@ struct Found {
 pub fn tell_table<N: Sink>(
     alloc: Global,
     table: &[u8],
-    options: &TableOptions<'_>,
+    options: &TableOptions<&[u8]>,
     is_refused: bool,
     notes: &mut N,
-) {
+)
+    ensures { Tells (port N.taken N.has_failed notes.old notes.new) }
+{
     if !is_well_quoted(table) {
         let mut lines = Lines::new();
         lines.add("a quote isn't closed, or something follows the closing quote of a cell\n");
@@ -85,12 +90,14 @@ pub fn tell_table<N: Sink>(
 
 /// Tells the columns that aren't read, and, of a refused table, the columns that any table needs.
 fn tell_head<N: Sink>(
-    options: &TableOptions<'_>,
+    options: &TableOptions<&[u8]>,
     columns: &Columns,
     head: &ByteRecord,
     is_refused: bool,
     notes: &mut N,
-) {
+)
+    ensures { Tells (port N.taken N.has_failed notes.old notes.new) }
+{
     let mut lines = Lines::new();
     tell_unread(&mut lines, columns, head);
     if is_refused {
@@ -102,13 +109,15 @@ fn tell_head<N: Sink>(
 /// Tells the faults of a row, and keeps the row's day in mind.
 fn tell_row<N: Sink>(
     found: &mut Found,
-    options: &TableOptions<'_>,
+    options: &TableOptions<&[u8]>,
     columns: &Columns,
     head: &ByteRecord,
     number: u64,
     row: &ByteRecord,
     notes: &mut N,
-) {
+)
+    ensures { Tells (port N.taken N.has_failed notes.old notes.new) }
+{
     if is_blank_row(columns, row) {
         return;
     }
@@ -163,7 +172,7 @@ fn tell_values(
     lines: &mut Lines,
     found: &mut Found,
     place: RowPlace<'_>,
-    options: &TableOptions<'_>,
+    options: &TableOptions<&[u8]>,
     columns: &Columns,
     row: &ByteRecord,
 ) {

@@ -1,12 +1,12 @@
 //! What is used where a table says nothing.
 
 /// Texts that stand for cells which a row or the table lacks; an empty text stands for nothing.
-#[derive(Clone, Copy)]
-pub struct TableOptions<'a> {
+#[derive(Drop)]
+pub struct TableOptions<T> {
     /// The name of the model.
-    pub model: &'a [u8],
+    pub model: T,
     /// The name of the reflector.
-    pub reflector: &'a [u8],
+    pub reflector: T,
     /// The letters in the windows.
-    pub window: &'a [u8],
+    pub window: T,
 }

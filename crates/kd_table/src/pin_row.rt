@@ -3,6 +3,7 @@ ghost use Rattle.std.specs.Prelude.{◌≡◌, MatchOption, Some, option_map};
 ghost use Rattle.csv.specs.Records.{fields_of};
 ghost use Rattle.kd_state.specs.SheetDay.{OfPins};
 ghost use Rattle.kd_table.specs.PinRow.{pins_at, pins_in, pin_values};
+ghost use Rattle.kd_table.specs.Options.{texts_of};
 ghost use Rattle.kd_table.specs.Row.{IsNoDay};
 
 use crate::columns::{Columns, cell_at, cell_or};
@@ -44,10 +45,15 @@ fn pins_in(columns: &Columns, row: &ByteRecord) -> Option<PinSet>
 
 /// Reads a row as a Converter's day. `None` if it doesn't describe a legal day.
 #[tactic(auto, unfolding(crate::specs::PinRow::pin_values))]
-pub fn pin_day(options: &TableOptions<'_>, columns: &Columns, row: &ByteRecord) -> Option<SheetDay>
+pub fn pin_day(
+    options: &TableOptions<&[u8]>,
+    columns: &Columns,
+    row: &ByteRecord,
+) -> Option<SheetDay>
     ensures { MatchOption result
-        (IsNoDay (option_map OfPins (pin_values options.now columns.now (fields_of row.now))))
-        (λ day. option_map OfPins (pin_values options.now columns.now (fields_of row.now)) ≡ Some day) }
+        (IsNoDay (option_map OfPins (pin_values (texts_of options.now) columns.now (fields_of row.now))))
+        (λ day. option_map OfPins (pin_values (texts_of options.now) columns.now (fields_of row.now))
+        ≡ Some day) }
 {
     let number = number_in(cell_at(row, columns.day))?;
     let list = values_in::<Letter>(cell_at(row, columns.list))?;

@@ -3,11 +3,12 @@ ghost use Rattle.std.specs.Prelude.{◌≡◌, ◌++◌, ◌∷◌, [], List, �
 ghost use Rattle.csv.specs.Records.{fields_of};
 ghost use Rattle.csv.specs.Reading.{AreRecords, strip_bom};
 ghost use Rattle.csv.specs.declared.parser.State.TheVariants as st;
+ghost use Rattle.kd_table.specs.Options.{texts_of};
 ghost use Rattle.kd_table.specs.Rows.{separated};
 ghost use Rattle.kd_table.specs.Table.{is_taken, IsBodyRead, IsRead};
 
 use crate::columns::Columns;
-use crate::fault::TableFault;
+use crate::fault::SpreadsheetFault;
 use crate::options::TableOptions;
 use crate::row::{is_blank_row, row_day};
 use csv::{ByteRecord, ReaderBuilder};
@@ -39,13 +40,14 @@ fn is_taken(days: &[SheetDay], number: u8) -> bool
 fn read_body_row(
     days: &mut Vec<SheetDay>,
     refused: bool,
-    options: &TableOptions<'_>,
+    options: &TableOptions<&[u8]>,
     columns: &Columns,
     row: &ByteRecord,
-) -> Result<bool, TableFault>
+) -> Result<bool, SpreadsheetFault>
     ensures { IfOk result (λ now. (rows : List (List (List ℕ)))
-        → IsBodyRead options.now columns.now rows days.old.items refused
-        → IsBodyRead options.now columns.now (rows ++ fields_of row.now ∷ []) days.new.items now) }
+        → IsBodyRead (texts_of options.now) columns.now rows days.old.items refused
+        → IsBodyRead (texts_of options.now) columns.now (rows ++ fields_of row.now ∷ [])
+        days.new.items now) }
 {
     if is_blank_row(columns, row) {
         return Ok(refused);
@@ -58,7 +60,7 @@ fn read_body_row(
         return Ok(true);
     }
     if days.push(day).is_err() {
-        return Err(TableFault::NoMemory);
+        return Err(SpreadsheetFault::NoMemory);
     }
     Ok(refused)
 }
@@ -66,13 +68,13 @@ fn read_body_row(
 /// Reads the next row.
 fn read_row(
     reading: &mut Reading,
-    options: &TableOptions<'_>,
+    options: &TableOptions<&[u8]>,
     row: &ByteRecord,
-) -> Result<(), TableFault>
+) -> Result<(), SpreadsheetFault>
     ensures { IfOk result (λ _. (rows : List (List (List ℕ)))
-        → IsRead options.now rows reading.old.columns reading.old.days.items reading.old.refused
-        → IsRead options.now (rows ++ fields_of row.now ∷ []) reading.new.columns reading.new.days.items
-        reading.new.refused) }
+        → IsRead (texts_of options.now) rows reading.old.columns reading.old.days.items reading.old.refused
+        → IsRead (texts_of options.now) (rows ++ fields_of row.now ∷ []) reading.new.columns
+        reading.new.days.items reading.new.refused) }
 {
     match reading.columns {
         None => reading.columns = Some(Columns::of_head(row)),
@@ -89,11 +91,11 @@ pub fn read_rows(
     alloc: Global,
     separator: u8,
     table: &[u8],
-    options: &TableOptions<'_>,
-) -> Result<Reading, TableFault>
+    options: &TableOptions<&[u8]>,
+) -> Result<Reading, SpreadsheetFault>
     ensures { IfOk result (λ reading. (rows : List (List (List ℕ)))
         × AreRecords (separated separator) st.StartRecord (strip_bom table.now) rows
-        × IsRead options.now rows reading.columns reading.days.items reading.refused) }
+        × IsRead (texts_of options.now) rows reading.columns reading.days.items reading.refused) }
 {
     let rdr = ReaderBuilder::new()
         .has_headers(false)
@@ -107,7 +109,7 @@ pub fn read_rows(
     };
     for row in rdr.into_byte_records() {
         let Ok(row) = row else {
-            return Err(TableFault::NoMemory);
+            return Err(SpreadsheetFault::NoMemory);
         };
         read_row(&mut reading, options, &row)?;
     }

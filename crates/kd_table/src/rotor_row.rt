@@ -2,6 +2,7 @@
 ghost use Rattle.std.specs.Prelude.{◌≡◌, ◌≤◌, ◌+◌, ◌++◌, MatchOption, Some, option_map, length};
 ghost use Rattle.csv.specs.Records.{fields_of};
 ghost use Rattle.kd_state.specs.SheetDay.{OfRotors};
+ghost use Rattle.kd_table.specs.Options.{texts_of};
 ghost use Rattle.kd_table.specs.Row.{IsNoDay};
 ghost use Rattle.kd_table.specs.RotorRow.{wheels_with, rotor_values};
 
@@ -61,14 +62,16 @@ fn wheels_with(
 /// Reads a row as a day of `model`. `None` if it doesn't describe a legal day.
 #[tactic(auto, unfolding(crate::specs::RotorRow::rotor_values))]
 pub fn rotor_day(
-    options: &TableOptions<'_>,
+    options: &TableOptions<&[u8]>,
     columns: &Columns,
     row: &ByteRecord,
     model: Model,
 ) -> Option<SheetDay>
     ensures { MatchOption result
-        (IsNoDay (option_map OfRotors (rotor_values options.now columns.now (fields_of row.now) model)))
-        (λ day. option_map OfRotors (rotor_values options.now columns.now (fields_of row.now) model) ≡ Some day) }
+        (IsNoDay (option_map OfRotors
+        (rotor_values (texts_of options.now) columns.now (fields_of row.now) model)))
+        (λ day. option_map OfRotors
+        (rotor_values (texts_of options.now) columns.now (fields_of row.now) model) ≡ Some day) }
 {
     let number = number_in(cell_at(row, columns.day))?;
     let reflector = reflector_named(model, cell_or(options.reflector, row, columns.reflector))?;

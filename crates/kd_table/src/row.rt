@@ -3,6 +3,7 @@ ghost use Rattle.std.specs.Prelude.{◌≡◌, MatchOption};
 ghost use Rattle.csv.specs.Records.{fields_of};
 ghost use Rattle.std.specs.List.{list_all};
 ghost use Rattle.kd_table.specs.{Columns.{cell_at}, Items.{is_blank}};
+ghost use Rattle.kd_table.specs.Options.{texts_of};
 ghost use Rattle.kd_table.specs.Row.{is_blank_row, places_of, row_values, IsDayOfRow, IsNoDay};
 
 use crate::columns::{Columns, cell_at, cell_or};
@@ -48,10 +49,14 @@ pub fn is_blank_row(columns: &Columns, row: &ByteRecord) -> bool
 }
 
 /// Reads a row as a day. `None` if it doesn't describe a legal day.
-pub fn row_day(options: &TableOptions<'_>, columns: &Columns, row: &ByteRecord) -> Option<SheetDay>
+pub fn row_day(
+    options: &TableOptions<&[u8]>,
+    columns: &Columns,
+    row: &ByteRecord,
+) -> Option<SheetDay>
     ensures { MatchOption result
-        (IsNoDay (row_values options.now columns.now (fields_of row.now)))
-        (λ day. IsDayOfRow options.now columns.now (fields_of row.now) day) }
+        (IsNoDay (row_values (texts_of options.now) columns.now (fields_of row.now)))
+        (λ day. IsDayOfRow (texts_of options.now) columns.now (fields_of row.now) day) }
 {
     let model = model_named(cell_or(options.model, row, columns.model))?;
     let day = match model {

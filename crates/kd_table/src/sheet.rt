@@ -4,10 +4,12 @@ ghost use Rattle.std.specs.Io.KnownBytes.{Appends};
 ghost use Rattle.kd_tables.specs.Writing.{TakesPrefix};
 ghost use Rattle.kd_state.specs.SheetDay.{Day};
 ghost use Rattle.kd_sheet.specs.{Sheet.{month_of}, SheetFile.{sheet_of}, SheetText.{sheet_text}};
+ghost use Rattle.kd_tables.specs.Ports.{port};
+ghost use Rattle.kd_table.specs.{Notes.{Tells}, Options.{texts_of}};
 ghost use Rattle.kd_table.specs.Table.{TableMeans, IsRefusedTable, is_device};
-ghost use Rattle.kd_table.specs.declared.fault.TableFault.TheVariants as faults;
+ghost use Rattle.kd_table.specs.declared.fault.SpreadsheetFault.TheVariants as faults;
 
-use crate::fault::TableFault;
+use crate::fault::SpreadsheetFault;
 use crate::notes::tell_table;
 use crate::options::TableOptions;
 use crate::quotes::{is_well_quoted, separator_of};
@@ -21,38 +23,40 @@ use std::alloc::Global;
 fn read_days(
     alloc: Global,
     table: &[u8],
-    options: &TableOptions<'_>,
-) -> Result<Vec<SheetDay>, TableFault>
-    ensures days { IfOk result (λ days. TableMeans options.now table.now days.items) }
-    ensures refused { result ≡ Err faults.Refused → IsRefusedTable options.now table.now }
+    options: &TableOptions<&[u8]>,
+) -> Result<Vec<SheetDay>, SpreadsheetFault>
+    ensures days { IfOk result (λ days. TableMeans (texts_of options.now) table.now days.items) }
+    ensures refused { result ≡ Err faults.Refused → IsRefusedTable (texts_of options.now) table.now }
     ensures unwritten { is_device result ≡ false }
 {
     if !is_well_quoted(table) {
-        return Err(TableFault::Refused);
+        return Err(SpreadsheetFault::Refused);
     }
     let reading = match read_rows(alloc, separator_of(table), table, options) {
         Ok(reading) => reading,
-        Err(_) => return Err(TableFault::NoMemory),
+        Err(_) => return Err(SpreadsheetFault::NoMemory),
     };
     let Reading { days, refused, .. } = reading;
     if refused {
-        return Err(TableFault::Refused);
+        return Err(SpreadsheetFault::Refused);
     }
     if days.is_empty() {
-        return Err(TableFault::Refused);
+        return Err(SpreadsheetFault::Refused);
     }
     Ok(days)
 }
 
 /// Tells the faults of a table, if it is refused for its faults.
 fn tell_refused<N: Sink>(
-    fault: TableFault,
+    fault: SpreadsheetFault,
     alloc: Global,
     table: &[u8],
-    options: &TableOptions<'_>,
+    options: &TableOptions<&[u8]>,
     notes: &mut N,
-) {
-    if let TableFault::Refused = fault {
+)
+    ensures { Tells (port N.taken N.has_failed notes.old notes.new) }
+{
+    if let SpreadsheetFault::Refused = fault {
         tell_table(alloc, table, options, true, notes);
     }
 }
@@ -64,17 +68,18 @@ fn tell_refused<N: Sink>(
 pub fn run_sheet<W: Sink, N: Sink>(
     alloc: Global,
     table: &[u8],
-    options: &TableOptions<'_>,
+    options: &TableOptions<&[u8]>,
     sink: &mut W,
     notes: &mut N,
-) -> Result<(), TableFault>
-    ensures sheet { IfOk result (λ _. (days : List Day) × TableMeans options.now table.now days
+) -> Result<(), SpreadsheetFault>
+    ensures sheet { IfOk result (λ _. (days : List Day) × TableMeans (texts_of options.now) table.now days
         × Appends (W.taken sink.old) (W.taken sink.new) (sheet_text days)
         × (sheet_of (sheet_text days) ≡ Ok (month_of days))) }
-    ensures refused { result ≡ Err faults.Refused → IsRefusedTable options.now table.now }
-    ensures device { result ≡ Err faults.Device → (days : List Day) × TableMeans options.now table.now days
+    ensures refused { result ≡ Err faults.Refused → IsRefusedTable (texts_of options.now) table.now }
+    ensures device { result ≡ Err faults.Device → (days : List Day) × TableMeans (texts_of options.now) table.now days
         × TakesPrefix (W.taken sink.old) (W.taken sink.new) (sheet_text days) }
     ensures untouched { IsErr result → is_device result ≡ false → sink.new ≡ sink.old }
+    ensures told { Tells (port N.taken N.has_failed notes.old notes.new) }
     ensures failed { W.has_failed sink.new ≡ (W.has_failed sink.old || is_device result) }
 {
     let days = match read_days(alloc, table, options) {
@@ -87,6 +92,6 @@ pub fn run_sheet<W: Sink, N: Sink>(
     tell_table(alloc, table, options, false, notes);
     match write_sheet(sink, days.as_slice()) {
         Ok(()) => Ok(()),
-        Err(Device) => Err(TableFault::Device),
+        Err(Device) => Err(SpreadsheetFault::Device),
     }
 }

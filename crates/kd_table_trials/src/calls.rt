@@ -2,7 +2,7 @@
 ghost use Rattle.std.specs.Prelude.{◌≤◌};
 
 use kd_sheet::read_sheet;
-use kd_table::{TableFault, TableOptions, run_sheet};
+use kd_table::{SpreadsheetFault, TableOptions, run_sheet};
 use kd_tables::MemorySink;
 use std::alloc::Global;
 use std::process::Abort;
@@ -11,7 +11,7 @@ use std::process::Abort;
 pub type OptionTexts = (&'static str, &'static str, &'static str);
 
 /// The options with these texts.
-fn options_of(texts: &OptionTexts) -> TableOptions<'static> {
+fn options_of(texts: &OptionTexts) -> TableOptions<&'static [u8]> {
     let (model, reflector, window) = *texts;
     TableOptions {
         model: model.as_bytes(),
@@ -49,7 +49,7 @@ pub fn is_refused(
     let mut sink = MemorySink::<4096>::new(4096);
     let mut told = MemorySink::<4096>::new(4096);
     let made = run_sheet(alloc, table, &options_of(options), &mut sink, &mut told);
-    assert!(rt; made == Err(TableFault::Refused), "{lines}");
+    assert!(rt; made == Err(SpreadsheetFault::Refused), "{lines}");
     assert!(rt; sink.taken().is_empty(), "{lines}");
     let shown = std::str::from_utf8(told.taken()).unwrap_or("?");
     assert!(rt; shown == lines, "{shown}");
@@ -69,6 +69,6 @@ pub fn stops(
     let mut sink = MemorySink::<4096>::new(count);
     let mut told = MemorySink::<64>::new(64);
     let made = run_sheet(alloc, table, &options_of(options), &mut sink, &mut told);
-    assert!(rt; made == Err(TableFault::Device), "{due}");
+    assert!(rt; made == Err(SpreadsheetFault::Device), "{due}");
     assert!(rt; due.as_bytes().starts_with(sink.taken()), "{due}");
 }

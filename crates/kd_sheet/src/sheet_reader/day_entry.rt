@@ -34,7 +34,7 @@ fn rings_of(value: &Value, model: Model) -> Option<PerSlot<Letter>>
 }
 
 /// Reads the day's rings, one for each slot of `model`.
-fn rings_in(table: &Table, model: Model) -> Result<PerSlot<Letter>, SheetFault>
+pub fn rings_in(table: &Table, model: Model) -> Result<PerSlot<Letter>, SheetFault>
     requires { 0 < slots_of model }
     ensures { result ≡ read_at keys.Rings (rings_of (slots_of model)) (table_view table.now) }
 {
@@ -43,7 +43,7 @@ fn rings_in(table: &Table, model: Model) -> Result<PerSlot<Letter>, SheetFault>
 
 /// Reads the day's window letters, one for each slot of `model`.
 #[tactic(auto, unfolding(crate::specs::Letters::letters_at))]
-fn window_in(table: &Table, model: Model) -> Result<PerSlot<Letter>, SheetFault>
+pub fn window_in(table: &Table, model: Model) -> Result<PerSlot<Letter>, SheetFault>
     requires { 0 < slots_of model }
     ensures { result ≡ letters_at keys.Window (slots_of model) (table_view table.now) }
 {

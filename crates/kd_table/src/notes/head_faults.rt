@@ -62,7 +62,7 @@ fn tell_missing_or(
 }
 
 /// Tells the columns that any table needs and `columns` lacks.
-pub fn tell_missing_columns(lines: &mut Lines, columns: &Columns, options: &TableOptions<'_>) {
+pub fn tell_missing_columns(lines: &mut Lines, columns: &Columns, options: &TableOptions<&[u8]>) {
     tell_missing(lines, columns.day, "day (Tag)");
     tell_missing_or(
         lines,
@@ -77,7 +77,7 @@ pub fn tell_missing_columns(lines: &mut Lines, columns: &Columns, options: &Tabl
 pub fn tell_missing_of_model(
     lines: &mut Lines,
     columns: &Columns,
-    options: &TableOptions<'_>,
+    options: &TableOptions<&[u8]>,
     model: Model,
 ) {
     tell_missing_or(

@@ -12,7 +12,7 @@ use kd_tables::{Letter, Reading, place_on_wheel};
 pub fn tell_pin_row(
     lines: &mut Lines,
     place: RowPlace<'_>,
-    options: &TableOptions<'_>,
+    options: &TableOptions<&[u8]>,
     columns: &Columns,
     row: &ByteRecord,
 ) {

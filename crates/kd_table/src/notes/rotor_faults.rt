@@ -12,7 +12,7 @@ use kd_tables::{Letter, Model, Wheel, allowed, in_box};
 pub fn tell_rotor_row(
     lines: &mut Lines,
     place: RowPlace<'_>,
-    options: &TableOptions<'_>,
+    options: &TableOptions<&[u8]>,
     columns: &Columns,
     row: &ByteRecord,
     model: Model,
@@ -61,7 +61,7 @@ pub fn cell_place<'a>(row: RowPlace<'a>, column: Option<usize>, name: &'a str) -
 fn tell_reflector(
     lines: &mut Lines,
     place: RowPlace<'_>,
-    options: &TableOptions<'_>,
+    options: &TableOptions<&[u8]>,
     columns: &Columns,
     row: &ByteRecord,
     model: Model,

@@ -1,4 +1,7 @@
 //! Lines of text on the faults of a row.
+ghost use Rattle.kd_tables.specs.Ports.{port};
+ghost use Rattle.kd_table.specs.Notes.{Tells};
+
 use arrayvec::ArrayVec;
 use csv::ByteRecord;
 use itoa::Buffer;
@@ -50,7 +53,9 @@ impl Lines {
     }
 
     /// Writes the lines.
-    pub fn put<N: Sink>(&self, notes: &mut N) {
+    pub fn put<N: Sink>(&self, notes: &mut N)
+        ensures { Tells (port N.taken N.has_failed notes.old notes.new) }
+    {
         let _ = put_all(notes, self.text.as_slice());
     }
 }

@@ -28,6 +28,7 @@ returns c =
     ∙ ap with_version (ap app_of_fields c.about.ensures ∙ c.new.ensures.app)))) in
     let first = one_command_more top c.in_ok-page.ensures c.in_ok-subcommand.ensures in
     let second = one_command_more first c.in_ok-list.ensures c.in_ok-subcommand-2.ensures in
-    ok_also c.subcommand-3.result (AddsSubcommand c.in_ok-subcommand-2.field-0 c.in_ok-table.table)
+    let third = one_command_more second c.in_ok-table.ensures c.in_ok-subcommand-3.ensures in
+    ok_also c.subcommand-4.result (AddsSubcommand c.in_ok-subcommand-3.field-0 c.in_ok-sheet.sheet)
     (λ made. app_of made ≡ curator_grammar)
-    (λ made adds. one_command_more {new = made} second c.in_ok-table.ensures adds) c.subcommand-3.ensures
+    (λ made adds. one_command_more {new = made} third c.in_ok-sheet.ensures adds) c.subcommand-4.ensures

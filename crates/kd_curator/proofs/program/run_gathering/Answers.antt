@@ -18,5 +18,6 @@ returns g c =
             stopped;
         failed = rw c.into_sink.ensures (failed_on _ _ _ _ _ _ rest.ends (rw made.sink at run.failed)
             (λ err. ap (λ b. has_failed b.sink) (rest.untouched err)) rest.failed);
+        noted = run.noted;
       },
     )

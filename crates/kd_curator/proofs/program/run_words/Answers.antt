@@ -1,7 +1,7 @@
 use Rattle.kd_host.proofs.Failing.{err_is}
-use Rattle.kd_curator.specs.CommandLine.{unborrowed_command}
-use Rattle.kd_curator.specs.Program.{Carried, FileUnread, Shown}
-use Rattle.kd_curator.proofs.Runs.{device_so, only_device, stopped_so, told_so}
+use Rattle.kd_curator.specs.CommandLine.{unborrowed_command, with_texts}
+use Rattle.kd_curator.specs.Program.{Carried, FileUnread, NoNotes, Shown}
+use Rattle.kd_curator.proofs.Runs.{device_so, left_alone, months_so, notes_so, only_device, stopped_so, told_so}
 use Rattle.kd_curator.proofs.program.run_words.Goals as goal
 
 pub returns-in_err-command-in-Ok-clause-carried : goal.returns-in_err-command-in-Ok-clause-carried
@@ -12,7 +12,7 @@ returns-in_err-command-in-Ok-clause-carried g c =
 
 pub returns-in_ok-command-in-Ok-clause-carried : goal.returns-in_ok-command-in-Ok-clause-carried
 returns-in_ok-command-in-Ok-clause-carried g c =
-    Carried (unborrowed_command c.in-Ok.command) c.in-Ok.ensures.said c.in_ok-command-in-Ok.command
+    Carried (unborrowed_command c.in-Ok.command) c.in-Ok.ensures.said (with_texts c.in_ok-command-in-Ok.command)
     c.in_ok-command-in-Ok.ensures.alike c.in_ok-command-in-Ok.ensures.read
     (rw c.requires at c.in_ok-command-in-Ok.ensures.asked)
     (told_so _ _ _ c.carry_out.ensures.does c.of_answer.ensures)
@@ -38,3 +38,22 @@ returns-in-Err-Asked-clause-untouched g c =
 pub returns-in-Err-Asked-clause-failed : goal.returns-in-Err-Asked-clause-failed
 returns-in-Err-Asked-clause-failed g c =
     device_so _ _ _ _ c.of_answer-in-Err-Asked.ensures c.show.ensures.failed
+
+pub carry_out-requires : goal.carry_out-requires
+carry_out-requires g c = months_so _ _ _ c.in-Ok.ensures.said c.in_ok-command-in-Ok.ensures.alike
+
+pub returns-in_ok-command-in-Ok-clause-noted : goal.returns-in_ok-command-in-Ok-clause-noted
+returns-in_ok-command-in-Ok-clause-noted g c =
+    notes_so _ _ _ _ c.in-Ok.ensures.said c.in_ok-command-in-Ok.ensures.alike c.carry_out.ensures.told
+
+pub returns-in_err-command-in-Ok-clause-noted : goal.returns-in_err-command-in-Ok-clause-noted
+returns-in_err-command-in-Ok-clause-noted g c = NoNotes (left_alone _ _)
+
+pub returns-in-Err-Asked-clause-noted : goal.returns-in-Err-Asked-clause-noted
+returns-in-Err-Asked-clause-noted g c = NoNotes (left_alone _ _)
+
+pub returns-in-Err-Usage-clause-noted : goal.returns-in-Err-Usage-clause-noted
+returns-in-Err-Usage-clause-noted g c = NoNotes (left_alone _ _)
+
+pub returns-in-Err-NoMemory-clause-noted : goal.returns-in-Err-NoMemory-clause-noted
+returns-in-Err-NoMemory-clause-noted g c = NoNotes (left_alone _ _)

@@ -7,6 +7,6 @@ use Rattle.kd_key_table.proofs.key_list.draw_list.Goals as goal
 pub returns : goal.returns
 unfolding key_list
 returns g c =
-    joined (both (both (both (both (both (both (both c.fill.ensures c.draw_letters.ensures) c.draw.ensures)
-    c.draw_lines.ensures) c.draw-2.ensures) c.draw_fives.ensures) c.draw-3.ensures) c.draw_words.ensures)
-    c.draw-4.ensures (grind (arith, common_steps))
+    joined (both (both (both (both (both (both (both c.fill_in.ensures c.draw_letters.ensures) c.draw_in.ensures)
+    c.draw_lines.ensures) c.draw_in-2.ensures) c.draw_fives.ensures) c.draw_in-3.ensures) c.draw_words.ensures)
+    c.draw.ensures (grind (arith, common_steps))

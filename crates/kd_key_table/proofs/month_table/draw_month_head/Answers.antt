@@ -7,4 +7,4 @@ use Rattle.kd_key_table.proofs.month_table.draw_month_head.Goals as goal
 pub returns : goal.returns
 unfolding month_head
 returns g c =
-    joined (both c.fill.ensures c.draw_span.ensures) c.fill-2.ensures (grind (arith, common_steps))
+    joined (both c.fill_in.ensures c.draw_span.ensures) c.fill_in-2.ensures (grind (arith, common_steps))

@@ -5,4 +5,4 @@ use Rattle.kd_page.proofs.day_page.draw_pin_steps.Goals as goal
 pub returns : goal.returns
 unfolding pin_text
 returns g c =
-    both (both (both c.draw.ensures c.draw_pins_step.ensures) c.draw_lugs_step.ensures) c.draw_letters_step.ensures
+    both (both (both c.draw_compare_pins.ensures c.draw_pins_step.ensures) c.draw_lugs_step.ensures) c.draw_letters_step.ensures

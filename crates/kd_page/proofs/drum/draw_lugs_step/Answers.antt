@@ -7,7 +7,7 @@ use Rattle.kd_page.proofs.drum.draw_lugs_step.Goals as goal
 pub returns : goal.returns
 unfolding lugs_step
 returns g c =
-    joined (both (both c.draw_step.ensures c.draw.ensures) c.draw_bars.ensures) c.draw-2.ensures (grind (
+    joined (both (both c.draw_step.ensures c.draw_drum_head.ensures) c.draw_bars.ensures) c.draw.ensures (grind (
       arith,
       common_steps,
     ))

@@ -5,4 +5,5 @@ use Rattle.kd_page.proofs.head.draw_head.Goals as goal
 pub returns : goal.returns
 unfolding head_text
 returns g c =
-    both (both (both (both c.draw.ensures c.draw_title.ensures) c.draw-2.ensures) c.draw-3.ensures) c.draw_nav.ensures
+    both (both (both (both c.draw_file_head.ensures c.draw_title.ensures) c.draw.ensures) c.draw-2.ensures)
+    c.draw_nav.ensures

@@ -5,4 +5,4 @@ use Rattle.kd_page.proofs.pins.draw_pin_head.Goals as goal
 
 pub returns : goal.returns
 returns g c =
-    joined c.fill.ensures c.draw_pin_lines.ensures (grind (arith, common_steps))
+    joined c.fill_in.ensures c.draw_pin_lines.ensures (grind (arith, common_steps))

@@ -7,7 +7,7 @@ use Rattle.kd_page.proofs.pins.draw_pins_step.Goals as goal
 pub returns : goal.returns
 unfolding pins_step
 returns g c =
-    joined (both (both c.draw_step.ensures c.draw.ensures) c.draw_pin_wheels.ensures) c.draw-2.ensures (grind (
+    joined (both (both c.draw_step.ensures c.draw_pins_caption.ensures) c.draw_pin_wheels.ensures) c.draw.ensures (grind (
       arith,
       common_steps,
     ))

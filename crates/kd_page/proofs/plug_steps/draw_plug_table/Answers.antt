@@ -5,4 +5,4 @@ use Rattle.kd_page.proofs.plug_steps.draw_plug_table.Goals as goal
 pub returns : goal.returns
 unfolding plug_table
 returns g c =
-    both (both c.draw.ensures c.draw_plug_rows.ensures) c.draw-2.ensures
+    both (both c.draw_in.ensures c.draw_plug_rows.ensures) c.draw.ensures

@@ -5,4 +5,4 @@ use Rattle.kd_page.proofs.windows.draw_window_item.Goals as goal
 
 pub returns : goal.returns
 returns g c =
-    joined (both c.fill.ensures c.draw_boxes.ensures) c.draw.ensures (grind (arith, common_steps))
+    joined (both c.fill_in.ensures c.draw_boxes.ensures) c.draw.ensures (grind (arith, common_steps))

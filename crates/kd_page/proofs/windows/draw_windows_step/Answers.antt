@@ -7,5 +7,5 @@ use Rattle.kd_page.proofs.windows.draw_windows_step.Goals as goal
 pub returns : goal.returns
 unfolding windows_step
 returns g c =
-    joined (both (both c.draw_full_step.ensures c.draw.ensures) c.draw_window_boxes.ensures) c.draw-2.ensures (grind
+    joined (both (both c.draw_full_step.ensures c.draw_in.ensures) c.draw_window_boxes.ensures) c.draw.ensures (grind
     (arith, common_steps))

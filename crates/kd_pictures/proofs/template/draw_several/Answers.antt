@@ -4,4 +4,4 @@ use Rattle.std.proofs.lemmas.Grind.{common_steps}
 use Rattle.kd_pictures.proofs.template.draw_several.Goals as goal
 
 pub returns : goal.returns
-returns g c = joined c.draw.ensures c.draw-2.ensures (grind (arith, common_steps))
+returns g c = joined c.draw.ensures c.draw_in.ensures (grind (arith, common_steps))

@@ -5,5 +5,5 @@ use Rattle.kd_pictures.proofs.wheels.draw_one.Goals as goal
 pub returns : goal.returns
 unfolding one_band
 returns g c =
-    both (both (both (both c.draw.ensures c.draw_words.ensures) c.draw-2.ensures) c.draw_band.ensures)
-    c.draw-3.ensures
+    both (both (both (both c.draw_in.ensures c.draw_words.ensures) c.draw.ensures) c.draw_band.ensures)
+    c.draw-2.ensures

@@ -5,7 +5,7 @@ use Rattle.kd_pictures.proofs.wheels.draw_wheel_words.Goals as goal
 
 pub returns : goal.returns
 returns g c =
-    joined (both c.fill.ensures c.draw_letter_words.ensures) c.draw_letter_words-2.ensures (grind (
+    joined (both c.fill_in.ensures c.draw_letter_words.ensures) c.draw_letter_words-2.ensures (grind (
       arith,
       common_steps,
     ))

@@ -1,5 +1,6 @@
 use Rattle.std.proofs.Common.{◌≡◌, ◌∙◌, Err, ap}
-use Rattle.kd_table.specs.declared.fault.TableFault.TheVariants as faults
+use Rattle.kd_table.specs.declared.fault.SpreadsheetFault.TheVariants as faults
+use Rattle.kd_table.specs.Options.{texts_of}
 use Rattle.kd_table.proofs.TableAnswers.{read_back}
 use Rattle.kd_table.proofs.sheet.run_sheet.Goals as goal
 
@@ -13,5 +14,5 @@ returns-in-Ok-write_sheet-clause-sheet g c =
       c.in-Ok.days.items,
       c.in-Ok.ensures.days,
       written,
-      read_back c.args.options.now c.args.table.now c.in-Ok.days.items c.in-Ok.ensures.days,
+      read_back (texts_of c.args.options.now) c.args.table.now c.in-Ok.days.items c.in-Ok.ensures.days,
     )

@@ -1,0 +1,26 @@
+-- What the command `sheet` writes, and when it refuses.
+-- Test: makes_sheets_of_tables
+use Rattle.std.specs.Prelude.{◌≡◌, ℕ, List, Result, Ok, Err, OnOk}
+use Rattle.kd_tables.specs.Ports.{Port}
+use Rattle.kd_host.specs.Writing.{WritesText}
+use Rattle.kd_state.specs.SheetDay.{Day}
+use Rattle.kd_sheet.specs.Sheet.{month_of}
+use Rattle.kd_sheet.specs.SheetFile.{sheet_of}
+use Rattle.kd_sheet.specs.SheetText.{sheet_text}
+use Rattle.kd_table.specs.Options.{OptionTexts}
+use Rattle.kd_table.specs.Table.{IsRefusedTable, TableMeans}
+use Rattle.kd_curator.specs.MachineAndSheet.{LacksMemory}
+use Rattle.kd_curator.specs.Refusals.{refused_device, refused_whole}
+use Rattle.kd_curator.specs.declared.fault.PageFault.TheVariants.{FaultyTable}
+use Rattle.kd_curator.specs.declared.fault.Refused.{Refused}
+
+-- What is made of a table. `Sheet`: the sheet of the days that the table means was written, or a prefix of it if the
+-- device failed; the whole sheet is read back as these days. `Faulty`: the table is refused. `NoMemory`: memory ran out.
+pub data MakesSheet (options : OptionTexts) (table : List ℕ) (sink : Port) (answer : Result (Unit {0}) Refused)
+    : Type 0 where
+  Sheet : (days : List Day) → TableMeans options table days
+      → OnOk answer (sheet_of (sheet_text days) ≡ Ok (month_of days))
+      → WritesText refused_device (sheet_text days) sink answer → MakesSheet options table sink answer
+  Faulty : IsRefusedTable options table → answer ≡ Err (refused_whole FaultyTable)
+      → MakesSheet options table sink answer
+  NoMemory : LacksMemory answer → MakesSheet options table sink answer

@@ -1,0 +1,55 @@
+//! The command `sheet`: makes a key sheet of a spreadsheet's table, or writes a key sheet to fill in.
+ghost use Rattle.std.specs.Prelude.{◌≡◌, ◌≤◌, ◌||◌, false, IsErr};
+ghost use Rattle.kd_tables.specs.Ports.{port};
+ghost use Rattle.kd_table.specs.Notes.{Tells};
+ghost use Rattle.kd_table.specs.Options.{texts_of};
+ghost use Rattle.kd_host.specs.Writing.{WritesText};
+ghost use Rattle.kd_sheet.specs.EmptySheet.{empty_month_text};
+ghost use Rattle.kd_curator.specs.Refusals.{is_device, refused_device};
+ghost use Rattle.kd_curator.specs.Sheets.{MakesSheet};
+
+use crate::fault::Refused;
+use kd_sheet::write_empty_month;
+use kd_table::{TableOptions, run_sheet};
+use kd_tables::{Model, Sink};
+use std::alloc::Global;
+
+/// Writes the key sheet that the days of `table` make. Tells the table's faults to `errors`, if it has any.
+pub(crate) fn make_sheet<W: Sink, E: Sink>(
+    alloc: Global,
+    table: &[u8],
+    options: &TableOptions<&str>,
+    sink: &mut W,
+    errors: &mut E,
+) -> Result<(), Refused>
+    ensures sheet { MakesSheet (texts_of options.now) table.now
+        (port W.taken W.has_failed sink.old sink.new) result }
+    ensures untouched { IsErr result → is_device result ≡ false → sink.new ≡ sink.old }
+    ensures failed { W.has_failed sink.new ≡ (W.has_failed sink.old || is_device result) }
+    ensures told { Tells (port E.taken E.has_failed errors.old errors.new) }
+{
+    let options = TableOptions {
+        model: options.model.as_bytes(),
+        reflector: options.reflector.as_bytes(),
+        window: options.window.as_bytes(),
+    };
+    match run_sheet(alloc, table, &options, sink, errors) {
+        Ok(()) => Ok(()),
+        Err(fault) => Err(Refused::from(fault)),
+    }
+}
+
+/// Writes a key sheet of `days` days of `model`, to fill in.
+pub(crate) fn write_empty_sheet<W: Sink>(
+    model: Model,
+    days: u8,
+    sink: &mut W,
+) -> Result<(), Refused>
+    requires { days ≤ 31 }
+    ensures written { WritesText refused_device (empty_month_text model days)
+        (port W.taken W.has_failed sink.old sink.new) result }
+    ensures failed { W.has_failed sink.new ≡ (W.has_failed sink.old || is_device result) }
+{
+    write_empty_month(sink, model, days)?;
+    Ok(())
+}

@@ -1,0 +1,73 @@
+-- The lines of a file's faults.
+use Rattle.std.proofs.Common.{◌≡◌, ℕ, List, [], ◌∷◌, ◌++◌, Option, Some, None, Result, Ok, Err, ap, sym, ◌∙◌, subst, refl}
+use Rattle.std.proofs.lemmas.List.{take_all}
+use Rattle.std.proofs.Common.{◌≤◌, ◌-◌, length, drop, take, get_or, arith, is_some, if◌then◌else◌}
+use Rattle.std.specs.Option.{option_map_or}
+use Rattle.std.specs.Result.{result_err}
+use Rattle.toml.specs.Data.{Data, Members}
+use Rattle.kd_state.specs.SheetDay.{Day}
+use Rattle.kd_state.specs.declared.machine.parts.Parts.{Parts}
+use Rattle.kd_sheet.specs.Document.{◌>>=◌, document_of}
+use Rattle.kd_sheet.specs.MachineFile.{machine_of}
+use Rattle.kd_sheet.specs.SheetFile.{sheet_of}
+use Rattle.kd_sheet.specs.declared.fault.SheetFault.{SheetFault}
+use Rattle.kd_slips.specs.Faults.{faults_of, first_fault}
+use Rattle.kd_slips.specs.SheetFaults.{AreFaults, entries_of, file_fault}
+use Rattle.kd_slips.specs.declared.findings.Finding.{Finding}
+use Rattle.kd_slips.specs.declared.place.Place.{Place}
+use Rattle.kd_look.specs.FaultWords.{AreFaultLines, AreLinesFor, IsFaultLine}
+use Rattle.kd_look.specs.Texts.{AppendsText}
+use Rattle.kd_look.specs.declared.file.File.{File}
+use Rattle.kd_look.specs.declared.file.File.TheVariants as files
+use Rattle.kd_look.proofs.Appending.{AppendsText-then}
+unfoldable use Rattle.kd_look.specs.File.{file_of}
+
+-- the line of the first finding is appended, and then the lines of the others
+pub AreFaultLines-then : (name bytes : List ℕ) (findings : List Finding) (first : Finding) (old middle new : List ℕ)
+    → 1 ≤ length findings → first ≡ get_or findings 0 first
+    → AppendsText (IsFaultLine name bytes first.place first.fault) old middle
+    → AppendsText (AreFaultLines name bytes (faults_of (take (length findings - 1) (drop 1 findings)))) middle new
+    → AppendsText (AreFaultLines name bytes (faults_of findings)) old new
+AreFaultLines-then name bytes [] first old middle new some is one others = absurd (omega (arith, some))
+AreFaultLines-then name bytes (head ∷ rest) first old middle new some is one others =
+    let same = subst (λ finding. AppendsText (IsFaultLine name bytes finding.place finding.fault) old middle) is one in
+    let all : take (length (head ∷ rest) - 1) rest ≡ rest = take_all _ rest (omega arith) in
+    AppendsText-then _ _ old middle new same
+    (subst (λ list. AppendsText (AreFaultLines name bytes (faults_of list)) middle new) all others)
+
+-- a choice of what a sheet and what a machine file says, in another form, has the same fault
+of_choice : (entries : Option (List Data)) (sheet : Result (List (Option Day)) SheetFault) (machine : Result Parts SheetFault)
+    (fault : SheetFault)
+    → (if is_some entries then sheet >>= (λ month. Ok (files.Sheet month))
+    else machine >>= (λ parts. Ok (files.Machine parts))) ≡ Err fault
+    → option_map_or (λ items. result_err sheet) entries (result_err machine) ≡ Some fault
+of_choice None sheet (Ok machine) fault is = ap result_err is
+of_choice None sheet (Err wrong) fault is = ap result_err is
+of_choice (Some items) (Ok sheet) machine fault is = ap result_err is
+of_choice (Some items) (Err wrong) machine fault is = ap result_err is
+
+-- the fault of a file that is a document
+file_fault-is : (bytes : List ℕ) (document : Members) (fault : SheetFault) → document_of bytes ≡ Ok document
+    → file_of bytes ≡ Err fault → file_fault bytes document ≡ Some fault
+unfolding file_of
+file_fault-is bytes document fault parsed is =
+    let next : Members → Result File SheetFault = λ table. if is_some (entries_of table)
+    then sheet_of bytes >>= (λ month. Ok (files.Sheet month))
+    else machine_of bytes >>= (λ parts. Ok (files.Machine parts)) in
+    of_choice (entries_of document) (sheet_of bytes) (machine_of bytes) fault
+    (subst (λ answer. (answer >>= next) ≡ Err fault) parsed is)
+
+-- the lines of all faults of a document are the lines for the file
+pub AreLinesFor-document : (name bytes text empty : List ℕ) (document : Members) (fault : SheetFault)
+    (found : List (Place × SheetFault)) → document_of bytes ≡ Ok document → file_of bytes ≡ Err fault
+    → AreFaults document found → first_fault found ≡ file_fault bytes document → empty ≡ []
+    → AppendsText (AreFaultLines name bytes found) empty text
+    → AreLinesFor name bytes (document_of bytes) fault text
+AreLinesFor-document name bytes text empty document fault found parsed is are first none lines =
+    let whole : lines.text ≡ text = sym (lines.added ∙ ap (λ front. front ++ lines.text) none) in
+    rw parsed (record {
+      found = found;
+      are = are;
+      first = first ∙ file_fault-is bytes document fault parsed is;
+      lines = subst (AreFaultLines name bytes found) whole lines.fits;
+    })

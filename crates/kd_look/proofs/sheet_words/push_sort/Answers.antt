@@ -1,0 +1,9 @@
+use Rattle.std.proofs.Common.{append_assoc, arith}
+use Rattle.kd_look.specs.SheetWords.{numbered_day_words}
+use Rattle.kd_look.proofs.Ranges.{one_more}
+use Rattle.kd_look.proofs.sheet_words.push_sort.Goals as goal
+
+pub loop-index-preserved : goal.loop-index-preserved
+loop-index-preserved c =
+    let more = one_more (numbered_day_words c.args.sheet.now c.args.title.now c.args.sort) 1 c.loop-index.index in
+    grind (arith, more, append_assoc)

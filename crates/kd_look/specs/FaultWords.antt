@@ -1,0 +1,76 @@
+-- The lines that name a file's faults: the file's name, the place, what is wrong, and the fault's number and name.
+-- Test: kd_look_trials/src/slips.rt
+use Rattle.std.specs.Prelude.{codes, ◌≡◌, ℕ, ◌++◌, List, [], ◌∷◌, Option, Some, None, Result, Ok, Err, decimal}
+use Rattle.std.specs.Option.{option_and_then, option_map_or}
+use Rattle.toml.specs.Data.{Members}
+use Rattle.kd_sheet.specs.Document.{document_of}
+use Rattle.kd_sheet.specs.FaultText.{sheet_fault_text}
+use Rattle.kd_sheet.specs.Key.{key_name}
+use Rattle.kd_sheet.specs.declared.fault.SheetFault.{SheetFault}
+use Rattle.kd_sheet.specs.declared.fault.SheetFault.TheVariants as faults
+use Rattle.kd_slips.specs.Faults.{first_fault}
+use Rattle.kd_slips.specs.SheetFaults.{AreFaults}
+use Rattle.kd_slips.specs.declared.place.Place.{Place}
+use Rattle.kd_look.specs.Line.{line_number}
+use Rattle.kd_look.specs.Texts.{BeginsWith}
+
+-- the fault's number and name in parentheses, and the end of the line
+abbrev pub fault_end : SheetFault → List ℕ
+fault_end fault = codes " (" ++ sheet_fault_text fault ++ codes ")\n"
+
+-- a line's number in words, if it is known
+unfoldable pub line_words : Option ℕ → List ℕ
+line_words line = option_map_or (λ number. codes ", line " ++ decimal number) line []
+
+-- the day of an entry in words; for an entry whose day can't be read, the entry's number
+unfoldable pub entry_words : Option ℕ → Option ℕ → List ℕ
+entry_words (Some day) entry = codes ", day " ++ decimal day
+entry_words None (Some entry) = codes ", entry " ++ decimal entry
+entry_words None None = []
+
+-- the line of a fault: of its key; for a missing key, of the entry that lacks the key
+abbrev pub line_of_fault : List ℕ → Place → SheetFault → Option ℕ
+line_of_fault bytes place (faults.Missing key) =
+    option_and_then (λ entry. line_number bytes (Some entry) None) place.entry
+line_of_fault bytes place fault = line_number bytes place.entry (Some place.key)
+
+-- the line of a fault, with the words `wrong` for what is wrong
+unfoldable pub fault_line : List ℕ → Place → Option ℕ → List ℕ → SheetFault → List ℕ
+fault_line name place line wrong fault =
+    name ++ entry_words place.day place.entry ++ line_words line ++ codes ", " ++ key_name place.key ++ wrong
+    ++ fault_end fault
+
+-- A line names the fault and its place: the day or the entry, the line if it is known, and the key.
+pub record IsFaultLine (name bytes : List ℕ) (place : Place) (fault : SheetFault) (line : List ℕ) : Type 0 where
+  pub wrong : List ℕ
+  pub whole : line ≡ fault_line name place (line_of_fault bytes place fault) wrong fault
+
+-- The text has a line for each of the faults, in their order.
+abbrev pub AreFaultLines : List ℕ → List ℕ → List (Place × SheetFault) → List ℕ → Type 0
+AreFaultLines name bytes [] text = text ≡ []
+AreFaultLines name bytes (found ∷ rest) text = BeginsWith (IsFaultLine name bytes found.0 found.1)
+    (λ others. AreFaultLines name bytes rest others) text
+
+-- The text has a line for each of the document's faults. The first of them is `fault`.
+pub record NamesFaults (name bytes : List ℕ) (document : Members) (fault : SheetFault) (text : List ℕ) : Type 0 where
+  pub found : List (Place × SheetFault)
+  pub are : AreFaults document found
+  pub first : first_fault found ≡ Some fault
+  pub lines : AreFaultLines name bytes found text
+
+-- The text is one line, with the file's name, some words and the fault.
+pub record IsPlainLine (name : List ℕ) (fault : SheetFault) (text : List ℕ) : Type 0 where
+  pub words : List ℕ
+  pub whole : text ≡ name ++ words ++ fault_end fault
+
+-- The text has a line for each fault of a file: for a document by its keys, else for the whole file.
+abbrev pub AreLinesFor : List ℕ → List ℕ → Result Members SheetFault → SheetFault → List ℕ → Type 0
+AreLinesFor name bytes (Ok document) fault text = NamesFaults name bytes document fault text
+AreLinesFor name bytes (Err _) fault text = IsPlainLine name fault text
+
+-- The text has a line for each fault of a file, of which `fault` is the first, and then maybe warnings.
+pub record NamesFault (name bytes : List ℕ) (fault : SheetFault) (text : List ℕ) : Type 0 where
+  pub lines : List ℕ
+  pub warnings : List ℕ
+  pub are : AreLinesFor name bytes (document_of bytes) fault lines
+  pub whole : text ≡ lines ++ warnings

@@ -1,0 +1,61 @@
+-- What `look_at` writes and answers: a report on each file, and which fault is the first.
+-- Test: kd_look_trials/src/slips.rt, kd_look_trials/src/pairs.rt
+use Rattle.std.specs.Prelude.{◌≡◌, ◌⊎◌, ℕ, ◌++◌, List, [], ◌∷◌, Bool, false, true, Result, Err, OnErr, IfOk}
+use Rattle.kd_tables.specs.Ports.{Port}
+use Rattle.kd_tables.specs.Writing.{Writes}
+use Rattle.kd_look.specs.File.{file_of}
+use Rattle.kd_look.specs.Report.{IsReport, outcome_of}
+use Rattle.kd_look.specs.Texts.{BeginsWith}
+use Rattle.kd_look.specs.declared.looking.NamedFile.{NamedFile}
+use Rattle.kd_look.specs.declared.looking.LookFault.{LookFault}
+use Rattle.kd_look.specs.declared.looking.LookFault.TheVariants.{Device, NoMemory}
+use Rattle.kd_look.specs.declared.outcome.Outcome.{Outcome}
+use Rattle.kd_look.specs.declared.outcome.Outcome.TheVariants as outcomes
+
+-- A file's name and its bytes.
+pub record NamedText : Type 0 where
+  pub name : List ℕ
+  pub bytes : List ℕ
+
+-- a file that was borrowed, as name and bytes
+abbrev pub named_text : NamedFile → NamedText
+named_text file = record { name = file.name.now; bytes = file.bytes.now }
+
+-- the first outcome, or the later one if the first is `Faultless`
+abbrev pub or_later : Outcome → Outcome → Outcome
+or_later outcomes.Faultless later = later
+or_later (outcomes.Faulty fault) later = outcomes.Faulty fault
+
+-- what is found in the files: the first fault of the first file that has any
+abbrev pub outcome_of_all : List NamedText → Outcome
+outcome_of_all [] = outcomes.Faultless
+outcome_of_all (file ∷ rest) = or_later (outcome_of (file_of file.bytes)) (outcome_of_all rest)
+
+-- The text has a report on each of the files, in their order.
+abbrev pub AreReports : List NamedText → List ℕ → Type 0
+AreReports [] text = text ≡ []
+AreReports (file ∷ rest) text = BeginsWith (IsReport file.name file.bytes) (λ others. AreReports rest others) text
+
+-- The text has a report on each of the files, and then maybe warnings on machines and sheets together.
+pub record IsWholeReport (files : List NamedText) (text : List ℕ) : Type 0 where
+  pub reports : List ℕ
+  pub warnings : List ℕ
+  pub made : AreReports files reports
+  pub whole : text ≡ reports ++ warnings
+
+-- whether the sink failed
+abbrev pub is_device : Result Outcome LookFault → Bool
+is_device (Err Device) = true
+is_device _ = false
+
+-- A report on the files was written, or a prefix of it if the sink failed. The answer is what is found in the files.
+pub record WritesReport (files : List NamedText) (sink : Port) (answer : Result Outcome LookFault) : Type 0 where
+  pub text : List ℕ
+  pub made : IsWholeReport files text
+  pub written : Writes sink.had sink.has text answer
+  pub answered : IfOk answer (λ found. found ≡ outcome_of_all files)
+  pub device : OnErr answer (answer ≡ Err Device)
+
+-- A report on the files was written; or memory ran out. No clause says that it really did.
+abbrev pub IsLookAnswer : List NamedText → Port → Result Outcome LookFault → Type 0
+IsLookAnswer files sink answer = WritesReport files sink answer ⊎ (answer ≡ Err NoMemory)

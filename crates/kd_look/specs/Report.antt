@@ -1,0 +1,36 @@
+-- The report on a file: what the file says, or its first fault.
+-- Test: kd_look_trials/src/slips.rt
+use Rattle.std.specs.Prelude.{codes, ◌≡◌, ℕ, ◌++◌, List, Result, Ok, Err}
+use Rattle.kd_sheet.specs.declared.fault.SheetFault.{SheetFault}
+use Rattle.kd_look.specs.FaultWords.{NamesFault}
+use Rattle.kd_look.specs.File.{file_of}
+use Rattle.kd_look.specs.MachineWords.{machine_words}
+use Rattle.kd_look.specs.SheetWords.{sheet_words}
+use Rattle.kd_look.specs.declared.file.File.{File}
+use Rattle.kd_look.specs.declared.file.File.TheVariants as files
+use Rattle.kd_look.specs.declared.outcome.Outcome.{Outcome}
+use Rattle.kd_look.specs.declared.outcome.Outcome.TheVariants as outcomes
+
+-- whether the file has a fault, and which is the first
+abbrev pub outcome_of : Result File SheetFault → Outcome
+outcome_of (Ok file) = outcomes.Faultless
+outcome_of (Err fault) = outcomes.Faulty fault
+
+-- the words for what a file says, after the file's name
+unfoldable pub file_words : List ℕ → File → List ℕ
+file_words name (files.Machine machine) = name ++ codes ": a machine file without a fault\n" ++ machine_words machine
+file_words name (files.Sheet month) = name ++ codes ": a key sheet without a fault\n" ++ sheet_words month
+
+-- The text has the words for what the file says, and then maybe warnings.
+pub record Describes (name : List ℕ) (file : File) (text : List ℕ) : Type 0 where
+  pub warnings : List ℕ
+  pub whole : text ≡ file_words name file ++ warnings
+
+-- The text says what the file says, or names the file's faults, the first of them first.
+abbrev pub SaysOrNames : List ℕ → List ℕ → Result File SheetFault → List ℕ → Type 0
+SaysOrNames name bytes (Ok file) text = Describes name file text
+SaysOrNames name bytes (Err fault) text = NamesFault name bytes fault text
+
+-- The text is the report on the file with this name and these bytes.
+abbrev pub IsReport : List ℕ → List ℕ → List ℕ → Type 0
+IsReport name bytes text = SaysOrNames name bytes (file_of bytes) text

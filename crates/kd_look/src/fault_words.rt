@@ -1,0 +1,195 @@
+//! The lines that name the faults of a file.
+ghost use Rattle.std.specs.Prelude.{◌≡◌, ◌++◌, codes, decimal, IfOk, OnOk, Err, Some};
+ghost use Rattle.std.specs.String.{string_bytes};
+ghost use Rattle.kd_slips.specs.Faults.{faults_of};
+ghost use Rattle.kd_look.specs.FaultWords.{AreFaultLines, IsFaultLine, NamesFault, entry_words, fault_end, fault_line};
+ghost use Rattle.kd_look.specs.FaultWords.{AreLinesFor, IsPlainLine, line_of_fault, line_words};
+ghost use Rattle.kd_look.specs.File.{file_of};
+ghost use Rattle.kd_look.specs.Texts.{AppendsText};
+ghost use Rattle.kd_sheet.specs.Document.{document_of};
+
+use crate::line::line_number;
+use crate::texts::push_wide_number;
+use crate::warnings::key_warnings;
+use kd_sheet::SheetFault;
+use kd_sheet::by_key::parse_table;
+use kd_slips::{Finding, Place, find_faults, toml_words, wrong_words};
+use std::alloc::{AllocError, Global};
+
+/// Appends the number and the name of `fault` in parentheses, and ends the line.
+#[tactic(auto, using(std::proofs::Common::append_assoc))]
+fn push_fault(text: &mut String, fault: SheetFault) -> Result<(), AllocError>
+    ensures { OnOk result (string_bytes text.new ≡ string_bytes text.old ++ fault_end fault) }
+{
+    text.push_str(" (")?;
+    text.push_str(fault.text().as_str())?;
+    text.push_str(")\n")
+}
+
+/// Appends `title` and a number.
+#[tactic(auto, using(std::proofs::Common::append_assoc))]
+fn push_titled(text: &mut String, title: &str, number: usize) -> Result<(), AllocError>
+    ensures { OnOk result (string_bytes text.new
+        ≡ string_bytes text.old ++ (title.now ++ decimal number)) }
+{
+    text.push_str(title)?;
+    push_wide_number(text, number)
+}
+
+/// Appends the number of a line, if it is known.
+#[tactic(auto, unfolding(crate::specs::FaultWords::line_words))]
+fn push_line(text: &mut String, line: Option<usize>) -> Result<(), AllocError>
+    ensures { OnOk result (string_bytes text.new ≡ string_bytes text.old ++ line_words line) }
+{
+    match line {
+        Some(number) => push_titled(text, ", line ", number),
+        None => Ok(()),
+    }
+}
+
+/// Appends the day of an entry; for an entry whose day can't be read, the entry's number.
+#[tactic(auto, unfolding(crate::specs::FaultWords::entry_words))]
+fn push_entry(text: &mut String, day: Option<u8>, entry: Option<usize>) -> Result<(), AllocError>
+    ensures { OnOk result (string_bytes text.new ≡ string_bytes text.old ++ entry_words day entry) }
+{
+    match (day, entry) {
+        (Some(day), _) => push_titled(text, ", day ", usize::from(day)),
+        (None, Some(entry)) => push_titled(text, ", entry ", entry),
+        (None, None) => Ok(()),
+    }
+}
+
+/// The line of a fault: of its key; for a missing key, of the entry that lacks the key.
+fn line_of_fault(
+    alloc: Global,
+    bytes: &[u8],
+    place: Place,
+    fault: SheetFault,
+) -> Result<Option<usize>, AllocError>
+    ensures { IfOk result (λ line. line ≡ line_of_fault bytes.now place fault) }
+{
+    match (fault, place.entry) {
+        (SheetFault::Missing(_), Some(entry)) => line_number(alloc, bytes, Some(entry), None),
+        (SheetFault::Missing(_), None) => Ok(None),
+        (_, entry) => line_number(alloc, bytes, entry, Some(place.key)),
+    }
+}
+
+/// Appends the line of a fault, with the words `wrong` for what is wrong.
+#[tactic(auto, using(std::proofs::Common::append_assoc), unfolding(crate::specs::FaultWords::fault_line))]
+fn push_fault_line(
+    text: &mut String,
+    name: &str,
+    place: Place,
+    line: Option<usize>,
+    wrong: &str,
+    fault: SheetFault,
+) -> Result<(), AllocError>
+    ensures { OnOk result (string_bytes text.new
+        ≡ string_bytes text.old ++ fault_line name.now place line wrong.now fault) }
+{
+    text.push_str(name)?;
+    push_entry(text, place.day, place.entry)?;
+    push_line(text, line)?;
+    text.push_str(", ")?;
+    text.push_str(place.key.name())?;
+    text.push_str(wrong)?;
+    push_fault(text, fault)
+}
+
+/// Appends the line of `finding`.
+fn push_finding(
+    text: &mut String,
+    alloc: Global,
+    bytes: &[u8],
+    name: &str,
+    finding: &Finding,
+) -> Result<(), AllocError>
+    ensures { OnOk result (AppendsText (IsFaultLine name.now bytes.now finding.now.place finding.now.fault)
+        (string_bytes text.old) (string_bytes text.new)) }
+{
+    let line = line_of_fault(alloc, bytes, finding.place, finding.fault)?;
+    let wrong = wrong_words(alloc, &finding.explanation)?;
+    push_fault_line(
+        text,
+        name,
+        finding.place,
+        line,
+        wrong.as_str(),
+        finding.fault,
+    )
+}
+
+/// Appends a line for each of `findings`.
+fn push_findings(
+    text: &mut String,
+    alloc: Global,
+    bytes: &[u8],
+    name: &str,
+    findings: &[Finding],
+) -> Result<(), AllocError>
+    ensures { OnOk result (AppendsText (AreFaultLines name.now bytes.now (faults_of findings.now))
+        (string_bytes text.old) (string_bytes text.new)) }
+{
+    match findings {
+        [first, rest @ ..] => {
+            push_finding(text, alloc, bytes, name, first)?;
+            push_findings(text, alloc, bytes, name, rest)
+        }
+        [] => Ok(()),
+    }
+}
+
+/// The line for a file that isn't TOML.
+#[tactic(auto, using(std::proofs::Common::append_assoc))]
+fn plain_line(
+    alloc: Global,
+    bytes: &[u8],
+    name: &str,
+    fault: SheetFault,
+) -> Result<String, AllocError>
+    ensures { IfOk result (λ text. IsPlainLine name.now fault (string_bytes text)) }
+{
+    let mut text = String::from_str(alloc, name)?;
+    text.push_str(toml_words(alloc, bytes)?.as_str())?;
+    push_fault(&mut text, fault)?;
+    Ok(text)
+}
+
+/// The lines for the faults of a file, of which `fault` is the first.
+fn fault_lines(
+    alloc: Global,
+    bytes: &[u8],
+    name: &str,
+    fault: SheetFault,
+) -> Result<String, AllocError>
+    requires { file_of bytes.now ≡ Err fault }
+    ensures { IfOk result (λ text.
+        AreLinesFor name.now bytes.now (document_of bytes.now) fault (string_bytes text)) }
+{
+    match parse_table(alloc, bytes) {
+        Ok(document) => {
+            let findings = find_faults(alloc, &document)?;
+            let mut text = String::new(alloc);
+            push_findings(&mut text, alloc, bytes, name, findings.as_slice())?;
+            Ok(text)
+        }
+        Err(SheetFault::NoMemory) => Err(AllocError),
+        Err(_) => plain_line(alloc, bytes, name, fault),
+    }
+}
+
+/// The lines for the faults of a file, of which `fault` is the first, and warnings.
+pub fn refusal(
+    alloc: Global,
+    bytes: &[u8],
+    name: &str,
+    fault: SheetFault,
+) -> Result<String, AllocError>
+    requires { file_of bytes.now ≡ Err fault }
+    ensures { IfOk result (λ text. NamesFault name.now bytes.now fault (string_bytes text)) }
+{
+    let mut text = fault_lines(alloc, bytes, name, fault)?;
+    text.push_str(key_warnings(alloc, bytes, name)?.as_str())?;
+    Ok(text)
+}

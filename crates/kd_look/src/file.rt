@@ -1,0 +1,29 @@
+//! `File`: what a file says, a machine or a key sheet.
+ghost use Rattle.kd_tables.specs.Answers.{AgreesOrNoMemory};
+ghost use Rattle.kd_look.specs.File.{file_of};
+
+use kd_sheet::by_key::parse_table;
+use kd_sheet::{Sheet, SheetFault, read_machine, read_sheet};
+use kd_slips::entries_of;
+use kd_state::Machine;
+use std::alloc::Global;
+
+/// What a file says.
+#[derive(Drop)]
+pub enum File {
+    Machine(Machine),
+    Sheet(Sheet),
+}
+
+/// Reads a file: as a key sheet if it has the array `day`, otherwise as a machine file.
+#[tactic(auto, unfolding(crate::specs::File::file_of))]
+pub fn read_file(alloc: Global, bytes: &[u8]) -> Result<File, SheetFault>
+    ensures { AgreesOrNoMemory SheetFault.NoMemory (file_of bytes.now) result }
+{
+    let document = parse_table(alloc, bytes)?;
+    if entries_of(&document).is_some() {
+        Ok(File::Sheet(read_sheet(alloc, bytes)?))
+    } else {
+        Ok(File::Machine(read_machine(alloc, bytes)?))
+    }
+}

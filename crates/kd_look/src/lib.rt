@@ -1,0 +1,18 @@
+//! Says in words what machine files and key sheets say, or what is wrong with them.
+#![tactic(auto)]
+
+mod alike;
+mod fault_words;
+mod file;
+mod line;
+mod looking;
+mod machine_words;
+mod outcome;
+mod pairing;
+mod report;
+mod sheet_words;
+mod texts;
+mod warnings;
+
+pub use looking::{LookFault, NamedFile, look_at};
+pub use outcome::Outcome;

@@ -1,0 +1,138 @@
+//! `look_at`: says in words what files say, or what is wrong with them.
+ghost use Rattle.std.specs.Prelude.{◌≡◌, ◌||◌, map, Err, IfOk, OnOk};
+ghost use Rattle.std.specs.String.{string_bytes};
+ghost use Rattle.kd_tables.specs.Ports.{port};
+ghost use Rattle.kd_look.specs.File.{file_of};
+ghost use Rattle.kd_look.specs.Texts.{AppendsText};
+ghost use Rattle.kd_look.specs.Look.{AreReports, IsLookAnswer, IsWholeReport};
+ghost use Rattle.kd_look.specs.Look.{is_device, named_text, outcome_of_all};
+ghost use Rattle.kd_look.specs.Report.{IsReport, outcome_of};
+
+use crate::outcome::Outcome;
+use crate::pairing::{Seen, pair_warnings};
+use crate::report::{Report, make_report};
+use kd_tables::{Device, Sink, put_all};
+use std::alloc::{AllocError, Global};
+
+/// A file to look at.
+#[derive(Clone, Copy)]
+pub struct NamedFile<'f> {
+    /// The name with which lines on the file begin.
+    pub name: &'f str,
+    /// The file's content.
+    pub bytes: &'f [u8],
+}
+
+/// Why a report wasn't written whole.
+#[derive(Clone, Copy, Debug, PartialEq, Eq)]
+pub enum LookFault {
+    /// The sink failed.
+    Device,
+    /// Memory ran out; nothing was written.
+    NoMemory,
+}
+
+impl From<AllocError> for LookFault {
+    ghost use Rattle.std.specs.Prelude.{◌≡◌};
+    ghost use Rattle.kd_look.specs.declared.looking.LookFault.TheVariants as faults;
+
+    ghost from_gives = { λ _ fault. fault ≡ faults.NoMemory };
+
+    fn from(_: AllocError) -> LookFault {
+        LookFault::NoMemory
+    }
+}
+
+impl From<Device> for LookFault {
+    ghost use Rattle.std.specs.Prelude.{◌≡◌};
+    ghost use Rattle.kd_look.specs.declared.looking.LookFault.TheVariants as faults;
+
+    ghost from_gives = { λ _ fault. fault ≡ faults.Device };
+
+    fn from(_: Device) -> LookFault {
+        LookFault::Device
+    }
+}
+
+/// Appends the report on `file`, and notes what was seen in it.
+fn push_report<'f>(
+    text: &mut String,
+    seen: &mut Vec<Seen<'f>>,
+    alloc: Global,
+    file: NamedFile<'f>,
+) -> Result<Outcome, AllocError>
+    ensures report { OnOk result (AppendsText (IsReport file.entry.name.now file.entry.bytes.now)
+        (string_bytes text.old) (string_bytes text.new)) }
+    ensures found { IfOk result (λ found. found ≡ outcome_of (file_of file.entry.bytes.now)) }
+{
+    let Report {
+        text: report,
+        outcome,
+        contents,
+    } = make_report(alloc, file.bytes, file.name)?;
+    text.push_str(report.as_str())?;
+    seen.push(Seen {
+        name: file.name,
+        contents,
+    })?;
+    Ok(outcome)
+}
+
+/// Appends the reports on `files`, and notes what was seen in each of them.
+fn push_reports<'f>(
+    text: &mut String,
+    seen: &mut Vec<Seen<'f>>,
+    alloc: Global,
+    files: &[NamedFile<'f>],
+) -> Result<Outcome, AllocError>
+    ensures reports { OnOk result (AppendsText (AreReports (map named_text files.now))
+        (string_bytes text.old) (string_bytes text.new)) }
+    ensures found { IfOk result (λ found. found ≡ outcome_of_all (map named_text files.now)) }
+{
+    match files {
+        [first, rest @ ..] => {
+            let found = push_report(text, seen, alloc, *first)?;
+            let later = push_reports(text, seen, alloc, rest)?;
+            Ok(found.or(later))
+        }
+        [] => Ok(Outcome::Faultless),
+    }
+}
+
+/// The report on several files.
+#[derive(Drop)]
+struct WholeReport {
+    text: String,
+    outcome: Outcome,
+}
+
+/// Makes the report on `files`: a report on each of them, and then warnings on machines and sheets together.
+fn report_all(alloc: Global, files: &[NamedFile<'_>]) -> Result<WholeReport, AllocError>
+    ensures report { IfOk result (λ made.
+        IsWholeReport (map named_text files.now) (string_bytes made.text)) }
+    ensures found { IfOk result (λ made. made.outcome ≡ outcome_of_all (map named_text files.now)) }
+{
+    let mut text = String::new(alloc);
+    let mut seen = Vec::new(alloc);
+    let outcome = push_reports(&mut text, &mut seen, alloc, files)?;
+    text.push_str(pair_warnings(alloc, seen.as_slice())?.as_str())?;
+    Ok(WholeReport { text, outcome })
+}
+
+/// Writes what `files` say, or what is wrong with them.
+///
+/// With `NoMemory`, nothing is written. With `Device`, a prefix of the report is written.
+pub fn look_at<W: Sink>(
+    alloc: Global,
+    files: &[NamedFile<'_>],
+    sink: &mut W,
+) -> Result<Outcome, LookFault>
+    ensures looks { IsLookAnswer (map named_text files.now)
+        (port W.taken W.has_failed sink.old sink.new) result }
+    ensures untouched { result ≡ Err LookFault.NoMemory → sink.new ≡ sink.old }
+    ensures failed { W.has_failed sink.new ≡ (W.has_failed sink.old || is_device result) }
+{
+    let WholeReport { text, outcome } = report_all(alloc, files)?;
+    put_all(sink, text.as_bytes())?;
+    Ok(outcome)
+}

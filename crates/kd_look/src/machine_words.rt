@@ -1,0 +1,272 @@
+//! Says in words how a machine stands: a line for each slot, cable, pin wheel and bar.
+ghost use Rattle.std.specs.Prelude.{codes, ◌≡◌, ◌<◌, ◌++◌, ◌∷◌, [], OnOk, Some, None};
+ghost use Rattle.std.specs.List.{flat_map, range_with_len};
+ghost use Rattle.std.specs.String.{string_bytes};
+ghost use Rattle.kd_tables.specs.Text.{letters_text};
+ghost use Rattle.kd_look.specs.MachineWords.{label, letter_words, ring_words, wheel_words, slot_words, cable_line};
+ghost use Rattle.kd_look.specs.MachineWords.{cable_words, pin_words, pin_wheel_words, bar_words, thing_words};
+ghost use Rattle.kd_look.specs.MachineWords.{things_words, reflector_words, machine_words};
+
+use crate::texts::{push_letter, push_number, push_two_digits};
+use kd_state::Machine;
+use kd_tables::{Letter, Wheel};
+use std::alloc::AllocError;
+
+/// A kind of thing of which a machine has several, each with a number.
+#[derive(Clone, Copy)]
+pub enum Thing {
+    Slot,
+    Cable,
+    PinWheel,
+    Bar,
+}
+
+/// Appends the start of a line: the thing's name and its number.
+#[tactic(auto, using(std::proofs::Common::append_assoc), unfolding(crate::specs::MachineWords::label))]
+fn push_label(text: &mut String, name: &str, number: u8) -> Result<(), AllocError>
+    ensures { OnOk result (string_bytes text.new ≡ string_bytes text.old ++ label name.now number) }
+{
+    text.push_str(name)?;
+    text.push_str(" ")?;
+    push_number(text, number)?;
+    text.push_str(": ")
+}
+
+/// Appends a letter, or nothing.
+fn push_optional_letter(text: &mut String, letter: Option<Letter>) -> Result<(), AllocError>
+    ensures { OnOk result (string_bytes text.new ≡ string_bytes text.old ++ letter_words letter) }
+{
+    match letter {
+        Some(letter) => push_letter(text, letter),
+        None => Ok(()),
+    }
+}
+
+/// Appends a ring as a letter and as a number.
+#[tactic(auto, using(std::proofs::Common::append_assoc), unfolding(crate::specs::MachineWords::ring_words))]
+fn push_ring(text: &mut String, ring: Option<Letter>) -> Result<(), AllocError>
+    ensures { OnOk result (string_bytes text.new ≡ string_bytes text.old ++ ring_words ring) }
+{
+    let Some(ring) = ring else {
+        return Ok(());
+    };
+    push_letter(text, ring)?;
+    text.push_str(" (")?;
+    push_two_digits(text, ring.index() as u8 + 1)?;
+    text.push_str(")")
+}
+
+/// Appends a wheel with its ring and its window letter.
+#[tactic(auto, using(std::proofs::Common::append_assoc), unfolding(crate::specs::MachineWords::wheel_words))]
+fn push_wheel(text: &mut String, machine: &Machine, wheel: Wheel) -> Result<(), AllocError>
+    ensures { OnOk result (string_bytes text.new ≡ string_bytes text.old ++ wheel_words machine.now wheel) }
+{
+    text.push_str("wheel ")?;
+    text.push_str(wheel.text().as_str())?;
+    text.push_str(", ring ")?;
+    push_ring(text, machine.ring(wheel))?;
+    text.push_str(", window ")?;
+    push_optional_letter(text, machine.letter(wheel))?;
+    text.push_str("\n")
+}
+
+/// Appends the line of slot `slot`, if the machine has this slot.
+#[tactic(auto, using(std::proofs::Common::append_assoc), unfolding(crate::specs::MachineWords::slot_words))]
+fn push_slot(text: &mut String, machine: &Machine, slot: u8) -> Result<(), AllocError>
+    ensures { OnOk result (string_bytes text.new ≡ string_bytes text.old ++ slot_words machine.now slot) }
+{
+    let Some(held) = machine.slot(slot) else {
+        return Ok(());
+    };
+    push_label(text, "slot", slot)?;
+    match held {
+        Some(wheel) => push_wheel(text, machine, wheel),
+        None => text.push_str("empty\n"),
+    }
+}
+
+/// Appends the line of a cable with the ends `one` and `other`, unless both are free.
+#[tactic(auto, using(std::proofs::Common::append_assoc), unfolding(crate::specs::MachineWords::cable_line))]
+fn push_cable_line(
+    text: &mut String,
+    cable: u8,
+    one: Option<Letter>,
+    other: Option<Letter>,
+) -> Result<(), AllocError>
+    ensures { OnOk result (string_bytes text.new ≡ string_bytes text.old ++ cable_line cable one other) }
+{
+    match (one, other) {
+        (Some(one), Some(other)) => push_plugged_cable(text, cable, one, other),
+        (Some(letter), None) | (None, Some(letter)) => push_loose_cable(text, cable, letter),
+        (None, None) => Ok(()),
+    }
+}
+
+/// Appends the line of a cable with a letter at each end.
+#[tactic(auto, using(std::proofs::Common::append_assoc), unfolding(crate::specs::MachineWords::cable_line))]
+fn push_plugged_cable(
+    text: &mut String,
+    cable: u8,
+    one: Letter,
+    other: Letter,
+) -> Result<(), AllocError>
+    ensures { OnOk result
+        (string_bytes text.new ≡ string_bytes text.old ++ cable_line cable (Some one) (Some other)) }
+{
+    push_label(text, "cable", cable)?;
+    push_letter(text, one)?;
+    push_letter(text, other)?;
+    text.push_str("\n")
+}
+
+/// Appends the line of a cable with one letter.
+#[tactic(auto, using(std::proofs::Common::append_assoc), unfolding(crate::specs::MachineWords::cable_line))]
+fn push_loose_cable(text: &mut String, cable: u8, letter: Letter) -> Result<(), AllocError>
+    ensures one { OnOk result
+        (string_bytes text.new ≡ string_bytes text.old ++ cable_line cable (Some letter) None) }
+    ensures other { OnOk result
+        (string_bytes text.new ≡ string_bytes text.old ++ cable_line cable None (Some letter)) }
+{
+    push_label(text, "cable", cable)?;
+    push_letter(text, letter)?;
+    text.push_str(", one end free\n")
+}
+
+/// Appends the line of cable `cable`, if the machine has this cable and a letter is in it.
+#[tactic(auto, unfolding(crate::specs::MachineWords::cable_words))]
+fn push_cable(text: &mut String, machine: &Machine, cable: u8) -> Result<(), AllocError>
+    ensures { OnOk result (string_bytes text.new ≡ string_bytes text.old ++ cable_words machine.now cable) }
+{
+    match machine.cable(cable) {
+        Some((one, other)) => push_cable_line(text, cable, one, other),
+        None => Ok(()),
+    }
+}
+
+/// Appends a space and `letter`.
+#[tactic(auto, using(std::proofs::Common::append_assoc))]
+fn push_spaced_letter(text: &mut String, letter: Letter) -> Result<(), AllocError>
+    ensures { OnOk result (string_bytes text.new
+        ≡ string_bytes text.old ++ (codes " " ++ letters_text (letter ∷ []))) }
+{
+    text.push_str(" ")?;
+    push_letter(text, letter)
+}
+
+/// Appends `letter` after a space, if its pin on pin wheel `wheel` is effective.
+#[tactic(auto, using(std::proofs::Common::append_assoc), unfolding(crate::specs::MachineWords::pin_words))]
+fn push_pin(
+    text: &mut String,
+    machine: &Machine,
+    wheel: u8,
+    letter: Letter,
+) -> Result<(), AllocError>
+    ensures { OnOk result (string_bytes text.new ≡ string_bytes text.old ++ pin_words machine.now wheel letter) }
+{
+    match machine.pin_at(wheel, letter) {
+        Some(true) => push_spaced_letter(text, letter),
+        _ => Ok(()),
+    }
+}
+
+/// Appends the letters of the effective pins of pin wheel `wheel`.
+fn push_pins(text: &mut String, machine: &Machine, wheel: u8) -> Result<(), AllocError>
+    ensures { OnOk result (string_bytes text.new
+        ≡ string_bytes text.old ++ flat_map (pin_words machine.now wheel) (range_with_len 0 26)) }
+{
+    for index in 0..26 {
+        push_pin(text, machine, wheel, Letter::at(index))?;
+    }
+    Ok(())
+}
+
+/// Appends the line of pin wheel `wheel`, if the machine has this wheel.
+#[tactic(auto, using(std::proofs::Common::append_assoc), unfolding(crate::specs::MachineWords::pin_wheel_words))]
+fn push_pin_wheel(text: &mut String, machine: &Machine, wheel: u8) -> Result<(), AllocError>
+    ensures { OnOk result (string_bytes text.new ≡ string_bytes text.old ++ pin_wheel_words machine.now wheel) }
+{
+    let Some(shown) = machine.shown(wheel) else {
+        return Ok(());
+    };
+    push_label(text, "wheel", wheel)?;
+    text.push_str("window ")?;
+    push_letter(text, shown)?;
+    text.push_str(", effective pins:")?;
+    push_pins(text, machine, wheel)?;
+    text.push_str("\n")
+}
+
+/// Appends the line of bar `bar`, if the machine has this bar.
+#[tactic(auto, using(std::proofs::Common::append_assoc), unfolding(crate::specs::MachineWords::bar_words))]
+fn push_bar(text: &mut String, machine: &Machine, bar: u8) -> Result<(), AllocError>
+    ensures { OnOk result (string_bytes text.new ≡ string_bytes text.old ++ bar_words machine.now bar) }
+{
+    let Some(standing) = machine.standing(bar) else {
+        return Ok(());
+    };
+    push_label(text, "bar", bar)?;
+    text.push_str(standing.text().as_str())?;
+    text.push_str("\n")
+}
+
+/// Appends the line of the thing with the number `number`, if the machine has this thing.
+#[tactic(auto, unfolding(crate::specs::MachineWords::thing_words))]
+fn push_thing(
+    text: &mut String,
+    machine: &Machine,
+    thing: Thing,
+    number: u8,
+) -> Result<(), AllocError>
+    ensures { OnOk result (string_bytes text.new ≡ string_bytes text.old ++ thing_words machine.now thing number) }
+{
+    match thing {
+        Thing::Slot => push_slot(text, machine, number),
+        Thing::Cable => push_cable(text, machine, number),
+        Thing::PinWheel => push_pin_wheel(text, machine, number),
+        Thing::Bar => push_bar(text, machine, number),
+    }
+}
+
+/// Appends the lines of the things with the numbers 1 to `count`.
+fn push_things(
+    text: &mut String,
+    machine: &Machine,
+    thing: Thing,
+    count: u8,
+) -> Result<(), AllocError>
+    requires { count < 255 }
+    ensures { OnOk result (string_bytes text.new ≡ string_bytes text.old ++ things_words machine.now thing count) }
+{
+    for index in 0..count {
+        push_thing(text, machine, thing, index + 1)?;
+    }
+    Ok(())
+}
+
+/// Appends the line of the reflector, if the machine has one.
+#[tactic(auto, using(std::proofs::Common::append_assoc), unfolding(crate::specs::MachineWords::reflector_words))]
+fn push_reflector(text: &mut String, machine: &Machine) -> Result<(), AllocError>
+    ensures { OnOk result (string_bytes text.new ≡ string_bytes text.old ++ reflector_words machine.now) }
+{
+    let Some(reflector) = machine.reflector() else {
+        return Ok(());
+    };
+    text.push_str("reflector ")?;
+    text.push_str(reflector.text().as_str())?;
+    text.push_str("\n")
+}
+
+/// Appends a line for the model, the reflector, and each slot, cable, pin wheel and bar of `machine`.
+#[tactic(auto, using(std::proofs::Common::append_assoc), unfolding(crate::specs::MachineWords::machine_words))]
+pub fn push_machine(text: &mut String, machine: &Machine) -> Result<(), AllocError>
+    ensures { OnOk result (string_bytes text.new ≡ string_bytes text.old ++ machine_words machine.now) }
+{
+    text.push_str("model ")?;
+    text.push_str(machine.model().text().as_str())?;
+    text.push_str("\n")?;
+    push_reflector(text, machine)?;
+    push_things(text, machine, Thing::Slot, 4)?;
+    push_things(text, machine, Thing::Cable, 13)?;
+    push_things(text, machine, Thing::PinWheel, 6)?;
+    push_things(text, machine, Thing::Bar, 27)
+}

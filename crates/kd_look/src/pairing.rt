@@ -1,0 +1,70 @@
+//! Warnings on machines and key sheets together: a machine for which no sheet has a day.
+
+use kd_slips::model_name;
+use kd_tables::Model;
+use std::alloc::{AllocError, Global};
+
+/// What a file without a fault says of models.
+#[derive(Drop)]
+pub enum Contents {
+    /// The file is a machine file, of this model.
+    Machine(Model),
+    /// The file is a key sheet, with days for these models.
+    Sheet(Vec<Model>),
+    /// The file has a fault.
+    Unknown,
+}
+
+/// What was seen in a file.
+#[derive(Drop)]
+pub struct Seen<'f> {
+    /// The file's name.
+    pub name: &'f str,
+    pub contents: Contents,
+}
+
+/// Whether one of the sheets has a day for `model`.
+fn has_day(seen: &[Seen<'_>], model: Model) -> bool {
+    for file in seen {
+        if let Contents::Sheet(models) = &file.contents
+            && models.contains(&model)
+        {
+            return true;
+        }
+    }
+    false
+}
+
+/// A warning for each sheet, that it has no day for the machine `name` of this model.
+fn sheet_lines(
+    alloc: Global,
+    name: &str,
+    model: Model,
+    seen: &[Seen<'_>],
+) -> Result<String, AllocError> {
+    let mut lines = String::new(alloc);
+    for file in seen {
+        if let Contents::Sheet(_) = &file.contents {
+            let line = format!(in alloc;
+                "{name}: warning: {} has no day for {}\n",
+                file.name,
+                model_name(model)
+            )?;
+            lines.push_str(line.as_str())?;
+        }
+    }
+    Ok(lines)
+}
+
+/// The warnings on machines for which no sheet has a day, where there are sheets.
+pub fn pair_warnings(alloc: Global, seen: &[Seen<'_>]) -> Result<String, AllocError> {
+    let mut lines = String::new(alloc);
+    for file in seen {
+        if let Contents::Machine(model) = &file.contents
+            && !has_day(seen, *model)
+        {
+            lines.push_str(sheet_lines(alloc, file.name, *model, seen)?.as_str())?;
+        }
+    }
+    Ok(lines)
+}

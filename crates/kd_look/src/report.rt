@@ -1,0 +1,80 @@
+//! The report on one file: what it says, or what is wrong with it.
+ghost use Rattle.std.specs.Prelude.{◌≡◌, ◌++◌, IfOk, OnOk};
+ghost use Rattle.std.specs.String.{string_bytes};
+ghost use Rattle.kd_look.specs.Report.{Describes, IsReport, file_words, outcome_of};
+ghost use Rattle.kd_look.specs.File.{file_of};
+
+use crate::fault_words::refusal;
+use crate::file::{File, read_file};
+use crate::machine_words::push_machine;
+use crate::outcome::Outcome;
+use crate::pairing::Contents;
+use crate::sheet_words::{models_of, push_sheet};
+use crate::warnings::file_warnings;
+use kd_sheet::SheetFault;
+use std::alloc::{AllocError, Global};
+
+/// The report on a file.
+#[derive(Drop)]
+pub struct Report {
+    /// The lines on the file.
+    pub text: String,
+    pub outcome: Outcome,
+    pub contents: Contents,
+}
+
+/// Appends the words for what the file `name` says.
+#[tactic(auto, using(std::proofs::Common::append_assoc), unfolding(crate::specs::Report::file_words))]
+fn push_file(text: &mut String, name: &str, file: &File) -> Result<(), AllocError>
+    ensures { OnOk result (string_bytes text.new ≡ string_bytes text.old ++ file_words name.now file.now) }
+{
+    text.push_str(name)?;
+    match file {
+        File::Machine(machine) => {
+            text.push_str(": a machine file without a fault\n")?;
+            push_machine(text, machine)
+        }
+        File::Sheet(sheet) => {
+            text.push_str(": a key sheet without a fault\n")?;
+            push_sheet(text, sheet)
+        }
+    }
+}
+
+/// Words for what the file `name` says, and its warnings.
+fn description(alloc: Global, bytes: &[u8], name: &str, file: &File) -> Result<String, AllocError>
+    ensures { IfOk result (λ text. Describes name.now file.now (string_bytes text)) }
+{
+    let mut text = String::new(alloc);
+    push_file(&mut text, name, file)?;
+    text.push_str(file_warnings(alloc, bytes, name, file)?.as_str())?;
+    Ok(text)
+}
+
+/// What `file` says of models.
+fn contents_of(alloc: Global, file: &File) -> Result<Contents, AllocError> {
+    match file {
+        File::Machine(machine) => Ok(Contents::Machine(machine.model())),
+        File::Sheet(sheet) => Ok(Contents::Sheet(models_of(alloc, sheet)?)),
+    }
+}
+
+/// Makes the report on the file `name` with the content `bytes`.
+pub fn make_report(alloc: Global, bytes: &[u8], name: &str) -> Result<Report, AllocError>
+    ensures report { IfOk result (λ made. IsReport name.now bytes.now (string_bytes made.text)) }
+    ensures found { IfOk result (λ made. made.outcome ≡ outcome_of (file_of bytes.now)) }
+{
+    match read_file(alloc, bytes) {
+        Ok(file) => Ok(Report {
+            text: description(alloc, bytes, name, &file)?,
+            outcome: Outcome::Faultless,
+            contents: contents_of(alloc, &file)?,
+        }),
+        Err(SheetFault::NoMemory) => Err(AllocError),
+        Err(fault) => Ok(Report {
+            text: refusal(alloc, bytes, name, fault)?,
+            outcome: Outcome::Faulty(fault),
+            contents: Contents::Unknown,
+        }),
+    }
+}

@@ -1,0 +1,142 @@
+//! Says in words what a key sheet has: the days of each model, and the days without groups.
+ghost use Rattle.std.specs.Prelude.{codes, ◌≡◌, ◌<◌, ◌++◌, true, false, OnOk};
+ghost use Rattle.std.specs.String.{string_bytes};
+ghost use Rattle.kd_look.specs.SheetWords.{is_of_sort, has_day, day_words, numbered_day_words, sort_words};
+ghost use Rattle.kd_look.specs.SheetWords.{model_words, sheet_words};
+
+use crate::texts::push_number;
+use kd_sheet::Sheet;
+use kd_state::SheetDay;
+use kd_tables::Model;
+use std::alloc::{AllocError, Global};
+
+/// A sort of days.
+#[derive(Clone, Copy)]
+pub enum Sort {
+    /// The days for a model.
+    Of(Model),
+    /// The days of rotor machines that have no groups.
+    WithoutGroups,
+}
+
+/// Whether `day` is of the sort `sort`.
+fn is_of_sort(sort: Sort, day: &SheetDay) -> bool
+    ensures { result ≡ is_of_sort sort day.now }
+{
+    match sort {
+        Sort::Of(model) => day.model() == model,
+        Sort::WithoutGroups => match day.groups() {
+            Some(groups) => groups.is_empty(),
+            None => false,
+        },
+    }
+}
+
+/// Whether `sheet` has day `number`, and this day is of the sort `sort`.
+#[tactic(auto, unfolding(crate::specs::SheetWords::has_day))]
+fn has_day(sheet: &Sheet, sort: Sort, number: u8) -> bool
+    ensures { result ≡ has_day sheet.now sort number }
+{
+    match sheet.day(number) {
+        Some(day) => is_of_sort(sort, day),
+        None => false,
+    }
+}
+
+/// Appends the start of a line: `title` and the line's first day.
+#[tactic(auto, using(std::proofs::Common::append_assoc), unfolding(crate::specs::SheetWords::day_words))]
+fn push_first_day(text: &mut String, title: &str, after: bool, number: u8) -> Result<(), AllocError>
+    ensures { OnOk result (string_bytes text.new ≡ string_bytes text.old ++ day_words title.now false after number) }
+{
+    text.push_str(title)?;
+    text.push_str(if after { ": days " } else { ": day " })?;
+    push_number(text, number)?;
+    text.push_str(if after { " to " } else { "\n" })
+}
+
+/// Appends the end of a line, the last day, unless the day after it is in the line, too.
+#[tactic(auto, using(std::proofs::Common::append_assoc), unfolding(crate::specs::SheetWords::day_words))]
+fn push_last_day(text: &mut String, title: &str, after: bool, number: u8) -> Result<(), AllocError>
+    ensures { OnOk result (string_bytes text.new ≡ string_bytes text.old ++ day_words title.now true after number) }
+{
+    if after {
+        return Ok(());
+    }
+    push_number(text, number)?;
+    text.push_str("\n")
+}
+
+/// Appends what day `number` adds to the lines of the sort `sort`.
+#[tactic(auto, unfolding(crate::specs::SheetWords::numbered_day_words))]
+fn push_day(
+    text: &mut String,
+    sheet: &Sheet,
+    title: &str,
+    sort: Sort,
+    number: u8,
+) -> Result<(), AllocError>
+    requires { number < 32 }
+    ensures { OnOk result
+        (string_bytes text.new ≡ string_bytes text.old ++ numbered_day_words sheet.now title.now sort number) }
+{
+    if !has_day(sheet, sort, number) {
+        return Ok(());
+    }
+    let after = has_day(sheet, sort, number + 1);
+    if has_day(sheet, sort, number.saturating_sub(1)) {
+        push_last_day(text, title, after, number)
+    } else {
+        push_first_day(text, title, after, number)
+    }
+}
+
+/// Appends the lines of all days of the sort `sort`, with the title `title`.
+#[tactic(auto, unfolding(crate::specs::SheetWords::sort_words))]
+fn push_sort(text: &mut String, sheet: &Sheet, title: &str, sort: Sort) -> Result<(), AllocError>
+    ensures { OnOk result (string_bytes text.new ≡ string_bytes text.old ++ sort_words sheet.now title.now sort) }
+{
+    for index in 0..31 {
+        push_day(text, sheet, title, sort, index + 1)?;
+    }
+    Ok(())
+}
+
+/// Appends the lines of the days for `model`.
+fn push_model(text: &mut String, sheet: &Sheet, model: Model) -> Result<(), AllocError>
+    ensures { OnOk result (string_bytes text.new ≡ string_bytes text.old ++ model_words sheet.now model) }
+{
+    push_sort(text, sheet, model.text().as_str(), Sort::Of(model))
+}
+
+/// Appends the days of each model, and the days without groups.
+#[tactic(auto, using(std::proofs::Common::append_assoc), unfolding(crate::specs::SheetWords::sheet_words))]
+pub fn push_sheet(text: &mut String, sheet: &Sheet) -> Result<(), AllocError>
+    ensures { OnOk result (string_bytes text.new ≡ string_bytes text.old ++ sheet_words sheet.now) }
+{
+    push_model(text, sheet, Model::EnigmaI)?;
+    push_model(text, sheet, Model::M3)?;
+    push_model(text, sheet, Model::M4)?;
+    push_model(text, sheet, Model::M209)?;
+    push_sort(text, sheet, "without groups", Sort::WithoutGroups)
+}
+
+/// The models that have days in `sheet`.
+pub fn models_of(alloc: Global, sheet: &Sheet) -> Result<Vec<Model>, AllocError> {
+    let mut models = Vec::new(alloc);
+    for model in [Model::EnigmaI, Model::M3, Model::M4, Model::M209] {
+        if has_model(sheet, model) {
+            models.push(model)?;
+        }
+    }
+    Ok(models)
+}
+
+/// Whether `sheet` has a day for `model`.
+fn has_model(sheet: &Sheet, model: Model) -> bool {
+    for number in 1..32 {
+        if has_day(sheet, Sort::Of(model), number) {
+            return true;
+        }
+    }
+    false
+}

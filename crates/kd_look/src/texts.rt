@@ -1,0 +1,41 @@
+//! Appends numbers and letters to a text in memory.
+ghost use Rattle.std.specs.Prelude.{◌≡◌, ◌++◌, ◌∷◌, [], OnOk, decimal};
+ghost use Rattle.std.specs.String.{string_bytes};
+ghost use Rattle.kd_tables.specs.Text.{letters_text};
+ghost use Rattle.kd_look.specs.Texts.{two_digits};
+
+use itoa::Buffer;
+use kd_tables::Letter;
+use std::alloc::AllocError;
+
+/// Appends `number` in decimal.
+pub fn push_number(text: &mut String, number: u8) -> Result<(), AllocError>
+    ensures { OnOk result (string_bytes text.new ≡ string_bytes text.old ++ decimal number) }
+{
+    let mut buffer = Buffer::new();
+    text.push_str(buffer.format(number))
+}
+
+/// Appends a number of any size in decimal.
+pub fn push_wide_number(text: &mut String, number: usize) -> Result<(), AllocError>
+    ensures { OnOk result (string_bytes text.new ≡ string_bytes text.old ++ decimal number) }
+{
+    let mut buffer = Buffer::new();
+    text.push_str(buffer.format(number))
+}
+
+/// Appends `number` in decimal, with a 0 before a number of one digit.
+#[tactic(auto, using(std::proofs::Common::append_assoc), unfolding(crate::specs::Texts::two_digits))]
+pub fn push_two_digits(text: &mut String, number: u8) -> Result<(), AllocError>
+    ensures { OnOk result (string_bytes text.new ≡ string_bytes text.old ++ two_digits number) }
+{
+    text.push_str(if number < 10 { "0" } else { "" })?;
+    push_number(text, number)
+}
+
+/// Appends `letter` as a capital letter.
+pub fn push_letter(text: &mut String, letter: Letter) -> Result<(), AllocError>
+    ensures { OnOk result (string_bytes text.new ≡ string_bytes text.old ++ letters_text (letter ∷ [])) }
+{
+    text.push(char::from(letter.byte()))
+}

@@ -1,0 +1,89 @@
+-- The faults of a machine file: for each key in the order of testing, the fault with which the desk refuses the key's
+-- value. The desk stops at a file's first fault; here each key is judged for itself.
+-- Test: kd_look_trials/src/slips.rt
+use Rattle.std.specs.Prelude.{ℕ, nat_le, true, List, [], ◌∷◌, ◌++◌, length, map, slice_get, Option, Some, None, Result, Ok, Err}
+use Rattle.std.specs.Option.{option_map, option_map_or, option_to_list}
+use Rattle.std.specs.Result.{result_ok, result_err}
+use Rattle.toml.specs.Data.{Members}
+use Rattle.kd_tables.specs.Tables.{box_of}
+use Rattle.kd_tables.specs.declared.model.Model.{Model}
+use Rattle.kd_tables.specs.declared.model.Model.TheVariants.{M209}
+use Rattle.kd_sheet.specs.Bars.{bars_in}
+use Rattle.kd_sheet.specs.Cables.{cables_in}
+use Rattle.kd_sheet.specs.Document.{◌>>=◌, ◌>>◌, demand, read_at}
+use Rattle.kd_sheet.specs.Letters.{letters_at}
+use Rattle.kd_sheet.specs.MachineFile.{model_in, reflector_in}
+use Rattle.kd_sheet.specs.MachineText.{file_version}
+use Rattle.kd_sheet.specs.Numbers.{number_up_to}
+use Rattle.kd_sheet.specs.PinWheels.{shown_letters_in, pins_in}
+use Rattle.kd_sheet.specs.Slots.{slots_in}
+use Rattle.kd_sheet.specs.declared.key.Key.{Key}
+use Rattle.kd_sheet.specs.declared.key.Key.TheVariants as keys
+use Rattle.kd_sheet.specs.declared.fault.SheetFault.{SheetFault}
+use Rattle.kd_sheet.specs.declared.fault.SheetFault.TheVariants.{UnknownModel}
+use Rattle.kd_slips.specs.declared.findings.Finding.{Finding}
+use Rattle.kd_slips.specs.declared.place.Place.{Place}
+
+-- the place of a key in a machine file
+abbrev pub in_file : Key → Place
+in_file key = record { entry = None; day = None; key = key }
+
+-- the place of another key beside a place
+abbrev pub at_key : Place → Key → Place
+at_key place key = record place { key = key }
+
+-- the list of the fault at this place, if there is one
+abbrev pub at_place : Place → Option SheetFault → List (Place × SheetFault)
+at_place place fault = option_to_list (option_map (λ one. (place, one)) fault)
+
+-- the fault with which the value at a place is refused, if it is
+abbrev pub fault_at : {A : Type 0} → Place → Result A SheetFault → List (Place × SheetFault)
+fault_at place reading = at_place place (result_err reading)
+
+-- the faults of what a model needs; or that the model is refused
+abbrev pub after_model : Place → (Model → List (Place × SheetFault)) → Result Model SheetFault → List (Place × SheetFault)
+after_model place faults (Ok model) = faults model
+after_model place faults (Err fault) = (place, fault) ∷ []
+
+-- the faults of a rotor machine's keys after `model`
+unfoldable pub rotor_file_faults : Model → Members → List (Place × SheetFault)
+rotor_file_faults model table =
+    fault_at (in_file keys.Reflector) (reflector_in model table)
+    ++ (fault_at (in_file keys.Slots) (slots_in keys.Slots model table)
+    ++ (fault_at (in_file keys.Rings) (letters_at keys.Rings (length (box_of model)) table)
+    ++ (fault_at (in_file keys.Letters) (letters_at keys.Letters (length (box_of model)) table)
+    ++ fault_at (in_file keys.Cables) (cables_in table))))
+
+-- the faults of a Converter's keys after `model`
+unfoldable pub pin_file_faults : Members → List (Place × SheetFault)
+pin_file_faults table =
+    fault_at (in_file keys.Letters) (shown_letters_in keys.Letters table)
+    ++ (fault_at (in_file keys.Pins) (pins_in table) ++ fault_at (in_file keys.Bars) (bars_in table))
+
+abbrev pub model_file_faults : Members → Model → List (Place × SheetFault)
+model_file_faults table M209 = pin_file_faults table
+model_file_faults table model = rotor_file_faults model table
+
+abbrev pub version_in : Members → Result ℕ SheetFault
+version_in table = read_at keys.Version (number_up_to 2) table
+
+-- the model of a machine file, if the file's version has this model; a version with a fault counts as one that has it
+unfoldable pub file_model : Members → Result Model SheetFault
+file_model table = do
+  model ← model_in table
+  demand (option_map_or (nat_le (file_version model)) (result_ok (version_in table)) true) UnknownModel
+  Ok model
+
+-- the faults of a machine file
+unfoldable pub machine_faults : Members → List (Place × SheetFault)
+machine_faults table =
+    fault_at (in_file keys.Version) (version_in table)
+    ++ after_model (in_file keys.Model) (model_file_faults table) (file_model table)
+
+-- the faults of findings, each with its place, without their words
+abbrev pub faults_of : List Finding → List (Place × SheetFault)
+faults_of findings = map (λ finding. (finding.place, finding.fault)) findings
+
+-- the first of the faults, without its place
+abbrev pub first_fault : List (Place × SheetFault) → Option SheetFault
+first_fault faults = option_map (λ fault. fault.1) (slice_get faults 0)

@@ -1,0 +1,113 @@
+-- The faults of a key sheet: for each entry in turn, and each of its keys in the order of testing, the fault with which
+-- the desk refuses the key's value. The desk stops at a sheet's first fault; here each entry is judged for itself.
+-- Test: kd_look_trials/src/slips.rt
+use Rattle.std.specs.Prelude.{◌≡◌, ◌⊎◌, ℕ, ◌+◌, ◌≤◌, ◌==◌, Bool, false, not, List, [], ◌∷◌, ◌++◌, length, take}
+use Rattle.std.specs.Prelude.{Option, Some, None, MatchOption, Result, Ok}
+use Rattle.std.specs.List.{list_any}
+use Rattle.std.specs.Option.{option_and_then, option_map_or}
+use Rattle.std.specs.Result.{result_err, result_ok}
+use Rattle.toml.specs.Data.{Data, Members, get_member, as_table}
+use Rattle.kd_tables.specs.Tables.{slots_of}
+use Rattle.kd_tables.specs.declared.model.Model.{Model}
+use Rattle.kd_tables.specs.declared.model.Model.TheVariants.{M209}
+use Rattle.kd_sheet.specs.Bars.{rows_in}
+use Rattle.kd_sheet.specs.Cables.{pairs_in}
+use Rattle.kd_sheet.specs.Document.{◌>>=◌, ◌>>◌, demand, read_at, as_items}
+use Rattle.kd_sheet.specs.Key.{key_name}
+use Rattle.kd_sheet.specs.Letters.{letters_at}
+use Rattle.kd_sheet.specs.MachineFile.{machine_of, model_in, reflector_in}
+use Rattle.kd_sheet.specs.Numbers.{number_up_to}
+use Rattle.kd_sheet.specs.PinWheels.{shown_letters_in, pins_in}
+use Rattle.kd_sheet.specs.SheetFile.{groups_in, rings_of, sheet_of}
+use Rattle.kd_sheet.specs.Slots.{slots_in}
+use Rattle.kd_sheet.specs.declared.key.Key.{Key}
+use Rattle.kd_sheet.specs.declared.key.Key.TheVariants as keys
+use Rattle.kd_sheet.specs.declared.fault.SheetFault.{SheetFault}
+use Rattle.kd_sheet.specs.declared.fault.SheetFault.TheVariants.{BadValue, DayTwice}
+use Rattle.kd_slips.specs.Faults.{after_model, at_key, fault_at, machine_faults}
+use Rattle.kd_slips.specs.declared.place.Place.{Place}
+
+-- the place of a key in an entry, which is counted from 1, with the entry's day if it is known
+abbrev pub in_entry : ℕ → Option ℕ → Key → Place
+in_entry entry day key = record { entry = Some entry; day = day; key = key }
+
+-- the day's number in an entry
+abbrev pub number_in : Members → Result ℕ SheetFault
+number_in table = read_at keys.Day (number_up_to 31) table
+
+-- whether the item is an entry with this day
+abbrev pub has_number : ℕ → Data → Bool
+has_number number item =
+    option_map_or (λ day. day == number) (option_and_then (λ table. result_ok (number_in table)) (as_table item)) false
+
+-- the day of an entry, which no earlier entry may have
+unfoldable pub new_day : List Data → Members → Result ℕ SheetFault
+new_day earlier table = do
+  number ← number_in table
+  demand (not (list_any (has_number number) earlier)) (DayTwice number)
+  Ok number
+
+-- the faults of a rotor machine's day, at the keys after `model`
+unfoldable pub rotor_day_faults : Place → Model → Members → List (Place × SheetFault)
+rotor_day_faults place model table =
+    fault_at (at_key place keys.Reflector) (reflector_in model table)
+    ++ (fault_at (at_key place keys.Wheels) (slots_in keys.Wheels model table)
+    ++ (fault_at (at_key place keys.Rings) (read_at keys.Rings (rings_of (slots_of model)) table)
+    ++ (fault_at (at_key place keys.Window) (letters_at keys.Window (slots_of model) table)
+    ++ (fault_at (at_key place keys.Plugs) (pairs_in table) ++ fault_at (at_key place keys.Groups) (groups_in table)))))
+
+-- the faults of a Converter's day, at the keys after `model`
+unfoldable pub pin_day_faults : Place → Members → List (Place × SheetFault)
+pin_day_faults place table =
+    fault_at (at_key place keys.Rows) (rows_in table)
+    ++ (fault_at (at_key place keys.Pins) (pins_in table)
+    ++ (fault_at (at_key place keys.Window) (shown_letters_in keys.Window table)
+    ++ fault_at (at_key place keys.List) (letters_at keys.List 2 table)))
+
+abbrev pub model_day_faults : Place → Members → Model → List (Place × SheetFault)
+model_day_faults place table M209 = pin_day_faults place table
+model_day_faults place table model = rotor_day_faults place model table
+
+-- the place of the key `day` in an entry that is a table
+abbrev pub day_place : List Data → Members → Place
+day_place earlier table = in_entry (length earlier + 1) (result_ok (number_in table)) keys.Day
+
+-- the faults of an entry that is a table
+unfoldable pub table_faults : List Data → Members → List (Place × SheetFault)
+table_faults earlier table =
+    fault_at (day_place earlier table) (new_day earlier table)
+    ++ after_model (at_key (day_place earlier table) keys.Model) (model_day_faults (day_place earlier table) table)
+    (model_in table)
+
+-- the faults of the entry `item`, which stands after the items `earlier`
+abbrev pub entry_faults : List Data → Data → List (Place × SheetFault)
+entry_faults earlier item = option_map_or (table_faults earlier) (as_table item)
+    ((in_entry (length earlier + 1) None keys.Day, BadValue keys.Day) ∷ [])
+
+-- the faults of entries that stand after the items `earlier`
+abbrev pub faults_after : List Data → List Data → List (Place × SheetFault)
+faults_after earlier [] = []
+faults_after earlier (item ∷ rest) = entry_faults earlier item ++ faults_after (earlier ++ item ∷ []) rest
+
+-- The list has the faults of the first entries: of all of them, if the list has fewer than 100.
+pub record AreSheetFaults (items : List Data) (faults : List (Place × SheetFault)) : Type 0 where
+  pub count : ℕ
+  pub within : count ≤ length items
+  pub are : faults ≡ faults_after [] (take count items)
+  pub many : (count ≡ length items) ⊎ (100 ≤ length faults)
+
+-- the items of the array `day`, if the document has this array
+abbrev pub entries_of : Members → Option (List Data)
+entries_of document = option_and_then as_items (get_member (key_name keys.Day) document)
+
+-- The list has the faults of the document: of a key sheet if the document has the array `day`, otherwise of a machine
+-- file.
+abbrev pub AreFaults : Members → List (Place × SheetFault) → Type 0
+AreFaults document faults = MatchOption (entries_of document) (faults ≡ machine_faults document)
+    (λ items. AreSheetFaults items faults)
+
+-- the first fault of a file with these bytes and this document: of a key sheet if the document has the array `day`,
+-- otherwise of a machine file
+abbrev pub file_fault : List ℕ → Members → Option SheetFault
+file_fault bytes document = option_map_or (λ items. result_err (sheet_of bytes)) (entries_of document)
+    (result_err (machine_of bytes))

@@ -1,0 +1,129 @@
+//! Refuses cables, pairs and groups that don't have the right letters.
+
+use crate::letters::{check_capitals, check_text};
+use crate::slip::{Slip, refuse};
+use crate::values::{check_at_most, item_text, items_at, items_of, shown};
+use kd_sheet::by_key::find_at;
+use kd_sheet::{Key, SheetFault};
+use std::alloc::Global;
+use toml::{Table, Value};
+
+/// Refuses a letter that stands twice in `text`.
+fn check_twice_within(alloc: Global, text: &str) -> Result<(), Slip> {
+    if let [one, other] = text.as_bytes()
+        && one == other
+    {
+        return refuse(
+            SheetFault::LetterTwice,
+            format!(in alloc; "the letter {} is at both ends of {text}", char::from(*one)),
+        );
+    }
+    Ok(())
+}
+
+/// Refuses the letter `byte` of the cable `text`, if the cable `earlier` has it, too.
+fn check_apart(alloc: Global, earlier: &str, text: &str, byte: u8) -> Result<(), Slip> {
+    if !earlier.as_bytes().contains(&byte) {
+        return Ok(());
+    }
+    refuse(
+        SheetFault::LetterTwice,
+        format!(in alloc;
+            "the letter {} is in {earlier} and in {text}",
+            char::from(byte)
+        ),
+    )
+}
+
+/// Refuses the cable `text` at place `place` of `items`, if it shares a letter with an earlier item.
+fn check_new(alloc: Global, items: &[Value], place: usize, text: &str) -> Result<(), Slip> {
+    check_twice_within(alloc, text)?;
+    for earlier in items.iter().take(place) {
+        if let Some(before) = earlier.as_str() {
+            for byte in text.as_bytes() {
+                check_apart(alloc, before, text, *byte)?;
+            }
+        }
+    }
+    Ok(())
+}
+
+/// Refuses the items of a list of cables: each has `count` letters, or at most two if `count` is `None`.
+fn check_cables(
+    alloc: Global,
+    key: Key,
+    items: &[Value],
+    count: Option<usize>,
+) -> Result<(), Slip> {
+    let fault = SheetFault::BadValue(key);
+    check_at_most(alloc, key, items.len(), 13, "cables")?;
+    for (place, item) in items.iter().enumerate() {
+        let text = item_text(alloc, item, place + 1, fault)?;
+        check_ends(alloc, text, fault, count)?;
+        check_new(alloc, items, place, text)?;
+    }
+    Ok(())
+}
+
+/// Refuses a cable's text, unless it has `count` capital letters, or at most two if `count` is `None`.
+fn check_ends(
+    alloc: Global,
+    text: &str,
+    fault: SheetFault,
+    count: Option<usize>,
+) -> Result<(), Slip> {
+    if let Some(count) = count {
+        return check_text(alloc, text, fault, count, ", one for each end of a cable");
+    }
+    check_capitals(alloc, text, fault)?;
+    if text.len() <= 2 {
+        return Ok(());
+    }
+    let text_shown = shown(alloc, text)?;
+    refuse(
+        fault,
+        format!(in alloc;
+            "{} has {} letters, and a cable has two ends",
+            text_shown.as_str(),
+            text.len()
+        ),
+    )
+}
+
+/// Refuses the cables of a machine file, at the key `cables`.
+pub fn check_machine_cables(alloc: Global, table: &Table) -> Result<(), Slip> {
+    match find_at(table, Key::Cables) {
+        Some(value) => check_cables(
+            alloc,
+            Key::Cables,
+            items_of(alloc, value, Key::Cables)?,
+            None,
+        ),
+        None => Ok(()),
+    }
+}
+
+/// Refuses the pairs of a day, at the key `plugs`.
+pub fn check_pairs(alloc: Global, table: &Table) -> Result<(), Slip> {
+    check_cables(
+        alloc,
+        Key::Plugs,
+        items_at(alloc, table, Key::Plugs)?,
+        Some(2),
+    )
+}
+
+/// Refuses the groups of a day, at the key `groups`.
+pub fn check_groups(alloc: Global, table: &Table) -> Result<(), Slip> {
+    let Some(value) = find_at(table, Key::Groups) else {
+        return Ok(());
+    };
+    let fault = SheetFault::BadValue(Key::Groups);
+    let items = items_of(alloc, value, Key::Groups)?;
+    check_at_most(alloc, Key::Groups, items.len(), 4, "groups")?;
+    for (place, item) in items.iter().enumerate() {
+        let text = item_text(alloc, item, place + 1, fault)?;
+        check_text(alloc, text, fault, 3, " for a group")?;
+    }
+    Ok(())
+}

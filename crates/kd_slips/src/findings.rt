@@ -1,0 +1,78 @@
+//! `Finding`: a fault of a file, with its place and in words.
+ghost use Rattle.std.specs.Prelude.{◌≡◌, ◌++◌, OnOk, Some};
+ghost use Rattle.kd_slips.specs.Faults.{at_place, faults_of};
+
+use crate::place::Place;
+use crate::slip::Slip;
+use kd_sheet::SheetFault;
+use std::alloc::{AllocError, Global};
+
+/// A fault with its place, in words.
+#[derive(Drop)]
+pub struct Finding {
+    pub fault: SheetFault,
+    pub place: Place,
+    /// What is wrong, in words.
+    pub explanation: Explanation,
+}
+
+/// What is wrong with a value.
+#[derive(Drop)]
+pub struct Explanation {
+    /// The number of the item in the key's list, counted from 1, if it needs to be told.
+    pub item: Option<usize>,
+    pub words: String,
+}
+
+/// What `checked` says of `fault`; general words if it says nothing of it.
+fn explain(
+    alloc: Global,
+    fault: SheetFault,
+    checked: Result<(), Slip>,
+) -> Result<Explanation, AllocError> {
+    match checked {
+        Err(Slip::Fault(found, item, words)) if found == fault => Ok(Explanation { item, words }),
+        Err(Slip::NoMemory) => Err(AllocError),
+        _ => Ok(Explanation {
+            item: None,
+            words: String::from_str(alloc, "the desk refuses the value")?,
+        }),
+    }
+}
+
+/// Appends `fault` to `list`, in the words of `checked`.
+fn push_fault(
+    list: &mut Vec<Finding>,
+    alloc: Global,
+    place: Place,
+    fault: SheetFault,
+    checked: Result<(), Slip>,
+) -> Result<(), AllocError>
+    ensures { OnOk result (faults_of list.new.items
+        ≡ faults_of list.old.items ++ at_place place (Some fault)) }
+{
+    let explanation = explain(alloc, fault, checked)?;
+    list.push(Finding {
+        fault,
+        place,
+        explanation,
+    })?;
+    Ok(())
+}
+
+/// Appends the fault with which the desk refuses the value at `place`, if it does, in the words of `checked`.
+pub fn note(
+    list: &mut Vec<Finding>,
+    alloc: Global,
+    place: Place,
+    fault: Option<SheetFault>,
+    checked: Result<(), Slip>,
+) -> Result<(), AllocError>
+    ensures { OnOk result (faults_of list.new.items
+        ≡ faults_of list.old.items ++ at_place place fault) }
+{
+    match fault {
+        Some(fault) => push_fault(list, alloc, place, fault, checked),
+        None => Ok(()),
+    }
+}

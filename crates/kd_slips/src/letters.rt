@@ -1,0 +1,133 @@
+//! Refuses texts that don't have the right capital letters.
+
+use crate::slip::{Slip, refuse};
+use crate::values::{shown, text_at};
+use kd_sheet::{Key, SheetFault};
+use kd_tables::{Letter, place_on_wheel};
+use std::alloc::{AllocError, Global};
+use toml::Table;
+
+/// `text` in capital letters.
+pub fn in_capitals(alloc: Global, text: &str) -> Result<String, AllocError> {
+    let mut capitals = String::new(alloc);
+    for byte in text.as_bytes() {
+        let capital = byte.to_ascii_uppercase();
+        if capital.is_ascii() {
+            capitals.push(char::from(capital))?;
+        }
+    }
+    Ok(capitals)
+}
+
+/// Refuses a text with a byte that is no capital letter.
+pub fn check_capitals(alloc: Global, text: &str, fault: SheetFault) -> Result<(), Slip> {
+    let bytes = text.as_bytes();
+    if bytes.iter().all(|byte| byte.is_ascii_uppercase()) {
+        return Ok(());
+    }
+    let text_shown = shown(alloc, text)?;
+    if text.len() <= 40 && bytes.iter().all(|byte| byte.is_ascii_alphabetic()) {
+        let capitals = in_capitals(alloc, text)?;
+        return refuse(
+            fault,
+            format!(in alloc;
+                "small letters: write `{}` for {}",
+                capitals.as_str(),
+                text_shown.as_str()
+            ),
+        );
+    }
+    refuse(
+        fault,
+        format!(in alloc;
+            "{} has a character that is no capital letter from A to Z",
+            text_shown.as_str()
+        ),
+    )
+}
+
+/// Refuses the text at `key`, unless it has exactly `count` capital letters; `of` says for what they are.
+pub fn check_letters(
+    alloc: Global,
+    table: &Table,
+    key: Key,
+    count: usize,
+    of: &str,
+) -> Result<(), Slip> {
+    let text = text_at(alloc, table, key)?;
+    check_text(alloc, text, SheetFault::BadValue(key), count, of)
+}
+
+/// Refuses `text`, unless it has exactly `count` capital letters; `of` says for what they are.
+pub fn check_text(
+    alloc: Global,
+    text: &str,
+    fault: SheetFault,
+    count: usize,
+    of: &str,
+) -> Result<(), Slip> {
+    check_capitals(alloc, text, fault)?;
+    if text.len() == count {
+        return Ok(());
+    }
+    let text_shown = shown(alloc, text)?;
+    let noun = if text.len() == 1 { "letter" } else { "letters" };
+    refuse(
+        fault,
+        format!(in alloc;
+            "{} has {} {noun}, and {count} are needed{of}",
+            text_shown.as_str(),
+            text.len()
+        ),
+    )
+}
+
+/// The letters of pin wheel `wheel`, in alphabetical order.
+pub fn wheel_letters(alloc: Global, wheel: u8) -> Result<String, AllocError> {
+    let mut letters = String::new(alloc);
+    for index in 0..26 {
+        let letter = Letter::at(index);
+        if place_on_wheel(wheel, letter).is_some() {
+            letters.push(char::from(letter.byte()))?;
+        }
+    }
+    Ok(letters)
+}
+
+/// Refuses a letter that isn't on pin wheel `wheel`.
+pub fn check_on_wheel(
+    alloc: Global,
+    wheel: u8,
+    letter: Letter,
+    fault: SheetFault,
+) -> Result<(), Slip> {
+    if place_on_wheel(wheel, letter).is_some() {
+        return Ok(());
+    }
+    let letters = wheel_letters(alloc, wheel)?;
+    refuse(
+        fault,
+        format!(in alloc;
+            "wheel {wheel} has no {}; it has {}",
+            char::from(letter.byte()),
+            letters.as_str()
+        ),
+    )
+}
+
+/// Refuses the text at `key`, unless it has a letter for each pin wheel, and the letter is on its wheel.
+pub fn check_shown(alloc: Global, table: &Table, key: Key) -> Result<(), Slip> {
+    let text = text_at(alloc, table, key)?;
+    let fault = SheetFault::BadValue(key);
+    check_text(alloc, text, fault, 6, ", one for each wheel")?;
+    let mut wheel = 1;
+    for byte in text.as_bytes() {
+        if let Some(letter) = Letter::from_byte(*byte)
+            && wheel < 7
+        {
+            check_on_wheel(alloc, wheel, letter, fault)?;
+            wheel += 1;
+        }
+    }
+    Ok(())
+}

@@ -1,0 +1,194 @@
+//! Finds the faults of a machine file, key by key.
+ghost use Rattle.std.specs.Prelude.{◌≡◌, ◌++◌, ◌<◌, nat_le, length, true, IfOk, OnOk};
+ghost use Rattle.std.specs.Option.{option_map_or};
+ghost use Rattle.toml.specs.View.{table_view};
+ghost use Rattle.kd_tables.specs.Tables.{box_of, slots_of};
+ghost use Rattle.kd_sheet.specs.Letters.{letters_at};
+ghost use Rattle.kd_sheet.specs.declared.key.Key.TheVariants as keys;
+ghost use Rattle.kd_sheet.specs.MachineText.{file_version};
+ghost use Rattle.kd_slips.specs.Faults.{after_model, fault_at, in_file, model_file_faults};
+ghost use Rattle.kd_slips.specs.Faults.{faults_of, file_model, machine_faults, pin_file_faults, rotor_file_faults};
+
+use crate::cables::check_machine_cables;
+use crate::findings::{Finding, note};
+use crate::letters::{check_letters, check_shown};
+use crate::models::{check_reflector, check_wheels, model_at};
+use crate::numbers::check_number;
+use crate::pins::{check_bars, check_pins};
+use crate::place::Place;
+use crate::slip::{Slip, refuse};
+use kd_sheet::by_key::{
+    bars_in, box_letters_in, cables_in, model_in, number_at, pins_in, reflector_in,
+    shown_letters_in, slots_in,
+};
+use kd_sheet::{Key, SheetFault};
+use kd_tables::Model;
+use std::alloc::{AllocError, Global};
+use toml::Table;
+
+/// The latest version of machine files.
+const VERSION: u8 = 2;
+
+/// The first version of machine files that has `model`.
+fn file_version(model: Model) -> u8
+    ensures { result ≡ file_version model }
+{
+    match model {
+        Model::M4 => 2,
+        _ => 1,
+    }
+}
+
+/// Whether machine files of this version have `model`; without a version, whether any have.
+fn has_model(version: Option<u8>, model: Model) -> bool
+    ensures { result ≡ option_map_or (nat_le (file_version model)) version true }
+{
+    match version {
+        Some(version) => file_version(model) <= version,
+        None => true,
+    }
+}
+
+/// The model of a machine file, or the fault with which the desk refuses it.
+#[tactic(auto, unfolding(crate::specs::Faults::file_model))]
+fn file_model(table: &Table) -> Result<Model, SheetFault>
+    ensures { result ≡ file_model (table_view table.now) }
+{
+    let model = model_in(table)?;
+    if !has_model(number_at(table, Key::Version, VERSION).ok(), model) {
+        return Err(SheetFault::UnknownModel);
+    }
+    Ok(model)
+}
+
+/// Explains why the model of a machine file is refused.
+fn check_model(alloc: Global, table: &Table) -> Result<(), Slip> {
+    model_at(alloc, table)?;
+    refuse(
+        SheetFault::UnknownModel,
+        format!(in alloc; "the machine file of an M4 needs `version = 2`"),
+    )
+}
+
+/// Words for the letters of a machine file, one for each wheel of the box.
+fn each_wheel(model: Model) -> &'static str {
+    match model {
+        Model::EnigmaI => ", one for each of the wheels I to V",
+        Model::M3 => ", one for each of the wheels I to VIII",
+        Model::M4 => ", one for each of the wheels I to VIII, Beta and Gamma",
+        Model::M209 => "",
+    }
+}
+
+/// Appends the fault of a key whose text has a letter for each wheel of the box.
+fn judge_box_letters(
+    list: &mut Vec<Finding>,
+    alloc: Global,
+    table: &Table,
+    key: Key,
+    model: Model,
+) -> Result<(), AllocError>
+    requires { 0 < slots_of model }
+    ensures { OnOk result (faults_of list.new.items ≡ faults_of list.old.items
+        ++ fault_at (in_file key) (letters_at key (length (box_of model)) (table_view table.now))) }
+{
+    let fault = box_letters_in(table, key, model).err();
+    let wheels = model.wheels().len();
+    let checked = check_letters(alloc, table, key, wheels, each_wheel(model));
+    note(list, alloc, Place::in_file(key), fault, checked)
+}
+
+/// Appends the faults of a rotor machine's file, after version and model.
+#[tactic(auto, using(std::proofs::Common::append_assoc), unfolding(crate::specs::Faults::rotor_file_faults))]
+fn judge_rotors(
+    list: &mut Vec<Finding>,
+    alloc: Global,
+    table: &Table,
+    model: Model,
+) -> Result<(), AllocError>
+    requires { 0 < slots_of model }
+    ensures { OnOk result (faults_of list.new.items
+        ≡ faults_of list.old.items ++ rotor_file_faults model (table_view table.now)) }
+{
+    let reflector = reflector_in(table, model).err();
+    let checked = check_reflector(alloc, table, model);
+    note(
+        list,
+        alloc,
+        Place::in_file(Key::Reflector),
+        reflector,
+        checked,
+    )?;
+    let slots = slots_in(table, Key::Slots, model).err();
+    let checked = check_wheels(alloc, table, Key::Slots, model);
+    note(list, alloc, Place::in_file(Key::Slots), slots, checked)?;
+    judge_box_letters(list, alloc, table, Key::Rings, model)?;
+    judge_box_letters(list, alloc, table, Key::Letters, model)?;
+    let cables = cables_in(table).err();
+    let checked = check_machine_cables(alloc, table);
+    note(list, alloc, Place::in_file(Key::Cables), cables, checked)
+}
+
+/// Appends the faults of a Converter's file, after version and model.
+#[tactic(auto, using(std::proofs::Common::append_assoc), unfolding(crate::specs::Faults::pin_file_faults))]
+fn judge_converter(list: &mut Vec<Finding>, alloc: Global, table: &Table) -> Result<(), AllocError>
+    ensures { OnOk result (faults_of list.new.items
+        ≡ faults_of list.old.items ++ pin_file_faults (table_view table.now)) }
+{
+    let letters = shown_letters_in(table, Key::Letters).err();
+    let checked = check_shown(alloc, table, Key::Letters);
+    note(list, alloc, Place::in_file(Key::Letters), letters, checked)?;
+    let pins = pins_in(table).err();
+    note(
+        list,
+        alloc,
+        Place::in_file(Key::Pins),
+        pins,
+        check_pins(alloc, table),
+    )?;
+    let bars = bars_in(table).err();
+    note(
+        list,
+        alloc,
+        Place::in_file(Key::Bars),
+        bars,
+        check_bars(alloc, table),
+    )
+}
+
+/// Appends the faults of a machine file's model, and of the keys that the model has.
+fn judge_model(list: &mut Vec<Finding>, alloc: Global, table: &Table) -> Result<(), AllocError>
+    ensures { OnOk result (faults_of list.new.items ≡ faults_of list.old.items
+        ++ after_model (in_file keys.Model) (model_file_faults (table_view table.now))
+        (file_model (table_view table.now))) }
+{
+    match file_model(table) {
+        Ok(Model::M209) => judge_converter(list, alloc, table),
+        Ok(model @ (Model::EnigmaI | Model::M3 | Model::M4)) => {
+            judge_rotors(list, alloc, table, model)
+        }
+        Err(fault) => {
+            let place = Place::in_file(Key::Model);
+            note(list, alloc, place, Some(fault), check_model(alloc, table))
+        }
+    }
+}
+
+/// Finds the faults of a machine file.
+#[tactic(auto, using(std::proofs::Common::append_assoc), unfolding(crate::specs::Faults::machine_faults))]
+pub fn machine_faults(alloc: Global, table: &Table) -> Result<Vec<Finding>, AllocError>
+    ensures { IfOk result (λ list. faults_of list.items ≡ machine_faults (table_view table.now)) }
+{
+    let mut list = Vec::new(alloc);
+    let version = number_at(table, Key::Version, VERSION).err();
+    let checked = check_number(alloc, table, Key::Version, VERSION);
+    note(
+        &mut list,
+        alloc,
+        Place::in_file(Key::Version),
+        version,
+        checked,
+    )?;
+    judge_model(&mut list, alloc, table)?;
+    Ok(list)
+}

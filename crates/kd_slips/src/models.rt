@@ -1,0 +1,230 @@
+//! Refuses models, reflectors and wheels that the desk doesn't know, or that don't fit together.
+
+use crate::letters::in_capitals;
+use crate::slip::{Slip, refuse};
+use crate::values::{check_count, item_text, items_at, shown, text_at};
+use kd_sheet::{Key, SheetFault};
+use kd_tables::{Model, Reflector, Wheel, allowed, in_box};
+use std::alloc::{AllocError, Global};
+use toml::{Table, Value};
+
+/// The model's name, with its article.
+pub fn model_name(model: Model) -> &'static str {
+    match model {
+        Model::EnigmaI => "an Enigma I",
+        Model::M3 => "an M3",
+        Model::M4 => "an M4",
+        Model::M209 => "a Converter M-209",
+    }
+}
+
+/// The wheels in the model's box, in words.
+fn box_words(model: Model) -> &'static str {
+    match model {
+        Model::EnigmaI => "I to V",
+        Model::M3 => "I to VIII",
+        Model::M4 => "I to VIII, Beta and Gamma",
+        Model::M209 => "none of these",
+    }
+}
+
+/// The wheels that slot `slot` of the model takes, in words.
+fn slot_words(model: Model, slot: u8) -> &'static str {
+    match model {
+        Model::M4 if slot == 1 => "Beta or Gamma",
+        Model::M4 => "I to VIII",
+        _ => box_words(model),
+    }
+}
+
+/// The model's reflectors, in words.
+fn reflector_words(model: Model) -> &'static str {
+    match model {
+        Model::EnigmaI => "A, B and C",
+        Model::M3 => "B and C",
+        Model::M4 => "b and c",
+        Model::M209 => "none",
+    }
+}
+
+/// Refuses `name`, which is `right` but for capital and small letters.
+fn refuse_case<T>(alloc: Global, fault: SheetFault, name: &str, right: &str) -> Result<T, Slip> {
+    refuse(
+        fault,
+        format!(in alloc; "capital and small letters: write `{right}` for `{name}`"),
+    )
+}
+
+/// The model with this name, if capital and small letters don't count.
+fn near_model(name: &str) -> Option<Model> {
+    let models = [Model::EnigmaI, Model::M3, Model::M4, Model::M209];
+    models
+        .iter()
+        .copied()
+        .find(|model| model.text().as_str().eq_ignore_ascii_case(name))
+}
+
+/// The model's reflector with this name, if capital and small letters don't count.
+fn near_reflector(model: Model, name: &str) -> Option<Reflector> {
+    let mut reflectors = model.reflectors().iter().copied();
+    reflectors.find(|reflector| reflector.text().as_str().eq_ignore_ascii_case(name))
+}
+
+/// The wheel with this name, if capital and small letters don't count.
+fn near_wheel(name: &str) -> Option<Wheel> {
+    let mut wheels = Model::M4.wheels().iter().copied();
+    wheels.find(|wheel| wheel.text().as_str().eq_ignore_ascii_case(name))
+}
+
+/// Refuses a text that names no model.
+fn unknown_model(alloc: Global, name: &str) -> Result<Model, Slip> {
+    let fault = SheetFault::UnknownModel;
+    if let Some(model) = near_model(name) {
+        return refuse_case(alloc, fault, name, model.text().as_str());
+    }
+    let name_shown = shown(alloc, name)?;
+    refuse(
+        fault,
+        format!(in alloc;
+            "{} is no model: write `Enigma I`, `M3`, `M4` or `M-209`",
+            name_shown.as_str()
+        ),
+    )
+}
+
+/// The model at the key `model`, or a slip.
+pub fn model_at(alloc: Global, table: &Table) -> Result<Model, Slip> {
+    let name = text_at(alloc, table, Key::Model)?;
+    match Model::from_text(name.as_bytes()) {
+        Some(model) => Ok(model),
+        None => unknown_model(alloc, name),
+    }
+}
+
+/// Whether one of the model's reflectors has this name.
+fn has_reflector(model: Model, name: &str) -> bool {
+    model
+        .reflectors()
+        .iter()
+        .any(|reflector| reflector.text().as_str() == name)
+}
+
+/// Refuses the text at the key `reflector`, unless it names one of the model's reflectors.
+pub fn check_reflector(alloc: Global, table: &Table, model: Model) -> Result<(), Slip> {
+    let name = text_at(alloc, table, Key::Reflector)?;
+    if has_reflector(model, name) {
+        return Ok(());
+    }
+    let fault = SheetFault::BadValue(Key::Reflector);
+    if let Some(reflector) = near_reflector(model, name) {
+        return refuse_case(alloc, fault, name, reflector.text().as_str());
+    }
+    let name_shown = shown(alloc, name)?;
+    refuse(
+        fault,
+        format!(in alloc;
+            "{} is no reflector of {}, which has {}",
+            name_shown.as_str(),
+            model_name(model),
+            reflector_words(model)
+        ),
+    )
+}
+
+/// Refuses a text that names no wheel.
+fn unknown_wheel(alloc: Global, name: &str, key: Key, model: Model) -> Result<Wheel, Slip> {
+    let fault = SheetFault::BadValue(key);
+    if let Some(wheel) = near_wheel(name) {
+        return refuse_case(alloc, fault, name, wheel.text().as_str());
+    }
+    let name_shown = shown(alloc, name)?;
+    refuse(
+        fault,
+        format!(in alloc;
+            "{} is no wheel; {} has {}",
+            name_shown.as_str(),
+            model_name(model),
+            box_words(model)
+        ),
+    )
+}
+
+/// Refuses a wheel that the model doesn't allow in slot `slot`.
+fn check_allowed(alloc: Global, model: Model, slot: u8, wheel: Wheel) -> Result<(), Slip> {
+    if allowed(model, slot, wheel) {
+        return Ok(());
+    }
+    let name = wheel.text();
+    if in_box(model, wheel) {
+        return refuse(
+            SheetFault::WheelNotAllowed,
+            format!(in alloc;
+                "wheel {} doesn't go into slot {slot} of {}, which takes {}",
+                name.as_str(),
+                model_name(model),
+                slot_words(model, slot)
+            ),
+        );
+    }
+    refuse(
+        SheetFault::WheelNotAllowed,
+        format!(in alloc;
+            "wheel {} isn't in the box of {}, which has {}",
+            name.as_str(),
+            model_name(model),
+            box_words(model)
+        ),
+    )
+}
+
+/// Refuses the wheel named `name` in slot `slot`, if an earlier slot has it, too.
+fn check_first(alloc: Global, items: &[Value], slot: u8, name: &str) -> Result<(), Slip> {
+    let mut earlier = 1;
+    for item in items {
+        if earlier < slot {
+            if item.as_str() == Some(name) {
+                return refuse(
+                    SheetFault::WheelTwice,
+                    format!(in alloc; "wheel {name} is in slot {earlier} and in slot {slot}"),
+                );
+            }
+            earlier += 1;
+        }
+    }
+    Ok(())
+}
+
+/// Refuses what the list `items` at `key` says of slot `slot`, where the item `name` stands.
+fn check_wheel(
+    alloc: Global,
+    items: &[Value],
+    key: Key,
+    model: Model,
+    slot: u8,
+    name: &str,
+) -> Result<(), Slip> {
+    if matches!(key, Key::Slots) && name.is_empty() {
+        return Ok(());
+    }
+    let wheel = match Wheel::from_text(name.as_bytes()) {
+        Some(wheel) => wheel,
+        None => unknown_wheel(alloc, name, key, model)?,
+    };
+    check_allowed(alloc, model, slot, wheel)?;
+    check_first(alloc, items, slot, name)
+}
+
+/// Refuses the list at `key`, unless it has a wheel for each slot of the model.
+pub fn check_wheels(alloc: Global, table: &Table, key: Key, model: Model) -> Result<(), Slip> {
+    let items = items_at(alloc, table, key)?;
+    check_count(alloc, key, items.len(), usize::from(model.slots()), "slots")?;
+    let mut slot = 1;
+    for item in items {
+        let name = item_text(alloc, item, usize::from(slot), SheetFault::BadValue(key))?;
+        check_wheel(alloc, items, key, model, slot, name)?;
+        if slot < 4 {
+            slot += 1;
+        }
+    }
+    Ok(())
+}

@@ -1,0 +1,50 @@
+//! Refuses values that aren't the right whole numbers.
+
+use crate::slip::{Slip, refuse};
+use crate::values::{kind_of, shown, value_at};
+use kd_sheet::{Key, SheetFault};
+use std::alloc::Global;
+use toml::{Table, Value};
+
+/// The whole number from 1 to `last` at `key`, or a slip.
+pub fn number_at(alloc: Global, table: &Table, key: Key, last: u8) -> Result<u8, Slip> {
+    number_of(
+        alloc,
+        value_at(alloc, table, key)?,
+        SheetFault::BadValue(key),
+        last,
+    )
+}
+
+/// The whole number from 1 to `last` that `value` is, or a slip.
+pub fn number_of(alloc: Global, value: &Value, fault: SheetFault, last: u8) -> Result<u8, Slip> {
+    if let Some(text) = value.as_str() {
+        let text_shown = shown(alloc, text)?;
+        return refuse(
+            fault,
+            format!(in alloc;
+                "{} stands in quotes: write a number, without quotes",
+                text_shown.as_str()
+            ),
+        );
+    }
+    let Some(number) = value.as_integer() else {
+        return refuse(
+            fault,
+            format!(in alloc; "{} stands where a number is needed", kind_of(value)),
+        );
+    };
+    match u8::try_from(number) {
+        Ok(small) if 1 <= small && small <= last => Ok(small),
+        _ => refuse(
+            fault,
+            format!(in alloc; "{number} is no number from 1 to {last}"),
+        ),
+    }
+}
+
+/// Refuses the value at `key`, unless it is a whole number from 1 to `last`.
+pub fn check_number(alloc: Global, table: &Table, key: Key, last: u8) -> Result<(), Slip> {
+    number_at(alloc, table, key, last)?;
+    Ok(())
+}

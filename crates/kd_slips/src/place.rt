@@ -1,0 +1,47 @@
+//! `Place`: where in a file a value stands.
+ghost use Rattle.std.specs.Prelude.{◌≡◌};
+ghost use Rattle.kd_slips.specs.Faults.{at_key, in_file};
+ghost use Rattle.kd_slips.specs.SheetFaults.{in_entry};
+
+use kd_sheet::Key;
+
+/// Where in a file a value stands.
+#[derive(Clone, Copy)]
+pub struct Place {
+    /// The number of the entry in a key sheet, counted from 1; `None` in a machine file.
+    pub entry: Option<usize>,
+    /// The entry's day, if it can be read.
+    pub day: Option<u8>,
+    pub key: Key,
+}
+
+impl Place {
+    /// The place of `key` in a machine file.
+    pub fn in_file(key: Key) -> Self
+        ensures { result ≡ in_file key }
+    {
+        Place {
+            entry: None,
+            day: None,
+            key,
+        }
+    }
+
+    /// The place of `key` in entry `entry` of a key sheet.
+    pub fn in_entry(entry: usize, day: Option<u8>, key: Key) -> Self
+        ensures { result ≡ in_entry entry day key }
+    {
+        Place {
+            entry: Some(entry),
+            day,
+            key,
+        }
+    }
+
+    /// The place of `key` beside this place.
+    pub fn at(self, key: Key) -> Self
+        ensures { result ≡ at_key self key }
+    {
+        Place { key, ..self }
+    }
+}

@@ -1,0 +1,272 @@
+//! Finds the faults of a key sheet, entry by entry.
+ghost use Rattle.std.specs.Prelude.{◌≡◌, ◌++◌, ◌<◌, ◌∷◌, [], OnOk, IfOk, map};
+ghost use Rattle.std.specs.List.{list_any};
+ghost use Rattle.toml.specs.View.{view, table_view};
+ghost use Rattle.kd_tables.specs.Tables.{slots_of};
+ghost use Rattle.kd_sheet.specs.MachineFile.{model_in};
+ghost use Rattle.kd_sheet.specs.declared.key.Key.TheVariants as keys;
+ghost use Rattle.kd_slips.specs.Faults.{after_model, at_key, faults_of};
+ghost use Rattle.kd_slips.specs.SheetFaults.{AreSheetFaults, entry_faults, has_number, model_day_faults, new_day};
+ghost use Rattle.kd_slips.specs.SheetFaults.{pin_day_faults, rotor_day_faults, table_faults};
+
+use crate::cables::{check_groups, check_pairs};
+use crate::findings::{Finding, note};
+use crate::letters::{check_letters, check_shown};
+use crate::models::{check_reflector, check_wheels, model_at};
+use crate::numbers::check_number;
+use crate::pins::{check_pins, check_rows};
+use crate::place::Place;
+use crate::rings::check_rings;
+use crate::slip::{Slip, refuse};
+use crate::values::kind_of;
+use kd_sheet::by_key::{
+    groups_in, letters_at, model_in, number_at, pairs_in, pins_in, reflector_in, rings_in, rows_in,
+    shown_letters_in, slots_in, window_in,
+};
+use kd_sheet::{Key, SheetFault};
+use kd_tables::Model;
+use std::alloc::{AllocError, Global};
+use toml::{Table, Value};
+
+/// The number of days of the longest month.
+const DAYS: u8 = 31;
+
+/// So many faults are enough: no later entry is judged.
+const ENOUGH: usize = 100;
+
+/// Whether `item` is an entry with the day `number`.
+fn has_number(item: &Value, number: u8) -> bool
+    ensures { result ≡ has_number number (view item.now) }
+{
+    match item.as_table() {
+        Some(table) => match number_at(table, Key::Day, DAYS) {
+            Ok(day) => day == number,
+            Err(_) => false,
+        },
+        None => false,
+    }
+}
+
+/// Whether one of `items` is an entry with the day `number`.
+fn have_number(items: &[Value], number: u8) -> bool
+    ensures { result ≡ list_any (has_number number) (map view items.now) }
+{
+    match items {
+        [first, rest @ ..] => has_number(first, number) || have_number(rest, number),
+        [] => false,
+    }
+}
+
+/// The day of an entry, or the fault with which the desk refuses it after the items `earlier`.
+#[tactic(auto, unfolding(crate::specs::SheetFaults::new_day))]
+fn new_day(earlier: &[Value], table: &Table) -> Result<u8, SheetFault>
+    ensures { result ≡ new_day (map view earlier.now) (table_view table.now) }
+{
+    let number = number_at(table, Key::Day, DAYS)?;
+    if have_number(earlier, number) {
+        return Err(SheetFault::DayTwice(number));
+    }
+    Ok(number)
+}
+
+/// The number of the first of `items` that is an entry with the day `number`, counted from 1.
+fn entry_with(items: &[Value], number: u8) -> usize {
+    let mut entry = 1usize;
+    for item in items {
+        if has_number(item, number) {
+            return entry;
+        }
+        entry = entry.saturating_add(1);
+    }
+    entry
+}
+
+/// Explains why the day of an entry after the items `earlier` is refused.
+fn check_day(alloc: Global, earlier: &[Value], table: &Table) -> Result<(), Slip> {
+    check_number(alloc, table, Key::Day, DAYS)?;
+    let Ok(day) = number_at(table, Key::Day, DAYS) else {
+        return Ok(());
+    };
+    let before = entry_with(earlier, day);
+    let entry = earlier.len().saturating_add(1);
+    refuse(
+        SheetFault::DayTwice(day),
+        format!(in alloc; "day {day} stands in entry {before} and in entry {entry}"),
+    )
+}
+
+/// Appends the faults of a rotor machine's day, after day and model, up to the window letters.
+#[tactic(auto, using(std::proofs::Common::append_assoc), unfolding(crate::specs::SheetFaults::rotor_day_faults))]
+fn judge_rotors(
+    list: &mut Vec<Finding>,
+    alloc: Global,
+    table: &Table,
+    place: Place,
+    model: Model,
+) -> Result<(), AllocError>
+    requires { 0 < slots_of model }
+    ensures { OnOk result (faults_of list.new.items
+        ≡ faults_of list.old.items ++ rotor_day_faults place model (table_view table.now)) }
+{
+    let reflector = reflector_in(table, model).err();
+    let checked = check_reflector(alloc, table, model);
+    note(list, alloc, place.at(Key::Reflector), reflector, checked)?;
+    let wheels = slots_in(table, Key::Wheels, model).err();
+    let checked = check_wheels(alloc, table, Key::Wheels, model);
+    note(list, alloc, place.at(Key::Wheels), wheels, checked)?;
+    let rings = rings_in(table, model).err();
+    note(
+        list,
+        alloc,
+        place.at(Key::Rings),
+        rings,
+        check_rings(alloc, table, model),
+    )?;
+    let window = window_in(table, model).err();
+    let slots = usize::from(model.slots());
+    let checked = check_letters(alloc, table, Key::Window, slots, ", one for each slot");
+    note(list, alloc, place.at(Key::Window), window, checked)?;
+    let pairs = pairs_in(table).err();
+    note(
+        list,
+        alloc,
+        place.at(Key::Plugs),
+        pairs,
+        check_pairs(alloc, table),
+    )?;
+    let groups = groups_in(table).err();
+    note(
+        list,
+        alloc,
+        place.at(Key::Groups),
+        groups,
+        check_groups(alloc, table),
+    )
+}
+
+/// Appends the faults of a Converter's day, after day and model.
+#[tactic(auto, using(std::proofs::Common::append_assoc), unfolding(crate::specs::SheetFaults::pin_day_faults))]
+fn judge_converter(
+    list: &mut Vec<Finding>,
+    alloc: Global,
+    table: &Table,
+    place: Place,
+) -> Result<(), AllocError>
+    ensures { OnOk result (faults_of list.new.items
+        ≡ faults_of list.old.items ++ pin_day_faults place (table_view table.now)) }
+{
+    let rows = rows_in(table).err();
+    note(
+        list,
+        alloc,
+        place.at(Key::Rows),
+        rows,
+        check_rows(alloc, table),
+    )?;
+    let pins = pins_in(table).err();
+    note(
+        list,
+        alloc,
+        place.at(Key::Pins),
+        pins,
+        check_pins(alloc, table),
+    )?;
+    let window = shown_letters_in(table, Key::Window).err();
+    let checked = check_shown(alloc, table, Key::Window);
+    note(list, alloc, place.at(Key::Window), window, checked)?;
+    let letters = letters_at::<2>(table, Key::List).err();
+    let checked = check_letters(alloc, table, Key::List, 2, "");
+    note(list, alloc, place.at(Key::List), letters, checked)
+}
+
+/// Explains why the model of an entry is refused.
+fn check_model(alloc: Global, table: &Table) -> Result<(), Slip> {
+    model_at(alloc, table)?;
+    Ok(())
+}
+
+/// Appends the faults of an entry's model, and of the keys that the model has.
+fn judge_model(
+    list: &mut Vec<Finding>,
+    alloc: Global,
+    table: &Table,
+    place: Place,
+) -> Result<(), AllocError>
+    ensures { OnOk result (faults_of list.new.items ≡ faults_of list.old.items
+        ++ after_model (at_key place keys.Model) (model_day_faults place (table_view table.now))
+        (model_in (table_view table.now))) }
+{
+    match model_in(table) {
+        Ok(Model::M209) => judge_converter(list, alloc, table, place),
+        Ok(model @ (Model::EnigmaI | Model::M3 | Model::M4)) => {
+            judge_rotors(list, alloc, table, place, model)
+        }
+        Err(fault) => {
+            let place = place.at(Key::Model);
+            note(list, alloc, place, Some(fault), check_model(alloc, table))
+        }
+    }
+}
+
+/// Appends the faults of the entry `table`, which stands after the items `earlier`.
+#[tactic(auto, using(std::proofs::Common::append_assoc), unfolding(crate::specs::SheetFaults::table_faults))]
+fn judge_table(
+    list: &mut Vec<Finding>,
+    alloc: Global,
+    earlier: &[Value],
+    table: &Table,
+) -> Result<(), AllocError>
+    ensures { OnOk result (faults_of list.new.items ≡ faults_of list.old.items
+        ++ table_faults (map view earlier.now) (table_view table.now)) }
+{
+    let day = number_at(table, Key::Day, DAYS).ok();
+    let place = Place::in_entry(earlier.len() + 1, day, Key::Day);
+    let fault = new_day(earlier, table).err();
+    note(list, alloc, place, fault, check_day(alloc, earlier, table))?;
+    judge_model(list, alloc, table, place)
+}
+
+/// Explains why an item of the list `day` that is no table is refused.
+fn refuse_entry(alloc: Global, item: &Value) -> Result<(), Slip> {
+    refuse(
+        SheetFault::BadValue(Key::Day),
+        format!(in alloc;
+            "{} stands where an entry is needed: write `[[day]]` above each day's lines",
+            kind_of(item)
+        ),
+    )
+}
+
+/// Appends the faults of the entry `item`, which stands after the items `earlier`.
+fn judge_entry(
+    list: &mut Vec<Finding>,
+    alloc: Global,
+    earlier: &[Value],
+    item: &Value,
+) -> Result<(), AllocError>
+    ensures { OnOk result (faults_of list.new.items ≡ faults_of list.old.items
+        ++ entry_faults (map view earlier.now) (view item.now)) }
+{
+    match item.as_table() {
+        Some(table) => judge_table(list, alloc, earlier, table),
+        None => {
+            let place = Place::in_entry(earlier.len() + 1, None, Key::Day);
+            let fault = Some(SheetFault::BadValue(Key::Day));
+            note(list, alloc, place, fault, refuse_entry(alloc, item))
+        }
+    }
+}
+
+/// Finds the faults of the entries of a key sheet, up to the entry with the hundredth fault.
+pub fn sheet_faults(alloc: Global, items: &[Value]) -> Result<Vec<Finding>, AllocError>
+    ensures { IfOk result (λ list. AreSheetFaults (map view items.now) (faults_of list.items)) }
+{
+    let mut list = Vec::new(alloc);
+    for (index, item) in items.iter().enumerate() {
+        if list.len() >= ENOUGH {
+            return Ok(list);
+        }
+        judge_entry(&mut list, alloc, &items[..index], item)?;
+    }
+    Ok(list)
+}
