@@ -1,7 +1,7 @@
 -- The lines of a file's faults.
 use Rattle.std.proofs.Common.{◌≡◌, ℕ, List, [], ◌∷◌, ◌++◌, Option, Some, None, Result, Ok, Err, ap, sym, ◌∙◌, subst, refl}
 use Rattle.std.proofs.lemmas.List.{take_all}
-use Rattle.std.proofs.Common.{◌≤◌, ◌-◌, length, drop, take, get_or, arith, is_some, if◌then◌else◌}
+use Rattle.std.proofs.Common.{◌≤◌, ◌-◌, length, map, drop, take, get_or, arith, is_some, if◌then◌else◌}
 use Rattle.std.specs.Option.{option_map_or}
 use Rattle.std.specs.Result.{result_err}
 use Rattle.toml.specs.Data.{Data, Members}
@@ -15,7 +15,8 @@ use Rattle.kd_slips.specs.Faults.{faults_of, first_fault}
 use Rattle.kd_slips.specs.SheetFaults.{AreFaults, entries_of, file_fault}
 use Rattle.kd_slips.specs.declared.findings.Finding.{Finding}
 use Rattle.kd_slips.specs.declared.place.Place.{Place}
-use Rattle.kd_look.specs.FaultWords.{AreFaultLines, AreLinesFor, IsFaultLine}
+use Rattle.kd_look.specs.FaultWords.{AreFaultLines, AreLinesFor, IsFaultLine, IsLineAt}
+use Rattle.kd_look.specs.Line.{line_of}
 use Rattle.kd_look.specs.Texts.{AppendsText}
 use Rattle.kd_look.specs.declared.file.File.{File}
 use Rattle.kd_look.specs.declared.file.File.TheVariants as files
@@ -23,17 +24,28 @@ use Rattle.kd_look.proofs.Appending.{AppendsText-then}
 unfoldable use Rattle.kd_look.specs.File.{file_of}
 
 -- the line of the first finding is appended, and then the lines of the others
-pub AreFaultLines-then : (name bytes : List ℕ) (findings : List Finding) (first : Finding) (old middle new : List ℕ)
-    → 1 ≤ length findings → first ≡ get_or findings 0 first
-    → AppendsText (IsFaultLine name bytes first.place first.fault) old middle
-    → AppendsText (AreFaultLines name bytes (faults_of (take (length findings - 1) (drop 1 findings)))) middle new
+pub AreFaultLines-then : (name : List ℕ) (findings : List Finding) (lines : List (Option ℕ)) (first : Finding)
+    (d : Option ℕ) (old middle new : List ℕ) → 1 ≤ length findings → first ≡ get_or findings 0 first
+    → AppendsText (IsLineAt name first.place (get_or lines 0 d) first.fault) old middle
+    → ((bytes : List ℕ) → take (length lines - 1) (drop 1 lines)
+    ≡ map (line_of bytes) (take (length findings - 1) (drop 1 findings))
+    → AppendsText (AreFaultLines name bytes (faults_of (take (length findings - 1) (drop 1 findings)))) middle new)
+    → (bytes : List ℕ) → lines ≡ map (line_of bytes) findings
     → AppendsText (AreFaultLines name bytes (faults_of findings)) old new
-AreFaultLines-then name bytes [] first old middle new some is one others = absurd (omega (arith, some))
-AreFaultLines-then name bytes (head ∷ rest) first old middle new some is one others =
-    let same = subst (λ finding. AppendsText (IsFaultLine name bytes finding.place finding.fault) old middle) is one in
+AreFaultLines-then name [] lines first d old middle new some is one others bytes are = absurd (omega (arith, some))
+AreFaultLines-then name (head ∷ rest) [] first d old middle new some is one others bytes are =
+    absurd (omega (arith, ap length are))
+AreFaultLines-then name (head ∷ rest) (line ∷ lines) first d old middle new some is one others bytes are =
+    let of_first = subst (λ finding. AppendsText (IsLineAt name finding.place line finding.fault) old middle) is one in
+    let of_line : AppendsText (IsFaultLine name bytes head.place head.fault) old middle =
+    subst (λ number. AppendsText (IsLineAt name head.place number head.fault) old middle)
+    (ap (λ numbers. get_or numbers 0 line) are) of_first in
     let all : take (length (head ∷ rest) - 1) rest ≡ rest = take_all _ rest (omega arith) in
-    AppendsText-then _ _ old middle new same
-    (subst (λ list. AppendsText (AreFaultLines name bytes (faults_of list)) middle new) all others)
+    let all_lines : take (length (line ∷ lines) - 1) lines ≡ lines = take_all _ lines (omega arith) in
+    let same : take (length (line ∷ lines) - 1) lines ≡ map (line_of bytes) (take (length (head ∷ rest) - 1) rest) =
+    all_lines ∙ ap (drop 1) are ∙ sym (ap (map (line_of bytes)) all) in
+    AppendsText-then _ _ old middle new of_line
+    (subst (λ list. AppendsText (AreFaultLines name bytes (faults_of list)) middle new) all (others bytes same))
 
 -- a choice of what a sheet and what a machine file says, in another form, has the same fault
 of_choice : (entries : Option (List Data)) (sheet : Result (List (Option Day)) SheetFault) (machine : Result Parts SheetFault)

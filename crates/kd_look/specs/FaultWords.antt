@@ -1,17 +1,16 @@
 -- The lines that name a file's faults: the file's name, the place, what is wrong, and the fault's number and name.
 -- Test: kd_look_trials/src/slips.rt
 use Rattle.std.specs.Prelude.{codes, ◌≡◌, ℕ, ◌++◌, List, [], ◌∷◌, Option, Some, None, Result, Ok, Err, decimal}
-use Rattle.std.specs.Option.{option_and_then, option_map_or}
+use Rattle.std.specs.Option.{option_map_or}
 use Rattle.toml.specs.Data.{Members}
 use Rattle.kd_sheet.specs.Document.{document_of}
 use Rattle.kd_sheet.specs.FaultText.{sheet_fault_text}
 use Rattle.kd_sheet.specs.Key.{key_name}
 use Rattle.kd_sheet.specs.declared.fault.SheetFault.{SheetFault}
-use Rattle.kd_sheet.specs.declared.fault.SheetFault.TheVariants as faults
 use Rattle.kd_slips.specs.Faults.{first_fault}
 use Rattle.kd_slips.specs.SheetFaults.{AreFaults}
 use Rattle.kd_slips.specs.declared.place.Place.{Place}
-use Rattle.kd_look.specs.Line.{line_number}
+use Rattle.kd_look.specs.Line.{line_of_fault}
 use Rattle.kd_look.specs.Texts.{BeginsWith}
 
 -- the fault's number and name in parentheses, and the end of the line
@@ -28,12 +27,6 @@ entry_words (Some day) entry = codes ", day " ++ decimal day
 entry_words None (Some entry) = codes ", entry " ++ decimal entry
 entry_words None None = []
 
--- the line of a fault: of its key; for a missing key, of the entry that lacks the key
-abbrev pub line_of_fault : List ℕ → Place → SheetFault → Option ℕ
-line_of_fault bytes place (faults.Missing key) =
-    option_and_then (λ entry. line_number bytes (Some entry) None) place.entry
-line_of_fault bytes place fault = line_number bytes place.entry (Some place.key)
-
 -- the line of a fault, with the words `wrong` for what is wrong
 unfoldable pub fault_line : List ℕ → Place → Option ℕ → List ℕ → SheetFault → List ℕ
 fault_line name place line wrong fault =
@@ -41,9 +34,13 @@ fault_line name place line wrong fault =
     ++ fault_end fault
 
 -- A line names the fault and its place: the day or the entry, the line if it is known, and the key.
-pub record IsFaultLine (name bytes : List ℕ) (place : Place) (fault : SheetFault) (line : List ℕ) : Type 0 where
+pub record IsLineAt (name : List ℕ) (place : Place) (line : Option ℕ) (fault : SheetFault) (text : List ℕ) : Type 0 where
   pub wrong : List ℕ
-  pub whole : line ≡ fault_line name place (line_of_fault bytes place fault) wrong fault
+  pub whole : text ≡ fault_line name place line wrong fault
+
+-- A line names the fault, its place, and its line in the file.
+abbrev pub IsFaultLine : List ℕ → List ℕ → Place → SheetFault → List ℕ → Type 0
+IsFaultLine name bytes place fault text = IsLineAt name place (line_of_fault bytes place fault) fault text
 
 -- The text has a line for each of the faults, in their order.
 abbrev pub AreFaultLines : List ℕ → List ℕ → List (Place × SheetFault) → List ℕ → Type 0

@@ -1,5 +1,5 @@
 -- The line of a value: the first line of the file up to whose end the text is a document that has the value.
--- Code: the document is parsed up to the end of each line in turn.
+-- Code: the document is parsed up to the end of each line in turn, once for all faults.
 -- Test: kd_look_trials/src/slips.rt
 use Rattle.std.specs.Prelude.{ℕ, ◌+◌, ◌-◌, ◌==◌, ◌||◌, ◌&&◌, nat_lt, Bool, true, false, List, find, length, take, count_by}
 use Rattle.std.specs.Prelude.{slice_index, Option, Some, None, is_some, option_map, if◌then◌else◌}
@@ -11,7 +11,12 @@ use Rattle.kd_state.specs.SameParts.{numbered_item}
 use Rattle.kd_sheet.specs.Document.{document_of}
 use Rattle.kd_sheet.specs.Key.{key_name}
 use Rattle.kd_sheet.specs.declared.key.Key.{Key}
+use Rattle.kd_sheet.specs.declared.fault.SheetFault.{SheetFault}
+use Rattle.kd_sheet.specs.declared.fault.SheetFault.TheVariants.{Missing}
 use Rattle.kd_slips.specs.SheetFaults.{entries_of}
+use Rattle.kd_slips.specs.declared.findings.Finding.{Finding}
+use Rattle.kd_slips.specs.declared.place.Place.{Place}
+use Rattle.kd_look.specs.declared.line.Sought.{Sought}
 
 -- entry `entry` of `items`, counted from 1, if it is a table
 abbrev pub entry_of : List Data → ℕ → Option Members
@@ -28,34 +33,68 @@ has_key None table = true
 has_key (Some key) table = is_some (get_member (key_name key) table)
 
 -- whether the document has the entry and the key
-unfoldable pub has_value : Option ℕ → Option Key → Members → Bool
-has_value entry key document = option_map_or (has_key key) (table_at document entry) false
+unfoldable pub has_value : Sought → Members → Bool
+has_value sought document = option_map_or (has_key sought.key) (table_at document sought.entry) false
 
 -- whether the text is a document that has the entry and the key
-abbrev pub reads_value : Option ℕ → Option Key → List ℕ → Bool
-reads_value entry key text = option_map_or (has_value entry key) (result_ok (document_of text)) false
+abbrev pub reads_value : Sought → List ℕ → Bool
+reads_value sought text = option_map_or (has_value sought) (result_ok (document_of text)) false
 
 -- whether a line ends after the byte at `index`: this byte is LF, or the text's last byte
 abbrev pub ends_line : List ℕ → ℕ → Bool
 ends_line text index = slice_index text index == 10 || index + 1 == length text
 
 -- whether a line ends after the byte at `index`, and the text up to there has the entry and the key
-unfoldable pub has_value_at : List ℕ → Option ℕ → Option Key → ℕ → Bool
-has_value_at text entry key index = ends_line text index && reads_value entry key (take (index + 1) text)
+unfoldable pub has_value_at : List ℕ → Sought → ℕ → Bool
+has_value_at text sought index = ends_line text index && reads_value sought (take (index + 1) text)
 
 -- the number of the line that has the byte at `index`, counted from 1
 abbrev pub line_at : List ℕ → ℕ → ℕ
 line_at text index = count_by (λ byte. byte == 10) (take index text) + 1
 
+-- the number of the first of the lines before the byte at `end` up to whose end the text has the entry and the key
+abbrev pub line_before : List ℕ → ℕ → Sought → Option ℕ
+line_before text end sought = option_map (line_at text) (find (has_value_at text sought) (range_with_len 0 end))
+
 -- whether the text is longer than 65,536 bytes, or has more than 2,048 line ends: lines aren't sought in it
 abbrev pub is_too_long : List ℕ → Bool
 is_too_long text = nat_lt 65536 (length text) || nat_lt 2048 (count_by (λ byte. byte == 10) text)
 
--- the number of the first line up to whose end the text has the entry and the key
-abbrev pub first_line : List ℕ → Option ℕ → Option Key → Option ℕ
-first_line text entry key =
-    option_map (line_at text) (find (has_value_at text entry key) (range_with_len 0 (length text)))
+-- the number of the first line up to whose end the text has the entry and the key; none if lines aren't sought
+abbrev pub line_number : List ℕ → Sought → Option ℕ
+line_number text sought = if is_too_long text then None else line_before text (length text) sought
 
--- the number of this line; none if lines aren't sought
-unfoldable pub line_number : List ℕ → Option ℕ → Option Key → Option ℕ
-line_number text entry key = if is_too_long text then None else first_line text entry key
+-- what is sought for a fault: its key; for a missing key, the entry that lacks the key
+abbrev pub sought_for : Place → SheetFault → Option Sought
+sought_for place (Missing key) = option_map (λ entry. record { entry = Some entry; key = None }) place.entry
+sought_for place fault = Some (record { entry = place.entry; key = Some place.key })
+
+-- the line of a fault
+unfoldable pub line_of_fault : List ℕ → Place → SheetFault → Option ℕ
+line_of_fault text place fault = option_and_then (line_number text) (sought_for place fault)
+
+-- the line of a finding
+abbrev pub line_of : List ℕ → Finding → Option ℕ
+line_of text finding = line_of_fault text finding.place finding.fault
+
+-- ---- Lines that are found one after another. No public contract cites these definitions.
+
+-- the first line of a finding before the byte at `end`
+unfoldable pub line_so_far : List ℕ → ℕ → Finding → Option ℕ
+line_so_far text end finding = option_and_then (line_before text end) (sought_for finding.place finding.fault)
+
+-- the first line, or the later one if there is no first
+abbrev pub or_line : Option ℕ → Option ℕ → Option ℕ
+or_line (Some line) later = Some line
+or_line None later = later
+
+-- the line, if the document has what is sought for the finding
+unfoldable pub line_in : Members → ℕ → Finding → Option ℕ
+line_in document line finding =
+    option_and_then (λ sought. if has_value sought document then Some line else None)
+    (sought_for finding.place finding.fault)
+
+-- the line, if the text is a document that has what is sought for the finding
+abbrev pub line_in_text : List ℕ → ℕ → Finding → Option ℕ
+line_in_text text line finding =
+    option_and_then (λ document. line_in document line finding) (result_ok (document_of text))

@@ -5,12 +5,6 @@ use Rattle.std.specs.Prelude.{◌≡◌, codes, ℕ, ◌++◌, nat_lt, List, dec
 unfoldable pub two_digits : ℕ → List ℕ
 two_digits number = (if nat_lt number 10 then codes "0" else codes "") ++ decimal number
 
--- A text that satisfies `P` was appended.
-pub record AppendsText (P : List ℕ → Type 0) (old new : List ℕ) : Type 0 where
-  pub text : List ℕ
-  pub fits : P text
-  pub added : new ≡ old ++ text
-
 -- The text is a piece that satisfies `First`, and then what `Others` holds of.
 pub record BeginsWith (First Others : List ℕ → Type 0) (text : List ℕ) : Type 0 where
   pub piece : List ℕ
@@ -18,3 +12,11 @@ pub record BeginsWith (First Others : List ℕ → Type 0) (text : List ℕ) : T
   pub first : First piece
   pub after : Others others
   pub whole : text ≡ piece ++ others
+
+-- ---- Texts that grow. No public contract cites this definition.
+
+-- A text that satisfies `P` was appended.
+pub record AppendsText (P : List ℕ → Type 0) (old new : List ℕ) : Type 0 where
+  pub text : List ℕ
+  pub fits : P text
+  pub added : new ≡ old ++ text

@@ -1,14 +1,15 @@
 //! The lines that name the faults of a file.
-ghost use Rattle.std.specs.Prelude.{◌≡◌, ◌++◌, codes, decimal, IfOk, OnOk, Err, Some};
+ghost use Rattle.std.specs.Prelude.{◌≡◌, ◌++◌, ℕ, List, codes, decimal, map, IfOk, OnOk, Err};
 ghost use Rattle.std.specs.String.{string_bytes};
 ghost use Rattle.kd_slips.specs.Faults.{faults_of};
-ghost use Rattle.kd_look.specs.FaultWords.{AreFaultLines, IsFaultLine, NamesFault, entry_words, fault_end, fault_line};
-ghost use Rattle.kd_look.specs.FaultWords.{AreLinesFor, IsPlainLine, line_of_fault, line_words};
+ghost use Rattle.kd_look.specs.FaultWords.{AreFaultLines, IsLineAt, NamesFault, entry_words, fault_end, fault_line};
+ghost use Rattle.kd_look.specs.FaultWords.{AreLinesFor, IsPlainLine, line_words};
 ghost use Rattle.kd_look.specs.File.{file_of};
+ghost use Rattle.kd_look.specs.Line.{line_of};
 ghost use Rattle.kd_look.specs.Texts.{AppendsText};
 ghost use Rattle.kd_sheet.specs.Document.{document_of};
 
-use crate::line::line_number;
+use crate::line::lines_of;
 use crate::texts::push_wide_number;
 use crate::warnings::key_warnings;
 use kd_sheet::SheetFault;
@@ -59,22 +60,6 @@ fn push_entry(text: &mut String, day: Option<u8>, entry: Option<usize>) -> Resul
     }
 }
 
-/// The line of a fault: of its key; for a missing key, of the entry that lacks the key.
-fn line_of_fault(
-    alloc: Global,
-    bytes: &[u8],
-    place: Place,
-    fault: SheetFault,
-) -> Result<Option<usize>, AllocError>
-    ensures { IfOk result (λ line. line ≡ line_of_fault bytes.now place fault) }
-{
-    match (fault, place.entry) {
-        (SheetFault::Missing(_), Some(entry)) => line_number(alloc, bytes, Some(entry), None),
-        (SheetFault::Missing(_), None) => Ok(None),
-        (_, entry) => line_number(alloc, bytes, entry, Some(place.key)),
-    }
-}
-
 /// Appends the line of a fault, with the words `wrong` for what is wrong.
 #[tactic(auto, using(std::proofs::Common::append_assoc), unfolding(crate::specs::FaultWords::fault_line))]
 fn push_fault_line(
@@ -97,18 +82,17 @@ fn push_fault_line(
     push_fault(text, fault)
 }
 
-/// Appends the line of `finding`.
+/// Appends the line of `finding`, which is in line `line` of the file.
 fn push_finding(
     text: &mut String,
     alloc: Global,
-    bytes: &[u8],
     name: &str,
     finding: &Finding,
+    line: Option<usize>,
 ) -> Result<(), AllocError>
-    ensures { OnOk result (AppendsText (IsFaultLine name.now bytes.now finding.now.place finding.now.fault)
+    ensures { OnOk result (AppendsText (IsLineAt name.now finding.now.place line finding.now.fault)
         (string_bytes text.old) (string_bytes text.new)) }
 {
-    let line = line_of_fault(alloc, bytes, finding.place, finding.fault)?;
     let wrong = wrong_words(alloc, &finding.explanation)?;
     push_fault_line(
         text,
@@ -120,23 +104,24 @@ fn push_finding(
     )
 }
 
-/// Appends a line for each of `findings`.
+/// Appends a line for each of `findings`, which are in these lines of the file.
 fn push_findings(
     text: &mut String,
     alloc: Global,
-    bytes: &[u8],
     name: &str,
     findings: &[Finding],
+    lines: &[Option<usize>],
 ) -> Result<(), AllocError>
-    ensures { OnOk result (AppendsText (AreFaultLines name.now bytes.now (faults_of findings.now))
+    ensures { OnOk result ((bytes : List ℕ) → lines.now ≡ map (line_of bytes) findings.now
+        → AppendsText (AreFaultLines name.now bytes (faults_of findings.now))
         (string_bytes text.old) (string_bytes text.new)) }
 {
-    match findings {
-        [first, rest @ ..] => {
-            push_finding(text, alloc, bytes, name, first)?;
-            push_findings(text, alloc, bytes, name, rest)
+    match (findings, lines) {
+        ([finding, findings @ ..], [line, lines @ ..]) => {
+            push_finding(text, alloc, name, finding, *line)?;
+            push_findings(text, alloc, name, findings, lines)
         }
-        [] => Ok(()),
+        _ => Ok(()),
     }
 }
 
@@ -171,7 +156,14 @@ fn fault_lines(
         Ok(document) => {
             let findings = find_faults(alloc, &document)?;
             let mut text = String::new(alloc);
-            push_findings(&mut text, alloc, bytes, name, findings.as_slice())?;
+            let lines = lines_of(alloc, bytes, findings.as_slice())?;
+            push_findings(
+                &mut text,
+                alloc,
+                name,
+                findings.as_slice(),
+                lines.as_slice(),
+            )?;
             Ok(text)
         }
         Err(SheetFault::NoMemory) => Err(AllocError),

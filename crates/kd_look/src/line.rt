@@ -1,12 +1,13 @@
 //! Finds the line of a value in a file.
-ghost use Rattle.std.specs.Prelude.{◌≡◌, ◌+◌, ◌<◌, IfOk, length, map, option_map};
+ghost use Rattle.std.specs.Prelude.{◌≡◌, ◌+◌, ◌<◌, ℕ, Option, None, IfOk, length, map, option_map};
 ghost use Rattle.toml.specs.View.{table_view, view};
-ghost use Rattle.kd_look.specs.Line.{ends_line, entry_of, table_at, has_key, has_value, has_value_at, is_too_long};
-ghost use Rattle.kd_look.specs.Line.{first_line, line_number, reads_value};
+ghost use Rattle.kd_slips.specs.declared.findings.Finding.{Finding};
+ghost use Rattle.kd_look.specs.Line.{ends_line, entry_of, table_at, has_key, has_value, is_too_long, line_at, line_in};
+ghost use Rattle.kd_look.specs.Line.{line_in_text, line_of, line_so_far, or_line, sought_for};
 
 use kd_sheet::by_key::{find_at, parse_table};
 use kd_sheet::{Key, SheetFault};
-use kd_slips::entries_of;
+use kd_slips::{Finding, Place, entries_of};
 use std::alloc::{AllocError, Global};
 use toml::{Table, Value};
 
@@ -15,6 +16,15 @@ const MOST_BYTES: usize = 65_536;
 
 /// The most line ends of a file in which lines are sought: the file is parsed up to each of them.
 const MOST_LINES: usize = 2_048;
+
+/// Where a value is sought.
+#[derive(Clone, Copy)]
+struct Sought {
+    /// The number of an entry of a key sheet, counted from 1; `None` for the document itself.
+    entry: Option<usize>,
+    /// The key; `None` if that the entry is there suffices.
+    key: Option<Key>,
+}
 
 /// Entry `entry` of `items`, counted from 1, if it is a table.
 fn entry_of(items: &[Value], entry: usize) -> Option<&Table>
@@ -48,28 +58,97 @@ fn has_key(table: &Table, key: Option<Key>) -> bool
 
 /// Whether `document` has the entry and the key.
 #[tactic(auto, unfolding(crate::specs::Line::has_value))]
-fn has_value(document: &Table, entry: Option<usize>, key: Option<Key>) -> bool
-    ensures { result ≡ has_value entry key (table_view document.now) }
+fn has_value(document: &Table, sought: Sought) -> bool
+    ensures { result ≡ has_value sought (table_view document.now) }
 {
-    match table_at(document, entry) {
-        Some(table) => has_key(table, key),
+    match table_at(document, sought.entry) {
+        Some(table) => has_key(table, sought.key),
         None => false,
     }
 }
 
-/// Whether `text` is a document that has the entry and the key.
-fn reads_value(
+/// What is sought for `finding`: its key; for a missing key, the entry that lacks the key.
+fn sought_for(finding: &Finding) -> Option<Sought>
+    ensures { result ≡ sought_for finding.now.place finding.now.fault }
+{
+    let Place { entry, key, .. } = finding.place;
+    match finding.fault {
+        SheetFault::Missing(_) => Some(Sought {
+            entry: Some(entry?),
+            key: None,
+        }),
+        _ => Some(Sought {
+            entry,
+            key: Some(key),
+        }),
+    }
+}
+
+/// Line `line`, if `document` has what is sought for `finding`.
+#[tactic(auto, unfolding(crate::specs::Line::line_in))]
+fn line_in(document: &Table, line: usize, finding: &Finding) -> Option<usize>
+    ensures { result ≡ line_in (table_view document.now) line finding.now }
+{
+    let sought = sought_for(finding)?;
+    if has_value(document, sought) {
+        Some(line)
+    } else {
+        None
+    }
+}
+
+/// The line that is known, or line `line`, if `document` has what is sought for `finding`.
+fn known_line(
+    known: Option<usize>,
+    document: &Table,
+    line: usize,
+    finding: &Finding,
+) -> Option<usize>
+    ensures { result ≡ or_line known (line_in (table_view document.now) line finding.now) }
+{
+    match known {
+        Some(known) => Some(known),
+        None => line_in(document, line, finding),
+    }
+}
+
+/// The lines of `findings`: those in `lines`, and line `line` for the others of which `document` has what is sought.
+fn next_lines(
+    alloc: Global,
+    document: &Table,
+    line: usize,
+    findings: &[Finding],
+    lines: &[Option<usize>],
+) -> Result<Vec<Option<usize>>, AllocError>
+    requires { length lines.now ≡ length findings.now }
+    ensures { (before : Finding → Option ℕ) → lines.now ≡ map before findings.now
+        → IfOk result (λ next. next.items ≡ map (λ finding.
+        or_line (before finding) (line_in (table_view document.now) line finding)) findings.now) }
+{
+    let mut next = Vec::new(alloc);
+    for (index, finding) in findings.iter().enumerate() {
+        next.push(known_line(lines[index], document, line, finding))?;
+    }
+    Ok(next)
+}
+
+/// The lines of `findings`: those in `lines`, and line `line` for the others of which `text` has what is sought.
+fn lines_with(
     alloc: Global,
     text: &[u8],
-    entry: Option<usize>,
-    key: Option<Key>,
-) -> Result<bool, AllocError>
-    ensures { IfOk result (λ has. has ≡ reads_value entry key text.now) }
+    line: usize,
+    findings: &[Finding],
+    lines: Vec<Option<usize>>,
+) -> Result<Vec<Option<usize>>, AllocError>
+    requires { length lines.items ≡ length findings.now }
+    ensures { (before : Finding → Option ℕ) → lines.items ≡ map before findings.now
+        → IfOk result (λ next. next.items ≡ map (λ finding.
+        or_line (before finding) (line_in_text text.now line finding)) findings.now) }
 {
     match parse_table(alloc, text) {
-        Ok(document) => Ok(has_value(&document, entry, key)),
+        Ok(document) => next_lines(alloc, &document, line, findings, lines.as_slice()),
         Err(SheetFault::NoMemory) => Err(AllocError),
-        Err(_) => Ok(false),
+        Err(_) => Ok(lines),
     }
 }
 
@@ -81,22 +160,24 @@ fn ends_line(text: &[u8], index: usize) -> bool
     text[index] == b'\n' || index + 1 == text.len()
 }
 
-/// Whether a line ends after the byte at `index`, and the text up to there has the entry and the key.
-#[tactic(auto, unfolding(crate::specs::Line::has_value_at))]
-fn has_value_at(
+/// The lines of `findings`: those in `lines`, and line `line` for others, if it ends after the byte at `index`.
+fn lines_after(
     alloc: Global,
     text: &[u8],
     index: usize,
-    entry: Option<usize>,
-    key: Option<Key>,
-) -> Result<bool, AllocError>
-    requires { index < length text.now }
-    ensures { IfOk result (λ has. has ≡ has_value_at text.now entry key index) }
+    line: usize,
+    findings: &[Finding],
+    lines: Vec<Option<usize>>,
+) -> Result<Vec<Option<usize>>, AllocError>
+    requires within { index < length text.now }
+    requires so_far { lines.items ≡ map (line_so_far text.now index) findings.now }
+    requires line { line ≡ line_at text.now index }
+    ensures { IfOk result (λ next. next.items ≡ map (line_so_far text.now (index + 1)) findings.now) }
 {
     if ends_line(text, index) {
-        reads_value(alloc, &text[..index + 1], entry, key)
+        lines_with(alloc, &text[..index + 1], line, findings, lines)
     } else {
-        Ok(false)
+        Ok(lines)
     }
 }
 
@@ -107,41 +188,49 @@ fn is_too_long(text: &[u8]) -> bool
     text.len() > MOST_BYTES || text.iter().filter(|byte| **byte == b'\n').count() > MOST_LINES
 }
 
-/// The number of the first line up to whose end `text` is a document with the entry and the key.
-///
-/// `None` if the whole text isn't such a document, or is too long.
-#[tactic(auto, unfolding(crate::specs::Line::line_number))]
-pub fn line_number(
-    alloc: Global,
-    text: &[u8],
-    entry: Option<usize>,
-    key: Option<Key>,
-) -> Result<Option<usize>, AllocError>
-    ensures { IfOk result (λ line. line ≡ line_number text.now entry key) }
+/// No line for each of `findings`.
+fn no_lines(alloc: Global, findings: &[Finding]) -> Result<Vec<Option<usize>>, AllocError>
+    ensures { IfOk result (λ lines. lines.items ≡ map (λ finding. None) findings.now) }
 {
-    if is_too_long(text) {
-        return Ok(None);
+    let mut lines = Vec::new(alloc);
+    for finding in findings {
+        lines.push(None)?;
     }
-    first_line(alloc, text, entry, key)
+    Ok(lines)
 }
 
-/// The number of the first line up to whose end `text` is a document with the entry and the key.
-fn first_line(
+/// The line of each of `findings`, sought in the whole `text`.
+fn seek_lines(
     alloc: Global,
     text: &[u8],
-    entry: Option<usize>,
-    key: Option<Key>,
-) -> Result<Option<usize>, AllocError>
-    ensures { IfOk result (λ line. line ≡ first_line text.now entry key) }
+    findings: &[Finding],
+) -> Result<Vec<Option<usize>>, AllocError>
+    ensures { IfOk result (λ lines. lines.items ≡ map (line_so_far text.now (length text.now)) findings.now) }
 {
+    let mut lines = no_lines(alloc, findings)?;
     let mut line = 1;
     for (index, byte) in text.iter().enumerate() {
-        if has_value_at(alloc, text, index, entry, key)? {
-            return Ok(Some(line));
-        }
+        lines = lines_after(alloc, text, index, line, findings, lines)?;
         if *byte == b'\n' {
             line += 1;
         }
     }
-    Ok(None)
+    Ok(lines)
+}
+
+/// The line of each of `findings`: the first line up to whose end `text` is a document with the entry and the key.
+///
+/// `None` if the whole text isn't such a document, or is too long.
+pub fn lines_of(
+    alloc: Global,
+    text: &[u8],
+    findings: &[Finding],
+) -> Result<Vec<Option<usize>>, AllocError>
+    ensures { IfOk result (λ lines. lines.items ≡ map (line_of text.now) findings.now) }
+{
+    if is_too_long(text) {
+        no_lines(alloc, findings)
+    } else {
+        seek_lines(alloc, text, findings)
+    }
 }

@@ -8,8 +8,8 @@ ghost use Rattle.kd_look.specs.Look.{AreReports, IsLookAnswer, IsWholeReport};
 ghost use Rattle.kd_look.specs.Look.{is_device, named_text, outcome_of_all};
 ghost use Rattle.kd_look.specs.Report.{IsReport, outcome_of};
 
+use crate::missing_days::{FileSummary, missing_day_warnings};
 use crate::outcome::Outcome;
-use crate::pairing::{Seen, pair_warnings};
 use crate::report::{Report, make_report};
 use kd_tables::{Device, Sink, put_all};
 use std::alloc::{AllocError, Global};
@@ -54,10 +54,10 @@ impl From<Device> for LookFault {
     }
 }
 
-/// Appends the report on `file`, and notes what was seen in it.
+/// Appends the report on `file`, and notes what the file says of models.
 fn push_report<'f>(
     text: &mut String,
-    seen: &mut Vec<Seen<'f>>,
+    summaries: &mut Vec<FileSummary<'f>>,
     alloc: Global,
     file: NamedFile<'f>,
 ) -> Result<Outcome, AllocError>
@@ -71,17 +71,17 @@ fn push_report<'f>(
         contents,
     } = make_report(alloc, file.bytes, file.name)?;
     text.push_str(report.as_str())?;
-    seen.push(Seen {
+    summaries.push(FileSummary {
         name: file.name,
         contents,
     })?;
     Ok(outcome)
 }
 
-/// Appends the reports on `files`, and notes what was seen in each of them.
+/// Appends the reports on `files`, and notes what each of them says of models.
 fn push_reports<'f>(
     text: &mut String,
-    seen: &mut Vec<Seen<'f>>,
+    summaries: &mut Vec<FileSummary<'f>>,
     alloc: Global,
     files: &[NamedFile<'f>],
 ) -> Result<Outcome, AllocError>
@@ -91,8 +91,8 @@ fn push_reports<'f>(
 {
     match files {
         [first, rest @ ..] => {
-            let found = push_report(text, seen, alloc, *first)?;
-            let later = push_reports(text, seen, alloc, rest)?;
+            let found = push_report(text, summaries, alloc, *first)?;
+            let later = push_reports(text, summaries, alloc, rest)?;
             Ok(found.or(later))
         }
         [] => Ok(Outcome::Faultless),
@@ -106,16 +106,16 @@ struct WholeReport {
     outcome: Outcome,
 }
 
-/// Makes the report on `files`: a report on each of them, and then warnings on machines and sheets together.
+/// Makes the report on `files`: a report on each of them, and then the warnings on missing days.
 fn report_all(alloc: Global, files: &[NamedFile<'_>]) -> Result<WholeReport, AllocError>
     ensures report { IfOk result (λ made.
         IsWholeReport (map named_text files.now) (string_bytes made.text)) }
     ensures found { IfOk result (λ made. made.outcome ≡ outcome_of_all (map named_text files.now)) }
 {
     let mut text = String::new(alloc);
-    let mut seen = Vec::new(alloc);
-    let outcome = push_reports(&mut text, &mut seen, alloc, files)?;
-    text.push_str(pair_warnings(alloc, seen.as_slice())?.as_str())?;
+    let mut summaries = Vec::new(alloc);
+    let outcome = push_reports(&mut text, &mut summaries, alloc, files)?;
+    text.push_str(missing_day_warnings(alloc, summaries.as_slice())?.as_str())?;
     Ok(WholeReport { text, outcome })
 }
 

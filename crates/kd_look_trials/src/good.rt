@@ -1,6 +1,6 @@
 //! What is said of files without a fault.
 use crate::lines::lines_on;
-use kd_trials::texts::{M1, M4, M209};
+use crate::machines::{M1, M4, M209};
 use std::test::Fail;
 
 /// A machine file with an empty slot, and with cables of which one end is free.

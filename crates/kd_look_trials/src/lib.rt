@@ -8,6 +8,8 @@ mod hostile;
 #[cfg(test)]
 mod lines;
 #[cfg(test)]
+mod machines;
+#[cfg(test)]
 mod pairs;
 #[cfg(test)]
 mod slips;

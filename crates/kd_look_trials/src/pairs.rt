@@ -1,9 +1,9 @@
 //! Several files in one call: reports in the files' order, the first fault, and machines without a day.
 use crate::lines::lines_on_files;
+use crate::machines::{M1, M3};
 use kd_look::{NamedFile, Outcome, look_at};
 use kd_sheet::SheetFault;
 use kd_tables::MemorySink;
-use kd_trials::texts::{M1, M3};
 use std::test::Fail;
 
 /// A key sheet with a day of an Enigma I.

@@ -1,6 +1,6 @@
 //! Slips in files, with the lines that have to come out.
 use crate::lines::lines_on;
-use kd_trials::texts::{M1, M3, M4, M209};
+use crate::machines::{M1, M3, M4, M209};
 use std::alloc::Global;
 use std::test::Fail;
 

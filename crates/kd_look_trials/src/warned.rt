@@ -1,8 +1,8 @@
 //! Files that the desk accepts, but that get a warning, and files that are no text or too long for lines.
 use crate::lines::{lines_on, lines_on_files};
+use crate::machines::M1;
 use kd_look::{LookFault, NamedFile, look_at};
 use kd_tables::MemorySink;
-use kd_trials::texts::M1;
 use std::alloc::Global;
 use std::test::Fail;
 

@@ -4,6 +4,7 @@
 #![tactic(auto)]
 
 mod cables;
+mod explanation_words;
 mod findings;
 mod judging;
 mod key_names;
@@ -14,17 +15,16 @@ mod not_toml;
 mod numbers;
 mod pins;
 mod place;
-mod place_words;
 mod rings;
 mod sheet;
 mod slip;
 mod values;
 mod warnings;
 
+pub use explanation_words::wrong_words;
 pub use findings::{Explanation, Finding};
 pub use judging::{entries_of, find_faults};
 pub use models::model_name;
 pub use not_toml::toml_words;
 pub use place::Place;
-pub use place_words::{day_words, wrong_words};
 pub use warnings::warning_lines;

@@ -31,8 +31,8 @@ use toml::{Table, Value};
 /// The number of days of the longest month.
 const DAYS: u8 = 31;
 
-/// So many faults are enough: no later entry is judged.
-const ENOUGH: usize = 100;
+/// The number of faults after which no later entry is judged.
+const MOST_FAULTS: usize = 100;
 
 /// Whether `item` is an entry with the day `number`.
 fn has_number(item: &Value, number: u8) -> bool
@@ -263,7 +263,7 @@ pub fn sheet_faults(alloc: Global, items: &[Value]) -> Result<Vec<Finding>, Allo
 {
     let mut list = Vec::new(alloc);
     for (index, item) in items.iter().enumerate() {
-        if list.len() >= ENOUGH {
+        if list.len() >= MOST_FAULTS {
             return Ok(list);
         }
         judge_entry(&mut list, alloc, &items[..index], item)?;

@@ -4,7 +4,7 @@ use kd_slips::model_name;
 use kd_tables::Model;
 use std::alloc::{AllocError, Global};
 
-/// What a file without a fault says of models.
+/// What a file says of models.
 #[derive(Drop)]
 pub enum Contents {
     /// The file is a machine file, of this model.
@@ -15,17 +15,17 @@ pub enum Contents {
     Unknown,
 }
 
-/// What was seen in a file.
+/// What a file says of models, with the file's name.
 #[derive(Drop)]
-pub struct Seen<'f> {
+pub struct FileSummary<'f> {
     /// The file's name.
     pub name: &'f str,
     pub contents: Contents,
 }
 
 /// Whether one of the sheets has a day for `model`.
-fn has_day(seen: &[Seen<'_>], model: Model) -> bool {
-    for file in seen {
+fn has_day(summaries: &[FileSummary<'_>], model: Model) -> bool {
+    for file in summaries {
         if let Contents::Sheet(models) = &file.contents
             && models.contains(&model)
         {
@@ -40,10 +40,10 @@ fn sheet_lines(
     alloc: Global,
     name: &str,
     model: Model,
-    seen: &[Seen<'_>],
+    summaries: &[FileSummary<'_>],
 ) -> Result<String, AllocError> {
     let mut lines = String::new(alloc);
-    for file in seen {
+    for file in summaries {
         if let Contents::Sheet(_) = &file.contents {
             let line = format!(in alloc;
                 "{name}: warning: {} has no day for {}\n",
@@ -57,13 +57,16 @@ fn sheet_lines(
 }
 
 /// The warnings on machines for which no sheet has a day, where there are sheets.
-pub fn pair_warnings(alloc: Global, seen: &[Seen<'_>]) -> Result<String, AllocError> {
+pub fn missing_day_warnings(
+    alloc: Global,
+    summaries: &[FileSummary<'_>],
+) -> Result<String, AllocError> {
     let mut lines = String::new(alloc);
-    for file in seen {
+    for file in summaries {
         if let Contents::Machine(model) = &file.contents
-            && !has_day(seen, *model)
+            && !has_day(summaries, *model)
         {
-            lines.push_str(sheet_lines(alloc, file.name, *model, seen)?.as_str())?;
+            lines.push_str(sheet_lines(alloc, file.name, *model, summaries)?.as_str())?;
         }
     }
     Ok(lines)
