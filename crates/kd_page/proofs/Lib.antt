@@ -3,3 +3,5 @@ pub mod Alphabets
 pub mod Headings
 pub mod Groups
 pub mod PageOrders
+pub mod InTurn
+pub mod BoxesShown

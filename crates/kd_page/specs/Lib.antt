@@ -10,3 +10,4 @@ pub mod Drum
 pub mod Test
 pub mod DayPage
 pub mod PageOrder
+pub mod ShownBoxes
