@@ -5,3 +5,4 @@ pub mod Groups
 pub mod PageOrders
 pub mod InTurn
 pub mod BoxesShown
+pub mod MarkedThings

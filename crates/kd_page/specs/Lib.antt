@@ -11,3 +11,4 @@ pub mod Test
 pub mod DayPage
 pub mod PageOrder
 pub mod ShownBoxes
+pub mod Marks

@@ -1,4 +1,5 @@
 //! Laws of the page.
+ghost use Rattle.kd_page.specs.Marks.{AllMarksHaveSettings};
 ghost use Rattle.kd_page.specs.PageOrder.{PinBoxesAreTheSettings, RotorBoxesAreTheSettings};
 ghost use Rattle.kd_page.specs.ShownBoxes.{PinPageHasTheBoxes, RotorPageHasTheBoxes};
 
@@ -12,4 +13,9 @@ pub fn boxes_are_the_settings()
 pub fn pages_have_the_boxes()
     ensures rotor { RotorPageHasTheBoxes }
     ensures pin { PinPageHasTheBoxes }
+{}
+
+/// Where a page has a mark, the page's list has a setting.
+pub fn marks_have_settings()
+    ensures { AllMarksHaveSettings }
 {}
