@@ -28,7 +28,7 @@ unfoldable use Rattle.kd_page.specs.Pins.{pins_step}
 use Rattle.kd_page.specs.Pins.{pin_cell, pin_cells, pin_inside, pin_shown, pin_spot, pin_wheel}
 unfoldable use Rattle.kd_page.specs.PlugSteps.{plug_table, plugs_in, plugs_out}
 use Rattle.kd_page.specs.PlugSteps.{in_step, in_table, out_step, plug_row}
-use Rattle.kd_page.specs.ShownBoxes.{HasInTurn, HasPinPlaces, HasRotorPlaces, PinPageHasTheBoxes, RotorPageHasTheBoxes}
+use Rattle.kd_page.specs.ShownBoxes.{HasInTurn}
 use Rattle.kd_page.specs.Spots.{count_at, is_at, row_of, row_spot, step_spot}
 unfoldable use Rattle.kd_page.specs.Steps.{list_text}
 use Rattle.kd_page.specs.Steps.{idle_text, list_step}
@@ -38,11 +38,24 @@ use Rattle.kd_page.proofs.Groups.{group}
 use Rattle.kd_page.proofs.InTurn.{before, behind, has_none, if_some, in_both, in_each, passing}
 use Rattle.kd_page.proofs.PageOrders.{row_is}
 
+-- A rotor machine after the settings has what their boxes stand at. If plugs are put in, a cable is plugged. No window
+-- of an empty slot is set.
+pub record HasRotorPlaces (n : Parts) (settings : List Setting) : Type 0 where
+  pub plugs : has_cables n CABLES ≡ false → settings_at (step_spot PlugsIn) settings ≡ []
+  pub windows : (slot : ℕ) → letter_in_slot n slot ≡ None → settings_at (row_spot Turns slot) settings ≡ []
+
+-- A Converter, before the settings and after them, has what their boxes stand at: pins, bars and pin wheels.
+pub record HasPinPlaces (m n : Parts) (settings : List Setting) : Type 0 where
+  pub pins : (wheel letter : ℕ) → machine_pin n wheel letter ≡ None → settings_at (pin_spot wheel letter) settings ≡ []
+  pub bars : (bar : ℕ) → machine_standing n bar ≡ None → settings_at (row_spot Lugs bar) settings ≡ []
+  pub old_bars : (bar : ℕ) → machine_standing m bar ≡ None → settings_at (row_spot Lugs bar) settings ≡ []
+  pub letters : (wheel : ℕ) → machine_pin_letter n wheel ≡ None → settings_at (row_spot Turns wheel) settings ≡ []
+
 module _ (l : Language) (m : Parts) (settings : List Setting) where
-  abbrev Shown : List Setting → List ℕ → Type 0
+  abbrev pub Shown : List Setting → List ℕ → Type 0
   Shown = HasInTurn (box_text l m)
 
-  abbrev at : Spot → List Setting
+  abbrev pub at : Spot → List Setting
   at spot = settings_at spot settings
 
   -- Text without boxes, then a text with boxes, and then text without boxes.
@@ -118,7 +131,7 @@ module _ (l : Language) (m : Parts) (settings : List Setting) where
       (λ slot. window_box l m settings slot (letter_in_slot n slot))
       (λ slot. window slot (letter_in_slot n slot) (none slot)) SLOTS)
 
-  rotor : (heading : Heading) (n : Parts) → HasRotorPlaces n settings
+  pub rotor : (heading : Heading) (n : Parts) → HasRotorPlaces n settings
       → Shown (rotor_boxes settings) (rotor_text l heading m n settings)
   unfolding rotor_text
   rotor heading n places =
@@ -202,7 +215,7 @@ module _ (l : Language) (m : Parts) (settings : List Setting) where
       (λ wheel. at (row_spot Turns wheel)) (λ wheel. letter_box l m settings wheel (machine_pin_letter n wheel))
       (λ wheel. letter wheel (machine_pin_letter n wheel) (places.letters wheel)) PIN_WHEELS)
 
-  converter : (heading : Heading) (n : Parts) → HasPinPlaces m n settings
+  pub converter : (heading : Heading) (n : Parts) → HasPinPlaces m n settings
       → Shown (pin_boxes settings) (pin_text l heading m n settings)
   unfolding pin_text
   converter heading n places =
@@ -214,7 +227,7 @@ module _ (l : Language) (m : Parts) (settings : List Setting) where
       (letters heading n places)
 
   -- The steps stand between the day's head and the test.
-  whole : (heading : Heading) (n : Parts) (xs : List Setting) (is_pin : Bool) → is_converter heading.model ≡ is_pin
+  pub whole : (heading : Heading) (n : Parts) (xs : List Setting) (is_pin : Bool) → is_converter heading.model ≡ is_pin
       → Shown xs (if is_pin then pin_text l heading m n settings else rotor_text l heading m n settings)
       → Shown xs (article_text l heading m n settings)
   unfolding article_text
@@ -222,17 +235,3 @@ module _ (l : Language) (m : Parts) (settings : List Setting) where
       before (box_text l m) xs _ _ (between _ xs _ _
       (subst (λ test. Shown xs (if test then pin_text l heading m n settings else rotor_text l heading m n settings))
       (sym is) has))
-
-pub rotor_pages : RotorPageHasTheBoxes
-rotor_pages l day m n settings is places =
-    let heading : Heading = record { model = model_of n; day = day } in
-    subst (λ test. HasInTurn (box_text l m) (if test then pin_boxes settings else rotor_boxes settings)
-    (day_text l day m n settings)) (sym is)
-    (whole l m settings heading n (rotor_boxes settings) false is (rotor l m settings heading n places))
-
-pub pin_pages : PinPageHasTheBoxes
-pin_pages l day m n settings is places =
-    let heading : Heading = record { model = model_of n; day = day } in
-    subst (λ test. HasInTurn (box_text l m) (if test then pin_boxes settings else rotor_boxes settings)
-    (day_text l day m n settings)) (sym is)
-    (whole l m settings heading n (pin_boxes settings) true is (converter l m settings heading n places))

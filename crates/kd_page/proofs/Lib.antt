@@ -6,3 +6,5 @@ pub mod PageOrders
 pub mod InTurn
 pub mod BoxesShown
 pub mod MarkedThings
+pub mod LedPlaces
+pub mod PagesWithBoxes

@@ -42,7 +42,7 @@ none_first : {X : Type 0} (p : X → Bool) (x : X) (xs : List X) → list_any p 
 none_first p x xs none = (grind (arith, none), grind (arith, none))
 
 -- If each setting that isn't the thing's keeps what is shown of the thing, so does a list of such settings.
-stays : {A : Type 0} (shown : Parts → A) (sets : Setting → Bool)
+pub stays : {A : Type 0} (shown : Parts → A) (sets : Setting → Bool)
     → ((m next : Parts) (x : Setting) → Carries m x next → sets x ≡ false → shown next ≡ shown m)
     → (m n : Parts) (xs : List Setting) → Leads m xs n → list_any sets xs ≡ false → shown n ≡ shown m
 stays shown sets step m n [] leads none = ap shown leads
@@ -50,7 +50,7 @@ stays shown sets step m n (x ∷ xs) leads none =
     let each = none_first sets x xs none in
     stays shown sets step leads.0 n xs leads.2 each.1 ∙ step m leads.0 x leads.1 each.0
 
-keeps : {A : Type 0} (shown : Parts → A) (old : A) {made next : Parts} → made ≡ next → shown made ≡ old
+pub keeps : {A : Type 0} (shown : Parts → A) (old : A) {made next : Parts} → made ≡ next → shown made ≡ old
     → shown next ≡ old
 keeps shown old is same = subst (λ p. shown p ≡ old) is same
 
@@ -388,7 +388,7 @@ without_held wheel seated (Some (Some other)) was =
       | false ↦ was
     ]
 
-are_equal : (one other : ℕ) → nat_eq one other ≡ true → one ≡ other
+pub are_equal : (one other : ℕ) → nat_eq one other ≡ true → one ≡ other
 are_equal one other is = grind (arith, is)
 
 differ : (one other : ℕ) → nat_eq one other ≡ false → one ≢ other

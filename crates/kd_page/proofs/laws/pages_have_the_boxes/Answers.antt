@@ -1,4 +1,4 @@
-use Rattle.kd_page.proofs.BoxesShown.{pin_pages, rotor_pages}
+use Rattle.kd_page.proofs.PagesWithBoxes.{pin_pages, rotor_pages}
 use Rattle.kd_page.proofs.laws.pages_have_the_boxes.Goals as goal
 
 pub returns-clause-rotor : goal.returns-clause-rotor
