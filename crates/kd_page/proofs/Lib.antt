@@ -3,3 +3,8 @@ pub mod Alphabets
 pub mod Headings
 pub mod Groups
 pub mod PageOrders
+pub mod InTurn
+pub mod BoxesShown
+pub mod MarkedThings
+pub mod LedPlaces
+pub mod PagesWithBoxes

@@ -49,7 +49,7 @@ step_is : (step : Step) (xs : List Setting) → settings_at (step_spot step) xs 
 step_is step xs =
     same_filter (is_at (step_spot step)) (λ x. nat_eq (step_number x) (step_rank step)) (λ x. grind arith) xs
 
-row_is : (step : Step) (xs : List Setting) (row : ℕ)
+pub row_is : (step : Step) (xs : List Setting) (row : ℕ)
     → settings_at (row_spot step row) xs ≡ group row_of row (settings_at (step_spot step) xs)
 row_is step xs row =
     narrowed (is_at (step_spot step)) (λ x. nat_eq (row_of x) row) (is_at (row_spot step row)) (λ x. grind arith) xs

@@ -10,3 +10,5 @@ pub mod Drum
 pub mod Test
 pub mod DayPage
 pub mod PageOrder
+pub mod ShownBoxes
+pub mod Marks

@@ -3,3 +3,4 @@ pub mod Templates
 pub mod PlainValues
 pub mod SocketTables
 pub mod LinesApart
+pub mod CheckedTexts

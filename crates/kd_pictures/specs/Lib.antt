@@ -8,3 +8,4 @@ pub mod Sockets
 pub mod Wheels
 pub mod Board
 pub mod Plain
+pub mod Checked

@@ -3,12 +3,20 @@ ghost use Rattle.std.specs.Prelude.{◌≡◌};
 ghost use Rattle.std.specs.List.{range_with_len};
 ghost use Rattle.kd_pictures.specs.declared.numbers.TheConstants.{BARS, CABLES, LATER_WHEELS, PIN_WHEELS, SLOTS};
 ghost use Rattle.kd_pictures.specs.Sockets.{LinesAreApart};
+ghost use Rattle.kd_pictures.specs.Checked.{TemplatesTakeTheirValues, WordsTellWhatToDo};
 ghost use Rattle.kd_pictures.specs.Plain.{ValuesArePlain};
 
 /// What a page takes from files has no markup: letters, numbers, and the names of models, wheels and reflectors.
 #[tactic(auto, using(crate::proofs::PlainValues::values_are_plain))]
 pub fn values_are_plain()
     ensures { ValuesArePlain }
+{}
+
+/// In both languages, each template takes the values that pages fill into it, and the words for the hand are these.
+#[tactic(auto, using(crate::proofs::CheckedTexts::templates_take_their_values, crate::proofs::CheckedTexts::words_tell_what_to_do))]
+pub fn languages_say_the_same()
+    ensures templates { TemplatesTakeTheirValues }
+    ensures words { WordsTellWhatToDo }
 {}
 
 /// The lines from the sockets of two letters never lie on each other: they are at least 10 apart.
