@@ -1,5 +1,5 @@
 -- The sheet with the form for the radio. It has neither the keys nor the text.
-use Rattle.std.specs.Prelude.{decimal, ℕ, List, [], ◌∷◌, ◌++◌, flat_map, length, Option, Some, None}
+use Rattle.std.specs.Prelude.{decimal, ℕ, List, [], ◌∷◌, ◌++◌, flat_map, Option, Some, None}
 use Rattle.kd_tables.specs.declared.model.Model.{Model}
 use Rattle.kd_tables.specs.Text.{letters_text}
 use Rattle.kd_state.specs.SheetDay.{Day, day_model, day_number}

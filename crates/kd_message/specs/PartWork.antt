@@ -1,5 +1,5 @@
 -- What is pressed for a part, and what has to light up: by the machine of the day, from the windows that are set.
-use Rattle.std.specs.Prelude.{◌≡◌, ℕ, ◌≤◌, List, ◌++◌, length, map, replicate}
+use Rattle.std.specs.Prelude.{◌≡◌, ℕ, List, ◌++◌, map}
 use Rattle.kd_state.specs.SheetDay.{Day}
 use Rattle.kd_state.specs.TwoCiphers.{IsWindow, sheet_key}
 use Rattle.kd_form.specs.declared.keys.Keys.{Keys}
@@ -49,11 +49,7 @@ IsWork s (keys.Pin k) text work =
 
 -- ---- What the code holds. No public contract cites this definition.
 
--- The machine can show the letters that are set, and the lists are as short as a part's.
+-- The machine can show the letters that are set: one for each slot, or one on each pin wheel.
 pub record IsWorkable (s : Day) (work : Work) : Type 0 where
   pub ground : IsWindow (sheet_key s) work.ground
   pub start : IsWindow (sheet_key s) work.start
-  pub ground_few : length work.ground ≤ 6
-  pub start_few : length work.start ≤ 6
-  pub key_few : length work.key ≤ 12
-  pub body_few : length work.body ≤ 520

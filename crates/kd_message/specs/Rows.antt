@@ -1,5 +1,5 @@
 -- The rows of a step: ten groups of five letters a row, and at each row's end the letters so far and the windows.
-use Rattle.std.specs.Prelude.{decimal, ℕ, ◌+◌, ◌==◌, Bool, true, false, ◌||◌, if◌then◌else◌}
+use Rattle.std.specs.Prelude.{decimal, ℕ, ◌+◌, ◌==◌, Bool, true, false, if◌then◌else◌}
 use Rattle.std.specs.Prelude.{List, [], ◌∷◌, ◌++◌, flat_map, length}
 use Rattle.std.specs.Int.{div_ceil}
 use Rattle.std.specs.List.{count_by}

@@ -16,10 +16,6 @@ words_after is_converter first number [] = []
 words_after is_converter first number (letter ∷ letters) =
     first ++ window_words is_converter number letter ++ words_after is_converter markup.COMMA.now (number + 1) letters
 
--- how far the window with this number is from the left
-abbrev pub window_x : Bool → ℕ → ℕ
-window_x is_converter number = 2 + (if is_converter then 60 else 96) * (number - 1)
-
 -- a window, with its number and its letter; on a rotor machine also the letter's number
 abbrev pub window_item : MessageTexts → Bool → ℕ → ℕ → List ℕ
 window_item texts is_converter number letter =
@@ -37,8 +33,12 @@ window_items texts is_converter number [] = []
 window_items texts is_converter number (letter ∷ letters) =
     window_item texts is_converter number letter ++ window_items texts is_converter (number + 1) letters
 
+-- the beginning of the picture's title
+abbrev pub windows_title : MessageTexts → Bool → List ℕ
+windows_title texts is_converter = if is_converter then texts.wheels.now else texts.windows.now
+
 -- the picture
 unfoldable pub windows_text : MessageTexts → Bool → List ℕ → List ℕ
 windows_text texts is_converter letters =
-    (if is_converter then texts.wheels.now else texts.windows.now) ++ words_after is_converter [] 1 letters
+    windows_title texts is_converter ++ words_after is_converter [] 1 letters
     ++ markup.WINDOWS_TITLE_END.now ++ window_items texts is_converter 1 letters ++ markup.WINDOWS_END.now

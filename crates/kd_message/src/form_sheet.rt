@@ -55,18 +55,16 @@ fn draw_part_head<W: Sink>(sink: &mut W, texts: &MessageTexts, name: PartName, l
     ensures { Draws W.taken W.has_failed sink.old sink.new
         (part_head texts.now name.model name.day name.part name.parts letters) }
 {
-    let part = Value::Number(u16::from(name.part));
-    let parts = Value::Number(u16::from(name.parts));
     fill(
         sink,
         texts.form_part,
         &[
-            part,
-            parts,
+            Value::Number(u16::from(name.part)),
+            Value::Number(u16::from(name.parts)),
             Value::Model(name.model),
             Value::Number(u16::from(name.day)),
-            part,
-            parts,
+            Value::Number(u16::from(name.part)),
+            Value::Number(u16::from(name.parts)),
             Value::Number(letters as u16),
         ],
     );

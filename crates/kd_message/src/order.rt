@@ -4,7 +4,7 @@ ghost use Rattle.kd_form.specs.declared.keys.Keys.{Keys};
 ghost use Rattle.kd_form.specs.Order.{IsOrder};
 ghost use Rattle.kd_form.specs.PartMaking.{part_size};
 ghost use Rattle.kd_form.specs.Sending.{letters_from, text_letters};
-ghost use Rattle.kd_message.specs.SendPage.{HasOrder};
+ghost use Rattle.kd_message.specs.SendPage.{HasForm};
 
 use arrayvec::ArrayVec;
 use kd_form::sending::order_head::{HeadReader, HeadStep};
@@ -17,13 +17,17 @@ use kd_tables::Letter;
 pub(crate) fn read_head<'a>(reader: &mut HeadReader, day: &SheetDay, order: &'a [u8]) -> &'a [u8]
     requires keys { reader.old.keys.items ≡ [] }
     requires line { reader.old.line.items ≡ [] }
-    requires order { HasOrder day.now order.now }
+    requires order { HasForm day.now order.now }
     ensures { (head : List ℕ) × IsOrder day.now order.now reader.new.keys.items head result.now }
 {
     for (index, byte) in order.iter().enumerate() {
-        if let HeadStep::Text = reader.take(day, *byte) {
-            let (_, text) = order.split_at(index + 1);
-            return text;
+        match reader.take(day, *byte) {
+            HeadStep::Open => (),
+            HeadStep::Text => {
+                let (_, text) = order.split_at(index + 1);
+                return text;
+            }
+            HeadStep::Bad => return &[],
         }
     }
     &[]

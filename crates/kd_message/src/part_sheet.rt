@@ -64,15 +64,14 @@ fn sheet_texts(texts: &MessageTexts, model: Model) -> &SheetTexts
 fn draw_head<W: Sink>(sink: &mut W, sheet: &SheetTexts, name: PartName)
     ensures { Draws W.taken W.has_failed sink.old sink.new (head_text sheet.now name) }
 {
-    let part = Value::Number(u16::from(name.part));
     fill(
         sink,
         sheet.head,
         &[
-            part,
+            Value::Number(u16::from(name.part)),
             Value::Model(name.model),
             Value::Number(u16::from(name.day)),
-            part,
+            Value::Number(u16::from(name.part)),
             Value::Number(u16::from(name.parts)),
         ],
     );

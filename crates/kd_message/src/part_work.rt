@@ -1,7 +1,6 @@
 //! What the sheet of a part shows: the windows to set, and the letters to press and to find.
 ghost use Rattle.std.specs.Prelude.{◌≡◌, ◌≤◌, ◌+◌, ℕ, List, length, Ok};
 ghost use Rattle.kd_state.specs.TwoCiphers.{IsWindow, sheet_key};
-ghost use Rattle.kd_form.specs.declared.keys.Keys.TheVariants as keys;
 ghost use Rattle.kd_form.specs.Keys.{AreKeys};
 ghost use Rattle.kd_form.specs.InternalKey.{IsInternalKey};
 ghost use Rattle.kd_form.specs.PartMaking.{IsKeysAnswer, enciphered_choice, part_size};
@@ -59,7 +58,7 @@ pub(crate) fn work_of(day: &SheetDay, part: u8, keys: &Keys, text: &[Letter]) ->
 
 /// What is pressed and found on a rotor machine.
 fn rotor_work(day: &SheetDay, keys: &RotorKeys, text: &[Letter]) -> PartWork
-    requires keys { AreKeys day.now (keys.Rotor keys.now) }
+    requires keys { AreKeys day.now (Keys.Rotor keys.now) }
     requires few { length text.now ≤ 245 }
     ensures { result ≡ rotor_work day.now keys.now text.now }
 {
@@ -84,7 +83,7 @@ fn rotor_work(day: &SheetDay, keys: &RotorKeys, text: &[Letter]) -> PartWork
 
 /// What is enciphered and printed on a Converter.
 fn pin_work(day: &SheetDay, keys: &PinKeys, text: &[Letter]) -> PartWork
-    requires keys { AreKeys day.now (keys.Pin keys.now) }
+    requires keys { AreKeys day.now (Keys.Pin keys.now) }
     requires window { IsWindow (sheet_key day.now) keys.now.external }
     requires internal { (internal : List ℕ)
         × IsInternalKey (enciphered_choice day.now keys.now) internal }
@@ -93,10 +92,23 @@ fn pin_work(day: &SheetDay, keys: &PinKeys, text: &[Letter]) -> PartWork
         × (result ≡ pin_work day.now keys.now internal text.now) }
 {
     let mut machine = DayMachine::new(day);
-    let printed = machine.encipher_text::<12>(&keys.external, &[keys.chosen; 12]);
     let internal = internal_key_of(&mut machine, keys).unwrap();
+    pin_work_from(day, keys, internal.as_slice(), text)
+}
+
+/// What is enciphered and printed on a Converter with the internal key `internal`.
+fn pin_work_from(day: &SheetDay, keys: &PinKeys, internal: &[Letter], text: &[Letter]) -> PartWork
+    requires keys { AreKeys day.now (Keys.Pin keys.now) }
+    requires window { IsWindow (sheet_key day.now) keys.now.external }
+    requires internal { IsWindow (sheet_key day.now) internal.now }
+    requires short { length internal.now ≤ 6 }
+    requires few { length text.now ≤ 500 }
+    ensures { result ≡ pin_work day.now keys.now internal.now text.now }
+{
+    let mut machine = DayMachine::new(day);
+    let printed = machine.encipher_text::<12>(&keys.external, &[keys.chosen; 12]);
     let filled = fill_last_group(text);
-    let enciphered = machine.encipher_text::<500>(internal.as_slice(), filled.as_slice());
+    let enciphered = machine.encipher_text::<500>(internal, filled.as_slice());
     let indicators = pin_indicators(day, keys);
     let mut key = ArrayVec::new();
     push_choice(&mut key, 0, keys.chosen, printed.as_slice());
@@ -107,7 +119,7 @@ fn pin_work(day: &SheetDay, keys: &PinKeys, text: &[Letter]) -> PartWork
     PartWork {
         ground: letters_of(&keys.external),
         key,
-        start: letters_of(internal.as_slice()),
+        start: letters_of(internal),
         body,
     }
 }

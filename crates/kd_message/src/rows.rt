@@ -49,6 +49,7 @@ pub(crate) fn draw_rows<W: Sink>(
 }
 
 /// Splits `cells` after the first `size` cells, or after the last cell if there are fewer.
+#[tactic(auto, using(crate::proofs::Pieces::first_pieces))]
 fn first_piece(cells: &[Cell], size: usize) -> (&[Cell], &[Cell])
     requires size { 1 ≤ size }
     requires some { 1 ≤ length cells.now }

@@ -1,4 +1,18 @@
 //! The page for sending an order.
+ghost use Rattle.std.specs.Prelude.{◌≡◌, ◌+◌, ◌≤◌, ◌++◌, ℕ, List, flat_map, length, Ok};
+ghost use Rattle.std.specs.List.{range_with_len};
+ghost use Rattle.kd_tables.specs.Ports.{port};
+ghost use Rattle.kd_form.specs.Keys.{AreKeys};
+ghost use Rattle.kd_form.specs.Part.{Part};
+ghost use Rattle.kd_form.specs.Sending.{IsFormOf};
+ghost use Rattle.kd_form.specs.PartMaking.{IsKeysAnswer, IsPartMade, part_size};
+ghost use Rattle.kd_pictures.specs.Drawing.{Draws};
+ghost use Rattle.kd_message.specs.FormSheet.{form_part};
+ghost use Rattle.kd_message.specs.PartWork.{Work};
+ghost use Rattle.kd_message.specs.SendPage.{AreKeysOfText, AreMade, AreWorks, HasForm, IsSendPage, IsSendPageAnswer};
+ghost use Rattle.kd_message.specs.SendPage.{form_parts, list_head, list_text, listed_text, part_name, part_sheets};
+ghost use Rattle.kd_message.specs.SendPage.{send_text, text_pieces, title_text};
+
 use crate::form_sheet::{draw_form_head, draw_form_part};
 use crate::markup::{ARTICLE_END, MESSAGE_STYLE};
 use crate::order::{read_head, take_piece};
@@ -27,7 +41,10 @@ pub fn write_send_page<W: Sink>(
     day: &SheetDay,
     order: &[u8],
     sink: &mut W,
-) -> Result<(), FormFault> {
+) -> Result<(), FormFault>
+    ensures { IsSendPageAnswer texts.now machine.now day.now order.now
+        (port W.taken W.has_failed sink.old sink.new) result }
+{
     send(alloc, machine, day, order)?;
     draw_page(sink, texts, day, order);
     if sink.failed() {
@@ -38,10 +55,32 @@ pub fn write_send_page<W: Sink>(
 }
 
 /// Writes the page of an order that `send` accepts.
-fn draw_page<W: Sink>(sink: &mut W, texts: &MessageTexts, day: &SheetDay, order: &[u8]) {
+fn draw_page<W: Sink>(sink: &mut W, texts: &MessageTexts, day: &SheetDay, order: &[u8])
+    requires { HasForm day.now order.now }
+    ensures { (form : List ℕ) → IsFormOf day.now order.now form
+        → (page : List ℕ) × IsSendPage texts.now day.now order.now form page
+        × Draws W.taken W.has_failed sink.old sink.new page }
+{
     let mut reader = HeadReader::new();
     let text = read_head(&mut reader, day, order);
-    let keys = reader.keys();
+    draw_file(sink, texts, day, reader.keys(), text);
+}
+
+/// Writes the page of an order with these keys and this text.
+fn draw_file<W: Sink>(
+    sink: &mut W,
+    texts: &MessageTexts,
+    day: &SheetDay,
+    keys: &[Keys],
+    text: &[u8],
+)
+    requires { AreKeysOfText day.now 1 (length keys.now) keys.now text.now }
+    ensures { (works : List Work) × (made : List Part)
+        × AreWorks day.now keys.now (text_pieces day.now text.now) works
+        × AreMade day.now 1 (length keys.now) keys.now (text_pieces day.now text.now) made
+        × Draws W.taken W.has_failed sink.old sink.new
+        (send_text texts.now day.now (length keys.now) works made) }
+{
     let parts = keys.len() as u8;
     draw_title(sink, texts, day);
     draw_list(sink, texts, parts);
@@ -53,7 +92,9 @@ fn draw_page<W: Sink>(sink: &mut W, texts: &MessageTexts, day: &SheetDay, order:
 }
 
 /// Writes the head of the file.
-fn draw_title<W: Sink>(sink: &mut W, texts: &MessageTexts, day: &SheetDay) {
+fn draw_title<W: Sink>(sink: &mut W, texts: &MessageTexts, day: &SheetDay)
+    ensures { Draws W.taken W.has_failed sink.old sink.new (title_text texts.now day.now) }
+{
     draw(sink, texts.head);
     fill(
         sink,
@@ -69,30 +110,49 @@ fn draw_title<W: Sink>(sink: &mut W, texts: &MessageTexts, day: &SheetDay) {
 }
 
 /// Writes the list of the sheets.
-fn draw_list<W: Sink>(sink: &mut W, texts: &MessageTexts, parts: u8) {
-    draw(
-        sink,
-        if parts == 1 {
-            texts.list_of_one
-        } else {
-            texts.list_of_several
-        },
-    );
+fn draw_list<W: Sink>(sink: &mut W, texts: &MessageTexts, parts: u8)
+    requires { parts ≤ 99 }
+    ensures { Draws W.taken W.has_failed sink.old sink.new (list_text texts.now parts) }
+{
+    draw(sink, list_head(texts, parts));
     draw_listed(sink, texts, 1, parts, parts);
     draw(sink, texts.list_end_with_form);
 }
 
+fn list_head(texts: &MessageTexts, parts: u8) -> &'static str
+    ensures { result.now ≡ list_head texts.now parts }
+{
+    if parts == 1 {
+        texts.list_of_one
+    } else {
+        texts.list_of_several
+    }
+}
+
 /// Writes `count` parts of the list, from part number `part` on.
-fn draw_listed<W: Sink>(sink: &mut W, texts: &MessageTexts, part: u8, parts: u8, count: u8) {
+fn draw_listed<W: Sink>(sink: &mut W, texts: &MessageTexts, part: u8, parts: u8, count: u8)
+    requires { part + count ≤ 100 }
+    ensures { Draws W.taken W.has_failed sink.old sink.new
+        (flat_map (listed_text texts.now parts) (range_with_len part count)) }
+{
     if count > 0 {
-        let number = Value::Number(u16::from(part));
-        fill(
-            sink,
-            texts.listed_part,
-            &[number, number, Value::Number(u16::from(parts))],
-        );
+        draw_listed_part(sink, texts, part, parts);
         draw_listed(sink, texts, part + 1, parts, count - 1);
     }
+}
+
+fn draw_listed_part<W: Sink>(sink: &mut W, texts: &MessageTexts, part: u8, parts: u8)
+    ensures { Draws W.taken W.has_failed sink.old sink.new (listed_text texts.now parts part) }
+{
+    fill(
+        sink,
+        texts.listed_part,
+        &[
+            Value::Number(u16::from(part)),
+            Value::Number(u16::from(part)),
+            Value::Number(u16::from(parts)),
+        ],
+    );
 }
 
 /// Writes the sheets on which the parts from number `part` on are worked.
@@ -104,7 +164,12 @@ fn draw_part_sheets<W: Sink>(
     parts: u8,
     keys: &[Keys],
     text: &[u8],
-) {
+)
+    requires { AreKeysOfText day.now part parts keys.now text.now }
+    ensures { (works : List Work) × AreWorks day.now keys.now (text_pieces day.now text.now) works
+        × Draws W.taken W.has_failed sink.old sink.new
+        (part_sheets texts.now day.now part parts works) }
+{
     if let [first, rest @ ..] = keys {
         let (piece, later) = take_piece(day, text);
         let work = work_of(day, part, first, piece.as_slice());
@@ -113,7 +178,9 @@ fn draw_part_sheets<W: Sink>(
     }
 }
 
-fn part_name(day: &SheetDay, part: u8, parts: u8) -> PartName {
+fn part_name(day: &SheetDay, part: u8, parts: u8) -> PartName
+    ensures { result ≡ part_name day.now part parts }
+{
     PartName {
         model: day.model(),
         day: day.day(),
@@ -131,7 +198,11 @@ fn draw_form_parts<W: Sink>(
     parts: u8,
     keys: &[Keys],
     text: &[u8],
-) {
+)
+    requires { AreKeysOfText day.now part parts keys.now text.now }
+    ensures { (made : List Part) × AreMade day.now part parts keys.now (text_pieces day.now text.now) made
+        × Draws W.taken W.has_failed sink.old sink.new (form_parts texts.now day.now made) }
+{
     if let [first, rest @ ..] = keys {
         let (piece, later) = take_piece(day, text);
         draw_made_part(
@@ -154,7 +225,14 @@ fn draw_made_part<W: Sink>(
     name: PartName,
     keys: &Keys,
     text: &[Letter],
-) {
+)
+    requires keys { AreKeys day.now keys.now }
+    requires suits { IsKeysAnswer day.now name.part keys.now (Ok tt) }
+    requires few { length text.now ≤ part_size day.now }
+    ensures { (one : Part) × IsPartMade day.now name.part name.parts keys.now text.now one
+        × Draws W.taken W.has_failed sink.old sink.new
+        (form_part texts.now name.model name.day one) }
+{
     let mut machine = DayMachine::new(day);
     match keys {
         Keys::Rotor(keys) => {

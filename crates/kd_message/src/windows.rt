@@ -1,7 +1,7 @@
 //! The picture of the windows, or of a Converter's wheels, that the hand sets.
-ghost use Rattle.std.specs.Prelude.{◌+◌, ◌≤◌, length};
+ghost use Rattle.std.specs.Prelude.{◌≡◌, ◌+◌, ◌≤◌, length};
 ghost use Rattle.kd_pictures.specs.Drawing.{Draws};
-ghost use Rattle.kd_message.specs.Windows.{window_item, window_items, window_words, windows_text, words_after};
+ghost use Rattle.kd_message.specs.Windows.{window_item, window_items, window_words, windows_text, windows_title, words_after};
 
 use crate::markup::{COMMA, WHEEL_WORDS, WINDOW_WORDS, WINDOWS_END, WINDOWS_TITLE_END};
 use crate::texts::MessageTexts;
@@ -32,6 +32,17 @@ pub(crate) fn draw_windows<W: Sink>(
     draw(sink, WINDOWS_TITLE_END);
     draw_items(sink, texts, is_converter, 1, letters);
     draw(sink, WINDOWS_END);
+}
+
+/// The beginning of the picture's title.
+fn windows_title(texts: &MessageTexts, is_converter: bool) -> &'static str
+    ensures { result.now ≡ windows_title texts.now is_converter }
+{
+    if is_converter {
+        texts.wheels
+    } else {
+        texts.windows
+    }
 }
 
 /// Writes windows in words, from number `number` on, the first after `first`.
