@@ -1,0 +1,6 @@
+pub mod Pieces
+pub mod Sheets
+pub mod Orders
+pub mod Works
+pub mod SendPages
+pub mod Chunks
