@@ -2,6 +2,7 @@
 #![tactic(auto)]
 
 mod cells;
+mod filling;
 mod form_sheet;
 pub mod laws;
 mod letters_after;

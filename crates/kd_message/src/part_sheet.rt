@@ -10,13 +10,14 @@ ghost use Rattle.kd_message.specs.PartSheet.{text_step};
 ghost use Rattle.kd_message.specs.PartWork.{IsWorkable};
 
 use crate::cells::Cell;
+use crate::filling::fill_values;
 use crate::part_work::PartWork;
 use crate::rows::{Progress, draw_rows, progress_after};
 use crate::texts::{MessageTexts, SheetTexts};
 use crate::windows::draw_windows;
 use crate::words::{draw_cables, draw_rings, draw_wheels};
 use kd_pictures::draw;
-use kd_pictures::template::{Value, fill};
+use kd_pictures::template::Value;
 use kd_pictures::words::is_converter;
 use kd_state::{Entry, RotorEntry, SheetDay};
 use kd_tables::{Letter, Model, Sink};
@@ -64,7 +65,7 @@ fn sheet_texts(texts: &MessageTexts, model: Model) -> &SheetTexts
 fn draw_head<W: Sink>(sink: &mut W, sheet: &SheetTexts, name: PartName)
     ensures { Draws W.taken W.has_failed sink.old sink.new (head_text sheet.now name) }
 {
-    fill(
+    fill_values(
         sink,
         sheet.head,
         &[
@@ -86,7 +87,7 @@ fn draw_day_key<W: Sink>(sink: &mut W, texts: &MessageTexts, entry: &Entry)
         Entry::Rotor(entry) => draw_rotor_key(sink, texts, entry),
         Entry::Pin(entry) => {
             let [one, other] = entry.list;
-            fill(
+            fill_values(
                 sink,
                 texts.list,
                 &[Value::Letter(one), Value::Letter(other)],
@@ -101,7 +102,7 @@ fn draw_rotor_key<W: Sink>(sink: &mut W, texts: &MessageTexts, entry: &RotorEntr
         (rotor_key_text texts.now (rotor_values entry.now)) }
 {
     let wheels = entry.wheels.as_slice();
-    fill(sink, texts.reflector, &[Value::Reflector(entry.reflector)]);
+    fill_values(sink, texts.reflector, &[Value::Reflector(entry.reflector)]);
     draw_wheels(sink, "", wheels);
     draw(sink, texts.rings);
     draw_rings(sink, "", wheels);
@@ -142,7 +143,7 @@ fn fill_name<W: Sink>(sink: &mut W, template: &str, name: PartName)
     ensures { Draws W.taken W.has_failed sink.old sink.new
         (filled template.now (name_values name)) }
 {
-    fill(
+    fill_values(
         sink,
         template,
         &[
@@ -179,7 +180,7 @@ fn draw_text_head<W: Sink>(sink: &mut W, sheet: &SheetTexts, name: PartName, let
     ensures { Draws W.taken W.has_failed sink.old sink.new
         (text_head sheet.now name letters) }
 {
-    fill(
+    fill_values(
         sink,
         sheet.text_step,
         &[

@@ -7,6 +7,7 @@ ghost use Rattle.kd_message.specs.Rows.{group_text, has_below, has_marks, line_i
 ghost use Rattle.kd_message.specs.Rows.{progress_after, row_text, rows_after, shown_after, windows_after};
 
 use crate::cells::{Cell, Line, Mark, Sign, draw_place};
+use crate::filling::fill_values;
 use crate::letters_after::letters_after;
 use crate::markup::{
     ABOVE_END, GROUP, GROUP_END, MARKS, MARKS_END, ROW, ROW_BOX, ROW_END, ROW_LETTERS, ROW_NUMBERS,
@@ -14,7 +15,7 @@ use crate::markup::{
 };
 use crate::words::draw_shown;
 use kd_pictures::draw;
-use kd_pictures::template::{Value, fill};
+use kd_pictures::template::Value;
 use kd_pictures::words::is_converter;
 use kd_state::SheetDay;
 use kd_tables::{Letter, Sink};
@@ -97,7 +98,7 @@ fn draw_row<W: Sink>(
 {
     draw(sink, ROW);
     draw_groups(sink, row);
-    fill(sink, ROW_BOX, &[Value::Number(progress.letters as u16)]);
+    fill_values(sink, ROW_BOX, &[Value::Number(progress.letters as u16)]);
     draw_windows_after(sink, day, start, progress.presses, pressed_count(row) == 0);
     draw(sink, ROW_END);
 }

@@ -3,10 +3,11 @@ ghost use Rattle.std.specs.Prelude.{◌≡◌, ◌+◌, ◌≤◌, length};
 ghost use Rattle.kd_pictures.specs.Drawing.{Draws};
 ghost use Rattle.kd_message.specs.Windows.{window_item, window_items, window_words, windows_text, windows_title, words_after};
 
+use crate::filling::fill_values;
 use crate::markup::{COMMA, WHEEL_WORDS, WINDOW_WORDS, WINDOWS_END, WINDOWS_TITLE_END};
 use crate::texts::MessageTexts;
 use kd_pictures::draw;
-use kd_pictures::template::{Value, fill};
+use kd_pictures::template::Value;
 use kd_tables::{Letter, Sink};
 
 /// Writes the picture of windows, or of a Converter's wheels, that show `letters`.
@@ -70,9 +71,9 @@ fn draw_words<W: Sink>(sink: &mut W, is_converter: bool, number: u8, letter: Let
 {
     let number = Value::Number(u16::from(number));
     if is_converter {
-        fill(sink, WHEEL_WORDS, &[number, Value::Letter(letter)]);
+        fill_values(sink, WHEEL_WORDS, &[number, Value::Letter(letter)]);
     } else {
-        fill(
+        fill_values(
             sink,
             WINDOW_WORDS,
             &[number, Value::Letter(letter), Value::Ordinal(letter)],
@@ -115,7 +116,7 @@ fn draw_item<W: Sink>(
     let letter_value = Value::Letter(letter);
     if is_converter {
         let x = 2 + 60 * (slot - 1);
-        fill(
+        fill_values(
             sink,
             texts.wheel,
             &[
@@ -128,7 +129,7 @@ fn draw_item<W: Sink>(
         );
     } else {
         let x = 2 + 96 * (slot - 1);
-        fill(
+        fill_values(
             sink,
             texts.window,
             &[

@@ -1,5 +1,4 @@
 -- What a table can't be: refused and accepted, or of two meanings.
--- Test: none, as both are laws.
 use Rattle.std.specs.Prelude.{◌≡◌, ℕ, List}
 use Rattle.kd_state.specs.SheetDay.{Day}
 use Rattle.kd_table.specs.Options.{OptionTexts}
