@@ -165,14 +165,39 @@ sheet_is_no_task (tasks.List day) is = sheet_from_list (ap (λ l. get_or l 0 0) 
 pub sheet_is_no_table : codes "sheet" ≡ codes "table" → ⊥
 sheet_is_no_table is = sheet_from_table (ap (λ l. get_or l 0 0) is)
 
--- no command is meant, if its name is neither `table` nor `sheet`, and no task is meant
+look_from_page : ◌≡◌ {A = ℕ} 108 112 → ⊥
+look_from_page wrong = omega (arith, wrong)
+
+look_from_list : ◌≡◌ {A = ℕ} 111 105 → ⊥
+look_from_list wrong = omega (arith, wrong)
+
+look_from_table : ◌≡◌ {A = ℕ} 108 116 → ⊥
+look_from_table wrong = omega (arith, wrong)
+
+look_from_sheet : ◌≡◌ {A = ℕ} 108 115 → ⊥
+look_from_sheet wrong = omega (arith, wrong)
+
+-- the name of the command `look` is no task's; `list` differs in its second letter
+pub look_is_no_task : (task : Task) → codes "look" ≡ task_name task → ⊥
+look_is_no_task (tasks.Page days) is = look_from_page (ap (λ l. get_or l 0 0) is)
+look_is_no_task (tasks.List day) is = look_from_list (ap (λ l. get_or l 1 0) is)
+
+pub look_is_no_table : codes "look" ≡ codes "table" → ⊥
+look_is_no_table is = look_from_table (ap (λ l. get_or l 0 0) is)
+
+pub look_is_no_sheet : codes "look" ≡ codes "sheet" → ⊥
+look_is_no_sheet is = look_from_sheet (ap (λ l. get_or l 0 0) is)
+
+-- no command is meant, if its name is neither `table` nor `sheet` nor `look`, and no task is meant
 pub no_task_with : (said : List ℕ × List Row) → said.0 ≢ codes "table" → said.0 ≢ codes "sheet"
+    → said.0 ≢ codes "look"
     → ((machine sheet : List ℕ) (task : Task) → IsTaskWith said machine sheet task → ⊥)
     → (command : NamedCommand) → IsCommandOf said command → ⊥
-no_task_with said other another none (commands.OnMachine machine sheet task) of = none machine sheet task of
-no_task_with said other another none (commands.Table sheet form) of = other of.name
-no_task_with said other another none (commands.Sheet table options) of = another of.name
-no_task_with said other another none (commands.EmptySheet model days) of = another of.name
+no_task_with said table sheet look none (commands.OnMachine machine its_sheet task) of = none machine its_sheet task of
+no_task_with said table sheet look none (commands.Table its_sheet form) of = table of.name
+no_task_with said table sheet look none (commands.Sheet its_table options) of = sheet of.name
+no_task_with said table sheet look none (commands.Look names files) of = look of.name
+no_task_with said table sheet look none (commands.EmptySheet model days) of = sheet of.name
 
 -- the command `table` without a sheet is no command
 pub no_table : (rows : List Row) → first_of (codes "SHEET") rows ≡ None → (command : NamedCommand)
@@ -180,6 +205,7 @@ pub no_table : (rows : List Row) → first_of (codes "SHEET") rows ≡ None → 
 no_table rows none (commands.OnMachine machine sheet task) of = table_is_no_task task of.task.name
 no_table rows none (commands.Table sheet form) of = let wrong : None ≡ Some sheet = sym none ∙ of.sheet in cc
 no_table rows none (commands.Sheet table options) of = sheet_is_no_table (sym of.name)
+no_table rows none (commands.Look names files) of = look_is_no_table (sym of.name)
 no_table rows none (commands.EmptySheet model days) of = sheet_is_no_table (sym of.name)
 
 module _ (rows : List Row) where
@@ -189,8 +215,18 @@ module _ (rows : List Row) where
   no_sheet none (commands.OnMachine machine sheet task) of = sheet_is_no_task task of.task.name
   no_sheet none (commands.Table sheet form) of = sheet_is_no_table of.name
   no_sheet none (commands.Sheet table options) of = let wrong : None ≡ Some table = sym none ∙ of.table in cc
+  no_sheet none (commands.Look names files) of = look_is_no_sheet (sym of.name)
   no_sheet none (commands.EmptySheet model days) of =
       let wrong : None ≡ Some of.days_word = sym none ∙ of.table in cc
+
+  -- the command `look` without a file is no command
+  pub no_look : first_of (codes "FILE") rows ≡ None → (command : NamedCommand)
+      → IsCommandOf (codes "look", rows) command → ⊥
+  no_look none (commands.OnMachine machine sheet task) of = look_is_no_task task of.task.name
+  no_look none (commands.Table sheet form) of = look_is_no_table of.name
+  no_look none (commands.Sheet table options) of = look_is_no_sheet of.name
+  no_look none (commands.Look names files) of = let wrong : None ≡ Some names.first = sym none ∙ of.first in cc
+  no_look none (commands.EmptySheet model days) of = look_is_no_sheet of.name
 
   module _ (model_word days_word : List ℕ) (empty : first_of (codes "empty") rows ≡ Some model_word)
       (table : first_of (codes "TABLE") rows ≡ Some days_word) where
@@ -201,6 +237,7 @@ module _ (rows : List Row) where
     no_month none (commands.Table sheet form) of = sheet_is_no_table of.name
     no_month none (commands.Sheet its_table options) of =
         let wrong : None ≡ Some model_word = sym of.filled ∙ empty in cc
+    no_month none (commands.Look names files) of = look_is_no_sheet (sym of.name)
     no_month none (commands.EmptySheet model days) of =
         let model_same = same_Some of.model_word model_word (sym of.empty ∙ empty) in
         let days_same = same_Some of.days_word days_word (sym of.table ∙ table) in
@@ -214,6 +251,7 @@ module _ (rows : List Row) where
     not_alone other (commands.Table sheet form) of = sheet_is_no_table of.name
     not_alone other (commands.Sheet its_table options) of =
         let wrong : None ≡ Some model_word = sym of.filled ∙ empty in cc
+    not_alone other (commands.Look names files) of = look_is_no_sheet (sym of.name)
     not_alone other (commands.EmptySheet model days) of = let wrong : true ≡ false = sym of.alone ∙ other in cc
 
 -- the text of an option, as clap's getter reads it
@@ -233,3 +271,9 @@ form_said rows word forms.Page is other = λ csv. other (same_Some _ _ (sym is �
 
 pub no_form_said : (rows : List Row) → first_of (codes "csv") rows ≡ None → HasForm rows forms.Page
 no_form_said rows none = λ csv. let wrong : None ≡ Some (codes "true") = sym none ∙ csv in cc
+
+-- the value of an argument that a command line may lack, as clap's getter reads it
+pub read_maybe : (found : Found) (id : List ℕ) (word : Option (Bor (List ℕ)))
+    → option_map (λ s. s.now) word ≡ first_value found id
+    → first_of id (rows_of found) ≡ option_map (λ s. s.now) word
+read_maybe found id word reads = sym (first_value-rows found id) ∙ sym reads

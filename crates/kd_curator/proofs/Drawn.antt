@@ -68,6 +68,7 @@ lacks_no_device model month number NoSuchDay lacks = refl
 lacks_no_device model month number OtherModel lacks = refl
 lacks_no_device model month number (File fault) lacks = absurd lacks
 lacks_no_device model month number faults.FaultyTable lacks = absurd lacks
+lacks_no_device model month number faults.FaultyFile lacks = absurd lacks
 lacks_no_device model month number faults.Device lacks = absurd lacks
 
 first_no_device : (model : Model) (month : List (Option Day)) (numbers : List ℕ) (fault : DayFault)

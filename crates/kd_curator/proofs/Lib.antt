@@ -10,6 +10,7 @@ pub mod PlannedBoxes
 pub mod PlannedOrder
 pub mod PlannedPieces
 pub mod Prelude
+pub mod LookFiles
 pub mod OneCommand
 pub mod Passing
 pub mod Ranked

@@ -8,10 +8,11 @@ use Rattle.kd_curator.specs.CommandLine.{CommandLinesMeanOneCommand, curator_gra
 use Rattle.kd_curator.specs.Days.{days_named}
 use Rattle.kd_curator.specs.declared.command.Task.{Task}
 use Rattle.kd_curator.specs.declared.command.Task.TheVariants as tasks
-use Rattle.kd_curator.proofs.CommandLines.{first_differs, sheet_is_no_table, sheet_is_no_task, table_is_no_task}
+use Rattle.kd_curator.proofs.CommandLines.{first_differs, look_is_no_sheet, look_is_no_table, look_is_no_task, sheet_is_no_table, sheet_is_no_task, table_is_no_task}
 use Rattle.kd_curator.specs.declared.command.Command.TheVariants as commands
 use Rattle.kd_curator.specs.CommandLine.{HasForm, IsEmptySheetOf, IsSheetOf}
 use Rattle.kd_table.specs.Options.{OptionTexts}
+use Rattle.kd_curator.specs.declared.up_to_three.UpToThree.{UpToThree}
 use Rattle.kd_tables.specs.Tables.{model_text}
 use Rattle.kd_sheet.proofs.ReadBack.Described.KeyValues.{model_found}
 use Rattle.kd_sheet.specs.Names.{find_by_text}
@@ -76,6 +77,16 @@ same_empty model other days more is same =
     subst (λ d. ◌≡◌ {A = NamedCommand} (commands.EmptySheet model days) (commands.EmptySheet other d)) same
     (ap (λ m. commands.EmptySheet m days) is)
 
+same_three : (first other : List ℕ) (second another : Option (List ℕ)) (third last : Option (List ℕ)) → first ≡ other
+    → second ≡ another → third ≡ last
+    → ◌≡◌ {A = UpToThree (List ℕ)} (record { first = first; second = second; third = third })
+    (record { first = other; second = another; third = last })
+same_three first other second another third last is are more = cc
+
+same_look : (names files others more : UpToThree (List ℕ)) → files ≡ names → more ≡ others → names ≡ others
+    → ◌≡◌ {A = NamedCommand} (commands.Look names files) (commands.Look others more)
+same_look names files others more is are same = cc
+
 -- a sheet to fill in has a model's name where a sheet of a table has none
 filled_or_empty : (said : List ℕ × List Row) (table : List ℕ) (options : OptionTexts) (model : Model) (days : ℕ)
     → IsSheetOf said table options → IsEmptySheetOf said model days → ⊥
@@ -124,6 +135,26 @@ same_command said (commands.EmptySheet model days) (commands.EmptySheet other mo
     (same_model model other (first.month.named ∙ words ∙ sym second.month.named))
     (decimal_injective days more (omega (arith, first.month.within.last)) (omega (arith, second.month.within.last))
     (first.month.numbered ∙ numbers ∙ sym second.month.numbered))
+same_command said (commands.Look names files) (commands.Look others more) first second =
+    same_look names files others more first.same second.same
+    (same_three _ _ _ _ _ _ (same_Some _ _ (sym first.first ∙ second.first)) (sym first.second ∙ second.second)
+    (sym first.third ∙ second.third))
+same_command said (commands.Look names files) (commands.OnMachine machine sheet task) first second =
+    absurd (look_is_no_task task (sym first.name ∙ second.task.name))
+same_command said (commands.Look names files) (commands.Table sheet form) first second =
+    absurd (look_is_no_table (sym first.name ∙ second.name))
+same_command said (commands.Look names files) (commands.Sheet table options) first second =
+    absurd (look_is_no_sheet (sym first.name ∙ second.name))
+same_command said (commands.Look names files) (commands.EmptySheet model days) first second =
+    absurd (look_is_no_sheet (sym first.name ∙ second.name))
+same_command said (commands.OnMachine machine sheet task) (commands.Look names files) first second =
+    absurd (look_is_no_task task (sym second.name ∙ first.task.name))
+same_command said (commands.Table sheet form) (commands.Look names files) first second =
+    absurd (look_is_no_table (sym second.name ∙ first.name))
+same_command said (commands.Sheet table options) (commands.Look names files) first second =
+    absurd (look_is_no_sheet (sym second.name ∙ first.name))
+same_command said (commands.EmptySheet model days) (commands.Look names files) first second =
+    absurd (look_is_no_sheet (sym second.name ∙ first.name))
 
 same_meant : (said : Option (List ℕ × List Row)) (one other : NamedCommand) → IsMeant said one → IsMeant said other
     → one ≡ other

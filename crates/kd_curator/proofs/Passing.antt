@@ -1,7 +1,7 @@
 -- What was written to a sink that gathers bytes is written to the sink to which it passes them on.
-use Rattle.std.proofs.Common.{◌≡◌, ◌||◌, ℕ, Bool, List, [], Option, Result, Ok, Err, IsErr, IsOk}
+use Rattle.std.proofs.Common.{◌≡◌, ◌∙◌, ◌||◌, ℕ, Bool, true, false, not, List, [], Option, Result, Ok, Err}
 use Rattle.std.proofs.Common.{IsTrue}
-use Rattle.std.proofs.Common.{MatchResult, inl, inr, is_err, refl, sym, subst, arith, ap, None, Some}
+use Rattle.std.proofs.Common.{MatchResult, inl, inr, refl, sym, subst, arith, ap, None, Some}
 use Rattle.std.proofs.Common.{append-nil}
 use Rattle.std.proofs.KnownBytes.{Appends-kept}
 use Rattle.std.specs.Io.KnownBytes.{Appends, Keeps, append_known}
@@ -13,8 +13,16 @@ use Rattle.kd_state.specs.SheetDay.{Day}
 use Rattle.kd_curator.specs.Ending.{stop_after}
 use Rattle.kd_curator.specs.MachineAndSheet.{IsAnswerOnSheet}
 use Rattle.kd_curator.specs.Program.{CarriesOut, DoesCommand, DoesTask, IsTold, IsAnswerAfterFlush, is_stopped_before_writing}
+use Rattle.kd_curator.specs.Program.{AnswersAfter, IsFlushed, is_whole}
 use Rattle.kd_curator.specs.Program.{Carried, FileUnread, Shown, OtherWords, NoMemory, is_stopped_by_device, is_usage}
-use Rattle.kd_curator.specs.Refusals.{refused_device, refused_whole}
+use Rattle.kd_curator.specs.Looks.{Looks, named_texts}
+use Rattle.kd_curator.specs.Refusals.{comes_after_writing, is_faulty_file, refused_device, refused_whole}
+use Rattle.kd_curator.specs.declared.fault.PageFault.{PageFault}
+use Rattle.kd_curator.specs.declared.fault.PageFault.TheVariants as faults
+use Rattle.kd_look.specs.Look.{IsLookAnswer, NamedText}
+use Rattle.kd_look.specs.declared.looking.LookFault.{LookFault}
+use Rattle.kd_look.specs.declared.outcome.Outcome.{Outcome}
+use Rattle.kd_tables.specs.Writing.{Writes}
 use Rattle.kd_curator.specs.Sheets.{MakesSheet, Sheet, Faulty, NoMemory as NoSheetMemory}
 use Rattle.kd_curator.specs.Tables.{WritesTables}
 use Rattle.kd_table.specs.Options.{OptionTexts}
@@ -108,24 +116,57 @@ module _ (one other : Port) (before : one.had ≡ other.had) (after : Keeps one.
   sheet_kept options table told (Faulty refused is) = Faulty refused is
   sheet_kept options table told (NoSheetMemory lacks) = NoSheetMemory lacks
 
+  writes_kept : {T E : Type 0} (text : List ℕ) (answer : Result T E) → Writes one.had one.has text answer
+      → Writes other.had other.has text answer
+  writes_kept text (Ok done) writes = record { whole = appends_kept text writes.whole; front = tt }
+  writes_kept text (Err made) writes =
+      let front = writes.front in record { whole = tt; front = (front.0, front.1, appends_kept _ front.2) }
+
+  report_kept : (files : List NamedText) (told : Result Outcome LookFault) → IsLookAnswer files one told
+      → IsLookAnswer files other told
+  report_kept files told (inl writes) = inl (record {
+    text = writes.text;
+    made = writes.made;
+    written = writes_kept writes.text told writes.written;
+    answered = writes.answered;
+    device = writes.device;
+  })
+  report_kept files told (inr lacks) = inr lacks
+
+  look_kept : (files : List NamedText) (told : Result (Unit {0}) Refused) → Looks files one told
+      → Looks files other told
+  look_kept files told looks =
+      record { told = looks.told; looks = report_kept files looks.told looks.looks; answers = looks.answers }
+
   command_kept : (command : ReadCommand) (told : Result (Unit {0}) Refused) → DoesCommand command one told
       → DoesCommand command other told
   command_kept (commands.OnMachine machine sheet task) told does = task_kept task machine sheet told does
   command_kept (commands.Table sheet form) told does = tables_kept form sheet told does
   command_kept (commands.Sheet table options) told does = sheet_kept options table told does
+  command_kept (commands.Look names files) told does = look_kept (named_texts names files) told does
   command_kept (commands.EmptySheet model days) told does = text_kept refused_device _ told does
 
 -- ---- the program's answer
 
+after_flush : (whole : Bool) (left : List ℕ) (first done answer : Result (Unit {0}) Stop) → is_whole first ≡ whole
+    → AnswersAfter whole [] first done → IsAnswerAfterFlush left done answer → AnswersAfter whole left first answer
+after_flush true left first done answer whole (inl (is, none)) ends =
+    let e : is_whole done ≡ true = ap is_whole is ∙ whole in
+    subst (λ d. IsFlushed left d answer) is (subst (λ b. AnswersAfter b left done answer) e ends)
+after_flush true left first done answer whole (inr (is, some)) ends = absurd (omega (arith, some))
+after_flush false left first done answer whole is ends =
+    let e : is_whole done ≡ false = ap is_whole is ∙ whole in
+    let same : answer ≡ done = subst (λ b. AnswersAfter b left done answer) e ends in same ∙ is
+
 ends_on : (left : List ℕ) (first done answer : Result (Unit {0}) Stop) → IsAnswerAfterFlush [] first done
     → IsAnswerAfterFlush left done answer → IsAnswerAfterFlush left first answer
-ends_on left (Ok fine) done answer (inl (is, none)) ends = subst (λ d. IsAnswerAfterFlush left d answer) is ends
-ends_on left (Ok fine) done answer (inr (is, some)) ends = absurd (omega (arith, some))
-ends_on left (Err stop) done answer is ends = subst (λ d. IsAnswerAfterFlush left d answer) is ends
+ends_on left first done answer one ends = after_flush (is_whole first) left first done answer refl one ends
 
 module _ (left : List ℕ) (done answer : Result (Unit {0}) Stop) (ends : IsAnswerAfterFlush left done answer) where
-  stops_on : (stop : Stop) → done ≡ Err stop → answer ≡ Err stop
-  stops_on stop is = subst (λ d. IsAnswerAfterFlush left d answer) is ends
+  stops_on : (stop : Stop) → is_whole (Err stop) ≡ false → done ≡ Err stop → answer ≡ Err stop
+  stops_on stop other is =
+      let e : is_whole done ≡ false = ap is_whole is ∙ other in
+      let same : answer ≡ done = subst (λ b. AnswersAfter b left done answer) e ends in same ∙ is
 
   told_on : (Does Other : Result (Unit {0}) Refused → Type 0)
       → ((told : Result (Unit {0}) Refused) → Does told → Other told) → IsTold Does [] done → IsTold Other left answer
@@ -135,25 +176,74 @@ module _ (left : List ℕ) (done answer : Result (Unit {0}) Stop) (ends : IsAnsw
     answers = ends_on left (stop_after is.told) done answer is.answers ends;
   }
 
-usage_on : (left : List ℕ) (done answer : Result (Unit {0}) Stop) → IsAnswerAfterFlush left done answer → IsTrue (is_usage done)
-    → IsTrue (is_usage answer)
+usage_on : (left : List ℕ) (done answer : Result (Unit {0}) Stop) → IsAnswerAfterFlush left done answer
+    → IsTrue (is_usage done) → IsTrue (is_usage answer)
 usage_on left (Ok fine) answer ends usage = absurd (cc)
-usage_on left (Err stop) answer ends usage = subst (λ a. IsTrue (is_usage a)) (sym ends) usage
+usage_on left (Err (stops.Usage text)) answer ends usage = subst (λ a. IsTrue (is_usage a)) (sym ends) usage
+usage_on left (Err (stops.Unread fault)) answer ends usage = absurd (cc)
+usage_on left (Err (stops.Refused refused)) answer ends usage = absurd (cc)
+
+or_again : (a d : Bool) → ((a || d) || d) ≡ (a || d)
+or_again true d = refl
+or_again false true = refl
+or_again false false = refl
+
+or_true : (a b : Bool) → (a || true) ≡ (b || true)
+or_true true true = refl
+or_true true false = refl
+or_true false true = refl
+or_true false false = refl
+
+module _ (left : List ℕ) (done answer : Result (Unit {0}) Stop) (before between after : Bool)
+    (failed : between ≡ (before || is_stopped_by_device done)) where
+  failed_by : (whole : Bool) → is_whole done ≡ whole → AnswersAfter whole left done answer
+      → (is_whole done ≡ false → after ≡ between)
+      → (is_whole done ≡ true → after ≡ (between || is_stopped_by_device answer))
+      → after ≡ (before || is_stopped_by_device answer)
+  failed_by true whole (inl (is, none)) same passed =
+      let d = is_stopped_by_device answer in
+      let e : is_stopped_by_device done ≡ d = ap is_stopped_by_device (sym is) in
+      passed whole ∙ ap (λ b. b || d) (failed ∙ ap (λ b. before || b) e) ∙ or_again before d
+  failed_by true whole (inr (is, some)) same passed =
+      let e : is_stopped_by_device answer ≡ true = ap is_stopped_by_device is in
+      passed whole ∙ ap (λ b. between || b) e ∙ or_true between before ∙ sym (ap (λ b. before || b) e)
+  failed_by false whole is same passed =
+      same whole ∙ failed ∙ ap (λ a. before || is_stopped_by_device a) (sym is)
 
 pub failed_on : (left : List ℕ) (done answer : Result (Unit {0}) Stop) (before between after : Bool)
     → IsAnswerAfterFlush left done answer → between ≡ (before || is_stopped_by_device done)
-    → (IsErr done → after ≡ between) → (IsOk done → after ≡ (between || is_err answer))
+    → (is_whole done ≡ false → after ≡ between)
+    → (is_whole done ≡ true → after ≡ (between || is_stopped_by_device answer))
     → after ≡ (before || is_stopped_by_device answer)
-failed_on left (Ok fine) answer before between after (inl (is, none)) failed same passed = grind (arith, passed)
-failed_on left (Ok fine) answer before between after (inr (is, some)) failed same passed = grind (arith, passed)
-failed_on left (Err stop) answer before between after is failed same passed = grind (arith, same)
+failed_on left done answer before between after ends failed same passed =
+    failed_by left done answer before between after failed (is_whole done) refl ends same passed
+
+whole_fault : (fault : PageFault) → is_faulty_file fault ≡ true → not (comes_after_writing fault) ≡ true → ⊥
+whole_fault faults.FaultyFile whole early = cc
+whole_fault _ whole early = cc
+
+-- an answer that says all that was written isn't one from before writing
+whole_wrote : (done : Result (Unit {0}) Stop) → is_whole done ≡ true → IsTrue (is_stopped_before_writing done) → ⊥
+whole_wrote (Ok fine) whole early = absurd (cc)
+whole_wrote (Err (stops.Usage text)) whole early = cc
+whole_wrote (Err (stops.Unread fault)) whole early = cc
+whole_wrote (Err (stops.Refused refused)) whole early = whole_fault refused.fault whole (search early)
+
+stopped_by : {X : Type 0} (whole : Bool) (left : List ℕ) (done answer : Result (Unit {0}) Stop) → is_whole done ≡ whole
+    → AnswersAfter whole left done answer
+    → (is_whole done ≡ false → IsTrue (is_stopped_before_writing done) → X)
+    → IsTrue (is_stopped_before_writing answer) → X
+stopped_by true left done answer whole (inl (is, none)) holds stopped =
+    absurd (whole_wrote done whole (subst (λ a. IsTrue (is_stopped_before_writing a)) is stopped))
+stopped_by true left done answer whole (inr (is, some)) holds stopped =
+    let early = subst (λ a. IsTrue (is_stopped_before_writing a)) is stopped in absurd (cc)
+stopped_by false left done answer whole is holds stopped =
+    holds whole (subst (λ a. IsTrue (is_stopped_before_writing a)) is stopped)
 
 pub stopped_on : {X : Type 0} (left : List ℕ) (done answer : Result (Unit {0}) Stop) → IsAnswerAfterFlush left done answer
-    → (IsErr done → IsTrue (is_stopped_before_writing done) → X) → IsTrue (is_stopped_before_writing answer) → X
-stopped_on left (Ok fine) answer (inl (is, none)) holds stopped = absurd (cc)
-stopped_on left (Ok fine) answer (inr (is, some)) holds stopped = absurd (cc)
-stopped_on left (Err stop) answer is holds stopped =
-    holds refl (subst (λ a. IsTrue (is_stopped_before_writing a)) is stopped)
+    → (is_whole done ≡ false → IsTrue (is_stopped_before_writing done) → X)
+    → IsTrue (is_stopped_before_writing answer) → X
+stopped_on left done answer ends holds stopped = stopped_by (is_whole done) left done answer refl ends holds stopped
 
 pub none_gathered : (had : Option (List ℕ)) → append_known had [] ≡ had
 none_gathered None = refl
@@ -167,10 +257,10 @@ module _ (words : List (List ℕ)) (known : Option (List ℕ → Option (List �
       Carried command says read alike knows asks (told_on left done answer ends _ _
       (λ t. command_kept one other before after read t) told)
   carried_on (FileUnread command says fault knows asks is) =
-      FileUnread command says fault knows asks (stops_on left done answer ends (stops.Unread fault) is)
+      FileUnread command says fault knows asks (stops_on left done answer ends (stops.Unread fault) refl is)
   carried_on (Shown text kind among help none told) =
       Shown text kind among help none (told_on left done answer ends _ _
       (λ t. text_kept one other before after refused_device text t) told)
   carried_on (OtherWords none no_help nothing usage) =
       OtherWords none no_help nothing (usage_on left done answer ends usage)
-  carried_on (NoMemory nothing is) = NoMemory nothing (stops_on left done answer ends _ is)
+  carried_on (NoMemory nothing is) = NoMemory nothing (stops_on left done answer ends _ refl is)

@@ -11,13 +11,19 @@ use Rattle.kd_curator.specs.Program.{AreAlike, HasMonth, HasNotes, HasTold, IsLe
 use Rattle.kd_curator.specs.Ending.{stop_after}
 use Rattle.kd_curator.specs.Program.{IsTold, IsAnswerAfterFlush, is_stopped_before_writing}
 use Rattle.kd_curator.specs.Program.{is_stopped_by_device}
-use Rattle.kd_curator.specs.Refusals.{is_device, refused_device}
+use Rattle.kd_curator.specs.Refusals.{comes_after_writing, has_written, is_device, is_device_fault, refused_device}
+use Rattle.kd_curator.specs.declared.fault.PageFault.{PageFault}
+use Rattle.kd_curator.specs.declared.fault.PageFault.TheVariants as faults
+use Rattle.kd_curator.specs.Program.{AnswersAfter, is_whole}
 use Rattle.kd_curator.specs.declared.fault.Refused.{Refused}
 use Rattle.kd_curator.specs.declared.stop.Stop.{Stop}
 
+nothing_left : (whole : Bool) (answer : Result (Unit {0}) Stop) → AnswersAfter whole [] answer answer
+nothing_left true answer = inl (refl, refl)
+nothing_left false answer = refl
+
 ends_after : (told : Result (Unit {0}) Refused) → IsAnswerAfterFlush [] (stop_after told) (stop_after told)
-ends_after (Ok done) = inl (refl, refl)
-ends_after (Err refused) = refl
+ends_after told = nothing_left (is_whole (stop_after told)) (stop_after told)
 
 -- the program's answer is a command's answer
 pub told_so : (Does : Result (Unit {0}) Refused → Type 0) (told : Result (Unit {0}) Refused)
@@ -27,7 +33,7 @@ told_so Does told answer does is =
 
 -- a command that stopped before it wrote anything left the sink as it was
 pub stopped_so : {X : Type 0} (told : Result (Unit {0}) Refused) (answer : Result (Unit {0}) Stop)
-    → answer ≡ stop_after told → (IsErr told → is_device told ≡ false → X) → IsTrue (is_stopped_before_writing answer)
+    → answer ≡ stop_after told → (IsErr told → has_written told ≡ false → X) → IsTrue (is_stopped_before_writing answer)
     → X
 stopped_so (Ok done) answer is holds stopped = absurd (cc)
 stopped_so (Err refused) answer is holds stopped =
@@ -35,10 +41,20 @@ stopped_so (Err refused) answer is holds stopped =
 
 -- a command whose only error is a failed device hasn't stopped for another reason
 pub only_device : {X : Type 0} (told : Result (Unit {0}) Refused) → OnErr told (told ≡ Err refused_device) → IsErr told
-    → is_device told ≡ false → X
+    → has_written told ≡ false → X
 only_device (Ok done) device failed other = absurd (cc)
 only_device (Err refused) device failed other =
-    let same = ap is_device device in let wrong : true ≡ false = sym same ∙ other in cc
+    let same = ap has_written device in let wrong : true ≡ false = sym same ∙ other in cc
+
+no_device : (fault : PageFault) → comes_after_writing fault ≡ false → is_device_fault fault ≡ false
+no_device faults.Device wrong = let e : true ≡ false = wrong in cc
+no_device _ other = refl
+
+-- a command whose sink is untouched but for a failed device has written nothing
+pub not_device : {X : Type 0} (told : Result (Unit {0}) Refused) → (IsErr told → is_device told ≡ false → X)
+    → IsErr told → has_written told ≡ false → X
+not_device (Ok done) holds failed other = absurd (cc)
+not_device (Err refused) holds failed other = holds failed (no_device refused.fault other)
 
 device_told : (told : Result (Unit {0}) Refused) → is_device told ≡ is_stopped_by_device (stop_after told)
 device_told (Ok done) = refl
@@ -64,18 +80,27 @@ notes_so words errors (commands.Table a b) (commands.Table c d) says alike told 
 notes_so words errors (commands.EmptySheet a b) (commands.EmptySheet c d) says alike told = NoNotes told
 notes_so words errors (commands.Sheet table options) (commands.Sheet bytes same) says alike told =
     TableNotes table options says told
+notes_so words errors (commands.Look a b) (commands.Look c d) says alike told = NoNotes told
 notes_so words errors (commands.OnMachine a b c) (commands.Table d e) says alike told = absurd alike
 notes_so words errors (commands.OnMachine a b c) (commands.Sheet d e) says alike told = absurd alike
+notes_so words errors (commands.OnMachine a b c) (commands.Look d e) says alike told = absurd alike
 notes_so words errors (commands.OnMachine a b c) (commands.EmptySheet d e) says alike told = absurd alike
 notes_so words errors (commands.Table a b) (commands.OnMachine c d e) says alike told = absurd alike
 notes_so words errors (commands.Table a b) (commands.Sheet c d) says alike told = absurd alike
+notes_so words errors (commands.Table a b) (commands.Look c d) says alike told = absurd alike
 notes_so words errors (commands.Table a b) (commands.EmptySheet c d) says alike told = absurd alike
 notes_so words errors (commands.Sheet a b) (commands.OnMachine c d e) says alike told = absurd alike
 notes_so words errors (commands.Sheet a b) (commands.Table c d) says alike told = absurd alike
+notes_so words errors (commands.Sheet a b) (commands.Look c d) says alike told = absurd alike
 notes_so words errors (commands.Sheet a b) (commands.EmptySheet c d) says alike told = absurd alike
+notes_so words errors (commands.Look a b) (commands.OnMachine c d e) says alike told = absurd alike
+notes_so words errors (commands.Look a b) (commands.Table c d) says alike told = absurd alike
+notes_so words errors (commands.Look a b) (commands.Sheet c d) says alike told = absurd alike
+notes_so words errors (commands.Look a b) (commands.EmptySheet c d) says alike told = absurd alike
 notes_so words errors (commands.EmptySheet a b) (commands.OnMachine c d e) says alike told = absurd alike
 notes_so words errors (commands.EmptySheet a b) (commands.Table c d) says alike told = absurd alike
 notes_so words errors (commands.EmptySheet a b) (commands.Sheet c d) says alike told = absurd alike
+notes_so words errors (commands.EmptySheet a b) (commands.Look c d) says alike told = absurd alike
 
 -- the number of days that the words ask for is that of a month
 meant_month : (said : Option (List ℕ × List Row)) (model : Model) (days : ℕ)
@@ -91,6 +116,8 @@ months_so words (commands.EmptySheet model days) (commands.EmptySheet same many)
 months_so words command (commands.OnMachine d e f) says alike = tt
 months_so words command (commands.Table d e) says alike = tt
 months_so words command (commands.Sheet d e) says alike = tt
+months_so words command (commands.Look d e) says alike = tt
+months_so words (commands.Look a b) (commands.EmptySheet d e) says alike = absurd alike
 months_so words (commands.OnMachine a b c) (commands.EmptySheet d e) says alike = absurd alike
 months_so words (commands.Table a b) (commands.EmptySheet d e) says alike = absurd alike
 months_so words (commands.Sheet a b) (commands.EmptySheet d e) says alike = absurd alike

@@ -1,4 +1,4 @@
--- The grammar of the command line: `page`, `list`, `table` and `sheet`, with their arguments and with help.
+-- The grammar of the command line: `page`, `list`, `table`, `sheet` and `look`, with their arguments and with help.
 -- Code: `grammar` builds the grammar by calls of the library `clap`.
 -- Test: refuses_other_words
 use Rattle.std.specs.Prelude.{codes, decimal, ◌≡◌, ◌≢◌, ℕ, Bool, true, false, List, [], ◌∷◌, Option, Some, None}
@@ -15,6 +15,8 @@ use Rattle.clap.specs.declared.builder.action.ArgAction.TheVariants.{SetTrue}
 use Rattle.kd_tables.specs.Tables.{model_text}
 use Rattle.kd_tables.specs.declared.model.Model.{Model}
 use Rattle.kd_table.specs.Options.{OptionTexts, texts_of}
+use Rattle.kd_curator.specs.UpToThree.{unborrowed_three}
+use Rattle.kd_curator.specs.declared.up_to_three.UpToThree.{UpToThree}
 use Rattle.kd_key_table.specs.declared.table_file.TableForm.{TableForm}
 use Rattle.kd_key_table.specs.declared.table_file.TableForm.TheVariants as forms
 use Rattle.kd_curator.specs.declared.command.Command.{Command}
@@ -56,7 +58,12 @@ sheet_shape = record (new_shape (codes "sheet")) {
       ∷ option_rule (codes "empty") ∷ needed (codes "TABLE") ∷ [];
 }
 
--- the grammar of the program: its four commands
+abbrev pub look_shape : Shape
+look_shape = record (new_shape (codes "look")) {
+  rules = needed (codes "FILE") ∷ new_rule (codes "FILE2") ∷ new_rule (codes "FILE3") ∷ [];
+}
+
+-- the grammar of the program: its five commands
 unfoldable pub curator_grammar : App
 curator_grammar = record {
   top = record (new_shape (codes "curator")) {
@@ -66,7 +73,7 @@ curator_grammar = record {
     arg_required_else_help = true;
     is_leaf = false;
   };
-  subs = page_shape ∷ list_shape ∷ table_shape ∷ sheet_shape ∷ [];
+  subs = page_shape ∷ list_shape ∷ table_shape ∷ sheet_shape ∷ look_shape ∷ [];
 }
 
 -- ---- Which command a command line means.
@@ -82,6 +89,7 @@ abbrev pub unborrowed_command : Command (Bor (List ℕ)) (Bor (List ℕ)) → Na
 unborrowed_command (commands.OnMachine machine sheet task) = commands.OnMachine machine.now sheet.now task
 unborrowed_command (commands.Table sheet form) = commands.Table sheet.now form
 unborrowed_command (commands.Sheet table options) = commands.Sheet table.now (texts_of options)
+unborrowed_command (commands.Look names files) = commands.Look (unborrowed_three names) (unborrowed_three files)
 unborrowed_command (commands.EmptySheet model days) = commands.EmptySheet model days
 
 -- A command that has the bytes of its files.
@@ -93,6 +101,7 @@ abbrev pub with_texts : Command (List ℕ) (Bor (List ℕ)) → ReadCommand
 with_texts (commands.OnMachine machine sheet task) = commands.OnMachine machine sheet task
 with_texts (commands.Table sheet form) = commands.Table sheet form
 with_texts (commands.Sheet table options) = commands.Sheet table (texts_of options)
+with_texts (commands.Look names files) = commands.Look (unborrowed_three names) files
 with_texts (commands.EmptySheet model days) = commands.EmptySheet model days
 
 abbrev pub task_name : Task → List ℕ
@@ -168,11 +177,20 @@ pub record IsEmptySheetOf (said : List ℕ × List Row) (model : Model) (days : 
   pub month : IsMonthNamed model_word days_word model days
   pub alone : are_blank (option_texts said.1) ≡ true
 
+-- They mean the command `look`, with these files.
+pub record IsLookOf (said : List ℕ × List Row) (names files : UpToThree (List ℕ)) : Type 0 where
+  pub name : said.0 ≡ codes "look"
+  pub first : first_of (codes "FILE") said.1 ≡ Some names.first
+  pub second : first_of (codes "FILE2") said.1 ≡ names.second
+  pub third : first_of (codes "FILE3") said.1 ≡ names.third
+  pub same : files ≡ names
+
 -- They mean the command `command`.
 abbrev pub IsCommandOf : List ℕ × List Row → NamedCommand → Type 0
 IsCommandOf said (commands.OnMachine machine sheet task) = IsTaskWith said machine sheet task
 IsCommandOf said (commands.Table sheet form) = IsTableOf said sheet form
 IsCommandOf said (commands.Sheet table options) = IsSheetOf said table options
+IsCommandOf said (commands.Look names files) = IsLookOf said names files
 IsCommandOf said (commands.EmptySheet model days) = IsEmptySheetOf said model days
 
 -- What is said, if anything, means the command `command`.

@@ -12,4 +12,6 @@ pub mod Refusals
 pub mod RunList
 pub mod RunPage
 pub mod Sheets
+pub mod Looks
 pub mod Tables
+pub mod UpToThree

@@ -1,7 +1,7 @@
 -- The program: what the command line means, which files are read, and what is written.
 -- Code: `run_words` parses the words, reads the files, and carries the command out.
 -- Test: carries_each_command_out
-use Rattle.std.specs.Prelude.{◌≡◌, ◌⊎◌, ◌≤◌, ◌||◌, not, ℕ, Bool, true, false, List, [], ◌∷◌, length, Option, IfSome}
+use Rattle.std.specs.Prelude.{◌≡◌, ◌⊎◌, ◌≤◌, ◌||◌, not, ℕ, Bool, true, false, List, [], ◌∷◌, length, Option, Some, None, IfSome}
 use Rattle.std.specs.Prelude.{Result, Ok, Err, IsTrue}
 use Rattle.std.specs.Borrow.{Bor}
 use Rattle.std.specs.Io.KnownBytes.{append_known}
@@ -23,7 +23,10 @@ use Rattle.kd_curator.specs.CommandLine.{curator_grammar}
 use Rattle.kd_curator.specs.CommandLine.{is_help}
 use Rattle.kd_curator.specs.Ending.{EndsAs, stop_after}
 use Rattle.kd_curator.specs.MachineAndSheet.{IsAnswerOnSheet}
-use Rattle.kd_curator.specs.Refusals.{is_device_fault, refused_device}
+use Rattle.kd_curator.specs.Looks.{Looks, named_texts}
+use Rattle.kd_curator.specs.UpToThree.{AreAsMany, list_of_three}
+use Rattle.kd_curator.specs.declared.up_to_three.UpToThree.{UpToThree}
+use Rattle.kd_curator.specs.Refusals.{comes_after_writing, is_device_fault, is_faulty_file, refused_device}
 use Rattle.kd_curator.specs.RunList.{WritesList}
 use Rattle.kd_curator.specs.RunPage.{WritesPages, wanted_days}
 use Rattle.kd_curator.specs.Sheets.{MakesSheet}
@@ -36,9 +39,21 @@ use Rattle.kd_curator.specs.declared.fault.Refused.{Refused}
 use Rattle.kd_curator.specs.declared.stop.Stop.{Stop}
 use Rattle.kd_curator.specs.declared.stop.Stop.TheVariants as stops
 
-abbrev pub with_file : {X : Type 0} → Result (List ℕ) FileFault → (List ℕ → Result X FileFault) → Result X FileFault
+abbrev pub with_file : {A X : Type 0} → Result A FileFault → (A → Result X FileFault) → Result X FileFault
 with_file (Ok bytes) made = made bytes
 with_file (Err fault) made = Err fault
+
+-- the bytes of another file, if there is a name
+abbrev pub known_other : (List ℕ → Option (List ℕ)) → Option (List ℕ) → Result (Option (List ℕ)) FileFault
+known_other held None = Ok None
+known_other held (Some name) = with_file (content_of (held name)) (λ bytes. Ok (Some bytes))
+
+-- the bytes of one file, two or three, or the fault of the first file that can't be read
+abbrev pub known_three : (List ℕ → Option (List ℕ)) → UpToThree (List ℕ) → Result (UpToThree (List ℕ)) FileFault
+known_three held names =
+    with_file (content_of (held names.first)) (λ first. with_file (known_other held names.second)
+    (λ second. with_file (known_other held names.third)
+    (λ third. Ok (record { first = first; second = second; third = third }))))
 
 -- the command with the bytes of its files, or the fault of the first file that can't be read
 abbrev pub known_command : (List ℕ → Option (List ℕ)) → NamedCommand → Result ReadCommand FileFault
@@ -49,6 +64,8 @@ known_command held (commands.Table sheet form) =
     with_file (content_of (held sheet)) (λ bytes. Ok (commands.Table bytes form))
 known_command held (commands.Sheet table options) =
     with_file (content_of (held table)) (λ bytes. Ok (commands.Sheet bytes options))
+known_command held (commands.Look names files) =
+    with_file (known_three held files) (λ contents. Ok (commands.Look names contents))
 known_command held (commands.EmptySheet model days) = Ok (commands.EmptySheet model days)
 
 -- Both commands are the same, but for the names of files in the first, and the bytes of files in the second.
@@ -56,6 +73,7 @@ abbrev pub AreAlike : NamedCommand → ReadCommand → Type 0
 AreAlike (commands.OnMachine machine sheet task) (commands.OnMachine bytes more same) = task ≡ same
 AreAlike (commands.Table sheet form) (commands.Table bytes same) = form ≡ same
 AreAlike (commands.Sheet table options) (commands.Sheet bytes same) = options ≡ same
+AreAlike (commands.Look names files) (commands.Look same contents) = (names ≡ same) × AreAsMany files contents
 AreAlike (commands.EmptySheet model days) (commands.EmptySheet same many) = (model ≡ same) × (days ≡ many)
 AreAlike _ _ = ⊥
 
@@ -64,6 +82,7 @@ abbrev pub names_of : NamedCommand → List (List ℕ)
 names_of (commands.OnMachine machine sheet task) = machine ∷ sheet ∷ []
 names_of (commands.Table sheet form) = sheet ∷ []
 names_of (commands.Sheet table options) = table ∷ []
+names_of (commands.Look names files) = list_of_three files
 names_of (commands.EmptySheet model days) = []
 
 -- What a task writes, from the bytes of a machine file and of a key sheet.
@@ -78,6 +97,7 @@ abbrev pub DoesCommand : ReadCommand → Port → Result (Unit {0}) Refused → 
 DoesCommand (commands.OnMachine machine sheet task) sink answer = DoesTask task machine sheet sink answer
 DoesCommand (commands.Table sheet form) sink answer = WritesTables form sheet sink answer
 DoesCommand (commands.Sheet table options) sink answer = MakesSheet options table sink answer
+DoesCommand (commands.Look names files) sink answer = Looks (named_texts names files) sink answer
 DoesCommand (commands.EmptySheet model days) sink answer =
     WritesText refused_device (empty_month_text model days) sink answer
 
@@ -92,16 +112,31 @@ abbrev pub HasTold : ReadCommand → Port → Type 0
 HasTold (commands.Sheet table options) errors = Tells errors
 HasTold (commands.OnMachine machine sheet task) errors = IsLeftAlone errors
 HasTold (commands.Table sheet form) errors = IsLeftAlone errors
+HasTold (commands.Look names files) errors = IsLeftAlone errors
 HasTold (commands.EmptySheet model days) errors = IsLeftAlone errors
 
 -- ---- The program's answer.
 
--- The program's answer, given its answer before the last gathered bytes were passed on. `left` are the bytes that the sink
--- didn't take. After success there are none. If only they are missing, the program answers `Device`.
+-- whether everything was written that the answer says: after success, and if files that were looked at have faults
+abbrev pub is_whole : Result (Unit {0}) Stop → Bool
+is_whole (Ok done) = true
+is_whole (Err (stops.Refused refused)) = is_faulty_file refused.fault
+is_whole (Err _) = false
+
+-- The answer after a flush that left the bytes `left` is `first`, and there are none; or `Device`, and there are some.
+abbrev pub IsFlushed : List ℕ → Result (Unit {0}) Stop → Result (Unit {0}) Stop → Type 0
+IsFlushed left first answer =
+    ((answer ≡ first) × (left ≡ [])) ⊎ ((answer ≡ Err (stops.Refused refused_device)) × (1 ≤ length left))
+
+-- what the program's answer is after the last gathered bytes were passed on, if the Bool is true; else they weren't
+abbrev pub AnswersAfter : Bool → List ℕ → Result (Unit {0}) Stop → Result (Unit {0}) Stop → Type 0
+AnswersAfter true left first answer = IsFlushed left first answer
+AnswersAfter false left first answer = answer ≡ first
+
+-- The program's answer, given its answer `first` before the last gathered bytes were passed on. `left` are the bytes
+-- that the sink didn't take. If only they are missing, the program answers `Device`.
 abbrev pub IsAnswerAfterFlush : List ℕ → Result (Unit {0}) Stop → Result (Unit {0}) Stop → Type 0
-IsAnswerAfterFlush left (Ok done) answer =
-    ((answer ≡ Ok tt) × (left ≡ [])) ⊎ ((answer ≡ Err (stops.Refused refused_device)) × (1 ≤ length left))
-IsAnswerAfterFlush left (Err stop) answer = answer ≡ Err stop
+IsAnswerAfterFlush left first answer = AnswersAfter (is_whole first) left first answer
 
 -- A command answered `told`, as `Does` says, and the program answers `answer`.
 pub record IsTold (Does : Result (Unit {0}) Refused → Type 0) (left : List ℕ) (answer : Result (Unit {0}) Stop)
@@ -144,7 +179,7 @@ is_stopped_by_device _ = false
 -- whether the program stopped before it wrote anything
 abbrev pub is_stopped_before_writing : Result (Unit {0}) Stop → Bool
 is_stopped_before_writing (Ok done) = false
-is_stopped_before_writing (Err (stops.Refused refused)) = not (is_device_fault refused.fault)
+is_stopped_before_writing (Err (stops.Refused refused)) = not (comes_after_writing refused.fault)
 is_stopped_before_writing (Err stop) = true
 
 -- What was written to standard error before the program's answer was known: something about a table, if the words mean
@@ -206,3 +241,4 @@ HasMonth (commands.EmptySheet model days) = days ≤ 31
 HasMonth (commands.OnMachine machine sheet task) = Unit {0}
 HasMonth (commands.Table sheet form) = Unit {0}
 HasMonth (commands.Sheet table options) = Unit {0}
+HasMonth (commands.Look names files) = Unit {0}

@@ -10,6 +10,8 @@ use Rattle.kd_table.specs.declared.fault.SpreadsheetFault.TheVariants as spreads
 use Rattle.kd_curator.specs.declared.fault.PageFault.{PageFault}
 use Rattle.kd_curator.specs.declared.fault.PageFault.TheVariants as faults
 use Rattle.kd_curator.specs.declared.fault.Refused.{Refused}
+use Rattle.kd_look.specs.declared.looking.LookFault.{LookFault}
+use Rattle.kd_look.specs.declared.looking.LookFault.TheVariants as looks
 use Rattle.kd_key_table.specs.declared.fault.TableFault.{TableFault}
 use Rattle.kd_key_table.specs.declared.fault.TableFault.TheVariants as tables
 
@@ -18,6 +20,7 @@ page_fault_text (faults.File fault) = sheet_fault_text fault
 page_fault_text faults.NoSuchDay = refusal_name refusals.NoSuchDay
 page_fault_text faults.OtherModel = refusal_name refusals.OtherModel
 page_fault_text faults.FaultyTable = codes "because the table has faults"
+page_fault_text faults.FaultyFile = codes "because a file has faults"
 page_fault_text faults.Device = refusal_name refusals.Device
 
 -- a refusal that is of no day, or of the only one
@@ -28,6 +31,16 @@ abbrev pub is_device_fault : PageFault → Bool
 is_device_fault faults.Device = true
 is_device_fault _ = false
 
+-- whether a refusal for this fault comes after something was written: a write failed, or a report on files is written
+abbrev pub comes_after_writing : PageFault → Bool
+comes_after_writing faults.Device = true
+comes_after_writing faults.FaultyFile = true
+comes_after_writing _ = false
+
+abbrev pub is_faulty_file : PageFault → Bool
+is_faulty_file faults.FaultyFile = true
+is_faulty_file _ = false
+
 abbrev pub refused_device : Refused
 refused_device = refused_whole faults.Device
 
@@ -35,6 +48,11 @@ refused_device = refused_whole faults.Device
 abbrev pub is_device : Result (Unit {0}) Refused → Bool
 is_device (Ok done) = false
 is_device (Err refused) = is_device_fault refused.fault
+
+-- whether a command was refused after it had written something
+abbrev pub has_written : Result (Unit {0}) Refused → Bool
+has_written (Ok done) = false
+has_written (Err refused) = comes_after_writing refused.fault
 
 -- why there are no tables, as a refusal
 abbrev pub refused_table : TableFault → Refused
@@ -46,3 +64,8 @@ abbrev pub refused_spreadsheet : SpreadsheetFault → Refused
 refused_spreadsheet spreadsheets.Refused = refused_whole faults.FaultyTable
 refused_spreadsheet spreadsheets.Device = refused_device
 refused_spreadsheet spreadsheets.NoMemory = refused_whole (faults.File NoMemory)
+
+-- why no report was written whole, as a refusal
+abbrev pub refused_look : LookFault → Refused
+refused_look looks.Device = refused_device
+refused_look looks.NoMemory = refused_whole (faults.File NoMemory)

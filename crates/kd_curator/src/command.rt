@@ -4,6 +4,7 @@ ghost use Rattle.clap.specs.Words.{app_of, found_of, kind_of, rows_of, rule_of, 
 ghost use Rattle.kd_curator.specs.CommandLine.{IsMadeOf, curator_grammar, command_shape, list_shape, page_shape};
 ghost use Rattle.kd_curator.specs.CommandLine.{HasForm, IsFormNamed, csv_flag, table_shape};
 ghost use Rattle.kd_curator.specs.CommandLine.{are_blank, option_rule, option_text, option_texts, sheet_shape, IsMonthNamed};
+ghost use Rattle.kd_curator.specs.CommandLine.{look_shape};
 ghost use Rattle.kd_table.specs.Options.{texts_of};
 ghost use Rattle.kd_curator.specs.CommandLine.{unborrowed_command, needed, task_name};
 ghost use Rattle.kd_curator.specs.CommandLine.{HasTaskDays, IsCommandLineOf, IsCommandOf, IsMeant, IsTaskOf};
@@ -11,6 +12,7 @@ ghost use Rattle.kd_curator.specs.CommandLine.{NamedCommand};
 ghost use Rattle.kd_curator.specs.CommandLine.{HasNoCommand, IsToldAs};
 
 use crate::days::{Days, days_of_word};
+use crate::up_to_three::UpToThree;
 use clap::error::ErrorKind;
 use clap::{Arg, ArgAction, ArgMatches, Command as Grammar, Error};
 use kd_key_table::TableForm;
@@ -55,6 +57,13 @@ pub enum Command<F, T> {
         table: F,
         /// What is used where the table says nothing.
         options: TableOptions<T>,
+    },
+    /// Says in words what machine files and key sheets say, or what is wrong with them.
+    Look {
+        /// The files' names.
+        names: UpToThree<T>,
+        /// The files.
+        files: UpToThree<F>,
     },
     /// Writes a key sheet to fill in.
     EmptySheet {
@@ -171,6 +180,7 @@ fn command_of<'a>(name: &str, words: &ArgMatches<'a>) -> Option<NamedCommand<'a>
     match name {
         "table" => table_of(words),
         "sheet" => sheet_of(words),
+        "look" => look_of(words),
         _ => task_with_files(name, words),
     }
 }
@@ -206,6 +216,30 @@ fn form_named(word: &str) -> TableForm
     } else {
         TableForm::Page
     }
+}
+
+/// The command `look`, with the files in `words`.
+fn look_of<'a>(words: &ArgMatches<'a>) -> Option<NamedCommand<'a>>
+    ensures said { IfSome result (λ command.
+        IsCommandOf (codes "look", rows_of (found_of words.now)) (unborrowed_command command)) }
+    ensures none { result ≡ None → (command : NamedCommand)
+        → ¬ (IsCommandOf (codes "look", rows_of (found_of words.now)) command) }
+{
+    let first = words.get_str("FILE")?;
+    let second = words.get_str("FILE2");
+    let third = words.get_str("FILE3");
+    Some(Command::Look {
+        names: UpToThree {
+            first,
+            second,
+            third,
+        },
+        files: UpToThree {
+            first,
+            second,
+            third,
+        },
+    })
 }
 
 /// The command `sheet`, with the table or the month in `words`; `None` if the month isn't one.
@@ -267,6 +301,7 @@ fn month_named(model: &str, days: &str) -> Option<(Model, u8)>
 fn task_with_files<'a>(name: &str, words: &ArgMatches<'a>) -> Option<NamedCommand<'a>>
     requires table { name.now ≢ codes "table" }
     requires sheet { name.now ≢ codes "sheet" }
+    requires look { name.now ≢ codes "look" }
     ensures said { IfSome result (λ command.
         IsCommandOf (name.now, rows_of (found_of words.now)) (unborrowed_command command)) }
     ensures none { result ≡ None → (command : NamedCommand)
@@ -326,6 +361,7 @@ fn grammar<'a>(alloc: Global) -> Result<Grammar<'a>, AllocError>
     let list = list_grammar(alloc)?;
     let table = table_grammar(alloc)?;
     let sheet = sheet_grammar(alloc)?;
+    let look = look_grammar(alloc)?;
     Grammar::new(alloc, "curator")
         .about("Writes pages to hang beside a cipher machine: what to set for a day, with pictures")
         .version(VERSION)
@@ -335,7 +371,8 @@ fn grammar<'a>(alloc: Global) -> Result<Grammar<'a>, AllocError>
         .subcommand(page)?
         .subcommand(list)?
         .subcommand(table)?
-        .subcommand(sheet)
+        .subcommand(sheet)?
+        .subcommand(look)
 }
 
 /// The grammar of `page`.
@@ -412,6 +449,17 @@ fn sheet_grammar<'a>(alloc: Global) -> Result<Grammar<'a>, AllocError>
             "TABLE",
             "The table: CSV, or values separated by semicolons or tabs",
         ))
+}
+
+/// The grammar of `look`.
+fn look_grammar<'a>(alloc: Global) -> Result<Grammar<'a>, AllocError>
+    ensures { IfOk result (λ grammar. IsMadeOf grammar look_shape) }
+{
+    Grammar::new(alloc, "look")
+        .about("Says in words what machine files and key sheets say, or what is wrong with them")
+        .arg(needed(alloc, "FILE", "A machine file or a key sheet"))?
+        .arg(Arg::new(alloc, "FILE2").help("Another file"))?
+        .arg(Arg::new(alloc, "FILE3").help("Another file"))
 }
 
 /// An option with a value, which help calls `value`.

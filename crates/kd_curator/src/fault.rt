@@ -1,8 +1,9 @@
 //! `Refused`: why a command is refused.
-ghost use Rattle.std.specs.Prelude.{◌≡◌, codes};
+ghost use Rattle.std.specs.Prelude.{◌≡◌, ◌≤◌, length};
 ghost use Rattle.kd_curator.specs.Refusals.{page_fault_text};
 
 use kd_key_table::TableFault;
+use kd_look::LookFault;
 use kd_sheet::SheetFault;
 use kd_table::SpreadsheetFault;
 use kd_tables::{Device, Refusal, Text};
@@ -18,6 +19,8 @@ pub enum PageFault {
     OtherModel,
     /// A spreadsheet's table has faults, which are told in words.
     FaultyTable,
+    /// A file that was looked at has faults, which are told in words.
+    FaultyFile,
     /// A write failed.
     Device,
 }
@@ -25,7 +28,7 @@ pub enum PageFault {
 impl PageFault {
     /// Returns the refusal's number and name, followed by the fault's values, such as a key, if it has any.
     ///
-    /// A table's faults have no number.
+    /// Faults that are told in words have no number here.
     pub fn text(&self) -> Text
         ensures { result.bytes ≡ page_fault_text self.now }
     {
@@ -33,18 +36,20 @@ impl PageFault {
             PageFault::File(fault) => fault.text(),
             PageFault::NoSuchDay => Refusal::NoSuchDay.text(),
             PageFault::OtherModel => Refusal::OtherModel.text(),
-            PageFault::FaultyTable => faulty_table_text(),
+            PageFault::FaultyTable => worded_text("because the table has faults"),
+            PageFault::FaultyFile => worded_text("because a file has faults"),
             PageFault::Device => Refusal::Device.text(),
         }
     }
 }
 
-/// The text of the refusal of a faulty table.
-fn faulty_table_text() -> Text
-    ensures { result.bytes ≡ codes "because the table has faults" }
+/// The text of a refusal without a number.
+fn worded_text(words: &str) -> Text
+    requires { length words.now ≤ 64 }
+    ensures { result.bytes ≡ words.now }
 {
     let mut text = Text::new();
-    text.push_str("because the table has faults");
+    text.push_str(words);
     text
 }
 
@@ -127,6 +132,20 @@ impl From<SpreadsheetFault> for Refused {
             SpreadsheetFault::Refused => Refused::from(PageFault::FaultyTable),
             SpreadsheetFault::Device => Refused::from(PageFault::Device),
             SpreadsheetFault::NoMemory => Refused::from(SheetFault::NoMemory),
+        }
+    }
+}
+
+impl From<LookFault> for Refused {
+    ghost use Rattle.std.specs.Prelude.{◌≡◌};
+    ghost use Rattle.kd_curator.specs.Refusals.{refused_look};
+
+    ghost from_gives = { λ fault refused. refused ≡ refused_look fault };
+
+    fn from(fault: LookFault) -> Refused {
+        match fault {
+            LookFault::Device => Refused::from(PageFault::Device),
+            LookFault::NoMemory => Refused::from(SheetFault::NoMemory),
         }
     }
 }

@@ -1,5 +1,6 @@
 //! The program: reads the command line and the files, and carries the command out.
-ghost use Rattle.std.specs.Prelude.{◌≡◌, ◌||◌, [], ℕ, List, false, map, IfOk, IfSome, IsErr, IsOk, IsTrue, is_ok, is_err};
+ghost use Rattle.std.specs.Prelude.{◌≡◌, ◌||◌, ◌+◌, ◌<◌, ◌≤◌, [], ℕ, List, false, true, length, map, IfOk, IfSome, IsErr, IsTrue, is_ok};
+ghost use Rattle.std.specs.Prelude.{is_some, option_map};
 ghost use Rattle.std.specs.Io.KnownBytes.{Keeps, append_known};
 ghost use Rattle.kd_tables.specs.Answers.{AgreesOrNoMemory};
 ghost use Rattle.kd_tables.specs.Ports.{port};
@@ -8,21 +9,25 @@ ghost use Rattle.kd_host.specs.Writing.{WritesText};
 ghost use Rattle.kd_curator.specs.CommandLine.{unborrowed_command, with_texts};
 ghost use Rattle.kd_table.specs.Options.{texts_of};
 ghost use Rattle.kd_curator.specs.Ending.{stop_after};
-ghost use Rattle.kd_curator.specs.declared.command.Command.TheVariants.{OnMachine, Sheet, Table};
+ghost use Rattle.kd_curator.specs.declared.command.Command.TheVariants.{Look, OnMachine, Sheet, Table};
 ghost use Rattle.kd_curator.specs.Program.{AreAlike, CarriesOut, DoesCommand, DoesTask, HasEnded, IsRun};
 ghost use Rattle.kd_curator.specs.Program.{port_with_untaken, known_command};
 ghost use Rattle.kd_curator.specs.Program.{HasMonth, HasNotes, HasTold, names_of, read_with_texts};
 ghost use Rattle.kd_curator.specs.Program.{IsAnswerAfterFlush, is_stopped_before_writing, is_stopped_by_device};
-ghost use Rattle.kd_curator.specs.Refusals.{is_device, refused_device};
+ghost use Rattle.kd_curator.specs.Program.{is_whole, known_other};
+ghost use Rattle.kd_curator.specs.Refusals.{has_written, is_device, refused_device};
+ghost use Rattle.kd_curator.specs.UpToThree.{list_of_option, list_of_three, unborrowed_three};
 
 use crate::buffered_sink::BufferedSink;
 use crate::command::{Command, NamedCommand, NoCommand, Task, parse_words};
 use crate::fault::{PageFault, Refused};
+use crate::looks::look_at_files;
 use crate::run_list::run_list;
 use crate::run_page::run_page;
 use crate::sheets::{make_sheet, write_empty_sheet};
 use crate::stop::{Stop, end_program};
 use crate::tables::write_tables;
+use crate::up_to_three::UpToThree;
 use kd_host::{Content, FileFault, Files};
 use kd_key_table::TableForm;
 use kd_table::TableOptions;
@@ -120,6 +125,10 @@ fn read_files<'n, F: Files<'n>>(
         } => read_task_files(alloc, machine, sheet, task, files),
         Command::Table { sheet, form } => read_table_file(alloc, sheet, form, files),
         Command::Sheet { table, options } => read_spreadsheet(alloc, table, options, files),
+        Command::Look {
+            names,
+            files: looked,
+        } => read_looked(alloc, names, looked, files),
         Command::EmptySheet { model, days } => Ok(Command::EmptySheet { model, days }),
     }
 }
@@ -186,6 +195,56 @@ fn read_spreadsheet<'n, F: Files<'n>>(
     Ok(Command::Sheet { table, options })
 }
 
+/// Reads the files of the command `look`.
+fn read_looked<'n, F: Files<'n>>(
+    alloc: Global,
+    names: UpToThree<&'n str>,
+    looked: UpToThree<&'n str>,
+    files: &mut F,
+) -> Result<Command<Content, &'n str>, FileFault>
+    requires { F.asked files.old ≡ [] }
+    ensures read { IfSome (F.known files.old) (λ held. AgreesOrNoMemory FileFault.NoMemory
+        (known_command held (Look (unborrowed_three names.entry) (unborrowed_three looked.entry)))
+        (read_with_texts result)) }
+    ensures alike { IfOk result (λ read.
+        AreAlike (Look (unborrowed_three names.entry) (unborrowed_three looked.entry)) (with_texts read)) }
+    ensures asked { AreAskedFor (list_of_three (unborrowed_three looked.entry))
+        (F.asked files.old) (F.asked files.new) (is_ok result) }
+{
+    let first = files.read_content(alloc, looked.first)?;
+    let second = read_other(alloc, looked.second, files)?;
+    let third = read_other(alloc, looked.third, files)?;
+    Ok(Command::Look {
+        names,
+        files: UpToThree {
+            first,
+            second,
+            third,
+        },
+    })
+}
+
+/// Reads another file, if there is a name.
+fn read_other<'n, F: Files<'n>>(
+    alloc: Global,
+    name: Option<&'n str>,
+    files: &mut F,
+) -> Result<Option<Content>, FileFault>
+    requires { length (F.asked files.old) < 3 }
+    ensures read { IfSome (F.known files.old) (λ held. AgreesOrNoMemory FileFault.NoMemory
+        (known_other held (option_map (λ text. text.now) name.entry)) result) }
+    ensures same { F.known files.new ≡ F.known files.old }
+    ensures present { IfOk result (λ content. is_some content ≡ is_some name.entry) }
+    ensures asked { AreAskedFor (list_of_option (option_map (λ text. text.now) name.entry))
+        (F.asked files.old) (F.asked files.new) (is_ok result) }
+    ensures few { length (F.asked files.new) ≤ length (F.asked files.old) + 1 }
+{
+    match name {
+        Some(name) => Ok(Some(files.read_content(alloc, name)?)),
+        None => Ok(None),
+    }
+}
+
 /// Carries out `command`, whose files have been read.
 fn carry_out<W: Sink, E: Sink>(
     alloc: Global,
@@ -196,7 +255,7 @@ fn carry_out<W: Sink, E: Sink>(
     requires { HasMonth (with_texts command) }
     ensures does { DoesCommand (with_texts command.entry)
         (port W.taken W.has_failed sink.old sink.new) result }
-    ensures untouched { IsErr result → is_device result ≡ false → sink.new ≡ sink.old }
+    ensures untouched { IsErr result → has_written result ≡ false → sink.new ≡ sink.old }
     ensures failed { W.has_failed sink.new ≡ (W.has_failed sink.old || is_device result) }
     ensures told { HasTold (with_texts command.entry) (port E.taken E.has_failed errors.old errors.new) }
 {
@@ -210,6 +269,7 @@ fn carry_out<W: Sink, E: Sink>(
         Command::Sheet { table, options } => {
             make_sheet(alloc, table.as_slice(), &options, sink, errors)
         }
+        Command::Look { names, files } => look_at_files(alloc, &names, &files, sink),
         Command::EmptySheet { model, days } => write_empty_sheet(model, days, sink),
     }
 }
@@ -242,7 +302,7 @@ fn show<W: Sink>(text: &str, sink: &mut W) -> Result<(), Refused>
     Ok(())
 }
 
-/// After success, passes on what is gathered. The answer is `Device` if the sink doesn't take all of it.
+/// Passes on what is gathered, if everything was written. The answer is `Device` if the sink doesn't take all of it.
 fn pass_rest_on<W: Sink + Drop>(
     done: Result<(), Stop>,
     sink: &mut BufferedSink<W>,
@@ -250,12 +310,26 @@ fn pass_rest_on<W: Sink + Drop>(
     ensures kept { Keeps (append_known (W.taken sink.old.sink) sink.old.gathered.items)
         (append_known (W.taken sink.new.sink) sink.new.gathered.items) }
     ensures ends { IsAnswerAfterFlush sink.new.gathered.items done result }
-    ensures untouched { IsErr done → sink.new ≡ sink.old }
-    ensures failed { IsOk done → W.has_failed sink.new.sink ≡ (W.has_failed sink.old.sink || is_err result) }
+    ensures untouched { is_whole done ≡ false → sink.new ≡ sink.old }
+    ensures failed { is_whole done ≡ true
+        → W.has_failed sink.new.sink ≡ (W.has_failed sink.old.sink || is_stopped_by_device result) }
 {
-    done?;
+    if !is_whole(&done) {
+        return done;
+    }
     match sink.flush() {
-        Ok(()) => Ok(()),
+        Ok(()) => done,
         Err(Failed) => Err(Stop::Refused(Refused::from(PageFault::Device))),
+    }
+}
+
+/// Whether everything was written that the answer says.
+fn is_whole(done: &Result<(), Stop>) -> bool
+    ensures { result ≡ is_whole done.now }
+{
+    match done {
+        Ok(()) => true,
+        Err(Stop::Refused(refused)) => matches!(refused.fault, PageFault::FaultyFile),
+        Err(_) => false,
     }
 }

@@ -75,7 +75,7 @@ static EMPTY_SHEETS: [(&[&str], Model, u8); 3] = [
 ];
 
 /// Command lines that mean no command.
-static OTHERS: [&[&str]; 30] = [
+static OTHERS: [&[&str]; 32] = [
     &["curator", "Page", "m", "s"],
     &["curator", "page"],
     &["curator", "page", "m"],
@@ -93,6 +93,8 @@ static OTHERS: [&[&str]; 30] = [
     &["curator", "table", "--csv"],
     &["curator", "table", "--csv", "--csv", "s"],
     &["curator", "table", "--csv=true", "s"],
+    &["curator", "look"],
+    &["curator", "look", "a", "b", "c", "d"],
     &["curator", "sheet"],
     &["curator", "sheet", "t", "u"],
     &["curator", "sheet", "--model", "M4"],
@@ -109,7 +111,7 @@ static OTHERS: [&[&str]; 30] = [
 ];
 
 /// Command lines that ask for help or for the version.
-static HELP: [&[&str]; 9] = [
+static HELP: [&[&str]; 10] = [
     &["curator", "--help"],
     &["curator", "-h"],
     &["curator", "--version"],
@@ -118,6 +120,7 @@ static HELP: [&[&str]; 9] = [
     &["curator", "list", "-h"],
     &["curator", "table", "--help"],
     &["curator", "sheet", "--help"],
+    &["curator", "look", "-h"],
     &["curator"],
 ];
 

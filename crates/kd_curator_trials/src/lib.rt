@@ -8,6 +8,8 @@ mod days;
 #[cfg(test)]
 mod lists;
 #[cfg(test)]
+mod looks;
+#[cfg(test)]
 mod program;
 #[cfg(test)]
 mod samples;

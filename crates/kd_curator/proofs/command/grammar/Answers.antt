@@ -29,6 +29,7 @@ returns c =
     let first = one_command_more top c.in_ok-page.ensures c.in_ok-subcommand.ensures in
     let second = one_command_more first c.in_ok-list.ensures c.in_ok-subcommand-2.ensures in
     let third = one_command_more second c.in_ok-table.ensures c.in_ok-subcommand-3.ensures in
-    ok_also c.subcommand-4.result (AddsSubcommand c.in_ok-subcommand-3.field-0 c.in_ok-sheet.sheet)
+    let fourth = one_command_more third c.in_ok-sheet.ensures c.in_ok-subcommand-4.ensures in
+    ok_also c.subcommand-5.result (AddsSubcommand c.in_ok-subcommand-4.field-0 c.in_ok-look.look)
     (λ made. app_of made ≡ curator_grammar)
-    (λ made adds. one_command_more {new = made} third c.in_ok-sheet.ensures adds) c.subcommand-4.ensures
+    (λ made adds. one_command_more {new = made} fourth c.in_ok-look.ensures adds) c.subcommand-5.ensures

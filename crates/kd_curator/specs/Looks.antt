@@ -1,0 +1,36 @@
+-- What the command `look` writes, and when it refuses.
+-- Test: looks_at_files
+use Rattle.std.specs.Prelude.{◌≡◌, ℕ, List, [], ◌∷◌, ◌++◌, Option, Some, None, Result, Ok, Err}
+use Rattle.kd_tables.specs.Ports.{Port}
+use Rattle.kd_look.specs.Look.{IsLookAnswer, NamedText}
+use Rattle.kd_look.specs.declared.looking.LookFault.{LookFault}
+use Rattle.kd_look.specs.declared.outcome.Outcome.{Outcome}
+use Rattle.kd_look.specs.declared.outcome.Outcome.TheVariants.{Faultless, Faulty}
+use Rattle.kd_curator.specs.Refusals.{refused_look, refused_whole}
+use Rattle.kd_curator.specs.declared.fault.PageFault.TheVariants.{FaultyFile}
+use Rattle.kd_curator.specs.declared.fault.Refused.{Refused}
+use Rattle.kd_curator.specs.declared.up_to_three.UpToThree.{UpToThree}
+
+-- a file with its name, if there is one
+abbrev pub other_text : Option (List ℕ) → Option (List ℕ) → List NamedText
+other_text (Some name) (Some bytes) = record { name = name; bytes = bytes } ∷ []
+other_text _ _ = []
+
+-- the files with their names
+abbrev pub named_texts : UpToThree (List ℕ) → UpToThree (List ℕ) → List NamedText
+named_texts names files =
+    record { name = names.first; bytes = files.first }
+    ∷ (other_text names.second files.second ++ other_text names.third files.third)
+
+-- the program's answer: a refusal if a file has a fault, or if the report wasn't written whole
+abbrev pub look_answer : Result Outcome LookFault → Result (Unit {0}) Refused
+look_answer (Ok Faultless) = Ok tt
+look_answer (Ok (Faulty fault)) = Err (refused_whole FaultyFile)
+look_answer (Err fault) = Err (refused_look fault)
+
+-- A report on the files was written, or a prefix of it if the device failed; or memory ran out. The answer refuses
+-- files with faults, after the report.
+pub record Looks (files : List NamedText) (sink : Port) (answer : Result (Unit {0}) Refused) : Type 0 where
+  pub told : Result Outcome LookFault
+  pub looks : IsLookAnswer files sink told
+  pub answers : answer ≡ look_answer told
