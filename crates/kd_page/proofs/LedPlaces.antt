@@ -38,7 +38,7 @@ use Rattle.kd_page.proofs.PageOrders.{row_is}
 use Rattle.kd_page.proofs.MarkedThings.{are_equal, keeps, stays}
 
 -- Numbers that are at least `more` are at least `from`.
-ranked_from : {X : Type 0} (key : X → ℕ) (from more end : ℕ) (xs : List X) → from ≤ more → IsRanked key more end xs
+pub ranked_from : {X : Type 0} (key : X → ℕ) (from more end : ℕ) (xs : List X) → from ≤ more → IsRanked key more end xs
     → IsRanked key from end xs
 ranked_from key from more end [] below ranked = tt
 ranked_from key from more end (x ∷ xs) below ranked = (omega (arith, below, ranked.0), ranked.1, ranked.2)
@@ -74,7 +74,7 @@ one_kind m n xs leads = stays is_pin (λ x. false) kind_step m n xs leads (never
 
 -- ---- Windows: after the first is set, the wheels stay in their slots.
 
-slot_kept : (slot : ℕ) (m next : Parts) (x : Setting) → 6 ≤ step_number x → Carries m x next
+pub slot_kept : (slot : ℕ) (m next : Parts) (x : Setting) → 6 ≤ step_number x → Carries m x next
     → machine_slot next slot ≡ machine_slot m slot
 slot_kept slot (Rotor m) next (Turn other to) above carries =
     keeps (λ p. machine_slot p slot) _ (turn_made m other to next carries).1 refl
@@ -88,7 +88,7 @@ slot_kept slot m next (RingTo wheel to) above carries = absurd (omega (arith, ab
 slot_kept slot m next (PinTo wheel at effective) above carries = absurd (omega (arith, above))
 slot_kept slot m next (LugTo bar lug place) above carries = absurd (omega (arith, above))
 
-slots_kept : (slot : ℕ) (m n : Parts) (xs : List Setting) → IsRanked step_number 6 7 xs → Leads m xs n
+pub slots_kept : (slot : ℕ) (m n : Parts) (xs : List Setting) → IsRanked step_number 6 7 xs → Leads m xs n
     → machine_slot n slot ≡ machine_slot m slot
 slots_kept slot m n [] ranked leads = ap (λ p. machine_slot p slot) leads
 slots_kept slot m n (x ∷ xs) ranked leads =
