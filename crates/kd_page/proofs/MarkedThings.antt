@@ -1,6 +1,6 @@
 -- What no setting of a list sets stays as it is.
-use Rattle.std.proofs.Common.{◌≡◌, ◌≢◌, ℕ, ◌-◌, Bool, true, false, ◌||◌, ◌&&◌, not, nat_eq, List, [], ◌∷◌, arith, set, map}
-use Rattle.std.proofs.Common.{refl, ap, sym, subst, ◌∙◌, Option, Some, None, ◌+◌, ◌≤◌, ◌<◌, zero, suc, length, get_or}
+use Rattle.std.proofs.Common.{◌≡◌, ◌≢◌, ℕ, ◌-◌, Bool, true, false, ◌&&◌, nat_eq, List, [], ◌∷◌, arith, set, map}
+use Rattle.std.proofs.Common.{refl, ap, subst, ◌∙◌, Option, Some, None, ◌≤◌, zero, suc, length}
 use Rattle.std.proofs.lemmas.Option.{slice_get-map}
 use Rattle.std.specs.Option.{option_map_or}
 use Rattle.std.specs.Prelude.{if◌then◌else◌, nat_le, option_and_then, option_map, slice_get, unwrap_or, is_some, Contains}
@@ -11,7 +11,7 @@ use Rattle.kd_tables.specs.declared.model.Model.{Model}
 use Rattle.kd_tables.specs.Pairs.{has_letter}
 use Rattle.kd_tables.specs.Rings.{place_on}
 unfoldable use Rattle.kd_tables.specs.Rings.{ring_of}
-use Rattle.kd_tables.specs.Tables.{box_of, wheels_for}
+use Rattle.kd_tables.specs.Tables.{box_of}
 use Rattle.kd_state.specs.declared.machine.parts.Parts.{Parts}
 use Rattle.kd_state.specs.declared.machine.parts.Parts.TheVariants.{Pin, Rotor}
 use Rattle.kd_state.specs.declared.setting.Setting.{Setting}
@@ -23,7 +23,7 @@ use Rattle.kd_state.specs.declared.setting.why.Why.TheVariants.{WheelNotAllowed}
 use Rattle.kd_state.specs.Machine.{cable_letters}
 use Rattle.kd_state.specs.Pins.{pin_at, wheel_pins, with_pin}
 use Rattle.kd_state.specs.SameParts.{numbered_item}
-use Rattle.kd_state.specs.Setting.{Carries, Leads, cable_with, cable_without, has_loose_end, seat_without}
+use Rattle.kd_state.specs.Setting.{Carries, Leads, cable_with, cable_without, seat_without}
 use Rattle.kd_state.proofs.Carrying.{lug_moved, pin_made, pulled, reflector_made, ring_made, seat_made, turn_made}
 use Rattle.kd_state.proofs.Carrying.{was_put, wheel_turn_made}
 use Rattle.kd_state.proofs.Carrying.{six_lists}
@@ -32,7 +32,7 @@ use Rattle.kd_state.proofs.Prelude.{PinSet, gets, pins_of, position-Some}
 use Rattle.kd_state.proofs.Slots.{IsNumbered, has_letter-Decides, numbered_here, numbered_other, place_there, set_other}
 use Rattle.kd_state.proofs.Wheels.{IsPlaced-from_wheels_for, first_nowhere, has_wheel-Decides, place_within}
 use Rattle.kd_state.proofs.Wheels.{places_determine_wheels, same_wheel_self}
-use Rattle.kd_pictures.specs.Board.{cable_of, has_plug}
+use Rattle.kd_pictures.specs.Board.{has_plug}
 use Rattle.kd_pictures.specs.Wheels.{is_seated}
 use Rattle.kd_page.specs.Marks.{moves_lug, pulls_plug, puts_plug, puts_wheel, sets_pin, sets_reflector, sets_ring}
 use Rattle.kd_page.specs.Marks.{turns_pin_wheel}
