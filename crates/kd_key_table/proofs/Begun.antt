@@ -8,11 +8,11 @@ use Rattle.kd_key_table.specs.declared.table_file.TableForm.{TableForm}
 use Rattle.kd_key_table.specs.declared.table_file.TableForm.TheVariants.{Csv, Page}
 unfoldable use Rattle.kd_key_table.specs.CsvTable.{csv_text}
 use Rattle.kd_key_table.specs.TableFile.{file_text}
-unfoldable use Rattle.kd_key_table.specs.TableFile.{table_text}
+unfoldable use Rattle.kd_key_table.specs.TableFile.{page_text}
 
 -- A file isn't empty: its first byte is `<`, or the first byte of the columns' names.
 pub file_begins : (l : Language) (form : TableForm) (month : List (Option Day))
     → (byte : ℕ) × ((rest : List ℕ) × (file_text l form month ≡ byte ∷ rest))
-unfolding table_text csv_text file_head filled
+unfolding page_text csv_text file_head filled
 file_begins l Page month = (_, (_, refl))
 file_begins l Csv month = (_, (_, refl))

@@ -1,9 +1,17 @@
--- The words of a cell are plain: they have no markup.
+-- What stands in templates: words without markup, and as many values as the templates take.
 use Rattle.std.specs.Prelude.{ℕ, List, IsTrue}
 use Rattle.std.specs.List.{list_all}
 use Rattle.kd_tables.specs.Text.{letters_text}
+use Rattle.kd_pictures.specs.Checked.{Takes}
 use Rattle.kd_pictures.specs.Plain.{is_plain}
+use Rattle.kd_key_table.specs.declared.texts.TheConstants as texts
 
 -- Letters that are written as words have no markup, whichever letters they are.
 abbrev pub WordsArePlain : Type 0
 WordsArePlain = (letters : List ℕ) → IsTrue (list_all is_plain (letters_text letters))
+
+-- the templates, each with the number of values that tables fill into it
+abbrev pub TemplatesTakeTheirValues : Type 0
+TemplatesTakeTheirValues =
+    Takes texts.MONTH 1 × Takes texts.ONE_DAY 1 × Takes texts.FIRST_TO_LAST 2 × Takes texts.COLUMNS 4
+    × Takes texts.KEY_LIST 2

@@ -27,12 +27,12 @@ tables_of l month =
     ++ flat_map (λ number. key_list_of l (day_of month number)) DAYS
 
 -- the whole page
-unfoldable pub table_text : Language → List (Option Day) → List ℕ
-table_text l month =
+unfoldable pub page_text : Language → List (Option Day) → List ℕ
+page_text l month =
     file_head l ++ text_in l TITLE ++ STYLE.now ++ TABLE_STYLE.now ++ WIDE_BODY.now ++ no_days l (has_days month)
     ++ tables_of l month ++ FOOT.now
 
 -- the file in this form, in language `l`; a table for a spreadsheet is the same in all languages
 abbrev pub file_text : Language → TableForm → List (Option Day) → List ℕ
-file_text l Page month = table_text l month
+file_text l Page month = page_text l month
 file_text l Csv month = csv_text month

@@ -1,7 +1,7 @@
-//! Laws of a table's words, and of the days of a month.
+//! Laws of a table's words and templates, and of the days of a month.
 ghost use Rattle.std.specs.Prelude.{◌≡◌, reverse};
 ghost use Rattle.std.specs.List.{range_with_len};
-ghost use Rattle.kd_key_table.specs.Plain.{WordsArePlain};
+ghost use Rattle.kd_key_table.specs.Plain.{TemplatesTakeTheirValues, WordsArePlain};
 ghost use Rattle.kd_key_table.specs.declared.days.TheConstants.{DAYS, LAST_DAY_FIRST};
 
 /// What a table takes from a sheet has no markup.
@@ -10,6 +10,12 @@ ghost use Rattle.kd_key_table.specs.declared.days.TheConstants.{DAYS, LAST_DAY_F
 #[tactic(auto, using(crate::proofs::PlainWords::words_are_plain))]
 pub fn words_are_plain()
     ensures { WordsArePlain }
+{}
+
+/// In both languages, each template takes the values that tables fill into it.
+#[tactic(auto, using(crate::proofs::PlainWords::templates_take_their_values))]
+pub fn templates_take_their_values()
+    ensures { TemplatesTakeTheirValues }
 {}
 
 /// A month has the days 1 to 31. A table lists them from the last day on.

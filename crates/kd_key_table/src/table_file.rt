@@ -3,7 +3,7 @@ ghost use Rattle.std.specs.Prelude.{◌≡◌, ◌||◌, ◌++◌, is_err};
 ghost use Rattle.kd_tables.specs.Writing.{Writes};
 ghost use Rattle.kd_pictures.specs.Drawing.{Draws};
 ghost use Rattle.kd_key_table.specs.Days.{has_days};
-ghost use Rattle.kd_key_table.specs.TableFile.{file_text, no_days, table_text, tables_of};
+ghost use Rattle.kd_key_table.specs.TableFile.{file_text, no_days, page_text, tables_of};
 
 use crate::csv_table::draw_csv;
 use crate::days::{DAYS, has_any_day};
@@ -50,7 +50,7 @@ fn draw_file<W: Sink>(sink: &mut W, language: Language, form: TableForm, sheet: 
 
 /// Writes the page.
 fn draw_page<W: Sink>(sink: &mut W, language: Language, sheet: &Sheet)
-    ensures { Draws W.taken W.has_failed sink.old sink.new (table_text language sheet.now) }
+    ensures { Draws W.taken W.has_failed sink.old sink.new (page_text language sheet.now) }
 {
     draw_file_head(sink, language);
     draw_in(sink, language, TITLE);

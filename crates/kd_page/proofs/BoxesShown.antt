@@ -1,13 +1,13 @@
 -- The text of a page has the boxes of its settings.
-use Rattle.std.proofs.Common.{◌≡◌, ℕ, Bool, true, false, ◌==◌, List, [], ◌∷◌, ◌++◌, flat_map, filter, length, arith}
-use Rattle.std.proofs.Common.{refl, ap, ap₂, sym, subst, ◌∙◌, Option, Some, None, nat_eq, take, drop, map}
+use Rattle.std.proofs.Common.{◌≡◌, ℕ, Bool, true, false, ◌==◌, List, [], ◌∷◌, ◌++◌, flat_map, length, arith}
+use Rattle.std.proofs.Common.{refl, ap, ap₂, sym, subst, ◌∙◌, Option, Some, None, take, drop}
 use Rattle.std.specs.Prelude.{if◌then◌else◌}
 use Rattle.std.proofs.lemmas.Grind.{flat_map-append}
 use Rattle.kd_tables.specs.declared.place.Place.{Place}
 use Rattle.kd_tables.specs.Permutation.{alphabet}
 use Rattle.kd_state.specs.declared.machine.parts.Parts.{Parts}
 use Rattle.kd_state.specs.declared.setting.Setting.{Setting}
-use Rattle.kd_state.specs.Machine.{machine_pin, machine_pin_letter, machine_standing, model_of}
+use Rattle.kd_state.specs.Machine.{machine_pin, machine_pin_letter, machine_standing}
 use Rattle.kd_pictures.specs.declared.language.Language.{Language}
 use Rattle.kd_pictures.specs.declared.numbers.TheConstants.{BARS, CABLES, PIN_WHEELS, SLOTS}
 use Rattle.kd_pictures.specs.declared.words.Word.{Word}
@@ -16,18 +16,17 @@ use Rattle.kd_pictures.specs.Board.{has_cables}
 use Rattle.kd_pictures.specs.Words.{is_converter}
 use Rattle.kd_page.specs.declared.spots.Spot.{Spot}
 use Rattle.kd_page.specs.declared.spots.Step.{Step}
-use Rattle.kd_page.specs.declared.spots.Step.TheVariants.{Rings, Seats, PlugsOut, PlugsIn, Pins, Lugs, Turns}
+use Rattle.kd_page.specs.declared.spots.Step.TheVariants.{Rings, Seats, PlugsOut, PlugsIn, Lugs, Turns}
 use Rattle.kd_page.specs.declared.steps.Heading.{Heading}
 use Rattle.kd_page.specs.Boxes.{box_text, boxes_at}
 unfoldable use Rattle.kd_page.specs.DayPage.{article_text, pin_text, rotor_text}
-use Rattle.kd_page.specs.DayPage.{day_text}
 unfoldable use Rattle.kd_page.specs.Drum.{lugs_step}
 use Rattle.kd_page.specs.Drum.{bar_row}
 use Rattle.kd_page.specs.PageOrder.{pin_boxes, pin_by_pin, rotor_boxes, row_by_row, settings_at}
 unfoldable use Rattle.kd_page.specs.Pins.{pins_step}
-use Rattle.kd_page.specs.Pins.{pin_cell, pin_cells, pin_inside, pin_shown, pin_spot, pin_wheel}
+use Rattle.kd_page.specs.Pins.{pin_cell, pin_cells, pin_spot, pin_wheel}
 unfoldable use Rattle.kd_page.specs.PlugSteps.{plug_table, plugs_in, plugs_out}
-use Rattle.kd_page.specs.PlugSteps.{in_step, in_table, out_step, plug_row}
+use Rattle.kd_page.specs.PlugSteps.{in_step, out_step, plug_row}
 use Rattle.kd_page.specs.ShownBoxes.{HasInTurn}
 use Rattle.kd_page.specs.Spots.{count_at, is_at, row_of, row_spot, step_spot}
 unfoldable use Rattle.kd_page.specs.Steps.{list_text}

@@ -1,13 +1,13 @@
 -- A machine to which a page's settings lead has what the boxes stand at.
-use Rattle.std.proofs.Common.{◌≡◌, ◌≢◌, ℕ, ◌+◌, ◌-◌, ◌<◌, ◌≤◌, Bool, true, false, ◌||◌, ◌&&◌, nat_eq, List, [], ◌∷◌, arith, set}
-use Rattle.std.proofs.Common.{◌⊎◌, inl, inr, refl, ap, sym, subst, ◌∙◌, Option, Some, None, zero, suc, length, get_or, filter}
+use Rattle.std.proofs.Common.{◌≡◌, ◌≢◌, ℕ, ◌+◌, ◌-◌, ◌<◌, ◌≤◌, Bool, true, false, ◌&&◌, nat_eq, List, [], ◌∷◌, arith}
+use Rattle.std.proofs.Common.{◌⊎◌, inl, inr, refl, ap, sym, subst, ◌∙◌, Option, Some, None, zero, suc, length, get_or}
 use Rattle.std.proofs.lemmas.Grind.{common_steps}
 use Rattle.std.proofs.lemmas.List.FromFn.{get_or-range_with_len}
 use Rattle.std.specs.List.{list_any}
-use Rattle.std.specs.Prelude.{if◌then◌else◌, is_some, option_and_then, slice_get, unwrap_or, Contains}
+use Rattle.std.specs.Prelude.{if◌then◌else◌, is_some}
 use Rattle.kd_tables.specs.declared.wheel.Wheel.{Wheel}
 use Rattle.kd_tables.specs.Pairs.{has_letter}
-use Rattle.kd_tables.specs.Rings.{place_on, ring_of}
+use Rattle.kd_tables.specs.Rings.{ring_of}
 use Rattle.kd_state.specs.declared.machine.parts.Parts.{Parts}
 use Rattle.kd_state.specs.declared.machine.parts.Parts.TheVariants.{Pin, Rotor}
 use Rattle.kd_state.specs.declared.machine.pin_parts.PinParts.{PinParts}
@@ -17,13 +17,13 @@ use Rattle.kd_state.specs.declared.setting.Setting.TheVariants.{Pull, Put, Seat,
 use Rattle.kd_state.specs.declared.setting.Setting.TheVariants.{LugTo}
 use Rattle.kd_state.specs.declared.setting.why.Why.TheVariants.{SlotEmpty}
 use Rattle.kd_state.specs.Machine.{IsMachine, machine_pin, machine_slot}
-use Rattle.kd_state.specs.SameParts.{numbered_item, place_in_box}
+use Rattle.kd_state.specs.SameParts.{numbered_item}
 use Rattle.kd_state.specs.Setting.{Carries, Leads, cable_with}
 use Rattle.kd_state.proofs.Carrying.{lug_moved, pin_made, pulled, reflector_made, ring_made, seat_made, turn_made}
 use Rattle.kd_state.proofs.Carrying.{was_put, wheel_turn_made}
 use Rattle.kd_state.proofs.FirstFault.{found-Ok}
 use Rattle.kd_state.proofs.Prelude.{gets, position-Some}
-use Rattle.kd_state.proofs.Slots.{IsNumbered, has_letter-Decides, numbered_here, numbered_other, place_there, seated_in_box}
+use Rattle.kd_state.proofs.Slots.{has_letter-Decides, numbered_here, place_there, seated_in_box}
 use Rattle.kd_state.proofs.Wheels.{place_within}
 use Rattle.kd_pictures.specs.declared.numbers.TheConstants.{CABLES}
 use Rattle.kd_pictures.specs.Board.{has_cables, is_plugged}
@@ -38,7 +38,7 @@ use Rattle.kd_page.proofs.PageOrders.{row_is}
 use Rattle.kd_page.proofs.MarkedThings.{are_equal, keeps, stays}
 
 -- Numbers that are at least `more` are at least `from`.
-ranked_from : {X : Type 0} (key : X → ℕ) (from more end : ℕ) (xs : List X) → from ≤ more → IsRanked key more end xs
+pub ranked_from : {X : Type 0} (key : X → ℕ) (from more end : ℕ) (xs : List X) → from ≤ more → IsRanked key more end xs
     → IsRanked key from end xs
 ranked_from key from more end [] below ranked = tt
 ranked_from key from more end (x ∷ xs) below ranked = (omega (arith, below, ranked.0), ranked.1, ranked.2)
@@ -74,7 +74,7 @@ one_kind m n xs leads = stays is_pin (λ x. false) kind_step m n xs leads (never
 
 -- ---- Windows: after the first is set, the wheels stay in their slots.
 
-slot_kept : (slot : ℕ) (m next : Parts) (x : Setting) → 6 ≤ step_number x → Carries m x next
+pub slot_kept : (slot : ℕ) (m next : Parts) (x : Setting) → 6 ≤ step_number x → Carries m x next
     → machine_slot next slot ≡ machine_slot m slot
 slot_kept slot (Rotor m) next (Turn other to) above carries =
     keeps (λ p. machine_slot p slot) _ (turn_made m other to next carries).1 refl
@@ -88,7 +88,7 @@ slot_kept slot m next (RingTo wheel to) above carries = absurd (omega (arith, ab
 slot_kept slot m next (PinTo wheel at effective) above carries = absurd (omega (arith, above))
 slot_kept slot m next (LugTo bar lug place) above carries = absurd (omega (arith, above))
 
-slots_kept : (slot : ℕ) (m n : Parts) (xs : List Setting) → IsRanked step_number 6 7 xs → Leads m xs n
+pub slots_kept : (slot : ℕ) (m n : Parts) (xs : List Setting) → IsRanked step_number 6 7 xs → Leads m xs n
     → machine_slot n slot ≡ machine_slot m slot
 slots_kept slot m n [] ranked leads = ap (λ p. machine_slot p slot) leads
 slots_kept slot m n (x ∷ xs) ranked leads =

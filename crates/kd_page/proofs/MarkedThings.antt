@@ -1,6 +1,6 @@
 -- What no setting of a list sets stays as it is.
-use Rattle.std.proofs.Common.{◌≡◌, ◌≢◌, ℕ, ◌-◌, Bool, true, false, ◌||◌, ◌&&◌, not, nat_eq, List, [], ◌∷◌, arith, set, map}
-use Rattle.std.proofs.Common.{refl, ap, sym, subst, ◌∙◌, Option, Some, None, ◌+◌, ◌≤◌, ◌<◌, zero, suc, length, get_or}
+use Rattle.std.proofs.Common.{◌≡◌, ◌≢◌, ℕ, ◌-◌, Bool, true, false, ◌&&◌, nat_eq, List, [], ◌∷◌, arith, set, map}
+use Rattle.std.proofs.Common.{refl, ap, subst, ◌∙◌, Option, Some, None, ◌≤◌, zero, suc, length}
 use Rattle.std.proofs.lemmas.Option.{slice_get-map}
 use Rattle.std.specs.Option.{option_map_or}
 use Rattle.std.specs.Prelude.{if◌then◌else◌, nat_le, option_and_then, option_map, slice_get, unwrap_or, is_some, Contains}
@@ -11,19 +11,19 @@ use Rattle.kd_tables.specs.declared.model.Model.{Model}
 use Rattle.kd_tables.specs.Pairs.{has_letter}
 use Rattle.kd_tables.specs.Rings.{place_on}
 unfoldable use Rattle.kd_tables.specs.Rings.{ring_of}
-use Rattle.kd_tables.specs.Tables.{box_of, wheels_for}
+use Rattle.kd_tables.specs.Tables.{box_of}
 use Rattle.kd_state.specs.declared.machine.parts.Parts.{Parts}
 use Rattle.kd_state.specs.declared.machine.parts.Parts.TheVariants.{Pin, Rotor}
 use Rattle.kd_state.specs.declared.setting.Setting.{Setting}
 use Rattle.kd_state.specs.declared.setting.Setting.TheVariants.{Pull, Put, Seat, SeatReflector, RingTo, Turn, PinTo}
 use Rattle.kd_state.specs.declared.setting.Setting.TheVariants.{LugTo}
-use Rattle.kd_state.specs.Machine.{machine_pin, machine_reflector, machine_ring, machine_standing}
+use Rattle.kd_state.specs.Machine.{machine_pin, machine_pin_letter, machine_reflector, machine_ring, machine_standing}
 use Rattle.kd_state.specs.SameParts.{place_in_box, same_wheel}
 use Rattle.kd_state.specs.declared.setting.why.Why.TheVariants.{WheelNotAllowed}
 use Rattle.kd_state.specs.Machine.{cable_letters}
 use Rattle.kd_state.specs.Pins.{pin_at, wheel_pins, with_pin}
 use Rattle.kd_state.specs.SameParts.{numbered_item}
-use Rattle.kd_state.specs.Setting.{Carries, Leads, cable_with, cable_without, has_loose_end, seat_without}
+use Rattle.kd_state.specs.Setting.{Carries, Leads, cable_with, cable_without, seat_without}
 use Rattle.kd_state.proofs.Carrying.{lug_moved, pin_made, pulled, reflector_made, ring_made, seat_made, turn_made}
 use Rattle.kd_state.proofs.Carrying.{was_put, wheel_turn_made}
 use Rattle.kd_state.proofs.Carrying.{six_lists}
@@ -32,12 +32,13 @@ use Rattle.kd_state.proofs.Prelude.{PinSet, gets, pins_of, position-Some}
 use Rattle.kd_state.proofs.Slots.{IsNumbered, has_letter-Decides, numbered_here, numbered_other, place_there, set_other}
 use Rattle.kd_state.proofs.Wheels.{IsPlaced-from_wheels_for, first_nowhere, has_wheel-Decides, place_within}
 use Rattle.kd_state.proofs.Wheels.{places_determine_wheels, same_wheel_self}
-use Rattle.kd_pictures.specs.Board.{cable_of, has_plug}
+use Rattle.kd_pictures.specs.Board.{has_plug}
 use Rattle.kd_pictures.specs.Wheels.{is_seated}
 use Rattle.kd_page.specs.Marks.{moves_lug, pulls_plug, puts_plug, puts_wheel, sets_pin, sets_reflector, sets_ring}
+use Rattle.kd_page.specs.Marks.{turns_pin_wheel}
 
 -- The first item doesn't pass the test, and no other item does.
-none_first : {X : Type 0} (p : X → Bool) (x : X) (xs : List X) → list_any p (x ∷ xs) ≡ false
+pub none_first : {X : Type 0} (p : X → Bool) (x : X) (xs : List X) → list_any p (x ∷ xs) ≡ false
     → (p x ≡ false) × (list_any p xs ≡ false)
 none_first p x xs none = (grind (arith, none), grind (arith, none))
 
@@ -109,8 +110,38 @@ pub bar_stays : (bar : ℕ) (m n : Parts) (xs : List Setting) → Leads m xs n �
     → machine_standing n bar ≡ machine_standing m bar
 bar_stays bar = stays (λ p. machine_standing p bar) (moves_lug bar) (bar_step bar)
 
+letter_step : (wheel : ℕ) (m next : Parts) (x : Setting) → Carries m x next → turns_pin_wheel wheel x ≡ false
+    → machine_pin_letter next wheel ≡ machine_pin_letter m wheel
+letter_step wheel (Rotor m) next (Pull cable letter) carries none =
+    keeps (λ p. machine_pin_letter p wheel) _ (pulled m cable letter next carries).made refl
+letter_step wheel (Rotor m) next (Put cable letter) carries none =
+    keeps (λ p. machine_pin_letter p wheel) _ (was_put m cable letter next carries).made refl
+letter_step wheel (Rotor m) next (Seat slot seated) carries none =
+    keeps (λ p. machine_pin_letter p wheel) _ (seat_made m slot seated next carries).1 refl
+letter_step wheel (Rotor m) next (SeatReflector reflector) carries none =
+    keeps (λ p. machine_pin_letter p wheel) _ (reflector_made m reflector next carries).1 refl
+letter_step wheel (Rotor m) next (RingTo ring letter) carries none =
+    keeps (λ p. machine_pin_letter p wheel) _ (ring_made m ring letter next carries) refl
+letter_step wheel (Rotor m) next (Turn slot letter) carries none =
+    keeps (λ p. machine_pin_letter p wheel) _ (turn_made m slot letter next carries).1 refl
+letter_step wheel (Rotor m) next x carries none = absurd (cc)
+letter_step wheel (Pin m) next (Turn other letter) carries none =
+    let turned = wheel_turn_made m other letter next carries in
+    let apart : wheel ≢ other = λ same. absurd (grind (arith, same, none)) in
+    keeps (λ p. machine_pin_letter p wheel) _ turned.3
+    (numbered_other m.letters other wheel letter turned.1.first apart)
+letter_step wheel (Pin m) next (PinTo other letter effective) carries none =
+    keeps (λ p. machine_pin_letter p wheel) _ (pin_made m other letter effective next carries).1 refl
+letter_step wheel (Pin m) next (LugTo bar lug place) carries none =
+    keeps (λ p. machine_pin_letter p wheel) _ (lug_moved m bar lug place next carries).made refl
+letter_step wheel (Pin m) next x carries none = absurd (cc)
+
+pub letter_stays : (wheel : ℕ) (m n : Parts) (xs : List Setting) → Leads m xs n → list_any (turns_pin_wheel wheel) xs ≡ false
+    → machine_pin_letter n wheel ≡ machine_pin_letter m wheel
+letter_stays wheel = stays (λ p. machine_pin_letter p wheel) (turns_pin_wheel wheel) (letter_step wheel)
+
 -- Two wheels, one of them in the box, have different places in the box.
-ring_apart : (model : Model) (wheel other : Wheel) (has : Bool) → list_any (same_wheel wheel) (box_of model) ≡ has
+pub ring_apart : (model : Model) (wheel other : Wheel) (has : Bool) → list_any (same_wheel wheel) (box_of model) ≡ has
     → Contains (box_of model) other → same_wheel wheel other ≡ false
     → place_in_box model wheel ≢ place_in_box model other
 ring_apart model wheel other true is in_box differs same =

@@ -1,12 +1,11 @@
 -- The page of a day has the boxes of its settings.
-use Rattle.std.proofs.Common.{◌≡◌, ℕ, true, false, List, arith, subst, sym}
+use Rattle.std.proofs.Common.{◌≡◌, true, false, arith, subst, sym}
 use Rattle.std.specs.Prelude.{Contains}
 use Rattle.kd_tables.specs.declared.model.Model.{Model}
 use Rattle.kd_tables.specs.declared.model.Model.TheVariants.{EnigmaI, M3, M4, M209}
 use Rattle.kd_tables.specs.declared.reflector.Reflector.{Reflector}
 use Rattle.kd_tables.specs.Tables.{reflectors_of}
 use Rattle.kd_state.specs.declared.machine.parts.Parts.TheVariants.{Pin, Rotor}
-use Rattle.kd_state.specs.Machine.{model_of}
 use Rattle.kd_pictures.specs.Words.{is_converter}
 use Rattle.kd_page.specs.declared.spots.Step.TheVariants.{Lugs, Turns}
 use Rattle.kd_page.specs.declared.steps.Heading.{Heading}

@@ -5,7 +5,7 @@ use Rattle.kd_tables.specs.declared.wheel.Wheel.{Wheel}
 use Rattle.kd_state.specs.declared.machine.parts.Parts.{Parts}
 use Rattle.kd_state.specs.declared.setting.Setting.{Setting}
 use Rattle.kd_state.specs.declared.setting.Setting.TheVariants as settings
-use Rattle.kd_state.specs.Machine.{machine_pin, machine_reflector, machine_ring, machine_standing}
+use Rattle.kd_state.specs.Machine.{machine_pin, machine_pin_letter, machine_reflector, machine_ring, machine_standing}
 use Rattle.kd_state.specs.SameParts.{same_wheel}
 use Rattle.kd_state.specs.Setting.{Leads}
 use Rattle.kd_pictures.specs.Board.{has_plug}
@@ -41,6 +41,10 @@ abbrev pub pulls_plug : ℕ → ℕ → Setting → Bool
 pulls_plug cable letter (settings.Pull other at) = nat_eq cable other && nat_eq letter at
 pulls_plug cable letter _ = false
 
+abbrev pub turns_pin_wheel : ℕ → Setting → Bool
+turns_pin_wheel wheel (settings.Turn other letter) = nat_eq wheel other
+turns_pin_wheel wheel _ = false
+
 -- ---- The laws. A page marks a thing if it isn't the same on machine `m`, before the settings, as on machine `n`, after
 -- them.
 
@@ -54,6 +58,8 @@ pub record MarksHaveSettings (m n : Parts) (list : List Setting) : Type 0 where
   pub pins : (wheel letter : ℕ) → list_any (sets_pin wheel letter) list ≡ false
       → machine_pin n wheel letter ≡ machine_pin m wheel letter
   pub bars : (bar : ℕ) → list_any (moves_lug bar) list ≡ false → machine_standing n bar ≡ machine_standing m bar
+  pub letters : (wheel : ℕ) → list_any (turns_pin_wheel wheel) list ≡ false
+      → machine_pin_letter n wheel ≡ machine_pin_letter m wheel
   pub plugs_in : (cable letter : ℕ) → list_any (puts_plug cable letter) list ≡ false
       → has_plug m cable letter ≡ false → has_plug n cable letter ≡ false
   pub plugs_out : (cable letter : ℕ) → list_any (pulls_plug cable letter) list ≡ false

@@ -1,5 +1,5 @@
 -- The test of the real machine: given keys, and what the machine makes of them. Then the letters to set again.
-use Rattle.std.specs.Prelude.{codes, decimal, ℕ, ◌+◌, ◌-◌, ◌%◌, ◌==◌, Bool, if◌then◌else◌, List, [], ◌∷◌, ◌++◌}
+use Rattle.std.specs.Prelude.{codes, decimal, ℕ, ◌-◌, Bool, if◌then◌else◌, List, [], ◌∷◌, ◌++◌}
 use Rattle.std.specs.Prelude.{length}
 use Rattle.std.specs.Prelude.{false, true, replicate, flat_map, Option, Some, None}
 use Rattle.kd_tables.specs.declared.model.Model.{Model}
