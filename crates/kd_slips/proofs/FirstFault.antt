@@ -1,8 +1,7 @@
 -- The first of a machine file's faults is the fault of its reading.
-use Rattle.std.proofs.Common.{◌≡◌, ℕ, ◌++◌, List, [], ◌∷◌, Option, Some, None, Result, Ok, Err, ap, refl, sym, ◌∙◌}
-use Rattle.std.proofs.Common.{option_map, slice_get, Bool, true, false, nat_le, arith}
-use Rattle.std.specs.Option.{option_map_or}
-use Rattle.std.specs.Result.{result_err, result_ok}
+use Rattle.std.proofs.Common.{◌≡◌, ℕ, ◌++◌, List, Result, Ok, Err, refl}
+use Rattle.std.proofs.Common.{Bool, nat_le, arith}
+use Rattle.std.specs.Result.{result_err}
 use Rattle.toml.specs.Data.{Members}
 use Rattle.kd_tables.specs.declared.model.Model.{Model}
 use Rattle.kd_tables.specs.declared.model.Model.TheVariants.{EnigmaI, M3, M4, M209}
@@ -13,7 +12,7 @@ use Rattle.kd_sheet.specs.declared.key.Key.TheVariants as keys
 use Rattle.kd_sheet.specs.declared.fault.SheetFault.{SheetFault}
 use Rattle.kd_sheet.specs.declared.fault.SheetFault.TheVariants.{UnknownModel}
 use Rattle.kd_slips.specs.declared.place.Place.{Place}
-use Rattle.kd_slips.specs.Faults.{after_model, at_place, fault_at, first_fault, in_file, model_file_faults, version_in}
+use Rattle.kd_slips.specs.Faults.{after_model, fault_at, first_fault, in_file, model_file_faults, version_in}
 unfoldable use Rattle.kd_sheet.specs.MachineFile.{model_in, parts_in, pin_parts_in, rotor_parts_in}
 unfoldable use Rattle.kd_slips.specs.Faults.{file_model, machine_faults, pin_file_faults, rotor_file_faults}
 

@@ -2,20 +2,18 @@
 use Rattle.std.proofs.Common.{◌≡◌, ℕ, List, Option, Some, None, Result, Ok, Err, ap, sym, ◌∙◌, arith, ok_or, refl}
 use Rattle.std.specs.Option.{option_and_then}
 use Rattle.std.specs.Result.{result_err}
-use Rattle.toml.specs.Data.{Data, Members, get_member}
+use Rattle.toml.specs.Data.{Data, Members}
 use Rattle.kd_state.specs.SheetDay.{Day}
 use Rattle.kd_sheet.specs.Document.{◌>>=◌, as_items, document_of, read_at, read_items}
-use Rattle.kd_sheet.specs.Key.{key_name}
-use Rattle.kd_sheet.specs.MachineFile.{machine_of}
 use Rattle.kd_sheet.specs.Sheet.{month_of}
-use Rattle.kd_sheet.specs.SheetFile.{day_for, sheet_of}
+use Rattle.kd_sheet.specs.SheetFile.{day_for}
 use Rattle.kd_sheet.specs.declared.key.Key.{Key}
 use Rattle.kd_sheet.specs.declared.key.Key.TheVariants as keys
 use Rattle.kd_sheet.specs.declared.fault.SheetFault.{SheetFault}
 use Rattle.kd_slips.specs.declared.place.Place.{Place}
 use Rattle.kd_slips.specs.Faults.{first_fault, machine_faults}
 use Rattle.kd_slips.specs.SheetFaults.{AreSheetFaults, entries_of, file_fault}
-use Rattle.kd_slips.proofs.FirstFault.{machine_in, of_machine}
+use Rattle.kd_slips.proofs.FirstFault.{of_machine}
 use Rattle.kd_slips.proofs.FirstSheetFault.{of_sheet}
 
 -- the array at a key, if the table has it, is what is read there

@@ -1,11 +1,10 @@
 -- The first of a key sheet's faults is the fault of its reading.
-use Rattle.std.proofs.Common.{◌≡◌, ℕ, ◌+◌, ◌==◌, ◌++◌, ◌||◌, List, [], ◌∷◌, Option, Some, None, Result, Ok, Err, ap, refl}
-use Rattle.std.proofs.Common.{IfOk, inl, inr, subst, take, drop, map, get_or, ◌<◌, ◌≤◌, sym, ◌∙◌, option_map, slice_get, Bool, true, false, not, length, arith, append_assoc, ok_or}
+use Rattle.std.proofs.Common.{◌≡◌, ℕ, ◌+◌, ◌==◌, ◌++◌, List, [], ◌∷◌, Option, Some, None, Result, Ok, Err, ap, refl}
+use Rattle.std.proofs.Common.{IfOk, inl, inr, subst, take, drop, map, get_or, ◌<◌, ◌≤◌, sym, ◌∙◌, Bool, true, false, not, length, arith, append_assoc, ok_or}
 use Rattle.std.proofs.lemmas.List.{append-nil, map-append, take-append-drop, take-map, take_all, take_more}
 use Rattle.std.proofs.lemmas.List.Folds.{list_any-append}
 use Rattle.std.specs.List.{list_any}
-use Rattle.std.specs.Option.{option_and_then, option_map_or}
-use Rattle.std.specs.Result.{result_err, result_ok}
+use Rattle.std.specs.Option.{option_map_or}
 use Rattle.toml.specs.Data.{Data, Members, as_table}
 use Rattle.toml.specs.View.{view}
 use Rattle.toml.specs.declared.value.Value.{Value}
@@ -17,12 +16,12 @@ use Rattle.kd_sheet.specs.declared.key.Key.TheVariants as keys
 use Rattle.kd_sheet.specs.declared.fault.SheetFault.{SheetFault}
 use Rattle.kd_sheet.specs.declared.fault.SheetFault.TheVariants.{BadValue, DayTwice}
 use Rattle.kd_slips.specs.declared.place.Place.{Place}
-use Rattle.kd_slips.specs.Faults.{after_model, at_key, fault_at, first_fault}
-use Rattle.kd_slips.specs.SheetFaults.{AreSheetFaults, day_place, entries_of, entry_faults, faults_after, file_fault}
-use Rattle.kd_slips.specs.SheetFaults.{AreFaults, has_number, in_entry, model_day_faults, number_in}
+use Rattle.kd_slips.specs.Faults.{after_model, at_key, first_fault}
+use Rattle.kd_slips.specs.SheetFaults.{AreSheetFaults, day_place, entry_faults, faults_after}
+use Rattle.kd_slips.specs.SheetFaults.{has_number, in_entry, model_day_faults, number_in}
 use Rattle.kd_state.proofs.FirstFault.{demand-Ok}
 use Rattle.kd_sheet.proofs.ReadBack.Described.KeyValues.Steps.{bind-Ok}
-use Rattle.kd_slips.proofs.FirstFault.{AreOf, of_form, of_model, of_one, of_two, two_steps}
+use Rattle.kd_slips.proofs.FirstFault.{AreOf, of_form, of_model, of_one, of_two}
 use Rattle.std.proofs.lemmas.Option.{none-some}
 unfoldable use Rattle.kd_sheet.specs.MachineFile.{model_in}
 unfoldable use Rattle.kd_sheet.specs.SheetFile.{day_for, day_in, pin_day_in, rotor_day_in}
