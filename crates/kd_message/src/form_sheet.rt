@@ -6,7 +6,7 @@ ghost use Rattle.kd_message.specs.FormSheet.{form_group, form_head, form_part, i
 ghost use Rattle.kd_message.specs.FormSheet.{part_head, part_note};
 ghost use Rattle.kd_message.specs.Rows.{pieces};
 
-use crate::filling::fill_values;
+use crate::filling::fill;
 use crate::markup::{FORM_GROUP, FORM_GROUP_END};
 use crate::part_sheet::PartName;
 use crate::texts::MessageTexts;
@@ -21,7 +21,7 @@ use kd_tables::{Letter, Sink};
 pub(crate) fn draw_form_head<W: Sink>(sink: &mut W, texts: &MessageTexts, day: &SheetDay)
     ensures { Draws W.taken W.has_failed sink.old sink.new (form_head texts.now day.now) }
 {
-    fill_values(
+    fill(
         sink,
         texts.form,
         &[
@@ -56,7 +56,7 @@ fn draw_part_head<W: Sink>(sink: &mut W, texts: &MessageTexts, name: PartName, l
     ensures { Draws W.taken W.has_failed sink.old sink.new
         (part_head texts.now name.model name.day name.part name.parts letters) }
 {
-    fill_values(
+    fill(
         sink,
         texts.form_part,
         &[

@@ -10,7 +10,7 @@ ghost use Rattle.kd_message.specs.PartSheet.{text_step};
 ghost use Rattle.kd_message.specs.PartWork.{IsWorkable};
 
 use crate::cells::Cell;
-use crate::filling::fill_values;
+use crate::filling::fill;
 use crate::part_work::PartWork;
 use crate::rows::{Progress, draw_rows, progress_after};
 use crate::texts::{MessageTexts, SheetTexts};
@@ -65,7 +65,7 @@ fn sheet_texts(texts: &MessageTexts, model: Model) -> &SheetTexts
 fn draw_head<W: Sink>(sink: &mut W, sheet: &SheetTexts, name: PartName)
     ensures { Draws W.taken W.has_failed sink.old sink.new (head_text sheet.now name) }
 {
-    fill_values(
+    fill(
         sink,
         sheet.head,
         &[
@@ -87,7 +87,7 @@ fn draw_day_key<W: Sink>(sink: &mut W, texts: &MessageTexts, entry: &Entry)
         Entry::Rotor(entry) => draw_rotor_key(sink, texts, entry),
         Entry::Pin(entry) => {
             let [one, other] = entry.list;
-            fill_values(
+            fill(
                 sink,
                 texts.list,
                 &[Value::Letter(one), Value::Letter(other)],
@@ -102,7 +102,7 @@ fn draw_rotor_key<W: Sink>(sink: &mut W, texts: &MessageTexts, entry: &RotorEntr
         (rotor_key_text texts.now (rotor_values entry.now)) }
 {
     let wheels = entry.wheels.as_slice();
-    fill_values(sink, texts.reflector, &[Value::Reflector(entry.reflector)]);
+    fill(sink, texts.reflector, &[Value::Reflector(entry.reflector)]);
     draw_wheels(sink, "", wheels);
     draw(sink, texts.rings);
     draw_rings(sink, "", wheels);
@@ -143,7 +143,7 @@ fn fill_name<W: Sink>(sink: &mut W, template: &str, name: PartName)
     ensures { Draws W.taken W.has_failed sink.old sink.new
         (filled template.now (name_values name)) }
 {
-    fill_values(
+    fill(
         sink,
         template,
         &[
@@ -180,7 +180,7 @@ fn draw_text_head<W: Sink>(sink: &mut W, sheet: &SheetTexts, name: PartName, let
     ensures { Draws W.taken W.has_failed sink.old sink.new
         (text_head sheet.now name letters) }
 {
-    fill_values(
+    fill(
         sink,
         sheet.text_step,
         &[

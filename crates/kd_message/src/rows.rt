@@ -7,7 +7,7 @@ ghost use Rattle.kd_message.specs.Rows.{group_text, has_below, has_marks, line_i
 ghost use Rattle.kd_message.specs.Rows.{progress_after, row_text, rows_after, shown_after, windows_after};
 
 use crate::cells::{Cell, Line, Mark, Sign, draw_place};
-use crate::filling::fill_values;
+use crate::filling::fill;
 use crate::letters_after::letters_after;
 use crate::markup::{
     ABOVE_END, GROUP, GROUP_END, MARKS, MARKS_END, ROW, ROW_BOX, ROW_END, ROW_LETTERS, ROW_NUMBERS,
@@ -98,7 +98,7 @@ fn draw_row<W: Sink>(
 {
     draw(sink, ROW);
     draw_groups(sink, row);
-    fill_values(sink, ROW_BOX, &[Value::Number(progress.letters as u16)]);
+    fill(sink, ROW_BOX, &[Value::Number(progress.letters as u16)]);
     draw_windows_after(sink, day, start, progress.presses, pressed_count(row) == 0);
     draw(sink, ROW_END);
 }

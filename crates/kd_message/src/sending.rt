@@ -13,7 +13,7 @@ ghost use Rattle.kd_message.specs.SendPage.{AreKeysOfText, AreMade, AreWorks, Ha
 ghost use Rattle.kd_message.specs.SendPage.{form_parts, list_head, list_text, listed_text, part_name, part_sheets};
 ghost use Rattle.kd_message.specs.SendPage.{send_text, text_pieces, title_text};
 
-use crate::filling::fill_values;
+use crate::filling::fill;
 use crate::form_sheet::{draw_form_head, draw_form_part};
 use crate::markup::{ARTICLE_END, MESSAGE_STYLE};
 use crate::order::{read_head, take_piece};
@@ -97,7 +97,7 @@ fn draw_title<W: Sink>(sink: &mut W, texts: &MessageTexts, day: &SheetDay)
     ensures { Draws W.taken W.has_failed sink.old sink.new (title_text texts.now day.now) }
 {
     draw(sink, texts.head);
-    fill_values(
+    fill(
         sink,
         texts.title_to_send,
         &[
@@ -145,7 +145,7 @@ fn draw_listed<W: Sink>(sink: &mut W, texts: &MessageTexts, part: u8, parts: u8,
 fn draw_listed_part<W: Sink>(sink: &mut W, texts: &MessageTexts, part: u8, parts: u8)
     ensures { Draws W.taken W.has_failed sink.old sink.new (listed_text texts.now parts part) }
 {
-    fill_values(
+    fill(
         sink,
         texts.listed_part,
         &[

@@ -3,7 +3,7 @@ ghost use Rattle.std.specs.Prelude.{◌≡◌, ◌+◌, ◌≤◌, length};
 ghost use Rattle.kd_pictures.specs.Drawing.{Draws};
 ghost use Rattle.kd_message.specs.Windows.{window_item, window_items, window_words, windows_text, windows_title, words_after};
 
-use crate::filling::fill_values;
+use crate::filling::fill;
 use crate::markup::{COMMA, WHEEL_WORDS, WINDOW_WORDS, WINDOWS_END, WINDOWS_TITLE_END};
 use crate::texts::MessageTexts;
 use kd_pictures::draw;
@@ -71,9 +71,9 @@ fn draw_words<W: Sink>(sink: &mut W, is_converter: bool, number: u8, letter: Let
 {
     let number = Value::Number(u16::from(number));
     if is_converter {
-        fill_values(sink, WHEEL_WORDS, &[number, Value::Letter(letter)]);
+        fill(sink, WHEEL_WORDS, &[number, Value::Letter(letter)]);
     } else {
-        fill_values(
+        fill(
             sink,
             WINDOW_WORDS,
             &[number, Value::Letter(letter), Value::Ordinal(letter)],
@@ -116,7 +116,7 @@ fn draw_item<W: Sink>(
     let letter_value = Value::Letter(letter);
     if is_converter {
         let x = 2 + 60 * (slot - 1);
-        fill_values(
+        fill(
             sink,
             texts.wheel,
             &[
@@ -129,7 +129,7 @@ fn draw_item<W: Sink>(
         );
     } else {
         let x = 2 + 96 * (slot - 1);
-        fill_values(
+        fill(
             sink,
             texts.window,
             &[

@@ -4,7 +4,7 @@ ghost use Rattle.kd_tables.specs.Text.{letters_text};
 ghost use Rattle.kd_pictures.specs.Drawing.{Draws};
 ghost use Rattle.kd_message.specs.Words.{cables_text, letter_words, pairs_after, rings_after, shown_text, wheels_after};
 
-use crate::filling::fill_values;
+use crate::filling::fill;
 use crate::markup::{COMMA, RING, SPACE, WIDE_SPACE};
 use kd_pictures::draw;
 use kd_pictures::template::{Value, draw_letter, draw_ordinal};
@@ -66,7 +66,7 @@ pub(crate) fn draw_rings<W: Sink>(sink: &mut W, first: &str, wheels: &[SheetWhee
 {
     if let [wheel, rest @ ..] = wheels {
         draw(sink, first);
-        fill_values(
+        fill(
             sink,
             RING,
             &[Value::Letter(wheel.ring), Value::Ordinal(wheel.ring)],
