@@ -4,22 +4,22 @@ use kd_tables::Letter;
 
 /// What the sender chose for one part of a form.
 #[derive(Clone, Copy)]
-pub(crate) enum Keys {
+pub enum Keys {
     Rotor(RotorKeys),
     Pin(PinKeys),
 }
 
 /// The keys of a part on a rotor machine.
 #[derive(Clone, Copy)]
-pub(crate) struct RotorKeys {
+pub struct RotorKeys {
     /// The ground setting: the letters in the windows before the message key is enciphered.
-    pub(crate) ground_setting: PerSlot<Letter>,
+    pub ground_setting: PerSlot<Letter>,
     /// The message key: the letters in the windows before the text is enciphered.
-    pub(crate) message_key: PerSlot<Letter>,
+    pub message_key: PerSlot<Letter>,
     /// Two letters of the sender's choice, written before the group.
-    pub(crate) fillers: [Letter; 2],
+    pub fillers: [Letter; 2],
     /// Three letters: one of the day's groups, with its letters in any order.
-    pub(crate) group: [Letter; 3],
+    pub group: [Letter; 3],
 }
 
 /// The keys of a part on the Converter M-209.

@@ -13,7 +13,7 @@ pub mod keys;
 pub mod laws;
 mod machine_check;
 pub mod receiving;
-mod sending;
+pub mod sending;
 mod stream;
 pub mod text_bytes;
 mod typing;

@@ -12,9 +12,9 @@ mod body_writer;
 mod heading_writer;
 mod key_checks;
 mod key_line;
-mod order_head;
+pub mod order_head;
 pub(crate) mod order_reader;
-pub(crate) mod part;
+pub mod part;
 mod part_writer;
 mod pattern_line;
 

@@ -16,7 +16,7 @@ const LONGEST_LINE: usize = 25;
 
 /// A reader of an order's head: the lines of keys and the line TEXT.
 #[derive(Drop)]
-pub(crate) struct HeadReader {
+pub struct HeadReader {
     keys: ArrayVec<Keys, 99>,
     /// The bytes of the current line.
     line: ArrayVec<u8, LONGEST_LINE>,
@@ -24,7 +24,7 @@ pub(crate) struct HeadReader {
 
 /// What a `HeadReader` says once it has read another byte.
 #[derive(Clone, Copy)]
-pub(crate) enum HeadStep {
+pub enum HeadStep {
     /// The head isn't complete yet.
     Open,
     /// The head is complete; the text follows.
@@ -35,7 +35,7 @@ pub(crate) enum HeadStep {
 
 impl HeadReader {
     /// Creates a reader that has read nothing.
-    pub(crate) fn new() -> Self
+    pub fn new() -> Self
         ensures keys { result.keys.items ≡ [] }
         ensures line { result.line.items ≡ [] }
     {
@@ -46,7 +46,7 @@ impl HeadReader {
     }
 
     /// The keys in the lines read so far.
-    pub(crate) fn keys(&self) -> &[Keys]
+    pub fn keys(&self) -> &[Keys]
         ensures { result.now ≡ self.now.keys.items }
     {
         self.keys.as_slice()
@@ -57,7 +57,7 @@ impl HeadReader {
     /// Not inlined: otherwise every byte read would pay for this function's stack frame.
     #[inline(never)]
     #[tactic(auto, using(crate::proofs::OrderSteps::line_short))]
-    pub(crate) fn take(&mut self, day: &SheetDay, byte: u8) -> HeadStep
+    pub fn take(&mut self, day: &SheetDay, byte: u8) -> HeadStep
         requires { (order : List ℕ) × IsHeadBegun day.now self.old.keys.items self.old.line.items order }
         ensures { (order : List ℕ) → IsHeadBegun day.now self.old.keys.items self.old.line.items order
             → IsHeadStep day.now self.new.keys.items self.new.line.items (order ++ byte ∷ []) result }

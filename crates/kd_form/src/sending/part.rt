@@ -23,7 +23,7 @@ use kd_tables::Letter;
 pub(crate) const LONGEST_PART: usize = 1100;
 
 /// How many letters of text a part can have.
-pub(crate) fn part_size(day: &SheetDay) -> usize
+pub fn part_size(day: &SheetDay) -> usize
     ensures value { result ≡ part_size day.now }
     ensures some { 245 ≤ result }
     ensures few { result ≤ 500 }
@@ -85,7 +85,7 @@ fn part_text(
 
 /// The indicator: the ground setting, and the message key enciphered with the ground setting in the windows.
 #[tactic(auto, using(crate::proofs::MadeParts::enciphered_length))]
-fn indicator_of(machine: &mut DayMachine, keys: &RotorKeys) -> Indicator
+pub fn indicator_of(machine: &mut DayMachine, keys: &RotorKeys) -> Indicator
     requires { AreKeys machine.old (Keys.Rotor keys.now) }
     ensures day { machine.new ≡ machine.old }
     ensures value { result ≡ indicator_of machine.old keys.now }
@@ -102,7 +102,7 @@ fn indicator_of(machine: &mut DayMachine, keys: &RotorKeys) -> Indicator
 }
 
 /// The body of a rotor machine's part: two fillers, the group, and `text` enciphered with the message key.
-fn rotor_letters(
+pub fn rotor_letters(
     machine: &mut DayMachine,
     keys: &RotorKeys,
     text: &[Letter],
@@ -121,7 +121,11 @@ fn rotor_letters(
 }
 
 /// The body of a part on the Converter M-209: `text` enciphered, with the indicators before and after it.
-fn pin_letters(machine: &mut DayMachine, keys: &PinKeys, text: &[Letter]) -> ArrayVec<Letter, 520>
+pub fn pin_letters(
+    machine: &mut DayMachine,
+    keys: &PinKeys,
+    text: &[Letter],
+) -> ArrayVec<Letter, 520>
     requires keys { AreKeys machine.old (Keys.Pin keys.now) }
     requires window { IsWindow (sheet_key machine.old) keys.now.external }
     requires internal { (internal : List ℕ)
@@ -144,7 +148,7 @@ fn pin_letters(machine: &mut DayMachine, keys: &PinKeys, text: &[Letter]) -> Arr
 }
 
 /// The ten indicators: the chosen letter twice, the external letters, and the day's two list letters.
-fn pin_indicators(day: &SheetDay, keys: &PinKeys) -> ArrayVec<Letter, 10>
+pub fn pin_indicators(day: &SheetDay, keys: &PinKeys) -> ArrayVec<Letter, 10>
     requires { AreKeys day.now (Keys.Pin keys.now) }
     ensures value { result.items ≡ pin_indicators day.now keys.now }
     ensures ten { length result.items ≡ 10 }
@@ -159,7 +163,7 @@ fn pin_indicators(day: &SheetDay, keys: &PinKeys) -> ArrayVec<Letter, 10>
 }
 
 /// `text`, with X appended until the last group of five letters is full.
-fn fill_last_group(text: &[Letter]) -> ArrayVec<Letter, 500>
+pub fn fill_last_group(text: &[Letter]) -> ArrayVec<Letter, 500>
     requires { length text.now ≤ 500 }
     ensures { result.items ≡ fill_last_group text.now }
 {

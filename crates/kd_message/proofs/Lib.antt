@@ -1,0 +1,5 @@
+pub mod Pieces
+pub mod Sheets
+pub mod Orders
+pub mod Works
+pub mod SendPages

@@ -1,0 +1,201 @@
+-- The page for sending an order: its parts, one after another.
+use Rattle.std.proofs.Common.{◌≡◌, ℕ, zero, suc, ◌+◌, ◌-◌, ◌<◌, ◌≤◌, Bool, List, [], ◌∷◌, ◌++◌, length, take, drop, flat_map}
+use Rattle.std.proofs.Common.{arith, refl, ap, ◌∙◌, Ok, Err, Option, inl, inr}
+use Rattle.std.proofs.lemmas.Grind.{common_steps}
+use Rattle.std.proofs.lemmas.List.{length-take, nil_from_length}
+use Rattle.std.proofs.lemmas.List.Elements.{All-head, All-tail}
+use Rattle.std.specs.Simd.{first_chunks}
+use Rattle.kd_state.proofs.OneAnswer.{ThenNext-Ok}
+use Rattle.kd_state.specs.AnswerRules.{GoesOn}
+use Rattle.kd_state.specs.declared.machine.parts.Parts.{Parts}
+use Rattle.kd_state.specs.SheetDay.{Day, day_model, day_number}
+use Rattle.kd_form.specs.declared.fault.FormFault.{FormFault}
+use Rattle.kd_form.specs.declared.keys.Keys.{Keys}
+use Rattle.kd_form.specs.Keys.{AreKeys}
+use Rattle.kd_form.specs.OnTheKey.{IsAnswerOnKey, IsReadyOnKey, OffKey, WithKey}
+use Rattle.kd_form.specs.Order.{IsOrder}
+use Rattle.kd_form.specs.Part.{Part, part_text}
+use Rattle.kd_form.specs.PartMaking.{IsKeysAnswer, IsPartMade, part_size}
+use Rattle.kd_form.specs.Sending.{ArePartTextsMade, IsFormOf, IsSendFault, text_letters}
+use Rattle.kd_form.proofs.MadeParts.{size_some}
+use Rattle.kd_form.proofs.OneOrder.{all_of_the_day, one_order, orders_have_one_answer}
+use Rattle.kd_pictures.specs.Drawing.{Draws}
+use Rattle.kd_pictures.proofs.Drawings.{both}
+use Rattle.kd_message.specs.declared.texts.MessageTexts.{MessageTexts}
+use Rattle.kd_message.specs.FormSheet.{form_part}
+use Rattle.kd_message.specs.PartSheet.{part_sheet}
+use Rattle.kd_message.specs.PartWork.{IsWork, Work}
+use Rattle.kd_message.specs.Rows.{pieces}
+use Rattle.kd_message.specs.SendPage.{AreKeysOfText, AreMade, AreWorks, IsSendPage, IsSendRefusal, form_parts}
+use Rattle.kd_message.specs.SendPage.{part_name, part_sheets, text_pieces}
+unfoldable use Rattle.kd_message.specs.SendPage.{send_text}
+use Rattle.kd_message.proofs.Orders.{parts_of_order}
+use Rattle.kd_message.proofs.Pieces.{pieces-next, pieces-none}
+
+length-first_chunks : {X : Type 0} (size count : ℕ) (items : List X) → length (first_chunks size count items) ≡ count
+length-first_chunks size zero items = refl
+length-first_chunks size (suc count) items = grind (arith, length-first_chunks size count (drop size items))
+
+-- ---- The next part.
+
+-- the keys after the first, as the code takes them
+abbrev pub later_keys : List Keys → List Keys
+later_keys keys = take (length keys - 1) (drop 1 keys)
+
+-- what is known of the next part: its keys, its piece of the text, and the keys and the text after it
+pub record HasNextPart (s : Day) (part parts : ℕ) (k : Keys) (keys : List Keys) (text piece later : List ℕ)
+    : Type 0 where
+  pub of_the_day : AreKeys s k
+  pub suits : IsKeysAnswer s part k (Ok tt)
+  pub few : length piece ≤ part_size s
+  pub cut : text_pieces s text ≡ piece ∷ text_pieces s later
+  pub rest : AreKeysOfText s (part + 1) parts keys later
+
+some_letters : (s : Day) (letters : List ℕ) → 0 < length (pieces (part_size s) letters) → 0 < length letters
+some_letters s [] some = absurd (omega (arith, ap length (pieces-none {X = ℕ} (part_size s) (size_some s))))
+some_letters s (letter ∷ letters) some = omega arith
+
+pub next_part : (s : Day) (part parts : ℕ) (all : List Keys) (k : Keys) (keys : List Keys) (text piece later : List ℕ)
+    → all ≡ k ∷ keys → piece ≡ take (part_size s) (text_letters s text)
+    → text_letters s later ≡ drop (part_size s) (text_letters s text) → AreKeysOfText s part parts all text
+    → HasNextPart s part parts k keys text piece later
+next_part s part parts all k keys text piece later same is left are =
+    let mine = rw same at are.of_the_day in
+    let suited = ThenNext-Ok (rw same at are.suited) in
+    let each : length (text_pieces s text) ≡ 1 + length keys = are.each ∙ ap length same ∙ (omega arith) in
+    let some = some_letters s (text_letters s text) (omega (arith, each)) in
+    let cut : text_pieces s text ≡ piece ∷ text_pieces s later =
+    pieces-next (part_size s) (text_letters s text) (size_some s) some
+    ∙ rw (← is, ← left) refl in
+    record {
+      of_the_day = All-head (AreKeys s) k keys mine;
+      suits = suited.says;
+      few = grind (arith, is, length-take);
+      cut = cut;
+      rest = record {
+        of_the_day = All-tail (AreKeys s) k keys mine;
+        suited = suited.next;
+        each = omega (arith, each, ap length cut);
+        count = omega (arith, are.count, ap length same);
+        few = are.few;
+      };
+    }
+
+pub nothing_drawn : {W : Type 0} (taken : W → Option (List ℕ)) (failed : W → Bool) (old : W)
+    → Draws taken failed old old []
+nothing_drawn taken failed old = grind (arith, common_steps)
+
+pub none_left : (s : Day) (part parts : ℕ) (keys : List Keys) (text : List ℕ) → length keys < 1
+    → AreKeysOfText s part parts keys text → (keys ≡ []) × (text_pieces s text ≡ [])
+none_left s part parts keys text none are =
+    (nil_from_length keys (omega (arith, none)), nil_from_length (text_pieces s text) (omega (arith, none, are.each)))
+
+module _ {W : Type 0} {taken : W → Option (List ℕ)} {failed : W → Bool} {old mid new : W} (texts : MessageTexts)
+    (s : Day) (part parts : ℕ) where
+  pub sheets_next : {all : List Keys} {allp : List (List ℕ)} {k : Keys} {keys : List Keys} {piece : List ℕ}
+      {pieces : List (List ℕ)} (work : Work) → all ≡ k ∷ keys → allp ≡ piece ∷ pieces → IsWork s k piece work
+      → Draws taken failed old mid (part_sheet texts s (part_name s part parts) work)
+      → ((works : List Work) × AreWorks s keys pieces works
+      × Draws taken failed mid new (part_sheets texts s (part + 1) parts works))
+      → (works : List Work) × AreWorks s all allp works
+      × Draws taken failed old new (part_sheets texts s part parts works)
+  sheets_next work same cut is one (more, are, two) =
+      (work ∷ more, rw (same, cut) (work, more, is, are, refl), both one two)
+
+  pub parts_next : {all : List Keys} {allp : List (List ℕ)} {k : Keys} {keys : List Keys} {piece : List ℕ}
+      {pieces : List (List ℕ)} → all ≡ k ∷ keys → allp ≡ piece ∷ pieces
+      → ((one : Part) × IsPartMade s part parts k piece one
+      × Draws taken failed old mid (form_part texts (day_model s) (day_number s) one))
+      → ((made : List Part) × AreMade s (part + 1) parts keys pieces made
+      × Draws taken failed mid new (form_parts texts s made))
+      → (made : List Part) × AreMade s part parts all allp made
+      × Draws taken failed old new (form_parts texts s made)
+  parts_next same cut (made, is, one) (more, are, two) =
+      (made ∷ more, rw (same, cut) (made, more, is, are, refl), both one two)
+
+-- ---- The whole order.
+
+pub keys_of_text : (s : Day) (order form head text : List ℕ) (keys : List Keys) → IsFormOf s order form
+    → IsOrder s order keys head text → AreKeysOfText s 1 (length keys) keys text
+keys_of_text s order form head text keys is read =
+    let has = parts_of_order s order form is in
+    let (same, heads, texts) = one_order s order keys has.parts.keys head has.parts.head text has.parts.text
+    read has.is_order in
+    let made = ThenNext-Ok (ThenNext-Ok has.made).next in
+    record {
+      of_the_day = all_of_the_day _ s keys head read.is_head.lines;
+      suited = rw same has.suited;
+      each = length-first_chunks _ _ _ ∙ rw (same, texts) made.says;
+      count = omega arith;
+      few = read.is_head.few;
+    }
+
+texts_made : (s : Day) (part parts : ℕ) (keys : List Keys) (pieces : List (List ℕ)) (made : List Part)
+    → AreMade s part parts keys pieces made → ArePartTextsMade s part parts keys pieces (flat_map part_text made)
+texts_made s part parts [] [] made none = rw none refl
+texts_made s part parts (k ∷ keys) (piece ∷ pieces) made (one, more, is, are, joined) =
+    rw joined (
+      part_text one,
+      flat_map part_text more,
+      (one, is, refl),
+      texts_made s (part + 1) parts keys pieces more are,
+      refl,
+    )
+texts_made s part parts [] (piece ∷ pieces) made are = absurd are
+texts_made s part parts (k ∷ keys) [] made are = absurd are
+
+pub page_made : (texts : MessageTexts) (s : Day) (order form head text : List ℕ) (keys : List Keys)
+    (works : List Work) (made : List Part) → IsFormOf s order form → IsOrder s order keys head text
+    → AreWorks s keys (text_pieces s text) works
+    → AreMade s 1 (length keys) keys (text_pieces s text) made
+    → IsSendPage texts s order form (send_text texts s (length keys) works made)
+page_made texts s order form head text keys works made is read worked are =
+    let has = parts_of_order s order form is in
+    let (same, heads, same_text) = one_order s order keys has.parts.keys head has.parts.head text has.parts.text
+    read has.is_order in
+    let mine = rw (same, same_text) at are in
+    let tested = ThenNext-Ok has.made in
+    let counted = ThenNext-Ok tested.next in
+    let other = GoesOn has.parts has.read (GoesOn tested.found tested.says (GoesOn counted.found counted.says
+    (texts_made s 1 (length has.parts.keys) has.parts.keys (text_pieces s has.parts.text) made mine))) in
+    let one = orders_have_one_answer s order (Ok form) (Ok (flat_map part_text made)) is other in
+    record {
+      parts = has.parts;
+      read = has.read;
+      works = works;
+      worked = rw (same, same_text) at worked;
+      made = made;
+      are_made = mine;
+      is_form = cc one;
+      is_page = rw same refl;
+    }
+
+-- ---- The answer.
+
+pub refused_as_sent : {X : Type 0} (m : Parts) (s : Day) (order : List ℕ) (is_due : X → Type 0) (fault : FormFault)
+    → IsAnswerOnKey m s is_due (IsSendFault s order) ((form : List ℕ) × IsFormOf s order form) (Err fault)
+    → IsSendRefusal m s order fault
+refused_as_sent m s order is_due fault (OffKey other is same) = let e : other ≡ fault = cc in inl (rw (← e) is)
+refused_as_sent m s order is_due fault (WithKey ready is) = inr (ready, is)
+
+pub sent : {X : Type 0} (m : Parts) (s : Day) (order : List ℕ) (is_due : X → Type 0) (found : X)
+    → IsAnswerOnKey m s is_due (IsSendFault s order) ((form : List ℕ) × IsFormOf s order form) (Ok found)
+    → IsReadyOnKey m s × is_due found
+sent m s order is_due found (OffKey other is same) = absurd (cc)
+sent m s order is_due found (WithKey ready is) = (ready, is)
+
+begins : (front : List ℕ) (byte : ℕ) (more : List ℕ)
+    → (first : ℕ) × ((rest : List ℕ) × (front ++ byte ∷ more ≡ first ∷ rest))
+begins [] byte more = (_, (_, refl))
+begins (first ∷ front) byte more = (_, (_, refl))
+
+page_begins : (texts : MessageTexts) (s : Day) (parts : ℕ) (works : List Work) (made : List Part)
+    → (first : ℕ) × ((rest : List ℕ) × (send_text texts s parts works made ≡ first ∷ rest))
+unfolding send_text
+page_begins texts s parts works made = begins _ _ _
+
+-- a page isn't empty
+pub shown_begins : (texts : MessageTexts) (s : Day) (order form page : List ℕ) → IsSendPage texts s order form page
+    → (first : ℕ) × ((rest : List ℕ) × (page ≡ first ∷ rest))
+shown_begins texts s order form page shown =
+    rw shown.is_page (page_begins texts s (length shown.parts.keys) shown.works shown.made)

@@ -1,0 +1,11 @@
+use Rattle.std.proofs.Common.{arith}
+use Rattle.std.proofs.lemmas.Grind.{common_steps}
+use Rattle.kd_pictures.proofs.Drawings.{both, joined}
+unfoldable use Rattle.kd_message.specs.FormSheet.{keys_text}
+use Rattle.kd_message.proofs.form_sheet.draw_keys.Goals as goal
+
+pub returns : goal.returns
+unfolding keys_text
+returns g c =
+    joined (both (both (both c.draw.ensures c.draw_letters.ensures) c.draw-2.ensures) c.draw_letters-2.ensures) c.draw-3.ensures
+    (grind (arith, common_steps))

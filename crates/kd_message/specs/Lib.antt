@@ -1,0 +1,9 @@
+pub mod Cells
+pub mod LettersAfter
+pub mod Words
+pub mod Windows
+pub mod Rows
+pub mod PartWork
+pub mod PartSheet
+pub mod FormSheet
+pub mod SendPage

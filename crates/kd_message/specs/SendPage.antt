@@ -1,0 +1,133 @@
+-- The page for sending an order.
+use Rattle.std.specs.Prelude.{◌≡◌, ◌⊎◌, decimal, ℕ, ◌+◌, ◌==◌, ◌||◌, if◌then◌else◌, List, [], ◌∷◌, ◌++◌, flat_map, length}
+use Rattle.std.specs.Prelude.{◌≤◌, All, Result, Ok, Err, is_err, OnErr}
+use Rattle.std.specs.List.{range_with_len}
+use Rattle.kd_tables.specs.Ports.{Port}
+use Rattle.kd_tables.specs.Writing.{Writes}
+use Rattle.kd_state.specs.declared.machine.parts.Parts.{Parts}
+use Rattle.kd_state.specs.SheetDay.{Day, day_model, day_number}
+use Rattle.kd_form.specs.declared.fault.FormFault.{FormFault}
+use Rattle.kd_form.specs.declared.fault.FormFault.TheVariants.{Device}
+use Rattle.kd_form.specs.declared.keys.Keys.{Keys}
+use Rattle.kd_form.specs.InTurn.{InTurn}
+use Rattle.kd_form.specs.Keys.{AreKeys}
+use Rattle.kd_form.specs.OnTheKey.{IsFaultOrNoMemory, IsKeyFault, IsReadyOnKey}
+use Rattle.kd_form.specs.Part.{Part, part_text}
+use Rattle.kd_form.specs.PartMaking.{IsKeysAnswer, IsPartMade, part_size}
+use Rattle.kd_form.specs.Sending.{IsFormOf, IsReadAnswer, IsSendFault, OrderParts, text_letters}
+use Rattle.kd_form.specs.Streams.{IsUntouched}
+use Rattle.kd_pictures.specs.declared.texts.TheConstants as page_texts
+use Rattle.kd_pictures.specs.Template.{filled}
+use Rattle.kd_pictures.specs.Words.{model_name}
+use Rattle.kd_message.specs.declared.markup.TheConstants.{ARTICLE_END, MESSAGE_STYLE}
+use Rattle.kd_message.specs.declared.part_sheet.PartName.{PartName}
+use Rattle.kd_message.specs.declared.texts.MessageTexts.{MessageTexts}
+use Rattle.kd_message.specs.FormSheet.{form_head, form_part}
+use Rattle.kd_message.specs.PartSheet.{part_sheet}
+use Rattle.kd_message.specs.PartWork.{IsWork, Work}
+use Rattle.kd_message.specs.Rows.{pieces}
+
+-- the head of the file
+unfoldable pub title_text : MessageTexts → Day → List ℕ
+title_text texts s =
+    texts.head.now ++ filled texts.title_to_send.now (model_name (day_model s) ∷ decimal (day_number s) ∷ [])
+    ++ page_texts.STYLE.now ++ MESSAGE_STYLE.now ++ page_texts.BODY.now
+
+-- a part in the list of the sheets
+abbrev pub listed_text : MessageTexts → ℕ → ℕ → List ℕ
+listed_text texts parts part = filled texts.listed_part.now (decimal part ∷ decimal part ∷ decimal parts ∷ [])
+
+abbrev pub list_head : MessageTexts → ℕ → List ℕ
+list_head texts parts = if parts == 1 then texts.list_of_one.now else texts.list_of_several.now
+
+-- the list of the sheets: the parts, and the form
+unfoldable pub list_text : MessageTexts → ℕ → List ℕ
+list_text texts parts =
+    list_head texts parts ++ flat_map (listed_text texts parts) (range_with_len 1 parts) ++ texts.list_end_with_form.now
+
+abbrev pub part_name : Day → ℕ → ℕ → PartName
+part_name s part parts = record { model = day_model s; day = day_number s; part = part; parts = parts }
+
+-- the sheets of the parts from number `part` on
+abbrev pub part_sheets : MessageTexts → Day → ℕ → ℕ → List Work → List ℕ
+part_sheets texts s part parts [] = []
+part_sheets texts s part parts (work ∷ works) =
+    part_sheet texts s (part_name s part parts) work ++ part_sheets texts s (part + 1) parts works
+
+-- the parts of the form
+abbrev pub form_parts : MessageTexts → Day → List Part → List ℕ
+form_parts texts s made = flat_map (form_part texts (day_model s) (day_number s)) made
+
+-- the file: a sheet on which each part is worked, and the form
+unfoldable pub send_text : MessageTexts → Day → ℕ → List Work → List Part → List ℕ
+send_text texts s parts works made =
+    title_text texts s ++ list_text texts parts ++ part_sheets texts s 1 parts works ++ form_head texts s
+    ++ form_parts texts s made ++ ARTICLE_END.now ++ page_texts.FOOT.now
+
+-- ---- What is worked for an order, and its form.
+
+-- For each part, `works` has what is pressed, and what lights up, when its piece of the text is enciphered with its keys.
+abbrev pub AreWorks : Day → List Keys → List (List ℕ) → List Work → Type 0
+AreWorks s [] [] works = works ≡ []
+AreWorks s (k ∷ keys) (piece ∷ pieces) works =
+    (work : Work) × (more : List Work) × IsWork s k piece work × AreWorks s keys pieces more × (works ≡ work ∷ more)
+AreWorks s [] (piece ∷ pieces) works = ⊥
+AreWorks s (k ∷ keys) [] works = ⊥
+
+-- `made` are the parts of a form with `parts` parts, from number `part` on: each is made from its piece of the text, with
+-- its keys.
+abbrev pub AreMade : Day → ℕ → ℕ → List Keys → List (List ℕ) → List Part → Type 0
+AreMade s part parts [] [] made = made ≡ []
+AreMade s part parts (k ∷ keys) (piece ∷ pieces) made =
+    (one : Part) × (more : List Part) × IsPartMade s part parts k piece one × AreMade s (part + 1) parts keys pieces more
+    × (made ≡ one ∷ more)
+AreMade s part parts [] (piece ∷ pieces) made = ⊥
+AreMade s part parts (k ∷ keys) [] made = ⊥
+
+-- the letters of the order's text, cut into the pieces of the parts
+abbrev pub text_pieces : Day → List ℕ → List (List ℕ)
+text_pieces s text = pieces (part_size s) (text_letters s text)
+
+-- `page` is the page for sending the order. It shows what is worked for each part, and the parts of the order's form.
+pub record IsSendPage (texts : MessageTexts) (s : Day) (order form page : List ℕ) : Type 0 where
+  pub parts : OrderParts
+  pub read : IsReadAnswer s order (Ok parts)
+  pub works : List Work
+  pub worked : AreWorks s parts.keys (text_pieces s parts.text) works
+  pub made : List Part
+  pub are_made : AreMade s 1 (length parts.keys) parts.keys (text_pieces s parts.text) made
+  pub is_form : form ≡ flat_map part_text made
+  pub is_page : page ≡ send_text texts s (length parts.keys) works made
+
+-- ---- What `write_send_page` answers.
+
+-- The fault is the one that `send` returns.
+abbrev pub IsSendRefusal : Parts → Day → List ℕ → FormFault → Type 0
+IsSendRefusal m s order fault =
+    IsKeyFault m s fault
+    ⊎ (IsReadyOnKey m s × IsFaultOrNoMemory (IsSendFault s order) ((form : List ℕ) × IsFormOf s order form) fault)
+
+-- `PageWritten`: the order has a form, and the page was written; or only a prefix of it, since the sink failed.
+-- `Refused`: nothing was written.
+pub data IsSendPageAnswer (texts : MessageTexts) (m : Parts) (s : Day) (order : List ℕ) (sink : Port)
+    (answer : Result (Unit {0}) FormFault) : Type 0 where
+  PageWritten : (form page : List ℕ) → IsReadyOnKey m s → IsFormOf s order form → IsSendPage texts s order form page
+      → Writes sink.had sink.has page answer → OnErr answer (answer ≡ Err Device)
+      → sink.has_failed ≡ (sink.had_failed || is_err answer)
+      → IsSendPageAnswer texts m s order sink answer
+  Refused : (fault : FormFault) → IsSendRefusal m s order fault → answer ≡ Err fault → IsUntouched sink
+      → IsSendPageAnswer texts m s order sink answer
+
+-- ---- What the code holds. No public contract cites these definitions.
+
+-- The order has a form.
+abbrev pub HasForm : Day → List ℕ → Type 0
+HasForm s order = (form : List ℕ) × IsFormOf s order form
+
+-- The keys from part number `part` on suit the day, and each has a piece of the text.
+pub record AreKeysOfText (s : Day) (part parts : ℕ) (keys : List Keys) (text : List ℕ) : Type 0 where
+  pub of_the_day : All (AreKeys s) keys
+  pub suited : InTurn (IsKeysAnswer s) part keys (Ok tt)
+  pub each : length (text_pieces s text) ≡ length keys
+  pub count : part + length keys ≡ parts + 1
+  pub few : parts ≤ 99

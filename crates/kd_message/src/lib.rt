@@ -1,0 +1,18 @@
+//! Pages that say, step by step, how a message is worked by hand on the real machine.
+#![tactic(auto)]
+
+mod cells;
+mod form_sheet;
+mod letters_after;
+pub mod markup;
+mod order;
+mod part_sheet;
+mod part_work;
+mod rows;
+mod sending;
+pub mod texts;
+mod windows;
+mod words;
+
+pub use sending::write_send_page;
+pub use texts::{ENGLISH, MessageTexts};

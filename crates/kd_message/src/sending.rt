@@ -1,0 +1,248 @@
+//! The page for sending an order.
+ghost use Rattle.std.specs.Prelude.{◌≡◌, ◌+◌, ◌≤◌, ◌++◌, ℕ, List, flat_map, length, Ok};
+ghost use Rattle.std.specs.List.{range_with_len};
+ghost use Rattle.kd_tables.specs.Ports.{port};
+ghost use Rattle.kd_form.specs.Keys.{AreKeys};
+ghost use Rattle.kd_form.specs.Part.{Part};
+ghost use Rattle.kd_form.specs.Sending.{IsFormOf};
+ghost use Rattle.kd_form.specs.PartMaking.{IsKeysAnswer, IsPartMade, part_size};
+ghost use Rattle.kd_pictures.specs.Drawing.{Draws};
+ghost use Rattle.kd_message.specs.FormSheet.{form_part};
+ghost use Rattle.kd_message.specs.PartWork.{Work};
+ghost use Rattle.kd_message.specs.SendPage.{AreKeysOfText, AreMade, AreWorks, HasForm, IsSendPage, IsSendPageAnswer};
+ghost use Rattle.kd_message.specs.SendPage.{form_parts, list_head, list_text, listed_text, part_name, part_sheets};
+ghost use Rattle.kd_message.specs.SendPage.{send_text, text_pieces, title_text};
+
+use crate::form_sheet::{draw_form_head, draw_form_part};
+use crate::markup::{ARTICLE_END, MESSAGE_STYLE};
+use crate::order::{read_head, take_piece};
+use crate::part_sheet::{PartName, draw_part_sheet};
+use crate::part_work::work_of;
+use crate::texts::MessageTexts;
+use kd_form::day_machine::DayMachine;
+use kd_form::keys::Keys;
+use kd_form::sending::order_head::HeadReader;
+use kd_form::sending::part::{indicator_of, pin_letters, rotor_letters};
+use kd_form::{FormFault, send};
+use kd_pictures::draw;
+use kd_pictures::template::{Value, fill};
+use kd_pictures::texts::{BODY, FOOT, STYLE};
+use kd_state::{Machine, SheetDay};
+use kd_tables::{Letter, Sink};
+use std::alloc::Global;
+
+/// Writes the page that says how to encipher `order` by hand on `machine`, which must be on the day's key.
+///
+/// Its faults are those of `send`, and then nothing is written; or `Device`, and then a prefix of the page is written.
+pub fn write_send_page<W: Sink>(
+    alloc: Global,
+    texts: &MessageTexts,
+    machine: &Machine,
+    day: &SheetDay,
+    order: &[u8],
+    sink: &mut W,
+) -> Result<(), FormFault>
+    ensures { IsSendPageAnswer texts.now machine.now day.now order.now
+        (port W.taken W.has_failed sink.old sink.new) result }
+{
+    send(alloc, machine, day, order)?;
+    draw_page(sink, texts, day, order);
+    if sink.failed() {
+        Err(FormFault::Device)
+    } else {
+        Ok(())
+    }
+}
+
+/// Writes the page of an order that `send` accepts.
+fn draw_page<W: Sink>(sink: &mut W, texts: &MessageTexts, day: &SheetDay, order: &[u8])
+    requires { HasForm day.now order.now }
+    ensures { (form : List ℕ) → IsFormOf day.now order.now form
+        → (page : List ℕ) × IsSendPage texts.now day.now order.now form page
+        × Draws W.taken W.has_failed sink.old sink.new page }
+{
+    let mut reader = HeadReader::new();
+    let text = read_head(&mut reader, day, order);
+    draw_file(sink, texts, day, reader.keys(), text);
+}
+
+/// Writes the page of an order with these keys and this text.
+fn draw_file<W: Sink>(
+    sink: &mut W,
+    texts: &MessageTexts,
+    day: &SheetDay,
+    keys: &[Keys],
+    text: &[u8],
+)
+    requires { AreKeysOfText day.now 1 (length keys.now) keys.now text.now }
+    ensures { (works : List Work) × (made : List Part)
+        × AreWorks day.now keys.now (text_pieces day.now text.now) works
+        × AreMade day.now 1 (length keys.now) keys.now (text_pieces day.now text.now) made
+        × Draws W.taken W.has_failed sink.old sink.new
+        (send_text texts.now day.now (length keys.now) works made) }
+{
+    let parts = keys.len() as u8;
+    draw_title(sink, texts, day);
+    draw_list(sink, texts, parts);
+    draw_part_sheets(sink, texts, day, 1, parts, keys, text);
+    draw_form_head(sink, texts, day);
+    draw_form_parts(sink, texts, day, 1, parts, keys, text);
+    draw(sink, ARTICLE_END);
+    draw(sink, FOOT);
+}
+
+/// Writes the head of the file.
+fn draw_title<W: Sink>(sink: &mut W, texts: &MessageTexts, day: &SheetDay)
+    ensures { Draws W.taken W.has_failed sink.old sink.new (title_text texts.now day.now) }
+{
+    draw(sink, texts.head);
+    fill(
+        sink,
+        texts.title_to_send,
+        &[
+            Value::Model(day.model()),
+            Value::Number(u16::from(day.day())),
+        ],
+    );
+    draw(sink, STYLE);
+    draw(sink, MESSAGE_STYLE);
+    draw(sink, BODY);
+}
+
+/// Writes the list of the sheets.
+fn draw_list<W: Sink>(sink: &mut W, texts: &MessageTexts, parts: u8)
+    requires { parts ≤ 99 }
+    ensures { Draws W.taken W.has_failed sink.old sink.new (list_text texts.now parts) }
+{
+    draw(sink, list_head(texts, parts));
+    draw_listed(sink, texts, 1, parts, parts);
+    draw(sink, texts.list_end_with_form);
+}
+
+fn list_head(texts: &MessageTexts, parts: u8) -> &'static str
+    ensures { result.now ≡ list_head texts.now parts }
+{
+    if parts == 1 {
+        texts.list_of_one
+    } else {
+        texts.list_of_several
+    }
+}
+
+/// Writes `count` parts of the list, from part number `part` on.
+fn draw_listed<W: Sink>(sink: &mut W, texts: &MessageTexts, part: u8, parts: u8, count: u8)
+    requires { part + count ≤ 100 }
+    ensures { Draws W.taken W.has_failed sink.old sink.new
+        (flat_map (listed_text texts.now parts) (range_with_len part count)) }
+{
+    if count > 0 {
+        draw_listed_part(sink, texts, part, parts);
+        draw_listed(sink, texts, part + 1, parts, count - 1);
+    }
+}
+
+fn draw_listed_part<W: Sink>(sink: &mut W, texts: &MessageTexts, part: u8, parts: u8)
+    ensures { Draws W.taken W.has_failed sink.old sink.new (listed_text texts.now parts part) }
+{
+    fill(
+        sink,
+        texts.listed_part,
+        &[
+            Value::Number(u16::from(part)),
+            Value::Number(u16::from(part)),
+            Value::Number(u16::from(parts)),
+        ],
+    );
+}
+
+/// Writes the sheets on which the parts from number `part` on are worked.
+fn draw_part_sheets<W: Sink>(
+    sink: &mut W,
+    texts: &MessageTexts,
+    day: &SheetDay,
+    part: u8,
+    parts: u8,
+    keys: &[Keys],
+    text: &[u8],
+)
+    requires { AreKeysOfText day.now part parts keys.now text.now }
+    ensures { (works : List Work) × AreWorks day.now keys.now (text_pieces day.now text.now) works
+        × Draws W.taken W.has_failed sink.old sink.new
+        (part_sheets texts.now day.now part parts works) }
+{
+    if let [first, rest @ ..] = keys {
+        let (piece, later) = take_piece(day, text);
+        let work = work_of(day, part, first, piece.as_slice());
+        draw_part_sheet(sink, texts, day, part_name(day, part, parts), &work);
+        draw_part_sheets(sink, texts, day, part + 1, parts, rest, later);
+    }
+}
+
+fn part_name(day: &SheetDay, part: u8, parts: u8) -> PartName
+    ensures { result ≡ part_name day.now part parts }
+{
+    PartName {
+        model: day.model(),
+        day: day.day(),
+        part,
+        parts,
+    }
+}
+
+/// Writes the parts of the form from number `part` on.
+fn draw_form_parts<W: Sink>(
+    sink: &mut W,
+    texts: &MessageTexts,
+    day: &SheetDay,
+    part: u8,
+    parts: u8,
+    keys: &[Keys],
+    text: &[u8],
+)
+    requires { AreKeysOfText day.now part parts keys.now text.now }
+    ensures { (made : List Part) × AreMade day.now part parts keys.now (text_pieces day.now text.now) made
+        × Draws W.taken W.has_failed sink.old sink.new (form_parts texts.now day.now made) }
+{
+    if let [first, rest @ ..] = keys {
+        let (piece, later) = take_piece(day, text);
+        draw_made_part(
+            sink,
+            texts,
+            day,
+            part_name(day, part, parts),
+            first,
+            piece.as_slice(),
+        );
+        draw_form_parts(sink, texts, day, part + 1, parts, rest, later);
+    }
+}
+
+/// Writes the part of the form that `text` becomes with `keys`.
+fn draw_made_part<W: Sink>(
+    sink: &mut W,
+    texts: &MessageTexts,
+    day: &SheetDay,
+    name: PartName,
+    keys: &Keys,
+    text: &[Letter],
+)
+    requires keys { AreKeys day.now keys.now }
+    requires suits { IsKeysAnswer day.now name.part keys.now (Ok tt) }
+    requires few { length text.now ≤ part_size day.now }
+    ensures { (one : Part) × IsPartMade day.now name.part name.parts keys.now text.now one
+        × Draws W.taken W.has_failed sink.old sink.new
+        (form_part texts.now name.model name.day one) }
+{
+    let mut machine = DayMachine::new(day);
+    match keys {
+        Keys::Rotor(keys) => {
+            let indicator = indicator_of(&mut machine, keys);
+            let letters = rotor_letters(&mut machine, keys, text);
+            draw_form_part(sink, texts, name, &Some(indicator), letters.as_slice());
+        }
+        Keys::Pin(keys) => {
+            let letters = pin_letters(&mut machine, keys, text);
+            draw_form_part(sink, texts, name, &None, letters.as_slice());
+        }
+    }
+}

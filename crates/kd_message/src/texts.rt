@@ -1,0 +1,118 @@
+//! The fixed texts of a message's pages, in each language. In a template, each sign `~` stands for a value.
+
+/// The texts in one language.
+pub struct MessageTexts {
+    /// The head of the file, before its title.
+    pub head: &'static str,
+    /// The title of a page for sending: the model, and the day.
+    pub title_to_send: &'static str,
+    /// The list of the sheets, if the message has one part, and if it has several parts.
+    pub list_of_one: &'static str,
+    pub list_of_several: &'static str,
+    /// A part in the list of the sheets: the part, the part again, and the number of parts.
+    pub listed_part: &'static str,
+    /// The end of the list of the sheets, with the form.
+    pub list_end_with_form: &'static str,
+    /// The sheet of a part that is sent: on a rotor machine, and on a Converter.
+    pub rotor_send: SheetTexts,
+    pub pin_send: SheetTexts,
+    /// The key of the day that a rotor machine has to be on: the reflector; then wheels, rings and cables.
+    pub reflector: &'static str,
+    pub rings: &'static str,
+    pub cables: &'static str,
+    pub no_cables: &'static str,
+    pub key_end: &'static str,
+    /// The key of the day that a Converter has to be on: the two letters of the key list.
+    pub list: &'static str,
+    /// What the end of a part's sheet says of spaces and signs: on the Enigma I and M3, on the M4, and
+    /// on the Converter for sending.
+    pub enigma_note: &'static str,
+    pub naval_note: &'static str,
+    pub converter_note: &'static str,
+    /// The picture of the windows of a rotor machine: its title, and a window with its slot.
+    pub windows: &'static str,
+    pub window: &'static str,
+    /// The picture of the wheels of a Converter: its title, and a wheel with its number.
+    pub wheels: &'static str,
+    pub wheel: &'static str,
+    /// The sheet with the form for the radio: the model, and the day.
+    pub form: &'static str,
+    /// A part of the form: the part, the number of parts, the model, the day, the part, the number of parts, and the
+    /// number of letters.
+    pub form_part: &'static str,
+    /// The ground and the enciphered key in the heading of a rotor machine's part.
+    pub form_ground: &'static str,
+    pub form_key: &'static str,
+    pub form_key_end: &'static str,
+    /// The groups of a part, and what they are.
+    pub form_groups: &'static str,
+    pub form_rotor_note: &'static str,
+    pub form_pin_note: &'static str,
+}
+
+/// The texts of the sheet on which a part is worked.
+pub struct SheetTexts {
+    /// The head: the part, the model, the day, the part, and the number of parts.
+    pub head: &'static str,
+    /// What the marks of a row mean.
+    pub legend: &'static str,
+    /// The step of the key, up to the picture of the windows: the model, the day, the part, and the number of parts.
+    pub key_step: &'static str,
+    /// What to press for the key.
+    pub key_words: &'static str,
+    /// The end of the step of the key.
+    pub key_step_end: &'static str,
+    /// The step of the text: the number of letters, the model, the day, the part, and the number of parts.
+    pub text_step: &'static str,
+    /// The step of the text on a second sheet: the model, the day, the part, and the number of parts.
+    pub next_step: &'static str,
+}
+
+/// The English texts.
+pub static ENGLISH: MessageTexts = MessageTexts {
+    head: "<!DOCTYPE html>\n<html lang=en>\n<meta charset=utf-8>\n<meta name=viewport content=\"width=device-width,initial-scale=1\">\n<title>",
+    title_to_send: "~, day ~: send",
+    list_of_one: "<nav aria-label=\"Sheets\">\n<ul>\n",
+    list_of_several: "<nav class=sheets aria-label=\"Sheets\">\n<ul>\n",
+    listed_part: "<li><a href=\"#part-~\">Part ~ of ~</a>\n",
+    list_end_with_form: "<li><a href=\"#form\">Form</a>\n</ul>\n</nav>\n",
+    rotor_send: SheetTexts {
+        head: "<article id=part-~>\n<header>\n<h1>~, day ~: send <small>part ~ of ~</small></h1>\n<p class=fields><span>Machine</span><span>Date</span><span>Done by</span></p>\n",
+        legend: "</p>\n<p>Above the line: press. On it: write the lamp\u{2019}s letter. Below: what it has to be. Where nothing stands above, copy.<br>A row ends with the letters so far and the windows. If they differ, set the windows as before the row, and begin it again.",
+        key_step: "</p>\n</header>\n<section>\n<h2>1 Message key<span>~, day ~: send, part ~ of ~</span></h2>\n<label><input type=checkbox> set the windows to the ground</label>\n",
+        key_words: "<label><input type=checkbox> press the message key: the lamps give the key for the heading</label>\n",
+        key_step_end: "</section>\n",
+        text_step: "<section>\n<h2>2 Text <small>letters of the body: ~</small><span>~, day ~: send, part ~ of ~</span></h2>\n<label><input type=checkbox> set the windows to the message key</label>\n",
+        next_step: "</section>\n<section class=next>\n<h2>2 Text, from letter 251<span>~, day ~: send, part ~ of ~</span></h2>\n",
+    },
+    pin_send: SheetTexts {
+        head: "<article id=part-~>\n<header>\n<h1>~, day ~: send <small>part ~ of ~</small></h1>\n<p class=fields><span>Machine</span><span>Date</span><span>Done by</span></p>\n",
+        legend: "</p>\n<p>Above the line: enter. On it: write what the machine prints. Below: what it has to be. Where nothing stands above, copy.<br>A row ends with the letters so far and the wheels. If they differ, set the wheels as before the row, and begin it again.",
+        key_step: "</p>\n</header>\n<section>\n<h2>1 Internal key<span>~, day ~: send, part ~ of ~</span></h2>\n<label><input type=checkbox> set the knob to <b>C</b></label>\n<label><input type=checkbox> set the wheels to the external letters</label>\n",
+        key_words: "<label><input type=checkbox> encipher the chosen letter twelve times</label>\n",
+        key_step_end: "<p>The wheels 1 to 6 each take the next letter that they have; - strikes a letter out.</p>\n</section>\n",
+        text_step: "<section>\n<h2>2 Text <small>letters of the body: ~</small><span>~, day ~: send, part ~ of ~</span></h2>\n<label><input type=checkbox> set the wheels to the internal key</label>\n",
+        next_step: "</section>\n<section class=next>\n<h2>2 Text, from letter 201<span>~, day ~: send, part ~ of ~</span></h2>\n",
+    },
+    reflector: "<p>The machine has to be on the key of the day. Reflector: <b>~</b>. Wheels: <b>",
+    rings: "</b>. Rings: <b>",
+    cables: "</b>. Cables: <b>",
+    no_cables: "none",
+    key_end: "</b>.",
+    list: "<p>Pins and lugs have to be the day\u{2019}s. List: <b>~~</b>.",
+    enigma_note: "<p class=note>Spaces aren\u{2019}t sent. X often stands for a stop, Q for CH. The last group may be short.</p>\n</section>\n</article>\n",
+    naval_note: "<p class=note>Spaces aren\u{2019}t sent. X often stands for a stop, Y for a comma. The last group may be short.</p>\n</section>\n</article>\n",
+    converter_note: "<p class=note>Each space is sent as Z. X at the end fills the last group.</p>\n</section>\n</article>\n",
+    windows: "<figure class=shown><svg role=\"img\" viewBox=\"0 0 600 66\"><title>Windows to set, from the left: ",
+    window: "<text class=\"label\" x=\"~\" y=\"16\" font-size=\"18\">slot ~</text>\n<rect class=\"set\" x=\"~\" y=\"24\" width=\"40\" height=\"40\"/>\n<text class=\"bold\" x=\"~\" y=\"53\" font-size=\"26\">~</text>\n<text class=\"bold\" x=\"~\" y=\"51\" font-size=\"20\">~</text>\n",
+    wheels: "<figure class=shown><svg role=\"img\" viewBox=\"0 0 600 66\"><title>Wheels to set, from the left: ",
+    wheel: "<text x=\"~\" y=\"16\" font-size=\"18\">~</text>\n<rect class=\"set\" x=\"~\" y=\"24\" width=\"40\" height=\"40\"/>\n<text class=\"bold\" x=\"~\" y=\"53\" font-size=\"26\">~</text>\n",
+    form: "<article id=form class=form>\n<header>\n<h1>~, day ~: form for the radio</h1>\n<p class=fields><span>To</span><span>From</span><span>Time</span><span>Sent by</span></p>\n</header>\n",
+    form_part: "<section>\n<h2>Part ~ of ~<span>~, day ~: form for the radio</span></h2>\n<p class=heading><span>part <b>PART ~/~</b></span><span>letters <b>~</b></span>",
+    form_ground: "<span>ground <b>",
+    form_key: "</b></span><span>key, enciphered <b>",
+    form_key_end: "</b></span>",
+    form_groups: "</p>\n<div class=groups>",
+    form_rotor_note: "</div>\n<p class=note>Group 1: two fillers, then the group of the day.</p>\n</section>\n",
+    form_pin_note: "</div>\n<p class=note>The first two groups, and the last two: the indicators.</p>\n</section>\n",
+};

@@ -1,0 +1,9 @@
+//! Tests of the pages of messages.
+#![tactic(auto)]
+
+#[cfg(test)]
+mod pages;
+#[cfg(test)]
+mod samples;
+#[cfg(test)]
+mod sending;

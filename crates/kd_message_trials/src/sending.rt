@@ -1,0 +1,45 @@
+//! Tests of the pages for sending.
+use crate::pages::{ENIGMA_SEND, M4_SEND, M209_LONG_SEND, M209_SEND};
+use crate::samples::{
+    ENIGMA, ENIGMA_DAY, ENIGMA_ORDER, M4, M4_DAY, M4_ORDER, M209, M209_DAY, M209_LONG_ORDER,
+    M209_ORDER,
+};
+use kd_message::{ENGLISH, write_send_page};
+use kd_sheet::{read_machine, read_sheet};
+use kd_tables::MemorySink;
+use std::alloc::Global;
+use std::process::Abort;
+
+/// A machine file, a key sheet, a day, an order, and its page.
+type Sent = (&'static str, &'static str, u8, &'static str, &'static str);
+
+static SENT: [Sent; 4] = [
+    (M4, M4_DAY, 6, M4_ORDER, M4_SEND),
+    (ENIGMA, ENIGMA_DAY, 4, ENIGMA_ORDER, ENIGMA_SEND),
+    (M209, M209_DAY, 7, M209_ORDER, M209_SEND),
+    (M209, M209_DAY, 7, M209_LONG_ORDER, M209_LONG_SEND),
+];
+
+/// Checks that the order's page is `page`.
+fn is_sent(rt: &impl Abort, alloc: Global, (machine, sheet, day, order, page): &Sent) {
+    let machine = read_machine(alloc, machine.as_bytes())
+        .ok()
+        .expect(rt, "a machine");
+    let sheet = read_sheet(alloc, sheet.as_bytes())
+        .ok()
+        .expect(rt, "a sheet");
+    let mut sink = MemorySink::<65536>::new(65536);
+    let day = sheet.day(*day).expect(rt, "a day");
+    let answer = write_send_page(alloc, &ENGLISH, &machine, day, order.as_bytes(), &mut sink);
+    assert!(rt; answer == Ok(()), "{order}");
+    let shown = std::str::from_utf8(sink.taken()).unwrap_or("?");
+    let (_, body) = shown.split_once("</style>\n").unwrap_or(("", shown));
+    assert!(rt; body == *page, "{body}");
+}
+
+#[test]
+fn orders_become_pages(rt: HostRuntime) {
+    for sent in &SENT {
+        is_sent(&rt, rt.alloc(), sent);
+    }
+}
