@@ -15,4 +15,4 @@ mod windows;
 mod words;
 
 pub use sending::write_send_page;
-pub use texts::{ENGLISH, MessageTexts};
+pub use texts::{ENGLISH, GERMAN, MessageTexts};

@@ -531,3 +531,185 @@ pub const M209_LONG_SEND: &str = "<body>
 </article>
 </main>
 ";
+
+/// `M4_ORDER` to send, in German.
+pub const M4_GERMAN: &str = "<body>
+<main>
+<nav aria-label=\"Bl\u{e4}tter\">
+<ul>
+<li><a href=\"#part-1\">Teil 1 von 1</a>
+<li><a href=\"#form\">Funkspruch</a>
+</ul>
+</nav>
+<article id=part-1>
+<header>
+<h1>Enigma M4, Tag 6: Verschl\u{fc}sseln <small>Teil 1 von 1</small></h1>
+<p class=fields><span>Maschine</span><span>Datum</span><span>Ausgef\u{fc}hrt von</span></p>
+<p>Die Maschine muss auf dem Tagesschl\u{fc}ssel stehen. Umkehrwalze: <b>b</b>. Walzenlage: <b>Beta\u{a0}II\u{a0}IV\u{a0}I</b>. Ringstellung: <b>A\u{a0}01, A\u{a0}01, A\u{a0}01, V\u{a0}22</b>. Steckerverbindungen: <b>AT BL DF GJ HM NW OP QY RZ VX</b>.</p>
+<p>\u{dc}ber der Linie: tasten. Auf die Linie: den Buchstaben der Lampe schreiben. Darunter: wie er lauten muss. Wo dar\u{fc}ber nichts steht: abschreiben.<br>Am Ende der Zeile: Buchstaben bis hier, und Fenster. Weichen sie ab, die Fenster wie vor der Zeile einstellen und die Zeile wiederholen.</p>
+</header>
+<section>
+<h2>1 Spruchschl\u{fc}ssel<span>Enigma M4, Tag 6: Verschl\u{fc}sseln, Teil 1 von 1</span></h2>
+<label><input type=checkbox> Fenster auf die Grundstellung stellen</label>
+<figure class=shown><svg role=\"img\" viewBox=\"0 0 600 66\"><title>Fenster, von links einzustellen: 1: R 18, 2: T 20, 3: M 13, 4: C 03.</title>
+<text class=\"label\" x=\"2\" y=\"16\" font-size=\"18\">Platz 1</text>
+<rect class=\"set\" x=\"2\" y=\"24\" width=\"40\" height=\"40\"/>
+<text class=\"bold\" x=\"22\" y=\"53\" font-size=\"26\">R</text>
+<text class=\"bold\" x=\"64\" y=\"51\" font-size=\"20\">18</text>
+<text class=\"label\" x=\"98\" y=\"16\" font-size=\"18\">Platz 2</text>
+<rect class=\"set\" x=\"98\" y=\"24\" width=\"40\" height=\"40\"/>
+<text class=\"bold\" x=\"118\" y=\"53\" font-size=\"26\">T</text>
+<text class=\"bold\" x=\"160\" y=\"51\" font-size=\"20\">20</text>
+<text class=\"label\" x=\"194\" y=\"16\" font-size=\"18\">Platz 3</text>
+<rect class=\"set\" x=\"194\" y=\"24\" width=\"40\" height=\"40\"/>
+<text class=\"bold\" x=\"214\" y=\"53\" font-size=\"26\">M</text>
+<text class=\"bold\" x=\"256\" y=\"51\" font-size=\"20\">13</text>
+<text class=\"label\" x=\"290\" y=\"16\" font-size=\"18\">Platz 4</text>
+<rect class=\"set\" x=\"290\" y=\"24\" width=\"40\" height=\"40\"/>
+<text class=\"bold\" x=\"310\" y=\"53\" font-size=\"26\">C</text>
+<text class=\"bold\" x=\"352\" y=\"51\" font-size=\"20\">03</text>
+</svg>
+</figure>
+<label><input type=checkbox> Spruchschl\u{fc}ssel tasten: Die Lampen ergeben den Schl\u{fc}ssel f\u{fc}r den Spruchkopf</label>
+<div class=row><div class=groups><span><b>VJNA</b><small>EKIX</small></span></div>
+<label><input type=checkbox><b>4</b><br>R\u{a0}\u{a0}T\u{a0}\u{a0}M\u{a0}\u{a0}G<br>18 20 13 07</label></div>
+</section>
+<section>
+<h2>2 Text <small>Buchstaben des Spruchs: 237</small><span>Enigma M4, Tag 6: Verschl\u{fc}sseln, Teil 1 von 1</span></h2>
+<label><input type=checkbox> Fenster auf den Spruchschl\u{fc}ssel stellen</label>
+<figure class=shown><svg role=\"img\" viewBox=\"0 0 600 66\"><title>Fenster, von links einzustellen: 1: V 22, 2: J 10, 3: N 14, 4: A 01.</title>
+<text class=\"label\" x=\"2\" y=\"16\" font-size=\"18\">Platz 1</text>
+<rect class=\"set\" x=\"2\" y=\"24\" width=\"40\" height=\"40\"/>
+<text class=\"bold\" x=\"22\" y=\"53\" font-size=\"26\">V</text>
+<text class=\"bold\" x=\"64\" y=\"51\" font-size=\"20\">22</text>
+<text class=\"label\" x=\"98\" y=\"16\" font-size=\"18\">Platz 2</text>
+<rect class=\"set\" x=\"98\" y=\"24\" width=\"40\" height=\"40\"/>
+<text class=\"bold\" x=\"118\" y=\"53\" font-size=\"26\">J</text>
+<text class=\"bold\" x=\"160\" y=\"51\" font-size=\"20\">10</text>
+<text class=\"label\" x=\"194\" y=\"16\" font-size=\"18\">Platz 3</text>
+<rect class=\"set\" x=\"194\" y=\"24\" width=\"40\" height=\"40\"/>
+<text class=\"bold\" x=\"214\" y=\"53\" font-size=\"26\">N</text>
+<text class=\"bold\" x=\"256\" y=\"51\" font-size=\"20\">14</text>
+<text class=\"label\" x=\"290\" y=\"16\" font-size=\"18\">Platz 4</text>
+<rect class=\"set\" x=\"290\" y=\"24\" width=\"40\" height=\"40\"/>
+<text class=\"bold\" x=\"310\" y=\"53\" font-size=\"26\">A</text>
+<text class=\"bold\" x=\"352\" y=\"51\" font-size=\"20\">01</text>
+</svg>
+</figure>
+<div class=row><div class=groups><span><b>\u{a0}\u{a0}\u{a0}\u{a0}\u{a0}</b><small>QXWIB</small></span><span><b>VONVO</b><small>NCZWV</small></span><span><b>NJLOO</b><small>USXPN</small></span><span><b>KSJHF</b><small>YMINH</small></span><span><b>FTTTE</b><small>ZXMQX</small></span><span><b>INSEI</b><small>SFWXW</small></span><span><b>NSDRE</b><small>LKJAH</small></span><span><b>IZWOY</b><small>SHNMC</small></span><span><b>YQNNS</b><small>OCCAK</small></span><span><b>NEUNI</b><small>UQPMK</small></span></div>
+<label><input type=checkbox><b>50</b><br>V\u{a0}\u{a0}J\u{a0}\u{a0}P\u{a0}\u{a0}T<br>22 10 16 20</label></div>
+<div class=row><div class=groups><span><b>NHALT</b><small>CSMHK</small></span><span><b>XXBEI</b><small>SEINJ</small></span><span><b>ANGRI</b><small>USBLK</small></span><span><b>FFUNT</b><small>IOSXC</small></span><span><b>ERWAS</b><small>KUBHM</small></span><span><b>SERGE</b><small>LLXCS</small></span><span><b>DRUEC</b><small>JUSRR</small></span><span><b>KTYWA</b><small>DVKOH</small></span><span><b>BOSXL</b><small>ULXWC</small></span><span><b>ETZTE</b><small>CBGVL</small></span></div>
+<label><input type=checkbox><b>100</b><br>V\u{a0}\u{a0}J\u{a0}\u{a0}R\u{a0}\u{a0}R<br>22 10 18 18</label></div>
+<div class=row><div class=groups><span><b>RGEGN</b><small>IYXEO</small></span><span><b>ERSTA</b><small>AHXRH</small></span><span><b>NDNUL</b><small>KKFVD</small></span><span><b>ACHTD</b><small>REWEZ</small></span><span><b>REINU</b><small>LXOBA</small></span><span><b>LUHRM</b><small>FGYUJ</small></span><span><b>ARQUA</b><small>QUKGR</small></span><span><b>NTONJ</b><small>TVUKA</small></span><span><b>OTANE</b><small>MEURB</small></span><span><b>UNACH</b><small>VEKSU</small></span></div>
+<label><input type=checkbox><b>150</b><br>V\u{a0}\u{a0}J\u{a0}\u{a0}S\u{a0}\u{a0}P<br>22 10 19 16</label></div>
+<div class=row><div class=groups><span><b>TSEYH</b><small>HHVOY</small></span><span><b>SDREI</b><small>HABCJ</small></span><span><b>YZWOZ</b><small>WMAKL</small></span><span><b>WONUL</b><small>FKLMY</small></span><span><b>GRADY</b><small>FVNRI</small></span><span><b>ACHTS</b><small>ZRVVR</small></span><span><b>MYSTO</b><small>TKOFD</small></span><span><b>SSENA</b><small>ANJMO</small></span><span><b>CHXEK</b><small>LBGFF</small></span><span><b>NSVIE</b><small>LEOPR</small></span></div>
+<label><input type=checkbox><b>200</b><br>V\u{a0}\u{a0}J\u{a0}\u{a0}U\u{a0}\u{a0}N<br>22 10 21 14</label></div>
+<div class=row><div class=groups><span><b>RMBFA</b><small>GTFLV</small></span><span><b>ELLTY</b><small>RHOWO</small></span><span><b>NNNNN</b><small>PBEKV</small></span><span><b>NOOOV</b><small>WMUQF</small></span><span><b>IERYS</b><small>MPWPA</small></span><span><b>ICHTE</b><small>RMFHA</small></span><span><b>INSNU</b><small>GKXII</small></span><span><b>LL</b><small>BG</small></span></div>
+<label><input type=checkbox><b>237</b><br>V\u{a0}\u{a0}J\u{a0}\u{a0}W\u{a0}\u{a0}Y<br>22 10 23 25</label></div>
+<p class=note>Zwischenr\u{e4}ume werden nicht gesendet. X steht oft f\u{fc}r einen Punkt, Y f\u{fc}r ein Komma. Die letzte Gruppe kann k\u{fc}rzer sein.</p>
+</section>
+</article>
+<article id=form class=form>
+<header>
+<h1>Enigma M4, Tag 6: Funkspruch</h1>
+<p class=fields><span>An</span><span>Von</span><span>Uhrzeit</span><span>Bef\u{f6}rdert durch</span></p>
+</header>
+<section>
+<h2>Teil 1 von 1<span>Enigma M4, Tag 6: Funkspruch</span></h2>
+<p class=heading><span>Teil <b>PART 1/1</b></span><span>Buchstaben <b>237</b></span><span>Grundstellung <b>RTMC</b></span><span>Schl\u{fc}ssel, verschl\u{fc}sselt <b>EKIX</b></span></p>
+<div class=groups><span>QXWIB</span><span>NCZWV</span><span>USXPN</span><span>YMINH</span><span>ZXMQX</span><span>SFWXW</span><span>LKJAH</span><span>SHNMC</span><span>OCCAK</span><span>UQPMK</span><span>CSMHK</span><span>SEINJ</span><span>USBLK</span><span>IOSXC</span><span>KUBHM</span><span>LLXCS</span><span>JUSRR</span><span>DVKOH</span><span>ULXWC</span><span>CBGVL</span><span>IYXEO</span><span>AHXRH</span><span>KKFVD</span><span>REWEZ</span><span>LXOBA</span><span>FGYUJ</span><span>QUKGR</span><span>TVUKA</span><span>MEURB</span><span>VEKSU</span><span>HHVOY</span><span>HABCJ</span><span>WMAKL</span><span>FKLMY</span><span>FVNRI</span><span>ZRVVR</span><span>TKOFD</span><span>ANJMO</span><span>LBGFF</span><span>LEOPR</span><span>GTFLV</span><span>RHOWO</span><span>PBEKV</span><span>WMUQF</span><span>MPWPA</span><span>RMFHA</span><span>GKXII</span><span>BG</span></div>
+<p class=note>Gruppe 1: zwei F\u{fc}llbuchstaben, dann die Kenngruppe des Tages.</p>
+</section>
+</article>
+</main>
+";
+
+/// `M209_ORDER` to send, in German.
+pub const M209_GERMAN: &str = "<body>
+<main>
+<nav aria-label=\"Bl\u{e4}tter\">
+<ul>
+<li><a href=\"#part-1\">Teil 1 von 1</a>
+<li><a href=\"#form\">Funkspruch</a>
+</ul>
+</nav>
+<article id=part-1>
+<header>
+<h1>Converter M-209, Tag 7: Verschl\u{fc}sseln <small>Teil 1 von 1</small></h1>
+<p class=fields><span>Maschine</span><span>Datum</span><span>Ausgef\u{fc}hrt von</span></p>
+<p>Stifte und Reiter m\u{fc}ssen auf dem Tagesschl\u{fc}ssel stehen. Liste: <b>LK</b>.</p>
+<p>\u{dc}ber der Linie: eingeben. Auf die Linie: schreiben, was die Maschine druckt. Darunter: wie es lauten muss. Wo dar\u{fc}ber nichts steht: abschreiben.<br>Am Ende der Zeile: Buchstaben bis hier, und R\u{e4}der. Weichen sie ab, die R\u{e4}der wie vor der Zeile einstellen und die Zeile wiederholen.</p>
+</header>
+<section>
+<h2>1 Innerer Schl\u{fc}ssel<span>Converter M-209, Tag 7: Verschl\u{fc}sseln, Teil 1 von 1</span></h2>
+<label><input type=checkbox> Knopf auf <b>C</b> stellen</label>
+<label><input type=checkbox> R\u{e4}der auf den \u{e4}u\u{df}eren Schl\u{fc}ssel stellen</label>
+<figure class=shown><svg role=\"img\" viewBox=\"0 0 600 66\"><title>R\u{e4}der, von links einzustellen: 1: B, 2: C, 3: D, 4: E, 5: F, 6: G.</title>
+<text x=\"22\" y=\"16\" font-size=\"18\">1</text>
+<rect class=\"set\" x=\"2\" y=\"24\" width=\"40\" height=\"40\"/>
+<text class=\"bold\" x=\"22\" y=\"53\" font-size=\"26\">B</text>
+<text x=\"82\" y=\"16\" font-size=\"18\">2</text>
+<rect class=\"set\" x=\"62\" y=\"24\" width=\"40\" height=\"40\"/>
+<text class=\"bold\" x=\"82\" y=\"53\" font-size=\"26\">C</text>
+<text x=\"142\" y=\"16\" font-size=\"18\">3</text>
+<rect class=\"set\" x=\"122\" y=\"24\" width=\"40\" height=\"40\"/>
+<text class=\"bold\" x=\"142\" y=\"53\" font-size=\"26\">D</text>
+<text x=\"202\" y=\"16\" font-size=\"18\">4</text>
+<rect class=\"set\" x=\"182\" y=\"24\" width=\"40\" height=\"40\"/>
+<text class=\"bold\" x=\"202\" y=\"53\" font-size=\"26\">E</text>
+<text x=\"262\" y=\"16\" font-size=\"18\">5</text>
+<rect class=\"set\" x=\"242\" y=\"24\" width=\"40\" height=\"40\"/>
+<text class=\"bold\" x=\"262\" y=\"53\" font-size=\"26\">F</text>
+<text x=\"322\" y=\"16\" font-size=\"18\">6</text>
+<rect class=\"set\" x=\"302\" y=\"24\" width=\"40\" height=\"40\"/>
+<text class=\"bold\" x=\"322\" y=\"53\" font-size=\"26\">G</text>
+</svg>
+</figure>
+<label><input type=checkbox> den gew\u{e4}hlten Buchstaben zw\u{f6}lfmal schl\u{fc}sseln</label>
+<div class=row><div class=groups><span><b>KKKKK</b><small>PDPHO</small><i>12345</i></span><span><b>KKKKK</b><small>SGNFY</small><i>-6\u{a0}\u{a0}\u{a0}</i></span><span><b>KK</b><small>GA</small><i>\u{a0}\u{a0}</i></span></div>
+<label><input type=checkbox><b>12</b><br>N O P Q R B</label></div>
+<p>Die R\u{e4}der 1 bis 6 nehmen je den n\u{e4}chsten Buchstaben, den sie haben; - streicht einen Buchstaben.</p>
+</section>
+<section>
+<h2>2 Text <small>Buchstaben des Spruchs: 45</small><span>Converter M-209, Tag 7: Verschl\u{fc}sseln, Teil 1 von 1</span></h2>
+<label><input type=checkbox> R\u{e4}der auf den inneren Schl\u{fc}ssel stellen</label>
+<figure class=shown><svg role=\"img\" viewBox=\"0 0 600 66\"><title>R\u{e4}der, von links einzustellen: 1: P, 2: D, 3: P, 4: H, 5: O, 6: G.</title>
+<text x=\"22\" y=\"16\" font-size=\"18\">1</text>
+<rect class=\"set\" x=\"2\" y=\"24\" width=\"40\" height=\"40\"/>
+<text class=\"bold\" x=\"22\" y=\"53\" font-size=\"26\">P</text>
+<text x=\"82\" y=\"16\" font-size=\"18\">2</text>
+<rect class=\"set\" x=\"62\" y=\"24\" width=\"40\" height=\"40\"/>
+<text class=\"bold\" x=\"82\" y=\"53\" font-size=\"26\">D</text>
+<text x=\"142\" y=\"16\" font-size=\"18\">3</text>
+<rect class=\"set\" x=\"122\" y=\"24\" width=\"40\" height=\"40\"/>
+<text class=\"bold\" x=\"142\" y=\"53\" font-size=\"26\">P</text>
+<text x=\"202\" y=\"16\" font-size=\"18\">4</text>
+<rect class=\"set\" x=\"182\" y=\"24\" width=\"40\" height=\"40\"/>
+<text class=\"bold\" x=\"202\" y=\"53\" font-size=\"26\">H</text>
+<text x=\"262\" y=\"16\" font-size=\"18\">5</text>
+<rect class=\"set\" x=\"242\" y=\"24\" width=\"40\" height=\"40\"/>
+<text class=\"bold\" x=\"262\" y=\"53\" font-size=\"26\">O</text>
+<text x=\"322\" y=\"16\" font-size=\"18\">6</text>
+<rect class=\"set\" x=\"302\" y=\"24\" width=\"40\" height=\"40\"/>
+<text class=\"bold\" x=\"322\" y=\"53\" font-size=\"26\">G</text>
+</svg>
+</figure>
+<div class=row><div class=groups><span><b>\u{a0}\u{a0}\u{a0}\u{a0}\u{a0}</b><small>KKBCD</small></span><span><b>\u{a0}\u{a0}\u{a0}\u{a0}\u{a0}</b><small>EFGLK</small></span><span><b>FRESH</b><small>DHLMM</small></span><span><b>ZBATT</b><small>DWUVX</small></span><span><b>ERIES</b><small>COIDH</small></span><span><b>ZATZD</b><small>UGFTL</small></span><span><b>AWNXX</b><small>NTXFK</small></span><span><b>\u{a0}\u{a0}\u{a0}\u{a0}\u{a0}</b><small>KKBCD</small></span><span><b>\u{a0}\u{a0}\u{a0}\u{a0}\u{a0}</b><small>EFGLK</small></span></div>
+<label><input type=checkbox><b>45</b><br>O D R L B O</label></div>
+<p class=note>Jeder Zwischenraum wird als Z gesendet. X am Ende f\u{fc}llt die letzte Gruppe.</p>
+</section>
+</article>
+<article id=form class=form>
+<header>
+<h1>Converter M-209, Tag 7: Funkspruch</h1>
+<p class=fields><span>An</span><span>Von</span><span>Uhrzeit</span><span>Bef\u{f6}rdert durch</span></p>
+</header>
+<section>
+<h2>Teil 1 von 1<span>Converter M-209, Tag 7: Funkspruch</span></h2>
+<p class=heading><span>Teil <b>PART 1/1</b></span><span>Buchstaben <b>45</b></span></p>
+<div class=groups><span>KKBCD</span><span>EFGLK</span><span>DHLMM</span><span>DWUVX</span><span>COIDH</span><span>UGFTL</span><span>NTXFK</span><span>KKBCD</span><span>EFGLK</span></div>
+<p class=note>Die ersten zwei und die letzten zwei Gruppen: die Kennbuchstaben.</p>
+</section>
+</article>
+</main>
+";

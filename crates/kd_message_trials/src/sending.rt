@@ -1,10 +1,10 @@
 //! Tests of the pages for sending.
-use crate::pages::{ENIGMA_SEND, M4_SEND, M209_LONG_SEND, M209_SEND};
+use crate::pages::{ENIGMA_SEND, M4_GERMAN, M4_SEND, M209_GERMAN, M209_LONG_SEND, M209_SEND};
 use crate::samples::{
     ENIGMA, ENIGMA_DAY, ENIGMA_ORDER, M4, M4_DAY, M4_ORDER, M209, M209_DAY, M209_LONG_ORDER,
     M209_ORDER,
 };
-use kd_message::{ENGLISH, write_send_page};
+use kd_message::{ENGLISH, GERMAN, MessageTexts, write_send_page};
 use kd_sheet::{read_machine, read_sheet};
 use kd_tables::MemorySink;
 use std::alloc::Global;
@@ -20,8 +20,14 @@ static SENT: [Sent; 4] = [
     (M209, M209_DAY, 7, M209_LONG_ORDER, M209_LONG_SEND),
 ];
 
+static SENT_IN_GERMAN: [Sent; 2] = [
+    (M4, M4_DAY, 6, M4_ORDER, M4_GERMAN),
+    (M209, M209_DAY, 7, M209_ORDER, M209_GERMAN),
+];
+
 /// Checks that the order's page is `page`.
-fn is_sent(rt: &impl Abort, alloc: Global, (machine, sheet, day, order, page): &Sent) {
+fn is_sent(rt: &impl Abort, alloc: Global, texts: &MessageTexts, sent: &Sent) {
+    let (machine, sheet, day, order, page) = sent;
     let machine = read_machine(alloc, machine.as_bytes())
         .ok()
         .expect(rt, "a machine");
@@ -30,7 +36,7 @@ fn is_sent(rt: &impl Abort, alloc: Global, (machine, sheet, day, order, page): &
         .expect(rt, "a sheet");
     let mut sink = MemorySink::<65536>::new(65536);
     let day = sheet.day(*day).expect(rt, "a day");
-    let answer = write_send_page(alloc, &ENGLISH, &machine, day, order.as_bytes(), &mut sink);
+    let answer = write_send_page(alloc, texts, &machine, day, order.as_bytes(), &mut sink);
     assert!(rt; answer == Ok(()), "{order}");
     let shown = std::str::from_utf8(sink.taken()).unwrap_or("?");
     let (_, body) = shown.split_once("</style>\n").unwrap_or(("", shown));
@@ -40,6 +46,13 @@ fn is_sent(rt: &impl Abort, alloc: Global, (machine, sheet, day, order, page): &
 #[test]
 fn orders_become_pages(rt: HostRuntime) {
     for sent in &SENT {
-        is_sent(&rt, rt.alloc(), sent);
+        is_sent(&rt, rt.alloc(), &ENGLISH, sent);
+    }
+}
+
+#[test]
+fn orders_become_german_pages(rt: HostRuntime) {
+    for sent in &SENT_IN_GERMAN {
+        is_sent(&rt, rt.alloc(), &GERMAN, sent);
     }
 }
