@@ -3,3 +3,4 @@ pub mod Sheets
 pub mod Orders
 pub mod Works
 pub mod SendPages
+pub mod Chunks

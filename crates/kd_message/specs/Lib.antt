@@ -7,3 +7,4 @@ pub mod PartWork
 pub mod PartSheet
 pub mod FormSheet
 pub mod SendPage
+pub mod Laws

@@ -3,6 +3,7 @@
 
 mod cells;
 mod form_sheet;
+pub mod laws;
 mod letters_after;
 pub mod markup;
 mod order;
