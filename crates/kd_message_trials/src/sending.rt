@@ -13,7 +13,7 @@ use kd_tables::MemorySink;
 use std::alloc::Global;
 use std::process::Abort;
 
-/// A machine file, a key sheet, a day, an order, and its page.
+/// A machine file, a key sheet, a day, an order, and its page after the style sheet.
 type Sent = (&'static str, &'static str, u8, &'static str, &'static str);
 
 static SENT: [Sent; 4] = [
@@ -28,57 +28,41 @@ static SENT_IN_GERMAN: [Sent; 2] = [
     (M209, M209_DAY, 7, M209_ORDER, M209_GERMAN),
 ];
 
-/// Checks that the order's page is `page`.
-fn is_sent(rt: &impl Abort, alloc: Global, texts: &MessageTexts, sent: &Sent) {
-    let (machine, sheet, day, order, page) = sent;
+/// An order without letters, and an order for a sink with room for 300 bytes.
+static EMPTY: Sent = (M4, M4_DAY, 6, "PART RTMC VJNA QX WIB\nTEXT\n \n", "");
+
+static CUT_OFF: Sent = (M4, M4_DAY, 6, M4_ORDER, "");
+
+/// Writes the order's page to a sink with room for `room` bytes.
+fn written(
+    rt: &impl Abort,
+    alloc: Global,
+    texts: &MessageTexts,
+    sent: &Sent,
+    room: usize,
+) -> (Result<(), FormFault>, MemorySink<65536>)
+    requires { room ≤ 65536 }
+{
+    let (machine, sheet, day, order, _) = sent;
     let machine = read_machine(alloc, machine.as_bytes())
         .ok()
         .expect(rt, "a machine");
     let sheet = read_sheet(alloc, sheet.as_bytes())
         .ok()
         .expect(rt, "a sheet");
-    let mut sink = MemorySink::<65536>::new(65536);
     let day = sheet.day(*day).expect(rt, "a day");
+    let mut sink = MemorySink::new(room);
     let answer = write_send_page(alloc, texts, &machine, day, order.as_bytes(), &mut sink);
-    assert!(rt; answer == Ok(()), "{order}");
-    let shown = std::str::from_utf8(sink.taken()).unwrap_or("?");
-    let (_, body) = shown.split_once("</style>\n").unwrap_or(("", shown));
-    assert!(rt; body == *page, "{body}");
-}
-
-/// Tries to write a page, with room for `room` bytes.
-fn tried(
-    rt: &impl Abort,
-    alloc: Global,
-    order: &str,
-    room: usize,
-) -> (Result<(), FormFault>, MemorySink<512>)
-    requires { room ≤ 512 }
-{
-    let machine = read_machine(alloc, M4.as_bytes())
-        .ok()
-        .expect(rt, "a machine");
-    let sheet = read_sheet(alloc, M4_DAY.as_bytes())
-        .ok()
-        .expect(rt, "a sheet");
-    let day = sheet.day(6).expect(rt, "a day");
-    let mut sink = MemorySink::<512>::new(room);
-    let answer = write_send_page(alloc, &ENGLISH, &machine, day, order.as_bytes(), &mut sink);
     (answer, sink)
 }
 
-#[test]
-fn nothing_is_written_of_a_refused_order(rt: HostRuntime) {
-    let (answer, sink) = tried(&rt, rt.alloc(), "PART RTMC VJNA QX WIB\nTEXT\n \n", 512);
-    assert!(rt; answer == Err(FormFault::EmptyText));
-    assert!(rt; sink.taken().is_empty());
-}
-
-#[test]
-fn a_page_stops_where_the_sink_fails(rt: HostRuntime) {
-    let (answer, sink) = tried(&rt, rt.alloc(), M4_ORDER, 300);
-    assert!(rt; answer == Err(FormFault::Device));
-    assert!(rt; sink.taken().len() == 300);
+/// Checks that the order's page is the one that is due.
+fn is_sent(rt: &impl Abort, alloc: Global, texts: &MessageTexts, sent: &Sent) {
+    let (answer, sink) = written(rt, alloc, texts, sent, 65536);
+    assert!(rt; answer == Ok(()));
+    let shown = std::str::from_utf8(sink.taken()).unwrap_or("?");
+    let (_, body) = shown.split_once("</style>\n").unwrap_or(("", shown));
+    assert!(rt; body == sent.4, "{body}");
 }
 
 #[test]
@@ -86,11 +70,15 @@ fn orders_become_pages(rt: HostRuntime) {
     for sent in &SENT {
         is_sent(&rt, rt.alloc(), &ENGLISH, sent);
     }
-}
-
-#[test]
-fn orders_become_german_pages(rt: HostRuntime) {
     for sent in &SENT_IN_GERMAN {
         is_sent(&rt, rt.alloc(), &GERMAN, sent);
     }
+}
+
+#[test]
+fn pages_are_refused_and_cut_off(rt: HostRuntime) {
+    let (answer, sink) = written(&rt, rt.alloc(), &ENGLISH, &EMPTY, 65536);
+    assert!(rt; answer == Err(FormFault::EmptyText) && sink.taken().is_empty());
+    let (answer, sink) = written(&rt, rt.alloc(), &ENGLISH, &CUT_OFF, 300);
+    assert!(rt; answer == Err(FormFault::Device) && sink.taken().len() == 300);
 }
