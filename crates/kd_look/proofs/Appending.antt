@@ -1,5 +1,5 @@
 -- Texts that are appended, one after another.
-use Rattle.std.proofs.Common.{◌≡◌, ℕ, List, ◌++◌, ap, ◌∙◌, append_assoc, refl}
+use Rattle.std.proofs.Common.{ℕ, List, ◌++◌, ap, ◌∙◌, append_assoc, refl}
 use Rattle.kd_look.specs.Texts.{AppendsText, BeginsWith}
 
 -- a piece is appended, and then others

@@ -1,6 +1,6 @@
 -- The lines of findings, found line by line.
-use Rattle.std.proofs.Common.{◌≡◌, ℕ, suc, zero, ◌+◌, ◌&&◌, Bool, true, false, List, [], ◌∷◌, map, Option, Some, None, find}
-use Rattle.std.proofs.Common.{option_map, take, length, cond, arith, ap, sym, ◌∙◌, subst, refl, add-zero, if◌then◌else◌}
+use Rattle.std.proofs.Common.{◌≡◌, ℕ, suc, zero, ◌+◌, Bool, true, false, List, [], ◌∷◌, map, Option, Some, None, find}
+use Rattle.std.proofs.Common.{option_map, take, length, cond, arith, ap, sym, ◌∙◌, subst, refl, if◌then◌else◌}
 use Rattle.std.specs.List.{range_with_len}
 use Rattle.std.specs.Option.{option_and_then, option_map_or}
 use Rattle.std.specs.Result.{result_ok}

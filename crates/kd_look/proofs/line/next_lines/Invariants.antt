@@ -1,4 +1,4 @@
-use Rattle.std.proofs.Common.{◌≡◌, ℕ, List, Option, map, take}
+use Rattle.std.proofs.Common.{◌≡◌, ℕ, Option, map, take}
 use Rattle.toml.specs.View.{table_view}
 use Rattle.kd_slips.specs.declared.findings.Finding.{Finding}
 use Rattle.kd_look.specs.Line.{line_in, or_line}
