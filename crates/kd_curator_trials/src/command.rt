@@ -29,11 +29,14 @@ static TABLES: [(&[&str], &str, TableForm); 5] = [
 ];
 
 /// A command line with `sheet`, its table, and the texts of its options: model, reflector and window.
-static SHEETS: [(&[&str], [&str; 4]); 4] = [
-    (&["curator", "sheet", "t"], ["t", "", "", ""]),
+static SHEETS: [(&[&str], &str, &str, &str, &str); 4] = [
+    (&["curator", "sheet", "t"], "t", "", "", ""),
     (
         &["curator", "sheet", "t", "--model", "M4"],
-        ["t", "M4", "", ""],
+        "t",
+        "M4",
+        "",
+        "",
     ),
     (
         &[
@@ -47,12 +50,12 @@ static SHEETS: [(&[&str], [&str; 4]); 4] = [
             "--",
             "--empty",
         ],
-        ["--empty", "Enigma I", "B", "AAA"],
+        "--empty",
+        "Enigma I",
+        "B",
+        "AAA",
     ),
-    (
-        &["curator", "sheet", "31", "--model", ""],
-        ["31", "", "", ""],
-    ),
+    (&["curator", "sheet", "31", "--model", ""], "31", "", "", ""),
 ];
 
 /// A command line with `sheet --empty`, its model and its number of days.
@@ -189,20 +192,24 @@ fn finds_the_sheet(rt: HostRuntime) {
     }
 }
 
-/// The table and the options of a command line with `sheet`; `None` if it is another command line.
-fn sheet_texts<'a>(alloc: Global, words: &'a [&'a str]) -> Option<[&'a str; 4]> {
-    match parse_words(alloc, words).ok()? {
-        Command::Sheet { table, options } => {
-            Some([table, options.model, options.reflector, options.window])
-        }
-        _ => None,
-    }
-}
-
 #[test]
 fn finds_the_table_and_its_options(rt: HostRuntime) {
-    for (words, texts) in &SHEETS {
-        assert_eq!(rt; sheet_texts(rt.alloc(), words), Some(*texts));
+    for (words, table, model, reflector, window) in &SHEETS {
+        let found = match parse_words(rt.alloc(), words) {
+            Ok(
+                Command::Sheet {
+                    table: name,
+                    options,
+                },
+            ) => {
+                name == *table
+                    && options.model == *model
+                    && options.reflector == *reflector
+                    && options.window == *window
+            }
+            _ => false,
+        };
+        assert!(rt; found);
     }
 }
 
