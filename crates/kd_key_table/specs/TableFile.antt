@@ -4,11 +4,11 @@ use Rattle.kd_tables.specs.declared.model.Model.TheVariants.{EnigmaI, M3, M4}
 use Rattle.kd_state.specs.SheetDay.{Day}
 use Rattle.kd_sheet.specs.Sheet.{day_of}
 use Rattle.kd_pictures.specs.declared.language.Language.{Language}
-use Rattle.kd_pictures.specs.declared.texts.TheConstants.{FOOT, STYLE}
+use Rattle.kd_pictures.specs.declared.texts.TheConstants.{FOOT, MORE_STYLE, STYLE}
 use Rattle.kd_pictures.specs.FileHead.{file_head}
 use Rattle.kd_pictures.specs.Language.{text_in}
 use Rattle.kd_key_table.specs.declared.days.TheConstants.{DAYS}
-use Rattle.kd_key_table.specs.declared.texts.TheConstants.{NO_DAYS, TABLE_STYLE, TITLE, WIDE_BODY}
+use Rattle.kd_key_table.specs.declared.texts.TheConstants.{NO_DAYS, TITLE, WIDE_BODY}
 use Rattle.kd_key_table.specs.declared.table_file.TableForm.{TableForm}
 use Rattle.kd_key_table.specs.declared.table_file.TableForm.TheVariants.{Csv, Page}
 use Rattle.kd_key_table.specs.CsvTable.{csv_text}
@@ -29,7 +29,7 @@ tables_of l month =
 -- the whole page
 unfoldable pub page_text : Language → List (Option Day) → List ℕ
 page_text l month =
-    file_head l ++ text_in l TITLE ++ STYLE.now ++ TABLE_STYLE.now ++ WIDE_BODY.now ++ no_days l (has_days month)
+    file_head l ++ text_in l TITLE ++ STYLE.now ++ MORE_STYLE.now ++ WIDE_BODY.now ++ no_days l (has_days month)
     ++ tables_of l month ++ FOOT.now
 
 -- the file in this form, in language `l`; a table for a spreadsheet is the same in all languages

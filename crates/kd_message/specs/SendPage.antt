@@ -19,7 +19,7 @@ use Rattle.kd_form.specs.Streams.{IsUntouched}
 use Rattle.kd_pictures.specs.declared.texts.TheConstants as page_texts
 use Rattle.kd_pictures.specs.Template.{filled}
 use Rattle.kd_pictures.specs.Words.{model_name}
-use Rattle.kd_message.specs.declared.markup.TheConstants.{ARTICLE_END, MESSAGE_STYLE}
+use Rattle.kd_message.specs.declared.markup.TheConstants.{ARTICLE_END}
 use Rattle.kd_message.specs.declared.part_sheet.PartName.{PartName}
 use Rattle.kd_message.specs.declared.texts.MessageTexts.{MessageTexts}
 use Rattle.kd_message.specs.FormSheet.{form_head, form_part}
@@ -31,7 +31,7 @@ use Rattle.kd_message.specs.Rows.{pieces}
 unfoldable pub title_text : MessageTexts → Day → List ℕ
 title_text texts s =
     texts.head.now ++ filled texts.title_to_send.now (model_name (day_model s) ∷ decimal (day_number s) ∷ [])
-    ++ page_texts.STYLE.now ++ MESSAGE_STYLE.now ++ page_texts.BODY.now
+    ++ page_texts.STYLE.now ++ page_texts.MORE_STYLE.now ++ page_texts.BODY.now
 
 -- a part in the list of the sheets
 abbrev pub listed_text : MessageTexts → ℕ → ℕ → List ℕ

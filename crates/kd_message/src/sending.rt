@@ -15,7 +15,7 @@ ghost use Rattle.kd_message.specs.SendPage.{send_text, text_pieces, title_text};
 
 use crate::filling::fill;
 use crate::form_sheet::{draw_form_head, draw_form_part};
-use crate::markup::{ARTICLE_END, MESSAGE_STYLE};
+use crate::markup::ARTICLE_END;
 use crate::order::{read_head, take_piece};
 use crate::part_sheet::{PartName, draw_part_sheet};
 use crate::part_work::work_of;
@@ -27,7 +27,7 @@ use kd_form::sending::part::{indicator_of, pin_letters, rotor_letters};
 use kd_form::{FormFault, send};
 use kd_pictures::draw;
 use kd_pictures::template::Value;
-use kd_pictures::texts::{BODY, FOOT, STYLE};
+use kd_pictures::texts::{BODY, FOOT, MORE_STYLE, STYLE};
 use kd_state::{Machine, SheetDay};
 use kd_tables::{Letter, Sink};
 use std::alloc::Global;
@@ -106,7 +106,7 @@ fn draw_title<W: Sink>(sink: &mut W, texts: &MessageTexts, day: &SheetDay)
         ],
     );
     draw(sink, STYLE);
-    draw(sink, MESSAGE_STYLE);
+    draw(sink, MORE_STYLE);
     draw(sink, BODY);
 }
 

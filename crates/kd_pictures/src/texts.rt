@@ -126,6 +126,73 @@ figure,tr,li,pre,.beside,.pins tbody,.drum{page-break-inside:avoid;break-inside:
 @page{margin:12mm}
 ";
 
+/// What the style sheets of key tables and of messages have beyond that of a day's page.
+pub const MORE_STYLE: &str = ".shown svg{width:110mm;max-width:100%}
+.row{display:flex;align-items:flex-end;border-bottom:1px solid var(--line);padding:.4em 0 .2em}
+.groups,.row label,.text,.heading b{font-family:ui-monospace,Consolas,\"DejaVu Sans Mono\",monospace}
+.groups{display:flex;flex-wrap:wrap;flex:1}
+.groups span{flex:0 0 10%;min-width:0}
+section>label{padding-left:1.6em;text-indent:-1.6em}
+.row b,.row .groups>span>small,.row i{display:block;line-height:1.2}
+.groups small,.row i{font-size:.75em;letter-spacing:.2em;text-indent:.1em;font-weight:400;font-style:normal}
+.row .groups>span>small{border-top:1px solid;margin:2.3em .6em 0 0;padding-top:.15em}
+.row label{flex:0 0 7.2em;padding:0;font-size:.8em;line-height:1.25}
+.row label b{display:inline}
+.heading span{display:inline-block;margin-right:2em;font-size:.85em;color:var(--soft)}
+.heading b{display:block;font-size:1.47em;line-height:1.3;color:var(--ink)}
+.form .groups,.text{font-size:1.25em;line-height:1.6}
+.letters{word-break:break-all}
+.words{white-space:pre-wrap;overflow-wrap:anywhere}
+@media screen and (max-width:820px){
+.groups span{flex-basis:20%}
+.row .groups{row-gap:.6em;font-size:min(1em,5vw - 5px)}
+.row .groups>span>small{margin-right:.4em}
+.form .groups{font-size:min(1.15em,5.4vw)}
+}
+@media print{
+.sheets{display:block;margin-bottom:.3em}
+.next{page-break-before:always;break-before:page}
+.row{page-break-inside:avoid;break-inside:avoid}
+.row .groups>span>small{margin:2em .4em 0 0}
+.row{padding:.25em 0 .1em}
+.row label{line-height:1.15}
+.shown{margin:.1em 0 .2em}
+}
+.wide{max-width:75rem}
+.month,.keylist{width:100%;text-align:center;line-height:1.2}
+.month td,.keylist td,.month tbody th,.keylist tbody th{font-family:ui-monospace,Consolas,\"DejaVu Sans Mono\",monospace;padding:0 .15em;white-space:nowrap}
+.month th,.keylist th{text-align:center;font-weight:700;vertical-align:bottom}
+.month small{font-size:.7em;color:var(--soft)}
+.month tr,.keylist tr{border-bottom:1px solid var(--line)}
+.month thead,.keylist thead,.month tbody tr:nth-last-child(5n+6),.keylist tbody tr:nth-child(9n){border-bottom:2px solid var(--ink)}
+.keylist thead tr{border:0}
+.month colgroup+colgroup{border-left:1px solid var(--line)}
+.list{max-width:50rem}
+.list h2,.list pre{text-align:center;border:0}
+.list pre{font-size:1.4em}
+@media screen and (max-width:1150px){
+.month,.month thead,.month tbody,.month tr{display:block}
+.month tr{text-align:left;padding:.2em 0}
+.month th,.month td,.month tbody th{display:inline-block;text-align:left;padding:0 .7em 0 0}
+.month tr>:nth-last-child(3){display:block;white-space:normal}
+.month tr>:nth-last-child(2){padding-right:1.6em}
+}
+@media screen and (max-width:700px){
+.keylist{font-size:15px}
+.list pre{font-size:1em}
+}
+@media print{
+.sheet{page:sheet}
+.sheet header{display:flex;align-items:baseline}
+.sheet .fields{flex:1;margin:0 0 .2em 1.5em}
+.month{font-size:12pt;line-height:13.4pt}
+.month thead{line-height:1.15}
+.sheet .note{font-size:9.5pt}
+.keylist{font-size:14pt;line-height:1.28}
+}
+@page sheet{size:landscape;margin:10mm 12mm}
+";
+
 /// The end of the style sheet, and the beginning of the page's body.
 pub const BODY: &str = "</style>\n<body>\n<main>\n";
 
