@@ -1,8 +1,7 @@
 -- The files of `look`, asked for one after another.
-use Rattle.std.proofs.Common.{◌≡◌, ◌∙◌, ℕ, Bool, true, false, List, [], ◌∷◌, ◌++◌, Result, Ok, Err, map, ap, sym, append_assoc}
-use Rattle.std.proofs.Common.{IsErrAnd, is_ok}
+use Rattle.std.proofs.Common.{◌≡◌, ◌∙◌, ℕ, List, [], ◌∷◌, ◌++◌, map, ap, sym, append_assoc}
 use Rattle.std.proofs.lemmas.List.{map-append}
-use Rattle.kd_host.specs.Files.{AreAskedFor, AskedName, MissesOne, asked_and_had, asked_and_missed}
+use Rattle.kd_host.specs.Files.{AskedName, MissesOne, asked_and_had, asked_and_missed}
 
 -- if all of some names were had, and then all of others, all were
 pub all_both : (xs ys : List (List ℕ)) (a b c : List AskedName) → b ≡ a ++ map asked_and_had xs

@@ -1,5 +1,5 @@
 -- The answer for a spreadsheet's table, as a refusal.
-use Rattle.std.proofs.Common.{◌≡◌, ℕ, Bool, List, Result, Ok, Err, ap, refl}
+use Rattle.std.proofs.Common.{◌≡◌, ℕ, List, Result, Err, refl}
 use Rattle.kd_tables.specs.Ports.{Port}
 use Rattle.kd_tables.specs.Writing.{TakesPrefix}
 use Rattle.kd_state.specs.SheetDay.{Day}

@@ -1,6 +1,6 @@
 -- The answer for a sheet's tables, as a refusal.
-use Rattle.std.proofs.Common.{◌≡◌, ◌≢◌, ◌⊎◌, ◌||◌, ℕ, Bool, true, false, List, Option, Result, Ok, Err, IsErr, MatchResult}
-use Rattle.std.proofs.Common.{ap, inl, inr, refl, arith}
+use Rattle.std.proofs.Common.{◌≡◌, ◌≢◌, ℕ, true, false, List, Option, Result, Ok, Err, MatchResult}
+use Rattle.std.proofs.Common.{ap, inl, inr, refl}
 use Rattle.kd_tables.specs.Ports.{Port}
 use Rattle.kd_host.specs.Writing.{WritesText}
 use Rattle.kd_state.specs.SheetDay.{Day}

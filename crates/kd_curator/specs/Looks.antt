@@ -1,6 +1,6 @@
 -- What the command `look` writes, and when it refuses.
 -- Test: looks_at_files
-use Rattle.std.specs.Prelude.{◌≡◌, ℕ, List, [], ◌∷◌, ◌++◌, Option, Some, None, Result, Ok, Err}
+use Rattle.std.specs.Prelude.{◌≡◌, ℕ, List, [], ◌∷◌, ◌++◌, Option, Some, Result, Ok, Err}
 use Rattle.kd_tables.specs.Ports.{Port}
 use Rattle.kd_look.specs.Look.{IsLookAnswer, NamedText}
 use Rattle.kd_look.specs.declared.looking.LookFault.{LookFault}

@@ -1,4 +1,4 @@
-use Rattle.kd_curator.proofs.Prelude.{arith, codes, found_of, refl, rules}
+use Rattle.kd_curator.proofs.Prelude.{codes, found_of, refl, rules}
 use Rattle.kd_curator.proofs.CommandLines.{no_look, read_maybe, read_none, read_some}
 use Rattle.kd_curator.proofs.command.look_of.Goals as goal
 

@@ -1,8 +1,8 @@
-use Rattle.kd_curator.proofs.Prelude.{[], ◌∷◌, codes, rule_of, IsMadeOf, subst, Rule}
+use Rattle.kd_curator.proofs.Prelude.{[], ◌∷◌, codes, IsMadeOf}
 use Rattle.kd_curator.specs.CommandLine.{needed, option_rule, sheet_shape}
 use Rattle.clap.specs.Built.{AddsArg}
 use Rattle.clap.specs.Simple.{new_shape}
-use Rattle.kd_curator.proofs.Grammars.{first_shape, known_rule_more, ok_also, with_rules}
+use Rattle.kd_curator.proofs.Grammars.{first_shape, known_rule_more, ok_also}
 use Rattle.kd_curator.proofs.command.sheet_grammar.Goals as goal
 
 pub returns : goal.returns

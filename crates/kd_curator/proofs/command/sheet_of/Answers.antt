@@ -1,4 +1,4 @@
-use Rattle.kd_curator.proofs.Prelude.{ap, arith, codes, false, found_of, refl, rules, rows_of, sym, true, ◌≡◌, ◌∙◌}
+use Rattle.kd_curator.proofs.Prelude.{ap, codes, false, found_of, refl, rules, rows_of, sym, ◌≡◌, ◌∙◌}
 use Rattle.kd_curator.specs.CommandLine.{are_blank, option_texts}
 use Rattle.kd_curator.proofs.CommandLines.{no_month, no_sheet, not_alone, read_none, read_some}
 use Rattle.kd_curator.proofs.command.sheet_of.Goals as goal

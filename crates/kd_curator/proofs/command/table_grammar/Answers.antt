@@ -1,5 +1,5 @@
 use Rattle.kd_curator.proofs.Prelude.{[], ◌∷◌, codes, rule_of, IsMadeOf, subst, Rule}
-use Rattle.kd_curator.specs.CommandLine.{csv_flag, needed, table_shape}
+use Rattle.kd_curator.specs.CommandLine.{needed, table_shape}
 use Rattle.clap.specs.Built.{AddsArg}
 use Rattle.clap.specs.Simple.{new_shape}
 use Rattle.kd_curator.proofs.Grammars.{first_shape, one_rule_more, ok_also, with_rules}

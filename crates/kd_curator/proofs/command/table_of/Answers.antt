@@ -1,4 +1,4 @@
-use Rattle.kd_curator.proofs.Prelude.{arith, codes, found_of, refl, rules}
+use Rattle.kd_curator.proofs.Prelude.{codes, found_of, refl, rules}
 use Rattle.kd_curator.proofs.CommandLines.{no_table, read_none, read_some}
 use Rattle.kd_curator.proofs.command.table_of.Goals as goal
 

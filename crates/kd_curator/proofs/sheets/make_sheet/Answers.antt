@@ -1,4 +1,3 @@
-use Rattle.std.proofs.Common.{refl, ◌∙◌}
 use Rattle.kd_curator.specs.Sheets.{Sheet}
 use Rattle.kd_curator.proofs.SheetAnswers.{not_made}
 use Rattle.kd_curator.proofs.sheets.make_sheet.Goals as goal

@@ -1,4 +1,4 @@
-use Rattle.std.proofs.Common.{Err, Ok, ap, refl, ◌||◌, ◌∙◌}
+use Rattle.std.proofs.Common.{Err, ap, refl, ◌||◌, ◌∙◌}
 use Rattle.kd_curator.proofs.TableAnswers.{device_told, tables_told, untouched_told}
 use Rattle.kd_curator.proofs.tables.write_tables.Goals as goal
 
