@@ -96,14 +96,6 @@ unborrowed_command (commands.EmptySheet model days) = commands.EmptySheet model 
 abbrev pub ReadCommand : Type 0
 ReadCommand = Command (List ℕ) (List ℕ)
 
--- the command, with the borrowed texts of its options replaced by the texts themselves
-abbrev pub with_texts : Command (List ℕ) (Bor (List ℕ)) → ReadCommand
-with_texts (commands.OnMachine machine sheet task) = commands.OnMachine machine sheet task
-with_texts (commands.Table sheet form) = commands.Table sheet form
-with_texts (commands.Sheet table options) = commands.Sheet table (texts_of options)
-with_texts (commands.Look names files) = commands.Look (unborrowed_three names) files
-with_texts (commands.EmptySheet model days) = commands.EmptySheet model days
-
 abbrev pub task_name : Task → List ℕ
 task_name (tasks.Page days) = codes "page"
 task_name (tasks.List day) = codes "list"
@@ -247,3 +239,11 @@ IsToldAs kind NoMemory = Unit {0}
 abbrev pub IsFormNamed : List ℕ → TableForm → Type 0
 IsFormNamed word forms.Csv = word ≡ codes "true"
 IsFormNamed word forms.Page = word ≢ codes "true"
+
+-- the command, with the borrowed texts of its options replaced by the texts themselves
+abbrev pub with_texts : Command (List ℕ) (Bor (List ℕ)) → ReadCommand
+with_texts (commands.OnMachine machine sheet task) = commands.OnMachine machine sheet task
+with_texts (commands.Table sheet form) = commands.Table sheet form
+with_texts (commands.Sheet table options) = commands.Sheet table (texts_of options)
+with_texts (commands.Look names files) = commands.Look (unborrowed_three names) files
+with_texts (commands.EmptySheet model days) = commands.EmptySheet model days

@@ -106,15 +106,6 @@ pub record IsLeftAlone (p : Port) : Type 0 where
   pub same : p.has ≡ p.had
   pub failed : p.has_failed ≡ p.had_failed
 
--- What a command tells on standard error, beside the reason of a refusal: `sheet` tells the columns that it doesn't read,
--- and a table's faults. Other commands tell nothing.
-abbrev pub HasTold : ReadCommand → Port → Type 0
-HasTold (commands.Sheet table options) errors = Tells errors
-HasTold (commands.OnMachine machine sheet task) errors = IsLeftAlone errors
-HasTold (commands.Table sheet form) errors = IsLeftAlone errors
-HasTold (commands.Look names files) errors = IsLeftAlone errors
-HasTold (commands.EmptySheet model days) errors = IsLeftAlone errors
-
 -- ---- The program's answer.
 
 -- whether everything was written that the answer says: after success, and if files that were looked at have faults
@@ -242,3 +233,12 @@ HasMonth (commands.OnMachine machine sheet task) = Unit {0}
 HasMonth (commands.Table sheet form) = Unit {0}
 HasMonth (commands.Sheet table options) = Unit {0}
 HasMonth (commands.Look names files) = Unit {0}
+
+-- What a command tells on standard error, beside the reason of a refusal: `sheet` tells the columns that it doesn't read,
+-- and a table's faults. Other commands tell nothing.
+abbrev pub HasTold : ReadCommand → Port → Type 0
+HasTold (commands.Sheet table options) errors = Tells errors
+HasTold (commands.OnMachine machine sheet task) errors = IsLeftAlone errors
+HasTold (commands.Table sheet form) errors = IsLeftAlone errors
+HasTold (commands.Look names files) errors = IsLeftAlone errors
+HasTold (commands.EmptySheet model days) errors = IsLeftAlone errors

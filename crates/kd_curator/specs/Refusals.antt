@@ -49,11 +49,6 @@ abbrev pub is_device : Result (Unit {0}) Refused → Bool
 is_device (Ok done) = false
 is_device (Err refused) = is_device_fault refused.fault
 
--- whether a command was refused after it had written something
-abbrev pub has_written : Result (Unit {0}) Refused → Bool
-has_written (Ok done) = false
-has_written (Err refused) = comes_after_writing refused.fault
-
 -- why there are no tables, as a refusal
 abbrev pub refused_table : TableFault → Refused
 refused_table (tables.Sheet fault) = refused_whole (faults.File fault)
@@ -69,3 +64,10 @@ refused_spreadsheet spreadsheets.NoMemory = refused_whole (faults.File NoMemory)
 abbrev pub refused_look : LookFault → Refused
 refused_look looks.Device = refused_device
 refused_look looks.NoMemory = refused_whole (faults.File NoMemory)
+
+-- ---- What inner functions ask of a refusal. No public contract cites this definition.
+
+-- whether a command was refused after it had written something
+abbrev pub has_written : Result (Unit {0}) Refused → Bool
+has_written (Ok done) = false
+has_written (Err refused) = comes_after_writing refused.fault
