@@ -1,7 +1,8 @@
 #!/usr/bin/env python3
 """Draws the page of each of these days by itself, for a comparison with the pages that curator writes. It was written before
 curator, by another hand, from the rules for the page's looks, and shares no code with it. The environment's DESK names the
-built desk, which makes the cards, carries them out, and types the tests. STYLE names a file with the style sheet.
+built desk, which makes the cards, carries them out, and types the tests. STYLE names a file with the style sheet. With WORDS=de the
+page is German, by the words of page_words.py.
 
     page_oracle.py MACHINE SHEET DAY..
 """
@@ -11,8 +12,11 @@ import sys
 import tempfile
 import tomllib
 
+from page_words import GERMAN
+
 DESK = os.environ['DESK']
 STYLE = os.environ['STYLE']
+LANGUAGE = os.environ.get('WORDS', 'en')
 
 ABC = 'ABCDEFGHIJKLMNOPQRSTUVWXYZ'
 BOX = ['I', 'II', 'III', 'IV', 'V', 'VI', 'VII', 'VIII', 'Beta', 'Gamma']
@@ -41,6 +45,12 @@ def machine_of(text):
 
 # Words.
 
+def say(text, *values):
+    """A fixed text in the page's language, with its values."""
+    text = GERMAN[text] if LANGUAGE == 'de' else text
+    return text % values if values else text
+
+
 def number(letter):
     return '%02d' % (ABC.index(letter) + 1)
 
@@ -50,7 +60,7 @@ def named(letter):
 
 
 def count(n):
-    return 'nothing to change' if n == 0 else '1 setting' if n == 1 else '%d settings' % n
+    return say('nothing to change') if n == 0 else say('1 setting') if n == 1 else say('%d settings', n)
 
 
 def in_fives(text):
@@ -97,16 +107,16 @@ def band(y, m, word, seated, reflected, ringed, turned):
     """A reflector and its wheels in their slots, from the top y. What the card sets is framed thick, and bold."""
     frame = lambda is_set: 'set' if is_set else ''
     bold = lambda is_set: 'bold' if is_set else ''
-    out = text(2, y + 16, 20, word, 'label bold')
+    out = text(2, y + 16, 20, say(word), 'label bold')
     for label, down in (('wheel', 54), ('ring', 84), ('window', 125)):
-        out += text(2, y + down, 18, label, 'label')
-    out += text(134, y + 16, 18, 'reflector', '') + rect(96, y + 24, 76, 122, frame(reflected))
+        out += text(2, y + down, 18, say(label), 'label')
+    out += text(134, y + 16, 18, say('reflector'), '') + rect(96, y + 24, 76, 122, frame(reflected))
     out += text(134, y + 54, 20, m['reflector'], bold(reflected))
     for slot, wheel in enumerate(m['slots']):
         x = 184 + 104 * slot
-        out += text(x + 48, y + 16, 18, 'slot %d' % (slot + 1), '') + rect(x, y + 24, 96, 122, frame(slot in seated))
+        out += text(x + 48, y + 16, 18, say('slot %d', slot + 1), '') + rect(x, y + 24, 96, 122, frame(slot in seated))
         if not wheel:
-            out += text(x + 48, y + 54, 20, 'empty', '')
+            out += text(x + 48, y + 54, 20, say('empty'), '')
             continue
         out += text(x + 48, y + 54, 20, wheel, bold(slot in seated))
         if wheel in ringed:
@@ -119,8 +129,9 @@ def band(y, m, word, seated, reflected, ringed, turned):
 
 
 def in_words(m):
-    return 'reflector ' + m['reflector'] + ''.join(
-        '; slot %d: %s' % (slot + 1, 'empty' if not w else 'wheel %s, ring %s, window %s' % (w, m['ring'][w], m['letter'][w]))
+    return say('reflector %s', m['reflector']) + ''.join(
+        '; ' + (say('slot %d: wheel %s, ring %s, window %s', slot + 1, w, m['ring'][w], m['letter'][w]) if w else
+                say('slot %d: empty', slot + 1))
         for slot, w in enumerate(m['slots']))
 
 
@@ -129,8 +140,8 @@ def wheels_picture(before, after, settings):
     sets = ({int(s[1]) - 1 for s in of('SEAT')}, bool(of('REFLECTOR')), {s[1] for s in of('RING')},
             {int(s[1]) - 1 for s in of('TURN')})
     if not settings:
-        return svg(600, 150, 'The wheels, from the left: %s.' % in_words(after), band(0, after, 'after', *sets))
-    return svg(600, 314, 'The wheels, from the left. Before: %s. After: %s.' % (in_words(before), in_words(after)),
+        return svg(600, 150, say('The wheels, from the left: %s.', in_words(after)), band(0, after, 'after', *sets))
+    return svg(600, 314, say('The wheels, from the left. Before: %s. After: %s.', in_words(before), in_words(after)),
                band(0, before, 'before', (), False, (), ()) + band(164, after, 'after', *sets))
 
 
@@ -186,22 +197,24 @@ def board(cables, moved, kind, title):
 
 
 def joined(cables):
-    return ', '.join('%d %s' % (i + 1, '-'.join(c)) for i, c in enumerate(cables) if c) or 'none'
+    return ', '.join('%d %s' % (i + 1, '-'.join(c)) for i, c in enumerate(cables) if c) or say('none')
 
 
 def plug_table(moves, head):
     rows = {}
     for s in moves:
         rows.setdefault(s[1], []).append('<td>' + tick('<b>%s</b>' % s[2], ' '.join(s)))
-    return '<table class=plugs>\n<tr><th scope=col>Cable<th scope=col colspan=2>%s\n%s</table>\n' % (
-        head, ''.join('<tr><th scope=row>%s%s\n' % (cable, ''.join(row)) for cable, row in rows.items()))
+    return '<table class=plugs>\n<tr><th scope=col>%s<th scope=col colspan=2>%s\n%s</table>\n' % (
+        say('Cable'), say(head), ''.join('<tr><th scope=row>%s%s\n' % (cable, ''.join(row)) for cable, row in rows.items()))
 
 
-def plug_step(title, cables, moves, kind, word, caption, name):
+def plug_step(title, cables, moves, kind, caption, name):
     """The plugboard, and beside it the plugs to move, cable by cable."""
-    picture = board(cables, {s[2] for s in moves}, kind, 'The plugboard %s. Cables: %s.' % (word.lower(), joined(cables)))
-    inside = '<div class=beside><figure>%s<figcaption>%s. %sCircle: stays. Number: the cable’s.</figcaption></figure>\n%s</div>\n' % (
-        picture, word, caption if moves else '', plug_table(moves, 'take out at' if kind == 'out' else 'put in at') if moves else '')
+    word = 'before' if kind == 'out' else 'after'
+    picture = board(cables, {s[2] for s in moves}, kind, say('The plugboard %s. Cables: %%s.' % word, joined(cables)))
+    inside = '<div class=beside><figure>%s<figcaption>%s</figcaption></figure>\n%s</div>\n' % (
+        picture, say(caption if moves else 'After. Circle: stays. Number: the cable’s.'),
+        plug_table(moves, 'take out at' if kind == 'out' else 'put in at') if moves else '')
     return step(title, len(moves), name, inside if any(cables) and (moves or kind == 'in') else '')
 
 
@@ -210,20 +223,23 @@ def plug_step(title, cables, moves, kind, word, caption, name):
 def enigma(before, after, settings, name):
     of = lambda word: [s for s in settings if s[0] == word]
     sides = SIDES[len(after['slots'])]
-    place = lambda w: 'slot %d' % (before['slots'].index(w) + 1) if w in before['slots'] else 'the box'
-    rings = [tick('wheel <b>%s</b>: set the ring to <b>%s</b>' % (s[1], named(s[2])), ' '.join(s)) for s in of('RING')]
-    seats = [tick('slot %s, %s: put in wheel <b>%s</b>, from %s' % (s[1], sides[int(s[1]) - 1], s[2], place(s[2])), ' '.join(s))
+    place = lambda w: say('slot %d', before['slots'].index(w) + 1) if w in before['slots'] else say('the box')
+    rings = [tick(say('wheel <b>%s</b>: set the ring to <b>%s</b>', s[1], named(s[2])), ' '.join(s)) for s in of('RING')]
+    seats = [tick(say('slot %s, %s: put in wheel <b>%s</b>, from %s', s[1], say(sides[int(s[1]) - 1]), s[2], place(s[2])), ' '.join(s))
              for s in of('SEAT')]
-    seats += [tick('put in reflector <b>%s</b>' % s[1], ' '.join(s)) for s in of('REFLECTOR')]
+    seats += [tick(say('put in reflector <b>%s</b>', s[1]), ' '.join(s)) for s in of('REFLECTOR')]
     turns = {int(s[1]) - 1: ' '.join(s) for s in of('TURN')}
-    windows = [tick('slot %d: turn the wheel until <b>%s</b> shows' % (slot + 1, named(after['letter'][w])), turns.get(slot))
+    windows = [tick(say('slot %d: turn the wheel until <b>%s</b> shows', slot + 1, named(after['letter'][w])), turns.get(slot))
                for slot, w in enumerate(after['slots'])]
     return '<figure class=wheels>%s</figure>\n' % wheels_picture(before, after, settings) \
-        + step('1 Rings, with the wheels out' if rings else '1 Rings', len(rings), name, ticks(rings) if rings else '') \
-        + step('2 Wheels and reflector', len(seats), name, ticks(seats) if seats else '') \
-        + plug_step('3 Plugs out', before['cables'], of('PULL'), 'out', 'Before', 'Square: take out. ', name) \
-        + plug_step('4 Plugs in', after['cables'], of('PUT'), 'in', 'After', 'Disc: put in. ', name) \
-        + step('5 Windows', len(turns) or None, name, '<p>Set all of them: typing may have turned the wheels.</p>\n' + ticks(windows))
+        + step(say('1 Rings, with the wheels out' if rings else '1 Rings'), len(rings), name, ticks(rings) if rings else '') \
+        + step(say('2 Wheels and reflector'), len(seats), name, ticks(seats) if seats else '') \
+        + plug_step(say('3 Plugs out'), before['cables'], of('PULL'), 'out',
+                    'Before. Square: take out. Circle: stays. Number: the cable’s.', name) \
+        + plug_step(say('4 Plugs in'), after['cables'], of('PUT'), 'in',
+                    'After. Disc: put in. Circle: stays. Number: the cable’s.', name) \
+        + step(say('5 Windows'), len(turns) or None, name,
+               '<p>%s</p>\n' % say('Set all of them: typing may have turned the wheels.') + ticks(windows))
 
 
 # The page of a Converter.
@@ -231,8 +247,8 @@ def enigma(before, after, settings, name):
 def pin_wheel(i, after, settings):
     """One wheel: a head, and two rows of letters, A to M and N to Z, each letter in its own column."""
     moves = {s[2]: s[3] for s in settings if s[0] == 'PIN' and int(s[1]) == i + 1}
-    out = '<tbody>\n<tr><th scope=rowgroup colspan=13>Wheel %d <small>%s</small>%s\n' % (
-        i + 1, count(len(moves)), ' <code>PIN %d</code>' % (i + 1) if moves else '')
+    out = '<tbody>\n<tr><th scope=rowgroup colspan=13>%s <small>%s</small>%s\n' % (
+        say('Wheel %d', i + 1), count(len(moves)), ' <code>PIN %d</code>' % (i + 1) if moves else '')
     for half in (ABC[:13], ABC[13:]):
         out += '<tr>'
         for letter in half:
@@ -240,7 +256,7 @@ def pin_wheel(i, after, settings):
             if letter not in PIN_WHEELS[i]:
                 out += '<td>'
             elif letter in moves:
-                out += '<td class=set><label><input type=checkbox><b>%s</b><br>%s<small>%s</small></label>' % (letter, dot, moves[letter])
+                out += '<td class=set><label><input type=checkbox><b>%s</b><br>%s<small>%s</small></label>' % (letter, dot, say(moves[letter]))
             else:
                 out += '<td>%s<br>%s' % (letter, dot)
         out += '\n'
@@ -258,22 +274,25 @@ def bar_row(i, before, after, settings):
         out += '<td>'
         if place < len(moves):
             _, _, lug, to = moves[place]
-            out += tick('%s to <b>%s</b>' % ('left' if lug == 'L' else 'right', to), ' '.join(moves[place]))
+            out += tick(say('left to <b>%s</b>' if lug == 'L' else 'right to <b>%s</b>', to), ' '.join(moves[place]))
     return out + '\n'
 
 
 def converter(before, after, settings, name):
     number_of = lambda word: sum(s[0] == word for s in settings)
     turns = {int(s[1]) - 1: ' '.join(s) for s in settings if s[0] == 'TURN'}
-    pins = '<table class=pins>\n<caption>Pins after: ● effective, ○ not. Framed pins are to change: ON makes a pin effective, OFF not.</caption>\n%s</table>\n' % (
+    pins = '<table class=pins>\n<caption>%s</caption>\n%s</table>\n' % (
+        say('Pins after: ● effective, ○ not. Framed pins are to change: ON makes a pin effective, OFF not.'),
         ''.join(pin_wheel(i, after, settings) for i in range(6)))
-    drum = '<table class=drum>\n<caption>▪ a lug stays here, × a lug leaves, ■ a lug comes. Move the lugs of a bar in the order shown.</caption>\n<thead>\n<tr><th scope=col>Bar%s<th scope=col colspan=2>Lugs to move\n<tbody>\n%s</table>\n' % (
-        ''.join('<th scope=col>' + place for place in PLACES), ''.join(bar_row(i, before, after, settings) for i in range(27)))
-    letters = '<p>Set all of them: enciphering may have turned the wheels.</p>\n<table class=letters>\n<tr><th scope=row>Wheel%s\n<tr><th scope=row>letter%s\n</table>\n' % (
-        ''.join('<th scope=col>%d' % (i + 1) for i in range(6)),
+    drum = '<table class=drum>\n<caption>%s</caption>\n<thead>\n<tr><th scope=col>%s%s<th scope=col colspan=2>%s\n<tbody>\n%s</table>\n' % (
+        say('▪ a lug stays here, × a lug leaves, ■ a lug comes. Move the lugs of a bar in the order shown.'), say('Bar'),
+        ''.join('<th scope=col>' + place for place in PLACES), say('Lugs to move'), ''.join(bar_row(i, before, after, settings) for i in range(27)))
+    letters = '<p>%s</p>\n<table class=letters>\n<tr><th scope=row>%s%s\n<tr><th scope=row>%s%s\n</table>\n' % (
+        say('Set all of them: enciphering may have turned the wheels.'), say('Wheel'),
+        ''.join('<th scope=col>%d' % (i + 1) for i in range(6)), say('letter'),
         ''.join('<td>' + tick('<b>%s</b>' % letter, turns.get(i)) for i, letter in enumerate(after['letters'])))
-    return step('1 Pins', number_of('PIN'), name, pins) + step('2 Lugs', number_of('LUG'), name, drum) \
-        + step('3 Letters', len(turns) or None, name, letters)
+    return step(say('1 Pins'), number_of('PIN'), name, pins) + step(say('2 Lugs'), number_of('LUG'), name, drum) \
+        + step(say('3 Letters'), len(turns) or None, name, letters)
 
 
 # A day, and a file of days.
@@ -291,22 +310,23 @@ def page(machine_file, sheet, day, folder):
     is_converter = after['model'] == 'M-209'
     keys = 'A' * 26 if is_converter else ABC
     lamps = desk('type', after_file, text=keys).strip()
-    name = '%s, day %s' % (NAMES[after['model']], day)
-    first = 'First compare: framed pins the other way, other pins as shown, lugs at ▪ and ×.' if is_converter else \
-        'First compare the machine with <i>before</i>; only windows may differ. Thick frames: to set.' if settings else \
-        'The machine has to stand as shown; only windows may differ.'
+    name = say('%s, day %s', NAMES[after['model']], day)
+    first = say('First compare: framed pins the other way, other pins as shown, lugs at ▪ and ×.' if is_converter else
+                'First compare the machine with <i>before</i>; only windows may differ. Thick frames: to set.' if settings else
+                'The machine has to stand as shown; only windows may differ.')
     shown = ' '.join(after['letters']) if is_converter else ', '.join(named(after['letter'][w]) for w in after['slots'])
-    test = ('<p>%s</p>\n<pre>%s\n<b>%s</b></pre>\n<p>Then set the windows to <b>%s</b> again.</p>\n'
-            '<p class=fields><span>%s when put away</span></p>\n'
-            '<p class=note>No shorter list leads to this day. Differences in %s: %d. Least number of %s to move, by the prices’ sum: %d. Together: %d.</p>\n') % (
-        'Set the knob to C, and encipher 26 times A. The machine has to print the second line:' if is_converter else
-        'Type the alphabet. The lamps have to give the second line:',
-        in_fives(keys), in_fives(lamps), shown, 'Letters' if is_converter else 'Windows',
-        'pins and letters' if is_converter else 'rings, slots, reflector and windows', len(settings) - total,
-        'lugs' if is_converter else 'plugs', total, len(settings))
-    out = '<article id=day-%s>\n<header>\n<h1>%s <small>%s</small></h1>\n<p class=fields><span>Machine</span><span>Date</span><span>Done by</span></p>\n<p>%s</p>\n</header>\n%s%s</article>\n' % (
-        day, name, count(len(settings)), first, (converter if is_converter else enigma)(before, after, settings, name),
-        step('4 Test' if is_converter else '6 Test', None, name, test))
+    differences = ('No shorter list leads to this day. Differences in pins and letters: %d. Least number of lugs to move, by the prices’ sum: %d. Together: %d.'
+                   if is_converter else
+                   'No shorter list leads to this day. Differences in rings, slots, reflector and windows: %d. Least number of plugs to move, by the prices’ sum: %d. Together: %d.')
+    test = '<p>%s</p>\n<pre>%s\n<b>%s</b></pre>\n<p>%s</p>\n<p class=fields><span>%s</span></p>\n<p class=note>%s</p>\n' % (
+        say('Set the knob to C, and encipher 26 times A. The machine has to print the second line:' if is_converter else
+            'Type the alphabet. The lamps have to give the second line:'),
+        in_fives(keys), in_fives(lamps), say('Then set the windows to <b>%s</b> again.', shown),
+        say('%s when put away', say('Letters' if is_converter else 'Windows')),
+        say(differences, len(settings) - total, total, len(settings)))
+    out = '<article id=day-%s>\n<header>\n<h1>%s <small>%s</small></h1>\n<p class=fields><span>%s</span><span>%s</span><span>%s</span></p>\n<p>%s</p>\n</header>\n%s%s</article>\n' % (
+        day, name, count(len(settings)), say('Machine'), say('Date'), say('Done by'), first, (converter if is_converter else enigma)(before, after, settings, name),
+        step(say('4 Test' if is_converter else '6 Test'), None, name, test))
     return out, len(settings), after_file, NAMES[after['model']]
 
 
@@ -317,12 +337,12 @@ def main():
         for day in days:
             article, settings, machine, model = page(machine, sheet, day, folder)
             out += article
-            nav += '<li><a href="#day-%s">Day %s</a>, %s\n' % (day, day, count(settings))
+            nav += '<li><a href="#day-%s">%s</a>, %s\n' % (day, say('Day %s', day), count(settings))
     if len(days) > 1:
-        out = '<nav aria-label="Days">\n<ul>\n%s</ul>\n</nav>\n' % nav + out
-    title = '%s, day %s' % (model, days[0]) if len(days) == 1 else '%s, days %s to %s' % (model, days[0], days[-1])
-    sys.stdout.write('<!DOCTYPE html>\n<html lang=en>\n<meta charset=utf-8>\n<meta name=viewport content="width=device-width,initial-scale=1">\n<title>%s</title>\n<style>\n%s</style>\n<body>\n<main>\n%s</main>\n' % (
-        title, open(STYLE).read(), out))
+        out = '<nav aria-label="%s">\n<ul>\n%s</ul>\n</nav>\n' % (say('Days'), nav) + out
+    title = say('%s, day %s', model, days[0]) if len(days) == 1 else say('%s, days %s to %s', model, days[0], days[-1])
+    sys.stdout.write('<!DOCTYPE html>\n<html lang=%s>\n<meta charset=utf-8>\n<meta name=viewport content="width=device-width,initial-scale=1">\n<title>%s</title>\n<style>\n%s</style>\n<body>\n<main>\n%s</main>\n' % (
+        LANGUAGE, title, open(STYLE).read(), out))
 
 
 main()

@@ -1,18 +1,20 @@
 //! The program `curator`: hands the host's command line, files and streams to `run_curator`.
 #![tactic(auto)]
 
-use kd_curator::{Stop, end_program, run_curator};
+use kd_curator::{Language, Stop, end_program, language_of, run_curator};
 use kd_host::{FileFault, HostFiles, WriterSink};
+use std::env::{self, VarError};
 use std::process::ExitCode;
 
 fn main(rt: HostRuntime) -> ExitCode {
     let mut errors = WriterSink::new(rt.stderr());
-    let status = match words(&rt) {
-        Ok(words) => {
+    let status = match words_and_language(&rt) {
+        Ok((words, language)) => {
             let mut files = HostFiles::new(&rt);
             let output = WriterSink::new(rt.stdout());
             let (status, _) = run_curator(
                 rt.alloc(),
+                language,
                 words.as_slice(),
                 &mut files,
                 output,
@@ -25,9 +27,25 @@ fn main(rt: HostRuntime) -> ExitCode {
     ExitCode::from(status)
 }
 
+/// The command line, and the language of pages.
+fn words_and_language(rt: &HostRuntime) -> Result<(Vec<String>, Language), Stop> {
+    let words = words(rt)?;
+    let language = language(rt)?;
+    Ok((words, language))
+}
+
+/// The language of pages, by the environment's `LANG`; English without it.
+fn language(rt: &HostRuntime) -> Result<Language, Stop> {
+    match env::var(rt, "LANG") {
+        Ok(locale) => Ok(language_of(locale.as_str())),
+        Err(VarError::OutOfMemory) => Err(Stop::from(FileFault::NoMemory)),
+        Err(_) => Ok(Language::English),
+    }
+}
+
 /// The command line: the program's own name, then the arguments.
 fn words(rt: &HostRuntime) -> Result<Vec<String>, Stop> {
-    let args = match std::env::args(rt) {
+    let args = match env::args(rt) {
         Ok(args) => args,
         Err(error) => return Err(Stop::of_words(rt.alloc(), &error)),
     };

@@ -2,7 +2,7 @@
 use Rattle.std.proofs.Common.{◌≡◌, ℕ, List, [], ◌∷◌, ◌++◌, Option, Result, Ok, Err, IfErr, IsOk, refl, subst, ap, ◌∙◌}
 use Rattle.std.proofs.Common.{Bool, arith, false, inl, inr, length, ◌||◌}
 use Rattle.kd_page.specs.DayPage.{day_text}
-use Rattle.kd_pictures.specs.declared.language.Language.TheVariants.{English}
+use Rattle.kd_pictures.specs.declared.language.Language.{Language}
 use Rattle.kd_state.specs.declared.machine.parts.Parts.{Parts}
 use Rattle.kd_state.specs.declared.setting.Setting.{Setting}
 use Rattle.kd_state.specs.declared.setting.why.IllegalAt.{IllegalAt}
@@ -39,10 +39,10 @@ pub drawn_first : (m : Parts) (plan : DayPlan) (rest all : List DayPlan) → all
 drawn_first m plan rest all is drawable = let these = subst (AreDrawable m) is drawable in (these.0, these.1)
 
 -- a day's page, and then the pages of the days after it, are the pages of all
-pub pages_next : (m n : Parts) (plan : DayPlan) (rest all : List DayPlan) (more : List ℕ) → all ≡ plan ∷ rest
-    → Leads m plan.settings.items n → ArePages n rest more
-    → ArePages m all (day_text English plan.day m n plan.settings.items ++ more)
-pages_next m n plan rest all more is leads are = rw is (n, more, leads, refl, are)
+pub pages_next : (l : Language) (m n : Parts) (plan : DayPlan) (rest all : List DayPlan) (more : List ℕ) → all ≡ plan ∷ rest
+    → Leads m plan.settings.items n → ArePages l n rest more
+    → ArePages l m all (day_text l plan.day m n plan.settings.items ++ more)
+pages_next l m n plan rest all more is leads are = rw is (n, more, leads, refl, are)
 
 -- settings that lead to a machine can be carried out
 pub carries_all : (m n : Parts) (xs : List Setting) (answer : Result Parts IllegalAt) → Leads m xs n

@@ -28,7 +28,7 @@ use Rattle.kd_curator.specs.Tables.{WritesTables}
 use Rattle.kd_table.specs.Options.{OptionTexts}
 use Rattle.kd_sheet.specs.SheetFile.{sheet_of}
 use Rattle.kd_sheet.specs.declared.fault.SheetFault.{SheetFault}
-use Rattle.kd_pictures.specs.declared.language.Language.TheVariants.{English}
+use Rattle.kd_pictures.specs.declared.language.Language.{Language}
 use Rattle.kd_key_table.specs.TableFile.{file_text}
 use Rattle.kd_key_table.specs.declared.table_file.TableForm.{TableForm}
 use Rattle.kd_curator.specs.CommandLine.{ReadCommand}
@@ -67,11 +67,11 @@ module _ (one other : Port) (before : one.had ≡ other.had) (after : Keeps one.
   list_kept month m number answer (Settings plan n of is_list writes) =
       Settings plan n of is_list (text_kept _ _ answer writes)
 
-  pages_kept : (month : List (Option Day)) (m : Parts) (numbers : List ℕ) (answer : Result (Unit {0}) Refused)
-      → WritesPages month m numbers one answer → WritesPages month m numbers other answer
-  pages_kept month m numbers answer (NoDays none told) = NoDays none told
-  pages_kept month m numbers answer (NoPage refused is told) = NoPage refused is told
-  pages_kept month m numbers answer (Pages first others planned text booklet writes) =
+  pages_kept : (l : Language) (month : List (Option Day)) (m : Parts) (numbers : List ℕ) (answer : Result (Unit {0}) Refused)
+      → WritesPages l month m numbers one answer → WritesPages l month m numbers other answer
+  pages_kept l month m numbers answer (NoDays none told) = NoDays none told
+  pages_kept l month m numbers answer (NoPage refused is told) = NoPage refused is told
+  pages_kept l month m numbers answer (Pages first others planned text booklet writes) =
       Pages first others planned text booklet (text_kept _ _ answer writes)
 
   found_kept : (Holds Other : Parts → List (Option Day) → Type 0) (answer : Result (Unit {0}) Refused)
@@ -89,25 +89,25 @@ module _ (one other : Port) (before : one.had ≡ other.had) (after : Keeps one.
   on_sheet_kept machine sheet Holds Other answer more (inl found) = inl (found_kept Holds Other answer more _ found)
   on_sheet_kept machine sheet Holds Other answer more (inr lacks) = inr lacks
 
-  month_kept : (form : TableForm) (told : Result (Unit {0}) Refused) (found : Result (List (Option Day)) SheetFault)
-      → MatchResult found (λ month. WritesText refused_device (file_text English form month) one told)
+  month_kept : (l : Language) (form : TableForm) (told : Result (Unit {0}) Refused) (found : Result (List (Option Day)) SheetFault)
+      → MatchResult found (λ month. WritesText refused_device (file_text l form month) one told)
       (λ fault. told ≡ Err (refused_whole (File fault)))
-      → MatchResult found (λ month. WritesText refused_device (file_text English form month) other told)
+      → MatchResult found (λ month. WritesText refused_device (file_text l form month) other told)
       (λ fault. told ≡ Err (refused_whole (File fault)))
-  month_kept form told (Ok month) writes = text_kept refused_device _ told writes
-  month_kept form told (Err fault) is = is
+  month_kept l form told (Ok month) writes = text_kept refused_device _ told writes
+  month_kept l form told (Err fault) is = is
 
-  task_kept : (task : Task) (machine sheet : List ℕ) (told : Result (Unit {0}) Refused)
-      → DoesTask task machine sheet one told → DoesTask task machine sheet other told
-  task_kept (tasks.Page days) machine sheet told does =
-      on_sheet_kept machine sheet _ _ told (λ m month. pages_kept month m _ told) does
-  task_kept (tasks.List day) machine sheet told does =
+  task_kept : (l : Language) (task : Task) (machine sheet : List ℕ) (told : Result (Unit {0}) Refused)
+      → DoesTask l task machine sheet one told → DoesTask l task machine sheet other told
+  task_kept l (tasks.Page days) machine sheet told does =
+      on_sheet_kept machine sheet _ _ told (λ m month. pages_kept l month m _ told) does
+  task_kept l (tasks.List day) machine sheet told does =
       on_sheet_kept machine sheet _ _ told (λ m month. list_kept month m day told) does
 
-  tables_kept : (form : TableForm) (sheet : List ℕ) (told : Result (Unit {0}) Refused)
-      → WritesTables form sheet one told → WritesTables form sheet other told
-  tables_kept form sheet told (inl found) = inl (month_kept form told (sheet_of sheet) found)
-  tables_kept form sheet told (inr lacks) = inr lacks
+  tables_kept : (l : Language) (form : TableForm) (sheet : List ℕ) (told : Result (Unit {0}) Refused)
+      → WritesTables l form sheet one told → WritesTables l form sheet other told
+  tables_kept l form sheet told (inl found) = inl (month_kept l form told (sheet_of sheet) found)
+  tables_kept l form sheet told (inr lacks) = inr lacks
 
   sheet_kept : (options : OptionTexts) (table : List ℕ) (told : Result (Unit {0}) Refused)
       → MakesSheet options table one told → MakesSheet options table other told
@@ -138,13 +138,13 @@ module _ (one other : Port) (before : one.had ≡ other.had) (after : Keeps one.
   look_kept files told looks =
       record { told = looks.told; looks = report_kept files looks.told looks.looks; answers = looks.answers }
 
-  command_kept : (command : ReadCommand) (told : Result (Unit {0}) Refused) → DoesCommand command one told
-      → DoesCommand command other told
-  command_kept (commands.OnMachine machine sheet task) told does = task_kept task machine sheet told does
-  command_kept (commands.Table sheet form) told does = tables_kept form sheet told does
-  command_kept (commands.Sheet table options) told does = sheet_kept options table told does
-  command_kept (commands.Look names files) told does = look_kept (named_texts names files) told does
-  command_kept (commands.EmptySheet model days) told does = text_kept refused_device _ told does
+  command_kept : (l : Language) (command : ReadCommand) (told : Result (Unit {0}) Refused) → DoesCommand l command one told
+      → DoesCommand l command other told
+  command_kept l (commands.OnMachine machine sheet task) told does = task_kept l task machine sheet told does
+  command_kept l (commands.Table sheet form) told does = tables_kept l form sheet told does
+  command_kept l (commands.Sheet table options) told does = sheet_kept options table told does
+  command_kept l (commands.Look names files) told does = look_kept (named_texts names files) told does
+  command_kept l (commands.EmptySheet model days) told does = text_kept refused_device _ told does
 
 -- ---- the program's answer
 
@@ -249,13 +249,13 @@ pub none_gathered : (had : Option (List ℕ)) → append_known had [] ≡ had
 none_gathered None = refl
 none_gathered (Some bytes) = ap Some (append-nil bytes)
 
-module _ (words : List (List ℕ)) (known : Option (List ℕ → Option (List ℕ))) (asked : List AskedName)
+module _ (l : Language) (words : List (List ℕ)) (known : Option (List ℕ → Option (List ℕ))) (asked : List AskedName)
     (one other : Port) (left : List ℕ) (done answer : Result (Unit {0}) Stop) (ends : IsAnswerAfterFlush left done answer)
     (before : one.had ≡ other.had) (after : Keeps one.has other.has) where
-  pub carried_on : CarriesOut words known asked one [] done → CarriesOut words known asked other left answer
+  pub carried_on : CarriesOut l words known asked one [] done → CarriesOut l words known asked other left answer
   carried_on (Carried command says read alike knows asks told) =
       Carried command says read alike knows asks (told_on left done answer ends _ _
-      (λ t. command_kept one other before after read t) told)
+      (λ t. command_kept one other before after l read t) told)
   carried_on (FileUnread command says fault knows asks is) =
       FileUnread command says fault knows asks (stops_on left done answer ends (stops.Unread fault) refl is)
   carried_on (Shown text kind among help none told) =

@@ -7,7 +7,7 @@ use Rattle.kd_state.specs.SheetDay.{Day}
 use Rattle.kd_sheet.specs.SheetFile.{sheet_of}
 use Rattle.kd_sheet.specs.declared.fault.SheetFault.{SheetFault}
 use Rattle.kd_key_table.specs.RunTable.{IsTableAnswer, is_device as is_table_device}
-use Rattle.kd_pictures.specs.declared.language.Language.TheVariants.{English}
+use Rattle.kd_pictures.specs.declared.language.Language.{Language}
 use Rattle.kd_key_table.specs.TableFile.{file_text}
 use Rattle.kd_key_table.specs.declared.fault.TableFault.{TableFault}
 use Rattle.kd_key_table.specs.declared.fault.TableFault.TheVariants as tables
@@ -21,7 +21,7 @@ abbrev pub refused_answer : Result (Unit {0}) TableFault → Result (Unit {0}) R
 refused_answer (Ok done) = Ok done
 refused_answer (Err fault) = Err (refused_table fault)
 
-module _ (form : TableForm) (sink : Port) where
+module _ (l : Language) (form : TableForm) (sink : Port) where
   text_told : (text : List ℕ) (told : Result (Unit {0}) TableFault) → WritesText tables.Device text sink told
       → WritesText refused_device text sink (refused_answer told)
   text_told text (Ok done) writes =
@@ -32,15 +32,15 @@ module _ (form : TableForm) (sink : Port) where
   }
 
   found_told : (told : Result (Unit {0}) TableFault) (found : Result (List (Option Day)) SheetFault)
-      → MatchResult found (λ month. WritesText tables.Device (file_text English form month) sink told)
+      → MatchResult found (λ month. WritesText tables.Device (file_text l form month) sink told)
       (λ fault. told ≡ Err (tables.Sheet fault))
-      → MatchResult found (λ month. WritesText refused_device (file_text English form month) sink (refused_answer told))
+      → MatchResult found (λ month. WritesText refused_device (file_text l form month) sink (refused_answer told))
       (λ fault. refused_answer told ≡ Err (refused_whole (File fault)))
   found_told told (Ok month) writes = text_told _ told writes
   found_told told (Err fault) is = ap refused_answer is
 
-  pub tables_told : (sheet : List ℕ) (told : Result (Unit {0}) TableFault) → IsTableAnswer English form sheet sink told
-      → WritesTables form sheet sink (refused_answer told)
+  pub tables_told : (sheet : List ℕ) (told : Result (Unit {0}) TableFault) → IsTableAnswer l form sheet sink told
+      → WritesTables l form sheet sink (refused_answer told)
   tables_told sheet told (inl found) = inl (found_told told (sheet_of sheet) found)
   tables_told sheet told (inr lacks) = inr (ap refused_answer lacks)
 

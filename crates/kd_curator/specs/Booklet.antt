@@ -4,7 +4,7 @@ use Rattle.std.specs.Prelude.{◌≡◌, ℕ, ◌≤◌, List, [], ◌∷◌, �
 use Rattle.kd_page.specs.DayPage.{day_text}
 use Rattle.kd_page.specs.Head.{file_text}
 use Rattle.kd_page.specs.declared.head.ListedDay.{ListedDay}
-use Rattle.kd_pictures.specs.declared.language.Language.TheVariants.{English}
+use Rattle.kd_pictures.specs.declared.language.Language.{Language}
 use Rattle.kd_state.specs.declared.machine.parts.Parts.{Parts}
 use Rattle.kd_state.specs.Machine.{model_of}
 use Rattle.kd_state.specs.Setting.{Leads}
@@ -13,20 +13,21 @@ use Rattle.kd_curator.specs.declared.day_plan.DayPlan.{DayPlan}
 
 -- The text is the pages of the days that are planned. The first page is for machine `m`; each later page is for the
 -- machine that the settings of the page before it lead to.
-abbrev pub ArePages : Parts → List DayPlan → List ℕ → Type 0
-ArePages m [] text = text ≡ []
-ArePages m (plan ∷ plans) text = (n : Parts) × (more : List ℕ) × Leads m plan.settings.items n
-    × (text ≡ day_text English plan.day m n plan.settings.items ++ more) × ArePages n plans more
+abbrev pub ArePages : Language → Parts → List DayPlan → List ℕ → Type 0
+ArePages l m [] text = text ≡ []
+ArePages l m (plan ∷ plans) text = (n : Parts) × (more : List ℕ) × Leads m plan.settings.items n
+    × (text ≡ day_text l plan.day m n plan.settings.items ++ more) × ArePages l n plans more
 
 -- a planned day in the list of days, with its number of settings
 abbrev pub listed_day : DayPlan → ListedDay
 listed_day plan = record { day = plan.day; settings = length plan.settings.items }
 
--- The text is the file with the pages of these days: the list of the days, and then their pages.
-pub record IsBooklet (m : Parts) (first : DayPlan) (others : List DayPlan) (text : List ℕ) : Type 0 where
+-- The text is the file with the pages of these days in language `l`: the list of the days, and then their pages.
+pub record IsBooklet (l : Language) (m : Parts) (first : DayPlan) (others : List DayPlan) (text : List ℕ)
+    : Type 0 where
   pub pages : List ℕ
-  pub are_pages : ArePages m (first ∷ others) pages
-  pub whole : text ≡ file_text English (model_of m) (listed_day first) (map listed_day others) pages
+  pub are_pages : ArePages l m (first ∷ others) pages
+  pub whole : text ≡ file_text l (model_of m) (listed_day first) (map listed_day others) pages
 
 -- ---- Days whose pages can be drawn. No public contract cites these definitions.
 

@@ -6,6 +6,7 @@ pub mod Days
 pub mod Ending
 pub mod HandList
 pub mod HandOrder
+pub mod Locale
 pub mod MachineAndSheet
 pub mod Program
 pub mod Refusals

@@ -27,6 +27,7 @@ use Rattle.kd_curator.specs.Looks.{Looks, named_texts}
 use Rattle.kd_curator.specs.UpToThree.{AreAsMany, list_of_three}
 use Rattle.kd_curator.specs.declared.up_to_three.UpToThree.{UpToThree}
 use Rattle.kd_curator.specs.Refusals.{comes_after_writing, is_device_fault, is_faulty_file, refused_device}
+use Rattle.kd_pictures.specs.declared.language.Language.{Language}
 use Rattle.kd_curator.specs.RunList.{WritesList}
 use Rattle.kd_curator.specs.RunPage.{WritesPages, wanted_days}
 use Rattle.kd_curator.specs.Sheets.{MakesSheet}
@@ -85,20 +86,20 @@ names_of (commands.Sheet table options) = table ∷ []
 names_of (commands.Look names files) = list_of_three files
 names_of (commands.EmptySheet model days) = []
 
--- What a task writes, from the bytes of a machine file and of a key sheet.
-abbrev pub DoesTask : Task → List ℕ → List ℕ → Port → Result (Unit {0}) Refused → Type 0
-DoesTask (tasks.Page days) machine sheet sink answer = IsAnswerOnSheet machine sheet
-    (λ m month. WritesPages month m (wanted_days days (model_of m) month) sink answer) answer
-DoesTask (tasks.List day) machine sheet sink answer = IsAnswerOnSheet machine sheet
+-- What a task writes, with words in language `l`, from the bytes of a machine file and of a key sheet.
+abbrev pub DoesTask : Language → Task → List ℕ → List ℕ → Port → Result (Unit {0}) Refused → Type 0
+DoesTask l (tasks.Page days) machine sheet sink answer = IsAnswerOnSheet machine sheet
+    (λ m month. WritesPages l month m (wanted_days days (model_of m) month) sink answer) answer
+DoesTask l (tasks.List day) machine sheet sink answer = IsAnswerOnSheet machine sheet
     (λ m month. WritesList month m day sink answer) answer
 
--- What a command writes, from the bytes of its files.
-abbrev pub DoesCommand : ReadCommand → Port → Result (Unit {0}) Refused → Type 0
-DoesCommand (commands.OnMachine machine sheet task) sink answer = DoesTask task machine sheet sink answer
-DoesCommand (commands.Table sheet form) sink answer = WritesTables form sheet sink answer
-DoesCommand (commands.Sheet table options) sink answer = MakesSheet options table sink answer
-DoesCommand (commands.Look names files) sink answer = Looks (named_texts names files) sink answer
-DoesCommand (commands.EmptySheet model days) sink answer =
+-- What a command writes, with words in language `l`, from the bytes of its files.
+abbrev pub DoesCommand : Language → ReadCommand → Port → Result (Unit {0}) Refused → Type 0
+DoesCommand l (commands.OnMachine machine sheet task) sink answer = DoesTask l task machine sheet sink answer
+DoesCommand l (commands.Table sheet form) sink answer = WritesTables l form sheet sink answer
+DoesCommand l (commands.Sheet table options) sink answer = MakesSheet options table sink answer
+DoesCommand l (commands.Look names files) sink answer = Looks (named_texts names files) sink answer
+DoesCommand l (commands.EmptySheet model days) sink answer =
     WritesText refused_device (empty_month_text model days) sink answer
 
 -- Nothing was written to this port, and it failed only if it had failed before.
@@ -144,23 +145,23 @@ is_usage _ = false
 -- How a command line is carried out. `Carried`: its command was carried out, with the bytes of its files. `FileUnread`: a file of the command
 -- couldn't be read. `Shown`: the words ask for help or for the version. `OtherWords`: the words mean no command.
 -- `NoMemory`: memory ran out before a file was asked for.
-pub data CarriesOut (words : List (List ℕ)) (known : Option (List ℕ → Option (List ℕ))) (asked : List AskedName)
+pub data CarriesOut (l : Language) (words : List (List ℕ)) (known : Option (List ℕ → Option (List ℕ))) (asked : List AskedName)
     (sink : Port) (left : List ℕ) (answer : Result (Unit {0}) Stop) : Type 0 where
   Carried : (command : NamedCommand) → IsCommandLineOf words command → (read : ReadCommand)
       → AreAlike command read → IfSome known (λ held. AgreesOrNoMemory files.NoMemory (known_command held command) (Ok read))
       → AreAskedFor (names_of command) [] asked true
-      → IsTold (DoesCommand read sink) left answer
-      → CarriesOut words known asked sink left answer
+      → IsTold (DoesCommand l read sink) left answer
+      → CarriesOut l words known asked sink left answer
   FileUnread : (command : NamedCommand) → IsCommandLineOf words command → (fault : FileFault)
       → IfSome known (λ held. AgreesOrNoMemory files.NoMemory (known_command held command) (Err fault))
       → AreAskedFor (names_of command) [] asked false → answer ≡ Err (stops.Unread fault)
-      → CarriesOut words known asked sink left answer
+      → CarriesOut l words known asked sink left answer
   Shown : (text : List ℕ) (kind : ErrorKind) → IsAmong kind (fault_of curator_grammar words) → IsTrue (is_help kind)
       → asked ≡ [] → IsTold (WritesText refused_device text sink) left answer
-      → CarriesOut words known asked sink left answer
+      → CarriesOut l words known asked sink left answer
   OtherWords : IsNoCommandLine words → ¬ (AsksForHelp words) → asked ≡ [] → IsTrue (is_usage answer)
-      → CarriesOut words known asked sink left answer
-  NoMemory : asked ≡ [] → answer ≡ Err (stops.Unread files.NoMemory) → CarriesOut words known asked sink left answer
+      → CarriesOut l words known asked sink left answer
+  NoMemory : asked ≡ [] → answer ≡ Err (stops.Unread files.NoMemory) → CarriesOut l words known asked sink left answer
 
 -- whether the program stopped because a write to standard output failed
 abbrev pub is_stopped_by_device : Result (Unit {0}) Stop → Bool
@@ -183,10 +184,10 @@ pub data HasNotes (words : List (List ℕ)) (errors : Port) : Type 0 where
 -- What holds of the program's answer to a command line. `carried`: what was read and written. `untouched`: when nothing
 -- happened to the sink. `failed`: the sink has failed exactly if the program says so, or if it had failed before.
 -- `noted`: what was written to standard error, beside the text for the answer.
-pub record IsRun (words : List (List ℕ)) (known : Option (List ℕ → Option (List ℕ))) (asked : List AskedName)
+pub record IsRun (l : Language) (words : List (List ℕ)) (known : Option (List ℕ → Option (List ℕ))) (asked : List AskedName)
     (sink : Port) (Untouched : Type 0) (errors : Port) (left : List ℕ) (answer : Result (Unit {0}) Stop)
     : Type 0 where
-  pub carried : CarriesOut words known asked sink left answer
+  pub carried : CarriesOut l words known asked sink left answer
   pub untouched : IsTrue (is_stopped_before_writing answer) → Untouched
   pub failed : sink.has_failed ≡ (sink.had_failed || is_stopped_by_device answer)
   pub noted : HasNotes words errors

@@ -10,6 +10,7 @@ use Rattle.kd_state.specs.Machine.{model_of}
 use Rattle.kd_state.specs.SheetDay.{Day, day_model}
 use Rattle.kd_sheet.specs.Sheet.{day_of}
 use Rattle.kd_host.specs.Writing.{WritesText}
+use Rattle.kd_pictures.specs.declared.language.Language.{Language}
 use Rattle.kd_curator.specs.Booklet.{IsBooklet}
 use Rattle.kd_curator.specs.Chain.{ArePlanned, IsDayRefusal}
 use Rattle.kd_curator.specs.Refusals.{refused_device, refused_whole}
@@ -35,11 +36,11 @@ wanted_days None model month = filter (has_day_of model month) (range_with_len 1
 
 -- There are no days; or the first day that can't be planned was refused. Or the pages of all days were written, or a
 -- prefix of them if the device failed.
-pub data WritesPages (month : List (Option Day)) (m : Parts) (numbers : List ℕ) (sink : Port)
+pub data WritesPages (l : Language) (month : List (Option Day)) (m : Parts) (numbers : List ℕ) (sink : Port)
     (answer : Result (Unit {0}) Refused) : Type 0 where
-  NoDays : numbers ≡ [] → answer ≡ Err (refused_whole NoSuchDay) → WritesPages month m numbers sink answer
+  NoDays : numbers ≡ [] → answer ≡ Err (refused_whole NoSuchDay) → WritesPages l month m numbers sink answer
   NoPage : (refused : Refused) → IsDayRefusal (model_of m) month numbers refused → answer ≡ Err refused
-      → WritesPages month m numbers sink answer
+      → WritesPages l month m numbers sink answer
   Pages : (first : DayPlan) (others : List DayPlan) → ArePlanned month m numbers (first ∷ others)
-      → (text : List ℕ) → IsBooklet m first others text → WritesText refused_device text sink answer
-      → WritesPages month m numbers sink answer
+      → (text : List ℕ) → IsBooklet l m first others text → WritesText refused_device text sink answer
+      → WritesPages l month m numbers sink answer

@@ -4,7 +4,6 @@ ghost use Rattle.arrayvec.specs.ArrayVec.{array_vec_len};
 ghost use Rattle.kd_page.specs.DayPage.{day_text};
 ghost use Rattle.kd_page.specs.Drawing.{Draws};
 ghost use Rattle.kd_page.specs.Head.{head_text};
-ghost use Rattle.kd_pictures.specs.declared.language.Language.TheVariants.{English};
 ghost use Rattle.kd_state.specs.Machine.{model_of};
 ghost use Rattle.kd_state.specs.Setting.{Leads};
 ghost use Rattle.kd_tables.specs.Writing.{Writes};
@@ -16,47 +15,60 @@ use kd_page::{Language, ListedDay, draw, draw_day, draw_foot, draw_head};
 use kd_state::{Machine, Parts, carry_all};
 use kd_tables::{Device, Sink};
 
-/// Writes the pages of the days that are planned: first `first`, and then `others`.
+/// Writes the pages of the days that are planned, in this language: first `first`, and then `others`.
 pub(crate) fn write_pages<W: Sink>(
     sink: &mut W,
+    language: Language,
     machine: &Machine,
     first: &DayPlan,
     others: &[DayPlan],
 ) -> Result<(), Device>
     requires days { AreDrawable machine.now (first.now ∷ others.now) }
     requires few { length others.now ≤ 31 }
-    ensures pages { (text : List ℕ) × IsBooklet machine.now first.now others.now text
+    ensures pages { (text : List ℕ) × IsBooklet language machine.now first.now others.now text
         × Writes (W.taken sink.old) (W.taken sink.new) text result }
     ensures failed { W.has_failed sink.new ≡ (W.has_failed sink.old || is_err result) }
 {
-    draw_pages(sink, machine, first, others);
+    draw_pages(sink, language, machine, first, others);
     if sink.failed() { Err(Device) } else { Ok(()) }
 }
 
 /// Draws the head of the file, with the list of days, the pages, and the foot.
-fn draw_pages<W: Sink>(sink: &mut W, machine: &Machine, first: &DayPlan, others: &[DayPlan])
+fn draw_pages<W: Sink>(
+    sink: &mut W,
+    language: Language,
+    machine: &Machine,
+    first: &DayPlan,
+    others: &[DayPlan],
+)
     requires days { AreDrawable machine.now (first.now ∷ others.now) }
     requires few { length others.now ≤ 31 }
-    ensures { (text : List ℕ) × IsBooklet machine.now first.now others.now text
+    ensures { (text : List ℕ) × IsBooklet language machine.now first.now others.now text
         × Draws W.taken W.has_failed sink.old sink.new text }
 {
-    draw_listed(sink, machine, first, others);
-    let after = draw_plan(sink, machine, first);
-    draw_plans(sink, &after, others);
+    draw_listed(sink, language, machine, first, others);
+    let after = draw_plan(sink, language, machine, first);
+    draw_plans(sink, language, &after, others);
     draw_foot(sink);
 }
 
 /// Draws the head of the file.
-fn draw_listed<W: Sink>(sink: &mut W, machine: &Machine, first: &DayPlan, others: &[DayPlan])
+fn draw_listed<W: Sink>(
+    sink: &mut W,
+    language: Language,
+    machine: &Machine,
+    first: &DayPlan,
+    others: &[DayPlan],
+)
     requires { length others.now ≤ 31 }
     ensures { Draws W.taken W.has_failed sink.old sink.new
-        (head_text English (model_of machine.now) (listed_day first.now) (map listed_day others.now)) }
+        (head_text language (model_of machine.now) (listed_day first.now) (map listed_day others.now)) }
 {
     let mut listed = ArrayVec::new();
     list_days(&mut listed, others);
     draw_head(
         sink,
-        Language::English,
+        language,
         machine.model(),
         listed_day(first),
         listed.as_slice(),
@@ -85,27 +97,32 @@ fn listed_day(plan: &DayPlan) -> ListedDay
 }
 
 /// Draws a day's page, for `machine`. Returns the machine after the day's settings.
-fn draw_plan<W: Sink>(sink: &mut W, machine: &Machine, plan: &DayPlan) -> Machine
+fn draw_plan<W: Sink>(
+    sink: &mut W,
+    language: Language,
+    machine: &Machine,
+    plan: &DayPlan,
+) -> Machine
     requires { (n : Parts) × IsDrawable machine.now plan.now n }
     ensures leads { Leads machine.now plan.now.settings.items result }
     ensures draws { Draws W.taken W.has_failed sink.old sink.new
-        (day_text English plan.now.day machine.now result plan.now.settings.items) }
+        (day_text language plan.now.day machine.now result plan.now.settings.items) }
 {
     let settings = plan.settings.as_slice();
     let after = carry_all(machine, settings).unwrap();
-    draw_day(sink, Language::English, plan.day, machine, &after, settings);
+    draw_day(sink, language, plan.day, machine, &after, settings);
     after
 }
 
 /// Draws the pages of days that are planned, of which the first is for `machine`.
-fn draw_plans<W: Sink>(sink: &mut W, machine: &Machine, plans: &[DayPlan])
+fn draw_plans<W: Sink>(sink: &mut W, language: Language, machine: &Machine, plans: &[DayPlan])
     requires { AreDrawable machine.now plans.now }
-    ensures { (text : List ℕ) × ArePages machine.now plans.now text
+    ensures { (text : List ℕ) × ArePages language machine.now plans.now text
         × Draws W.taken W.has_failed sink.old sink.new text }
 {
     if let Some((plan, rest)) = plans.split_first() {
-        let after = draw_plan(sink, machine, plan);
-        draw_plans(sink, &after, rest);
+        let after = draw_plan(sink, language, machine, plan);
+        draw_plans(sink, language, &after, rest);
     } else {
         draw(sink, "");
     }

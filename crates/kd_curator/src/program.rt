@@ -30,12 +30,13 @@ use crate::tables::write_tables;
 use crate::up_to_three::UpToThree;
 use kd_host::{Content, FileFault, Files};
 use kd_key_table::TableForm;
+use kd_page::Language;
 use kd_table::TableOptions;
 use kd_tables::{Failed, Sink, put_all};
 use std::alloc::Global;
 use std::convert::AsStr;
 
-/// Carries out the command line `words`, which begins with the program's own name.
+/// Carries out the command line `words`, which begins with the program's own name. Pages and tables are in `language`.
 ///
 /// Returns the exit status and the sink. The status is 0 for success, 2 for other words than a command's, and 1 for a
 /// refusal. With status 1 or 2, a text that says why is written to `errors`; the command `sheet` tells there a table's
@@ -49,11 +50,11 @@ pub fn run_curator<'n, S: AsStr, F: Files<'n>, W: Sink + Drop, E: Sink>(
     errors: &mut E,
 ) -> (u8, W)
     requires { F.asked files.old ≡ [] }
-    ensures { HasEnded (λ told left. IsRun (map S.text words.entry.now) (F.known files.old) (F.asked files.new)
+    ensures { HasEnded (λ told left. IsRun language (map S.text words.entry.now) (F.known files.old) (F.asked files.new)
         (port_with_untaken W.taken W.has_failed sink result.1 left) (result.1 ≡ sink) told left)
         (port E.taken E.has_failed errors.old errors.new) result.0 }
 {
-    let (answer, sink) = run_gathering(alloc, words, files, sink, errors);
+    let (answer, sink) = run_gathering(alloc, language, words, files, sink, errors);
     (end_program(&answer, errors), sink)
 }
 
@@ -66,12 +67,12 @@ fn run_gathering<'n, S: AsStr, F: Files<'n>, W: Sink + Drop, E: Sink>(
     errors: &mut E,
 ) -> (Result<(), Stop>, W)
     requires { F.asked files.old ≡ [] }
-    ensures { (left : List ℕ) × IsRun (map S.text words.entry.now) (F.known files.old) (F.asked files.new)
+    ensures { (left : List ℕ) × IsRun language (map S.text words.entry.now) (F.known files.old) (F.asked files.new)
         (port_with_untaken W.taken W.has_failed sink result.1 left) (result.1 ≡ sink)
         (port E.taken E.has_failed errors.old errors.new) left result.0 }
 {
     let mut gathering = BufferedSink::new(sink);
-    let done = run_words(alloc, words, files, &mut gathering, errors);
+    let done = run_words(alloc, language, words, files, &mut gathering, errors);
     let answer = pass_rest_on(done, &mut gathering);
     (answer, gathering.into_sink())
 }
@@ -85,7 +86,7 @@ fn run_words<'n, S: AsStr, F: Files<'n>, W: Sink, E: Sink>(
     errors: &mut E,
 ) -> Result<(), Stop>
     requires { F.asked files.old ≡ [] }
-    ensures carried { CarriesOut (map S.text words.entry.now) (F.known files.old) (F.asked files.new)
+    ensures carried { CarriesOut language (map S.text words.entry.now) (F.known files.old) (F.asked files.new)
         (port W.taken W.has_failed sink.old sink.new) [] result }
     ensures untouched { IsTrue (is_stopped_before_writing result) → sink.new ≡ sink.old }
     ensures failed { W.has_failed sink.new ≡ (W.has_failed sink.old || is_stopped_by_device result) }
@@ -95,7 +96,7 @@ fn run_words<'n, S: AsStr, F: Files<'n>, W: Sink, E: Sink>(
     match parse_words(alloc, words) {
         Ok(command) => {
             let command = read_files(alloc, command, files)?;
-            Stop::of_answer(carry_out(alloc, command, sink, errors))
+            Stop::of_answer(carry_out(alloc, language, command, sink, errors))
         }
         Err(NoCommand::Asked(text)) => Stop::of_answer(show(text.as_str(), sink)),
         Err(NoCommand::Usage(text)) => Err(Stop::Usage(text)),
@@ -248,12 +249,13 @@ fn read_other<'n, F: Files<'n>>(
 /// Carries out `command`, whose files have been read.
 fn carry_out<W: Sink, E: Sink>(
     alloc: Global,
+    language: Language,
     command: Command<Content, &str>,
     sink: &mut W,
     errors: &mut E,
 ) -> Result<(), Refused>
     requires { HasMonth (with_texts command) }
-    ensures does { DoesCommand (with_texts command.entry)
+    ensures does { DoesCommand language (with_texts command.entry)
         (port W.taken W.has_failed sink.old sink.new) result }
     ensures untouched { IsErr result → has_written result ≡ false → sink.new ≡ sink.old }
     ensures failed { W.has_failed sink.new ≡ (W.has_failed sink.old || is_device result) }
@@ -264,8 +266,21 @@ fn carry_out<W: Sink, E: Sink>(
             machine,
             sheet,
             task,
-        } => do_task(alloc, task, machine.as_slice(), sheet.as_slice(), sink),
-        Command::Table { sheet, form } => write_tables(alloc, form, sheet.as_slice(), sink),
+        } => do_task(
+            alloc,
+            language,
+            task,
+            machine.as_slice(),
+            sheet.as_slice(),
+            sink,
+        ),
+        Command::Table { sheet, form } => write_tables(
+            alloc,
+            language,
+            form,
+            sheet.as_slice(),
+            sink,
+        ),
         Command::Sheet { table, options } => {
             make_sheet(alloc, table.as_slice(), &options, sink, errors)
         }
@@ -277,18 +292,19 @@ fn carry_out<W: Sink, E: Sink>(
 /// Does `task` with the machine in the file `machine` and the key sheet `sheet`.
 fn do_task<W: Sink>(
     alloc: Global,
+    language: Language,
     task: Task,
     machine: &[u8],
     sheet: &[u8],
     sink: &mut W,
 ) -> Result<(), Refused>
-    ensures does { DoesTask task machine.now sheet.now
+    ensures does { DoesTask language task machine.now sheet.now
         (port W.taken W.has_failed sink.old sink.new) result }
     ensures untouched { IsErr result → is_device result ≡ false → sink.new ≡ sink.old }
     ensures failed { W.has_failed sink.new ≡ (W.has_failed sink.old || is_device result) }
 {
     match task {
-        Task::Page(days) => run_page(alloc, machine, sheet, days, sink),
+        Task::Page(days) => run_page(alloc, language, machine, sheet, days, sink),
         Task::List(day) => run_list(alloc, machine, sheet, day, sink),
     }
 }

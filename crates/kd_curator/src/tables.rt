@@ -10,19 +10,20 @@ use kd_key_table::{Language, TableForm};
 use kd_tables::Sink;
 use std::alloc::Global;
 
-/// Writes the tables of the key sheet `sheet`.
+/// Writes the tables of the key sheet `sheet`, in this language.
 pub(crate) fn write_tables<W: Sink>(
     alloc: Global,
+    language: Language,
     form: TableForm,
     sheet: &[u8],
     sink: &mut W,
 ) -> Result<(), Refused>
-    ensures tables { WritesTables form sheet.now
+    ensures tables { WritesTables language form sheet.now
         (port W.taken W.has_failed sink.old sink.new) result }
     ensures untouched { IsErr result → is_device result ≡ false → sink.new ≡ sink.old }
     ensures failed { W.has_failed sink.new ≡ (W.has_failed sink.old || is_device result) }
 {
-    match run_table(alloc, Language::English, form, sheet, sink) {
+    match run_table(alloc, language, form, sheet, sink) {
         Ok(()) => Ok(()),
         Err(fault) => Err(Refused::from(fault)),
     }

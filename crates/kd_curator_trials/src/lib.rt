@@ -8,6 +8,8 @@ mod days;
 #[cfg(test)]
 mod lists;
 #[cfg(test)]
+mod locale;
+#[cfg(test)]
 mod looks;
 #[cfg(test)]
 mod program;

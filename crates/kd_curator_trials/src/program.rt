@@ -2,6 +2,7 @@
 ghost use Rattle.std.specs.Prelude.{◌≡◌, []};
 
 use crate::samples::{DAY_2, DAYS, ENIGMA, M209};
+use kd_curator::Language::English;
 use kd_curator::run_curator;
 use kd_host::{Files, MemoryFiles};
 use kd_tables::MemorySink;
@@ -21,7 +22,7 @@ pub fn run<'n, F: Files<'n>>(alloc: Global, words: &'n [&'n str], files: &mut F,
 {
     let sink = MemorySink::new(room.min(32768));
     let mut errors = MemorySink::new(256);
-    let (status, sink) = run_curator(alloc, words, files, sink, &mut errors);
+    let (status, sink) = run_curator(alloc, English, words, files, sink, &mut errors);
     Ran {
         status,
         sink,

@@ -1,5 +1,6 @@
 //! Tests of pages on a sink that fails.
 use crate::samples::{DAYS, ENIGMA};
+use kd_curator::Language::English;
 use kd_curator::run_page::run_page;
 use kd_curator::{PageFault, Refused, days_of_word};
 use kd_tables::MemorySink;
@@ -9,7 +10,14 @@ use std::alloc::Global;
 fn page(alloc: Global, room: usize) -> (Result<(), Refused>, MemorySink<32768>) {
     let mut sink = MemorySink::new(room.min(32768));
     let days = days_of_word("1-2");
-    let answer = run_page(alloc, ENIGMA.as_bytes(), DAYS.as_bytes(), days, &mut sink);
+    let answer = run_page(
+        alloc,
+        English,
+        ENIGMA.as_bytes(),
+        DAYS.as_bytes(),
+        days,
+        &mut sink,
+    );
     (answer, sink)
 }
 

@@ -17,7 +17,7 @@ pub returns-in-Some : goal.returns-in-Some
 returns-in-Some g t c =
     let rest = c.draw_plans.ensures in (
       _ ++ rest.0,
-      pages_next _ _ c.in-Some.plan.now c.in-Some.rest.now c.args.plans.now _ c.in-Some.ensures.cases.0
+      pages_next _ _ _ c.in-Some.plan.now c.in-Some.rest.now c.args.plans.now _ c.in-Some.ensures.cases.0
           c.draw_plan-after.ensures.leads rest.1,
       both c.draw_plan-after.ensures.draws rest.2,
     )

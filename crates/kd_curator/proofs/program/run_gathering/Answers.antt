@@ -11,7 +11,7 @@ returns g c =
     let has_failed = g.W.Sink.has_failed in (
       c.pass_rest_on-answer.new.sink.gathered.items,
       record {
-        carried = carried_on _ _ _ _ _ _ _ _ rest.ends (rw (made.gathered, made.sink) (none_gathered _))
+        carried = carried_on _ _ _ _ _ _ _ _ _ rest.ends (rw (made.gathered, made.sink) (none_gathered _))
             (rw c.into_sink.ensures rest.kept) run.carried;
         untouched = λ stopped. stopped_on _ _ _ rest.ends
             (λ err early. c.into_sink.ensures ∙ ap (λ b. b.sink) (rest.untouched err ∙ run.untouched early) ∙ made.sink)

@@ -1,0 +1,10 @@
+-- The language that a computer is set to.
+-- Test: finds_the_language
+use Rattle.std.specs.Prelude.{codes, ℕ, nat_eq, List, if◌then◌else◌}
+use Rattle.std.specs.List.{starts_with}
+use Rattle.kd_pictures.specs.declared.language.Language.{Language}
+use Rattle.kd_pictures.specs.declared.language.Language.TheVariants.{English, German}
+
+-- the language of a locale, such as `de_DE.UTF-8`: German if it begins with `de`, otherwise English
+unfoldable pub language_of : List ℕ → Language
+language_of locale = if starts_with nat_eq locale (codes "de") then German else English

@@ -1,0 +1,17 @@
+//! The language that a computer is set to.
+ghost use Rattle.std.specs.Prelude.{◌≡◌};
+ghost use Rattle.kd_curator.specs.Locale.{language_of};
+
+use kd_page::Language;
+
+/// The language of a locale, the value of the environment's `LANG`: German if it begins with `de`, otherwise English.
+#[tactic(auto, unfolding(crate::specs::Locale::language_of))]
+pub fn language_of(locale: &str) -> Language
+    ensures { result ≡ language_of locale.now }
+{
+    if locale.as_bytes().starts_with(b"de") {
+        Language::German
+    } else {
+        Language::English
+    }
+}
