@@ -44,13 +44,15 @@ use std::convert::AsStr;
 /// the command line. If a file can't be read, no later file is asked for, and nothing is written to `sink`.
 pub fn run_curator<'n, S: AsStr, F: Files<'n>, W: Sink + Drop, E: Sink>(
     alloc: Global,
+    language: Language,
     words: &'n [S],
     files: &mut F,
     sink: W,
     errors: &mut E,
 ) -> (u8, W)
     requires { F.asked files.old ≡ [] }
-    ensures { HasEnded (λ told left. IsRun language (map S.text words.entry.now) (F.known files.old) (F.asked files.new)
+    ensures { HasEnded (λ told left. IsRun language (map S.text words.entry.now)
+        (F.known files.old) (F.asked files.new)
         (port_with_untaken W.taken W.has_failed sink result.1 left) (result.1 ≡ sink) told left)
         (port E.taken E.has_failed errors.old errors.new) result.0 }
 {
@@ -61,13 +63,15 @@ pub fn run_curator<'n, S: AsStr, F: Files<'n>, W: Sink + Drop, E: Sink>(
 /// Carries the command line out, and gathers what is written before it is passed on to `sink`.
 fn run_gathering<'n, S: AsStr, F: Files<'n>, W: Sink + Drop, E: Sink>(
     alloc: Global,
+    language: Language,
     words: &'n [S],
     files: &mut F,
     sink: W,
     errors: &mut E,
 ) -> (Result<(), Stop>, W)
     requires { F.asked files.old ≡ [] }
-    ensures { (left : List ℕ) × IsRun language (map S.text words.entry.now) (F.known files.old) (F.asked files.new)
+    ensures { (left : List ℕ) × IsRun language (map S.text words.entry.now)
+        (F.known files.old) (F.asked files.new)
         (port_with_untaken W.taken W.has_failed sink result.1 left) (result.1 ≡ sink)
         (port E.taken E.has_failed errors.old errors.new) left result.0 }
 {
@@ -80,14 +84,15 @@ fn run_gathering<'n, S: AsStr, F: Files<'n>, W: Sink + Drop, E: Sink>(
 /// Parses the command line, reads the files that it names, and carries the command out.
 fn run_words<'n, S: AsStr, F: Files<'n>, W: Sink, E: Sink>(
     alloc: Global,
+    language: Language,
     words: &'n [S],
     files: &mut F,
     sink: &mut W,
     errors: &mut E,
 ) -> Result<(), Stop>
     requires { F.asked files.old ≡ [] }
-    ensures carried { CarriesOut language (map S.text words.entry.now) (F.known files.old) (F.asked files.new)
-        (port W.taken W.has_failed sink.old sink.new) [] result }
+    ensures carried { CarriesOut language (map S.text words.entry.now)
+        (F.known files.old) (F.asked files.new) (port W.taken W.has_failed sink.old sink.new) [] result }
     ensures untouched { IsTrue (is_stopped_before_writing result) → sink.new ≡ sink.old }
     ensures failed { W.has_failed sink.new ≡ (W.has_failed sink.old || is_stopped_by_device result) }
     ensures noted { HasNotes (map S.text words.entry.now)
