@@ -11,7 +11,7 @@ use kd_form::keys::PinKeys;
 use kd_tables::Letter;
 
 /// The keys before the text, `start`, and after it, `end`, put together: each has the eight letters of the keys.
-pub(crate) fn keys_of_copies(
+pub fn keys_of_copies(
     start: &[Option<Letter>],
     end: &[Option<Letter>],
 ) -> Result<PinKeys, PartDamage>

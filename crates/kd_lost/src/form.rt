@@ -47,7 +47,7 @@ pub fn read_damaged_form(
 }
 
 /// The first part of `form`, and the bytes after it; `None` if there is no other part.
-fn split_part(form: &[u8]) -> (&[u8], Option<&[u8]>)
+pub fn split_part(form: &[u8]) -> (&[u8], Option<&[u8]>)
     ensures part { result.0.now ≡ (cut_at_digits form.now).0 }
     ensures others { MatchOption result.1
         ((cut_at_digits form.now).1 ≡ [])

@@ -5,18 +5,18 @@
 #![tactic(auto)]
 
 mod body;
-mod copies;
+pub mod copies;
 mod damage;
 mod damaged_text;
 mod form;
 pub mod laws;
 mod order;
 mod part;
-mod received;
+pub mod received;
 mod warnings;
 
 pub use damage::PartDamage;
 pub use damaged_text::{DamagedText, GroupTest, LostCopies};
-pub use form::{DamagedFormFault, read_damaged_form};
+pub use form::{DamagedFormFault, read_damaged_form, split_part};
 pub use order::{OrderNote, has_part, order_note};
 pub use part::{DamagedPart, PartNumbers, read_damaged_part};

@@ -41,7 +41,7 @@ fn filled_byte(byte: u8) -> u8
 
 /// The first bytes of a heading line, as capital letters, with B in place of each lost letter.
 #[tactic(auto, using(crate::proofs::Bytes::filled_more))]
-pub(crate) fn filled_line(line: &[u8]) -> ArrayVec<u8, 64>
+pub fn filled_line(line: &[u8]) -> ArrayVec<u8, 64>
     ensures { result.items ≡ take 64 (map filled_byte line.now) }
 {
     let mut kept = ArrayVec::new();
@@ -80,7 +80,7 @@ fn is_body_byte(byte: u8) -> bool
 
 /// The first letters of a body, at most 525.
 #[tactic(auto, using(crate::proofs::Bytes::letters_more, crate::proofs::Bytes::kept_already))]
-pub(crate) fn received_letters(body: &[u8]) -> ArrayVec<Option<Letter>, 525>
+pub fn received_letters(body: &[u8]) -> ArrayVec<Option<Letter>, 525>
     ensures { result.items ≡ take 525 (received_letters body.now) }
 {
     let mut letters = ArrayVec::new();

@@ -1,6 +1,6 @@
 -- An order that has a form: its head and its text, as they are read.
-use Rattle.std.proofs.Common.{◌≡◌, ℕ, ◌+◌, ◌<◌, List, [], ◌∷◌, ◌++◌, length, take, drop, arith, sym, subst, ap}
-use Rattle.std.proofs.Common.{◌∙◌, Ok, get_or}
+use Rattle.std.proofs.Common.{◌≡◌, ℕ, ◌+◌, ◌<◌, ◌≤◌, List, [], ◌∷◌, ◌++◌, length, take, drop, arith, refl, sym, subst, ap}
+use Rattle.std.proofs.Common.{◌∙◌, Ok, length-append, get_or}
 use Rattle.std.proofs.lemmas.List.{take-append-drop, take_more}
 use Rattle.std.proofs.lemmas.List.Elements.{filter_map-append}
 use Rattle.std.proofs.Math.Seq.{drop-append_seam, take-append_seam}
@@ -11,11 +11,11 @@ use Rattle.kd_form.specs.declared.sending.order_head.HeadStep.TheVariants.{Bad, 
 use Rattle.kd_form.specs.InTurn.{InTurn}
 use Rattle.kd_form.specs.Order.{IsOrder, IsOrderHeadFault}
 use Rattle.kd_form.specs.OrderSteps.{IsHeadBegun, IsHeadStep}
-use Rattle.kd_form.specs.PartMaking.{IsKeysAnswer}
-use Rattle.kd_form.specs.Sending.{IsFormOf, IsMadeAnswer, IsReadAnswer, OrderParts}
+use Rattle.kd_form.specs.PartMaking.{IsKeysAnswer, part_size}
+use Rattle.kd_form.specs.Sending.{IsFormOf, IsMadeAnswer, IsReadAnswer, OrderParts, letters_from, space_letter}
 use Rattle.kd_form.specs.Sending.{text_letters}
 use Rattle.kd_form.proofs.OneOrder.{no_head_fault}
-use Rattle.kd_form.proofs.OrderSteps.{IsOrder-append, IsOrderHeadFault-append, head_cut}
+use Rattle.kd_form.proofs.OrderSteps.{IsOrder-append, IsOrderHeadFault-append, head_cut, letters_few}
 use Rattle.kd_form.proofs.Rules.{ThenNext-tested}
 use Rattle.kd_message.specs.SendPage.{HasForm}
 

@@ -1,5 +1,5 @@
 -- Lists cut into pieces.
-use Rattle.std.proofs.Common.{◌≡◌, ℕ, ◌<◌, List, [], ◌∷◌, length, take, drop, min, arith, refl, add-one, length-drop}
+use Rattle.std.proofs.Common.{◌≡◌, ℕ, ◌+◌, ◌<◌, List, [], ◌∷◌, length, take, drop, min, arith, refl, add-one, length-drop}
 use Rattle.std.proofs.Math.Nat.{div-eq_of_lt, mod-eq_of_lt}
 use Rattle.std.proofs.lemmas.List.{drop_min, take_min}
 use Rattle.kd_form.proofs.MadeParts.{more_pieces}

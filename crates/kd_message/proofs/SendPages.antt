@@ -1,12 +1,12 @@
 -- The page for sending an order: its parts, one after another.
-use Rattle.std.proofs.Common.{◌≡◌, ℕ, zero, suc, ◌+◌, ◌-◌, ◌<◌, ◌≤◌, Bool, List, [], ◌∷◌, ◌++◌, length, take, drop, flat_map}
-use Rattle.std.proofs.Common.{arith, refl, ap, ◌∙◌, Ok, Err, Option, inl, inr}
+use Rattle.std.proofs.Common.{◌≡◌, ◌≢◌, ℕ, zero, suc, ◌+◌, ◌-◌, ◌<◌, ◌≤◌, Bool, List, [], ◌∷◌, ◌++◌, length, take, drop, flat_map}
+use Rattle.std.proofs.Common.{arith, refl, sym, subst, ap, ◌∙◌, Ok, Err, Option, inl, inr, All, Result, append_assoc}
 use Rattle.std.proofs.lemmas.Grind.{common_steps}
 use Rattle.std.proofs.lemmas.List.{length-take, nil_from_length}
 use Rattle.std.proofs.lemmas.List.Elements.{All-head, All-tail}
 use Rattle.std.specs.Simd.{first_chunks}
 use Rattle.kd_state.proofs.OneAnswer.{ThenNext-Ok}
-use Rattle.kd_state.specs.AnswerRules.{GoesOn}
+use Rattle.kd_state.specs.AnswerRules.{GoesOn, HasFault}
 use Rattle.kd_state.specs.declared.machine.parts.Parts.{Parts}
 use Rattle.kd_state.specs.SheetDay.{Day, day_model, day_number}
 use Rattle.kd_form.specs.declared.fault.FormFault.{FormFault}
@@ -16,18 +16,18 @@ use Rattle.kd_form.specs.OnTheKey.{IsAnswerOnKey, IsReadyOnKey, OffKey, WithKey}
 use Rattle.kd_form.specs.Order.{IsOrder}
 use Rattle.kd_form.specs.Part.{Part, part_text}
 use Rattle.kd_form.specs.PartMaking.{IsKeysAnswer, IsPartMade, part_size}
-use Rattle.kd_form.specs.Sending.{ArePartTextsMade, IsFormOf, IsSendFault, text_letters}
+use Rattle.kd_form.specs.Sending.{ArePartTextsMade, IsFormOf, IsOrderAnswer, IsSendFault, text_letters}
 use Rattle.kd_form.proofs.MadeParts.{size_some}
 use Rattle.kd_form.proofs.OneOrder.{all_of_the_day, one_order, orders_have_one_answer}
 use Rattle.kd_pictures.specs.Drawing.{Draws}
 use Rattle.kd_pictures.proofs.Drawings.{both}
+use Rattle.kd_pictures.specs.declared.texts.TheConstants.{FOOT}
 use Rattle.kd_message.specs.declared.texts.MessageTexts.{MessageTexts}
 use Rattle.kd_message.specs.FormSheet.{form_part}
-use Rattle.kd_message.specs.PartSheet.{part_sheet}
 use Rattle.kd_message.specs.PartWork.{IsWork, Work}
 use Rattle.kd_message.specs.Rows.{pieces}
 use Rattle.kd_message.specs.SendPage.{AreKeysOfText, AreMade, AreWorks, IsSendPage, IsSendRefusal, form_parts}
-use Rattle.kd_message.specs.SendPage.{part_name, part_sheets, text_pieces}
+use Rattle.kd_message.specs.SendPage.{part_name, part_sheets, send_sheet, text_pieces}
 unfoldable use Rattle.kd_message.specs.SendPage.{send_text}
 use Rattle.kd_message.proofs.Orders.{parts_of_order}
 use Rattle.kd_message.proofs.Pieces.{pieces-next, pieces-none}
@@ -94,7 +94,7 @@ module _ {W : Type 0} {taken : W → Option (List ℕ)} {failed : W → Bool} {o
     (s : Day) (part parts : ℕ) where
   pub sheets_next : {all : List Keys} {allp : List (List ℕ)} {k : Keys} {keys : List Keys} {piece : List ℕ}
       {pieces : List (List ℕ)} (work : Work) → all ≡ k ∷ keys → allp ≡ piece ∷ pieces → IsWork s k piece work
-      → Draws taken failed old mid (part_sheet texts s (part_name s part parts) work)
+      → Draws taken failed old mid (send_sheet texts s (part_name s part parts) work)
       → ((works : List Work) × AreWorks s keys pieces works
       × Draws taken failed mid new (part_sheets texts s (part + 1) parts works))
       → (works : List Work) × AreWorks s all allp works

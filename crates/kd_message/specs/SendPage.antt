@@ -1,5 +1,5 @@
 -- The page for sending an order.
-use Rattle.std.specs.Prelude.{◌≡◌, ◌⊎◌, decimal, ℕ, ◌+◌, ◌==◌, ◌||◌, if◌then◌else◌, List, [], ◌∷◌, ◌++◌, flat_map, length}
+use Rattle.std.specs.Prelude.{◌≡◌, ◌⊎◌, decimal, ℕ, ◌+◌, ◌==◌, ◌||◌, false, if◌then◌else◌, List, [], ◌∷◌, ◌++◌, flat_map, length}
 use Rattle.std.specs.Prelude.{◌≤◌, All, Result, Ok, Err, is_err, OnErr}
 use Rattle.std.specs.List.{range_with_len}
 use Rattle.kd_tables.specs.Ports.{Port}
@@ -18,10 +18,13 @@ use Rattle.kd_form.specs.Sending.{IsFormOf, IsReadAnswer, IsSendFault, OrderPart
 use Rattle.kd_form.specs.Streams.{IsUntouched}
 use Rattle.kd_pictures.specs.declared.texts.TheConstants as page_texts
 use Rattle.kd_pictures.specs.Template.{filled}
-use Rattle.kd_pictures.specs.Words.{model_name}
+use Rattle.kd_pictures.specs.Words.{is_converter, model_name}
+use Rattle.kd_tables.specs.declared.model.Model.{Model}
 use Rattle.kd_message.specs.declared.markup.TheConstants.{ARTICLE_END, MESSAGE_STYLE}
 use Rattle.kd_message.specs.declared.part_sheet.PartName.{PartName}
+use Rattle.kd_message.specs.declared.part_sheet.Warnings.{Warnings}
 use Rattle.kd_message.specs.declared.texts.MessageTexts.{MessageTexts}
+use Rattle.kd_message.specs.declared.texts.SheetTexts.{SheetTexts}
 use Rattle.kd_message.specs.FormSheet.{form_head, form_part}
 use Rattle.kd_message.specs.PartSheet.{part_sheet}
 use Rattle.kd_message.specs.PartWork.{IsWork, Work}
@@ -48,11 +51,22 @@ list_text texts parts =
 abbrev pub part_name : Day → ℕ → ℕ → PartName
 part_name s part parts = record { model = day_model s; day = day_number s; part = part; parts = parts }
 
+abbrev pub send_texts : MessageTexts → Model → SheetTexts
+send_texts texts model = if is_converter model then texts.pin_send else texts.rotor_send
+
+-- a part that is sent has no warnings
+abbrev pub no_warnings : Warnings
+no_warnings = record { letters_lost = false; copies_lost = false; wrong_day = false }
+
+-- the sheet of a part that is sent
+abbrev pub send_sheet : MessageTexts → Day → PartName → Work → List ℕ
+send_sheet texts s name work = part_sheet texts (send_texts texts (day_model s)) s name no_warnings work
+
 -- the sheets of the parts from number `part` on
 abbrev pub part_sheets : MessageTexts → Day → ℕ → ℕ → List Work → List ℕ
 part_sheets texts s part parts [] = []
 part_sheets texts s part parts (work ∷ works) =
-    part_sheet texts s (part_name s part parts) work ++ part_sheets texts s (part + 1) parts works
+    send_sheet texts s (part_name s part parts) work ++ part_sheets texts s (part + 1) parts works
 
 -- the parts of the form
 abbrev pub form_parts : MessageTexts → Day → List Part → List ℕ

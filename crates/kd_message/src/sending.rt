@@ -10,15 +10,15 @@ ghost use Rattle.kd_pictures.specs.Drawing.{Draws};
 ghost use Rattle.kd_message.specs.FormSheet.{form_part};
 ghost use Rattle.kd_message.specs.PartWork.{Work};
 ghost use Rattle.kd_message.specs.SendPage.{AreKeysOfText, AreMade, AreWorks, HasForm, IsSendPage, IsSendPageAnswer};
-ghost use Rattle.kd_message.specs.SendPage.{form_parts, list_head, list_text, listed_text, part_name, part_sheets};
+ghost use Rattle.kd_message.specs.SendPage.{form_parts, list_head, list_text, listed_text, part_name, part_sheets, send_texts};
 ghost use Rattle.kd_message.specs.SendPage.{send_text, text_pieces, title_text};
 
 use crate::form_sheet::{draw_form_head, draw_form_part};
 use crate::markup::{ARTICLE_END, MESSAGE_STYLE};
 use crate::order::{read_head, take_piece};
-use crate::part_sheet::{PartName, draw_part_sheet};
+use crate::part_sheet::{PartName, Warnings, draw_part_sheet};
 use crate::part_work::work_of;
-use crate::texts::MessageTexts;
+use crate::texts::{MessageTexts, SheetTexts};
 use kd_form::day_machine::DayMachine;
 use kd_form::keys::Keys;
 use kd_form::sending::order_head::HeadReader;
@@ -27,8 +27,9 @@ use kd_form::{FormFault, send};
 use kd_pictures::draw;
 use kd_pictures::template::{Value, fill};
 use kd_pictures::texts::{BODY, FOOT, STYLE};
+use kd_pictures::words::is_converter;
 use kd_state::{Machine, SheetDay};
-use kd_tables::{Letter, Sink};
+use kd_tables::{Letter, Model, Sink};
 use std::alloc::Global;
 
 /// Writes the page that says how to encipher `order` by hand on `machine`, which must be on the day's key.
@@ -173,12 +174,37 @@ fn draw_part_sheets<W: Sink>(
     if let [first, rest @ ..] = keys {
         let (piece, later) = take_piece(day, text);
         let work = work_of(day, part, first, piece.as_slice());
-        draw_part_sheet(sink, texts, day, part_name(day, part, parts), &work);
+        draw_part_sheet(
+            sink,
+            texts,
+            send_texts(texts, day.model()),
+            day,
+            part_name(day, part, parts),
+            NO_WARNINGS,
+            &work,
+        );
         draw_part_sheets(sink, texts, day, part + 1, parts, rest, later);
     }
 }
 
-fn part_name(day: &SheetDay, part: u8, parts: u8) -> PartName
+/// A part that is sent has no warnings.
+const NO_WARNINGS: Warnings = Warnings {
+    letters_lost: false,
+    copies_lost: false,
+    wrong_day: false,
+};
+
+fn send_texts(texts: &MessageTexts, model: Model) -> &SheetTexts
+    ensures { result.now ≡ send_texts texts.now model }
+{
+    if is_converter(model) {
+        &texts.pin_send
+    } else {
+        &texts.rotor_send
+    }
+}
+
+pub(crate) fn part_name(day: &SheetDay, part: u8, parts: u8) -> PartName
     ensures { result ≡ part_name day.now part parts }
 {
     PartName {

@@ -1,4 +1,4 @@
-use Rattle.std.proofs.Common.{refl}
+use Rattle.std.proofs.Common.{refl, ◌∙◌}
 use Rattle.kd_form.proofs.MadeParts.{has_internal}
 use Rattle.kd_message.proofs.sending.draw_made_part.Goals as goal
 
