@@ -14,6 +14,7 @@ use Rattle.kd_form.specs.PartMaking.{cipher_from, enciphered_choice}
 use Rattle.kd_form.proofs.OneOrder.{one_internal_key}
 use Rattle.kd_lost.specs.declared.damage.PartDamage.{PartDamage}
 use Rattle.kd_lost.specs.declared.damaged_text.DamagedText.{DamagedText}
+use Rattle.kd_lost.specs.declared.damaged_text.TextKeys.TheVariants as text_keys
 use Rattle.kd_lost.specs.Lost.{Completes, IsLetterFor, covered}
 use Rattle.kd_lost.specs.Copies.{IsKeysAnswer, chosen_copies}
 use Rattle.kd_lost.specs.WholePart.{HasKeysAround}
@@ -88,12 +89,14 @@ keyed_fault s received middle keys damage read (GoesOn on wheels (GoesOn interna
 
 -- the text of the letters between the indicators is the text of each completion
 pub keyed_text : (s : Day) (received middle : List (Option ℕ)) (keys : PinKeys) (shown : ArrayVec (Option ℕ))
-    (text : DamagedText) → 20 ≤ length received → middle ≡ slice_range received 10 (length received - 10)
+    (internal : ArrayVec ℕ) (text : DamagedText) → 20 ≤ length received → middle ≡ slice_range received 10 (length received - 10)
     → length (end_of received) ≡ 8 → length (start_of received) ≡ 8
-    → text.letters ≡ shown → IsKeysAnswer (start_of received) (end_of received) (Ok keys)
-    → IsKeyedTextAnswer s keys middle (Ok shown) → AreWarnings s None received text
+    → text.letters ≡ shown → text.received.items ≡ received
+    → text.keys ≡ text_keys.Pin (record { indicator = keys; internal = internal })
+    → IsKeysAnswer (start_of received) (end_of received) (Ok keys)
+    → IsKeyedTextAnswer s keys middle (Ok (shown, internal)) → AreWarnings s None received text
     → IsDamagedLettersAnswer s None received (Ok text)
-keyed_text s received middle keys shown text some is eight also same read given warnings =
+keyed_text s received middle keys shown internal text some is eight also same came kept read given warnings =
     let one = ThenNext-Ok given in
     let two = ThenNext-Ok one.next in
     GoesOn keys read (GoesOn tt one.says (GoesOn two.found two.says (record {
@@ -109,8 +112,16 @@ keyed_text s received middle keys shown text some is eight also same read given 
           (rest_completes 10 received whole completes))) in
           let key = one_internal_key (enciphered_choice s keys) two.found made_is.internal two.says
           (subst (λ k. IsInternalKey (enciphered_choice s k) made_is.internal) there made_is.is_key) in
-          ap (λ l. l.items) same ∙ two.next (text_of_body whole) inside
+          ap (λ l. l.items) same ∙ two.next.1 (text_of_body whole) inside
           ∙ ap (covered middle) (ap (λ k. cipher_from s k (text_of_body whole)) key ∙ sym made_is.is)
           ∙ ap (λ l. covered l made) is;
+      as_received = came;
+      keys = (
+        record { indicator = keys; internal = internal },
+        kept,
+        read,
+        one.says,
+        subst (IsInternalKey (enciphered_choice s keys)) (sym two.next.0) two.says,
+      );
       warnings = warnings;
     })))

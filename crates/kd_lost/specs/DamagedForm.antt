@@ -14,7 +14,8 @@ use Rattle.kd_lost.specs.declared.form.DamagedFormFault.TheVariants as faults
 use Rattle.kd_lost.specs.declared.order.OrderNote.{OrderNote}
 use Rattle.kd_lost.specs.declared.order.OrderNote.TheVariants as notes
 use Rattle.kd_lost.specs.declared.part.{DamagedPart.{DamagedPart}, PartNumbers.{PartNumbers}}
-use Rattle.kd_lost.specs.DamagedPart.{AreNumbersRead, IsDamagedTextAnswer, IsPartShown, first_line}
+use Rattle.kd_lost.specs.DamagedPart.{AreNumbersRead, IsDamagedTextAnswer, IsPartShown, body_of, first_line}
+use Rattle.kd_lost.specs.Lost.{received_letters}
 
 -- ---- The parts of a form.
 
@@ -44,6 +45,7 @@ damaged_parts_of form = (cut_at_digits form).0 ∷ (cut_at_digits form).1
 -- `read` is what `read_damaged_part` reads of `part`.
 pub record IsReadOf (s : Day) (part : List ℕ) (read : DamagedPart) : Type 0 where
   pub numbers : AreNumbersRead s (first_line part) read.numbers
+  pub came : read.came ≡ length (received_letters (body_of part))
   pub text : IsDamagedTextAnswer s part read.text
   pub shown : IfOk read.text (IsPartShown s part)
 

@@ -1,12 +1,13 @@
 -- What is read of the letters of a body in which letters were lost.
 -- Test: each_byte_is_lost_in_turn
 use Rattle.std.specs.Prelude.{◌≡◌, ◌⊎◌, ◌↔◌, ℕ, ◌-◌, List, [], ◌∷◌, length, map, take, drop, Any, IsTrue}
-use Rattle.std.specs.Prelude.{Option, Some, None}
+use Rattle.std.specs.Prelude.{Option, Some, None, Ok}
 use Rattle.std.specs.List.{slice_range}
 use Rattle.kd_state.specs.AnswerRules.{AnswerRule, ◌>>=◌, Finds, Demands, FindsAlways}
 use Rattle.kd_state.specs.SheetDay.{Day, AreADaysGroup}
 use Rattle.kd_state.specs.TwoCiphers.{IsWindow, sheet_key}
 use Rattle.kd_form.specs.declared.heading.Indicator.{Indicator}
+use Rattle.kd_form.specs.BodyCipher.{HasIndicator}
 use Rattle.kd_form.specs.InternalKey.{IsInternalKey}
 use Rattle.arrayvec.specs.ArrayVec.{ArrayVec}
 use Rattle.kd_form.specs.declared.keys.PinKeys.{PinKeys}
@@ -17,6 +18,9 @@ use Rattle.kd_lost.specs.declared.damaged_text.DamagedText.{DamagedText}
 use Rattle.kd_lost.specs.declared.damaged_text.GroupTest.{GroupTest}
 use Rattle.kd_lost.specs.declared.damaged_text.GroupTest.TheVariants as tests
 use Rattle.kd_lost.specs.declared.damaged_text.LostCopies.{LostCopies}
+use Rattle.kd_lost.specs.declared.damaged_text.PinTextKeys.{PinTextKeys}
+use Rattle.kd_lost.specs.declared.damaged_text.TextKeys.{TextKeys}
+use Rattle.kd_lost.specs.declared.damaged_text.TextKeys.TheVariants as text_keys
 use Rattle.kd_lost.specs.Lost.{Completes, covered}
 use Rattle.kd_lost.specs.Copies.{IsKeysAnswer}
 use Rattle.kd_lost.specs.WholePart.{IsLettersText}
@@ -66,11 +70,24 @@ abbrev pub text_part : {A : Type 0} → Option Indicator → List A → List A
 text_part (Some i) letters = drop 5 letters
 text_part None letters = slice_range letters 10 (length letters - 10)
 
--- `shown` has the text of each completion of the letters `received`, without the letters that were lost.
+-- `keys` are the keys of a body that was received as `received`: on a rotor machine, those in the heading; on the
+-- Converter M-209, those that both copies give, with the internal key that they give.
+abbrev pub AreTextKeys : Day → Option Indicator → List (Option ℕ) → TextKeys → Type 0
+AreTextKeys s (Some i) received keys = HasIndicator s (Some i) × (keys ≡ text_keys.Rotor i)
+AreTextKeys s None received keys =
+    (pin : PinTextKeys) × (keys ≡ text_keys.Pin pin)
+    × IsKeysAnswer (take 8 received) (take 8 (drop (length received - 10) received)) (Ok pin.indicator)
+    × IsWindow (sheet_key s) pin.indicator.external
+    × IsInternalKey (enciphered_choice s pin.indicator) pin.internal.items
+
+-- `shown` has the text of each completion of the letters `received`, without the letters that were lost; the letters
+-- `received` themselves; and the keys.
 pub record IsTextShown (s : Day) (i : Option Indicator) (received : List (Option ℕ))
     (shown : DamagedText) : Type 0 where
   pub each : (whole text : List ℕ) → Completes received whole → IsLettersText s i whole text
       → shown.letters.items ≡ covered (text_part i received) text
+  pub as_received : shown.received.items ≡ received
+  pub keys : AreTextKeys s i received shown.keys
   pub warnings : AreWarnings s i received shown
 
 -- The answer for the letters of a body. On a rotor machine, they always give a text. On the Converter M-209, the tests
@@ -86,9 +103,9 @@ IsDamagedLettersAnswer s None received = do
 -- ---- What the code holds. No public contract cites this definition.
 
 -- The answer for the keys `keys` and for `received`, the letters of the text between the indicators.
-abbrev pub IsKeyedTextAnswer : Day → PinKeys → List (Option ℕ) → AnswerRule PartDamage (ArrayVec (Option ℕ))
+abbrev pub IsKeyedTextAnswer : Day → PinKeys → List (Option ℕ) → AnswerRule PartDamage (ArrayVec (Option ℕ) × ArrayVec ℕ)
 IsKeyedTextAnswer s keys received = do
   _ ← Demands (IsWindow (sheet_key s) keys.external) KeyNotOnWheel
   internal ← Finds (IsInternalKey (enciphered_choice s keys)) NoInternalKey
-  FindsAlways (λ shown. (whole : List ℕ) → Completes received whole
-      → shown.items ≡ covered received (cipher_from s internal whole))
+  FindsAlways (λ shown. (shown.1.items ≡ internal) × ((whole : List ℕ) → Completes received whole
+      → shown.0.items ≡ covered received (cipher_from s internal whole)))

@@ -11,7 +11,7 @@ ghost use Rattle.kd_lost.specs.DamagedText.{IsTextShown, IsDamagedLettersAnswer,
 
 use crate::copies::keys_of_copies;
 use crate::damage::PartDamage;
-use crate::damaged_text::{DamagedText, LostCopies};
+use crate::damaged_text::{DamagedText, LostCopies, PinTextKeys, TextKeys};
 use crate::warnings::{has_lost_letter, test_group, test_list};
 use arrayvec::ArrayVec;
 use kd_form::day_machine::DayMachine;
@@ -41,6 +41,8 @@ pub(crate) fn decipher_rotor(
     );
     DamagedText {
         letters: decipher_covered(&mut machine, message_key.as_slice(), &received[5..]),
+        received: list_of(received),
+        keys: TextKeys::Rotor(*indicator),
         group: test_group(day, &received[2..5]),
         copies: None,
     }
@@ -59,10 +61,15 @@ pub(crate) fn decipher_pin(
     let (_, end) = received.split_at(received.len() - 10);
     let keys = keys_of_copies(&received[..8], &end[..8])?;
     let text = &received[10..received.len() - 10];
-    let letters = decipher_with_keys(day, &keys, text)?;
+    let (letters, internal) = decipher_with_keys(day, &keys, text)?;
     let (_, list) = end.split_at(8);
     Ok(DamagedText {
         letters,
+        received: list_of(received),
+        keys: TextKeys::Pin(PinTextKeys {
+            indicator: keys,
+            internal,
+        }),
         group: test_list(day, &received[8..10], list),
         copies: Some(LostCopies {
             at_start: has_lost_letter(&received[..10]),
@@ -71,12 +78,24 @@ pub(crate) fn decipher_pin(
     })
 }
 
+/// The letters as a list of their own.
+fn list_of(received: &[Option<Letter>]) -> ArrayVec<Option<Letter>, 520>
+    requires { length received.now ≤ 520 }
+    ensures { result.items ≡ received.now }
+{
+    let mut list = ArrayVec::new();
+    list.try_extend_from_slice(received).unwrap();
+    list
+}
+
 /// Deciphers `received`, the letters of a Converter's text, with `keys`, without those that were lost.
+///
+/// Returns the internal key as well.
 fn decipher_with_keys(
     day: &SheetDay,
     keys: &PinKeys,
     received: &[Option<Letter>],
-) -> Result<ArrayVec<Option<Letter>, 500>, PartDamage>
+) -> Result<(ArrayVec<Option<Letter>, 500>, ArrayVec<Letter, 6>), PartDamage>
     requires few { length received.now ≤ 500 }
     ensures { IsKeyedTextAnswer day.now keys.now received.now result }
 {
@@ -85,7 +104,10 @@ fn decipher_with_keys(
         return Err(PartDamage::KeyNotOnWheel);
     }
     match internal_key_of(&mut machine, keys) {
-        Some(internal) => Ok(decipher_covered(&mut machine, internal.as_slice(), received)),
+        Some(internal) => {
+            let shown = decipher_covered(&mut machine, internal.as_slice(), received);
+            Ok((shown, internal))
+        }
         None => Err(PartDamage::NoInternalKey),
     }
 }

@@ -4,6 +4,8 @@ ghost use Rattle.kd_form.specs.Sending.{space_letter};
 ghost use Rattle.kd_lost.specs.DamagedForm.{shown_byte};
 
 use arrayvec::ArrayVec;
+use kd_form::heading::Indicator;
+use kd_form::keys::PinKeys;
 use kd_form::text_bytes::space_letter;
 use kd_state::SheetDay;
 use kd_tables::Letter;
@@ -13,10 +15,32 @@ use kd_tables::Letter;
 pub struct DamagedText {
     /// The letters of the text; `None` where a letter was lost.
     pub letters: ArrayVec<Option<Letter>, 500>,
+    /// The letters of the body, as they were received; `None` where a letter was lost.
+    pub received: ArrayVec<Option<Letter>, 520>,
+    /// The keys with which the text was deciphered.
+    pub keys: TextKeys,
     /// Whether the part's group or, on the Converter M-209, its list letters are the day's.
     pub group: GroupTest,
     /// Which copies of a Converter's indicators have lost letters; `None` on a rotor machine.
     pub copies: Option<LostCopies>,
+}
+
+/// The keys with which a text was deciphered.
+#[derive(Drop)]
+pub enum TextKeys {
+    /// On a rotor machine, the keys in the heading.
+    Rotor(Indicator),
+    /// On the Converter M-209, the keys in the indicators.
+    Pin(PinTextKeys),
+}
+
+/// The keys of a text on the Converter M-209.
+#[derive(Drop)]
+pub struct PinTextKeys {
+    /// The chosen letter and the external letters, put together from both copies.
+    pub indicator: PinKeys,
+    /// The internal key: the letters on the wheels before the text is deciphered.
+    pub internal: ArrayVec<Letter, 6>,
 }
 
 /// Whether the letters by which a receiver knows the day are the day's.

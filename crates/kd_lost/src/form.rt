@@ -1,5 +1,5 @@
 //! Reads a form in which letters were lost, part by part.
-ghost use Rattle.std.specs.Prelude.{◌≡◌, ◌<◌, length, IfSome, MatchOption, MatchResult, []};
+ghost use Rattle.std.specs.Prelude.{◌≡◌, ◌<◌, ◌≤◌, length, IfOk, IfSome, MatchOption, MatchResult, []};
 ghost use Rattle.kd_lost.specs.DamagedForm.{AreReadOf, IsFormFault, cut_at_digits, damaged_parts_of};
 ghost use Rattle.kd_lost.specs.DamagedForm.{ends_part, has_digit_line};
 
@@ -27,9 +27,10 @@ pub fn read_damaged_form(
     day: &SheetDay,
     form: &[u8],
 ) -> Result<Vec<DamagedPart>, DamagedFormFault>
-    ensures { MatchResult result
+    ensures read { MatchResult result
         (λ parts. AreReadOf day.now (damaged_parts_of form.now) parts.items)
         (IsFormFault (damaged_parts_of form.now)) }
+    ensures few { IfOk result (λ parts. length parts.items ≤ 255) }
 {
     let mut parts = Vec::new(alloc);
     let mut left = Some(form);

@@ -16,7 +16,7 @@ mod received;
 mod warnings;
 
 pub use damage::PartDamage;
-pub use damaged_text::{DamagedText, GroupTest, LostCopies};
+pub use damaged_text::{DamagedText, GroupTest, LostCopies, PinTextKeys, TextKeys};
 pub use form::{DamagedFormFault, read_damaged_form};
 pub use order::{OrderNote, has_part, order_note};
 pub use part::{DamagedPart, PartNumbers, read_damaged_part};

@@ -1,15 +1,16 @@
 //! Reads a part of a form in which letters were lost.
-ghost use Rattle.std.specs.Prelude.{◌≡◌, MatchResult, IfOk};
+ghost use Rattle.std.specs.Prelude.{◌≡◌, MatchResult, IfOk, length};
 ghost use Rattle.kd_state.specs.LineWords.{IsWithout};
 ghost use Rattle.kd_form.specs.FormParts.{IsHeading};
 ghost use Rattle.kd_lost.specs.DamagedPart.{AreNumbersRead, IsDamagedBodyAnswer, IsDamagedLinesAnswer};
 ghost use Rattle.kd_lost.specs.DamagedPart.{IsHeadedPartAnswer};
-ghost use Rattle.kd_lost.specs.DamagedPart.{IsDamagedTextAnswer, IsPartShown, first_line, numbers_of};
+ghost use Rattle.kd_lost.specs.DamagedPart.{IsDamagedTextAnswer, IsPartShown, body_of, first_line, numbers_of};
+ghost use Rattle.kd_lost.specs.Lost.{received_letters};
 
 use crate::body::{decipher_pin, decipher_rotor};
 use crate::damage::PartDamage;
 use crate::damaged_text::DamagedText;
-use crate::received::{are_body_bytes, filled_line, has_lost_byte, received_letters};
+use crate::received::{are_body_bytes, filled_line, has_lost_byte, letter_count, received_letters};
 use kd_form::day_machine::slots_of;
 use kd_form::heading::Heading;
 use kd_form::receiving::heading_reader::heading_of_ended_line;
@@ -20,6 +21,8 @@ use kd_state::{SheetDay, split_once};
 pub struct DamagedPart {
     /// The numbers in the heading; `None` if the heading is damaged.
     pub numbers: Option<PartNumbers>,
+    /// How many letters of the body came, with the lost ones.
+    pub came: usize,
     /// The text, or why it can't be read.
     pub text: Result<DamagedText, PartDamage>,
 }
@@ -41,6 +44,7 @@ pub struct PartNumbers {
 /// lost. Whoever knows a lost letter of the keys may put it into the form, and read the form again.
 pub fn read_damaged_part(day: &SheetDay, part: &[u8]) -> DamagedPart
     ensures numbers { AreNumbersRead day.now (first_line part.now) result.numbers }
+    ensures came { result.came ≡ length (received_letters (body_of part.now)) }
     ensures text { IsDamagedTextAnswer day.now part.now result.text }
     ensures shown { IfOk result.text (IsPartShown day.now part.now) }
 {
@@ -54,16 +58,20 @@ pub fn read_damaged_part(day: &SheetDay, part: &[u8]) -> DamagedPart
 fn read_lines(day: &SheetDay, line: &[u8], body: &[u8]) -> DamagedPart
     requires { IsWithout 10 line.now }
     ensures numbers { AreNumbersRead day.now line.now result.numbers }
+    ensures came { result.came ≡ length (received_letters body.now) }
     ensures text { IsDamagedLinesAnswer day.now line.now body.now result.text }
 {
+    let came = letter_count(body);
     let Some(heading) = heading_of_ended_line(day, filled_line(line).as_slice()) else {
         return DamagedPart {
             numbers: None,
+            came,
             text: Err(PartDamage::HeadingDamaged),
         };
     };
     DamagedPart {
         numbers: Some(numbers_of(&heading)),
+        came,
         text: read_body_after(day, &heading, line, body),
     }
 }

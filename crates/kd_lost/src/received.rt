@@ -1,5 +1,6 @@
 //! The bytes of a part as they were received: lost letters, small letters, and what a body's bytes give.
-ghost use Rattle.std.specs.Prelude.{◌≡◌, ◌++◌, ◌↔◌, List, map, take, All, Any, Contains, None, IsTrue, IsFalse};
+ghost use Rattle.std.specs.Prelude.{◌≡◌, ◌++◌, ◌↔◌, List, map, take, All, Any, Contains, None, IsTrue, IsFalse, is_some};
+ghost use Rattle.std.specs.List.{count_by};
 ghost use Rattle.std.specs.Option.{option_to_list};
 ghost use Rattle.std.specs.Bool.{OnTrue, OnFalse};
 ghost use Rattle.kd_lost.specs.Lost.{is_lost, capital_of, received_letter, received_letters};
@@ -88,6 +89,20 @@ pub(crate) fn received_letters(body: &[u8]) -> ArrayVec<Option<Letter>, 525>
         keep_letter(&mut letters, received_letter(*byte));
     }
     letters
+}
+
+/// How many letters a body has, with the lost ones.
+pub(crate) fn letter_count(body: &[u8]) -> usize
+    ensures { result ≡ count_by (λ byte. is_some (received_letter byte)) body.now }
+{
+    body.iter().filter(|byte| is_received(byte)).count()
+}
+
+/// Whether `byte` is a letter, or a lost one.
+fn is_received(byte: &u8) -> bool
+    ensures { result ≡ is_some (received_letter byte.now) }
+{
+    received_letter(*byte).is_some()
 }
 
 /// Appends `letter`, which may be a lost one, if there is one and room for it.

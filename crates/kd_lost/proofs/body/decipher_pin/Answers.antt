@@ -35,8 +35,8 @@ returns c =
     length-take-le 8 (drop (length received - 10) received) (omega
     (arith, length-drop {A = Option ℕ}, c.requires.some)) in
     let at_start : length (take 8 received) ≡ 8 = length-take-le 8 received (omega (arith, c.requires.some)) in
-    keyed_text c.args.day.now received _ c.in_ok-keys.keys c.in_ok-letters.letters _ c.requires.some refl
-    at_end at_start refl keys c.in_ok-letters.ensures (
+    keyed_text c.args.day.now received _ c.in_ok-keys.keys c.in_ok-letters.letters c.in_ok-letters.internal _ c.requires.some refl
+    at_end at_start refl c.list_of.ensures refl keys c.in_ok-letters.ensures (
       subst (λ l. IsListTest (list_letters c.args.day.now) (slice_range received 8 10) l c.test_list.result)
           (c.split_at-2.ensures.back ∙ ap (drop 8) c.split_at.ensures.back
           ∙ list_there received (omega (arith, c.requires.some)))

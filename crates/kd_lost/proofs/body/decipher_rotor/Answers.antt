@@ -15,5 +15,7 @@ returns c =
     record {
       each = λ whole text completes is. shown (drop 5 whole) (rest_completes 5 received whole completes)
           ∙ ap (covered (drop 5 received)) (sym is);
+      as_received = c.list_of.ensures;
+      keys = (c.requires.indicator, refl);
       warnings = (c.test_group.ensures, refl);
     }

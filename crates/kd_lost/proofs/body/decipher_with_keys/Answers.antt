@@ -12,8 +12,12 @@ returns-in-Some c =
     let own = c.can_show.ensures.day ∙ c.new-machine.ensures in
     let on_wheels = rw c.new-machine.ensures at (c.can_show.ensures.window.0 c.if-not-can_show.false) in
     let first = rw own at c.in-Some.ensures.key in
-    GoesOn tt on_wheels (GoesOn c.in-Some.internal.items first (λ whole completes.
-    rw (c.internal_key_of.ensures.day ∙ own, c.as_slice.ensures.value) at (c.decipher_covered.ensures whole completes)))
+    GoesOn tt on_wheels (GoesOn c.in-Some.internal.items first (
+      refl,
+      λ whole completes.
+          rw (c.internal_key_of.ensures.day ∙ own, c.as_slice.ensures.value)
+          at (c.decipher_covered-shown.ensures whole completes),
+    ))
 
 pub returns-in-None : goal.returns-in-None
 returns-in-None c =

@@ -1,5 +1,6 @@
-use Rattle.std.proofs.Common.{◌∙◌, ap}
+use Rattle.std.proofs.Common.{◌∙◌, ap, length, sym}
 use Rattle.kd_lost.specs.DamagedPart.{body_of, first_line}
+use Rattle.kd_lost.specs.Lost.{received_letters}
 use Rattle.kd_lost.proofs.Parts.{lines_there, one_line}
 use Rattle.kd_lost.proofs.PartShown.{lines_answered}
 use Rattle.kd_lost.proofs.part.read_damaged_part.Goals as goal
@@ -12,7 +13,13 @@ returns-in-Some c =
     lines_answered c.args.day.now c.args.part.now c.in-Some.line.now c.in-Some.body.now c.read_lines.result
     (ap first_line first.joined ∙ there.0) (ap body_of first.joined ∙ there.1) c.read_lines.ensures.numbers
     c.read_lines.ensures.text in
-    record { numbers = told.0; text = told.1; shown = told.2 }
+    record {
+      numbers = told.0;
+      came = c.read_lines.ensures.came
+          ∙ ap (λ b. length (received_letters b)) (sym (ap body_of first.joined ∙ there.1));
+      text = told.1;
+      shown = told.2;
+    }
 
 pub returns-in-None : goal.returns-in-None
 returns-in-None c =
@@ -20,4 +27,9 @@ returns-in-None c =
     let told =
     lines_answered c.args.day.now c.args.part.now c.args.part.now _ c.read_lines-in-None.result there.0 there.1
     c.read_lines-in-None.ensures.numbers c.read_lines-in-None.ensures.text in
-    record { numbers = told.0; text = told.1; shown = told.2 }
+    record {
+      numbers = told.0;
+      came = c.read_lines-in-None.ensures.came ∙ ap (λ b. length (received_letters b)) (sym there.1);
+      text = told.1;
+      shown = told.2;
+    }

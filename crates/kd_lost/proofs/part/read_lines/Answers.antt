@@ -2,6 +2,7 @@ use Rattle.std.proofs.Common.{◌∙◌, [], map, refl}
 use Rattle.kd_state.specs.AnswerRules.{GoesOn, HasFault}
 use Rattle.kd_lost.specs.DamagedPart.{filled_byte}
 use Rattle.kd_form.proofs.Headings.{ended_heading}
+use Rattle.kd_lost.proofs.Bytes.{letters_counted}
 use Rattle.kd_lost.proofs.Parts.{unbroken_filled}
 use Rattle.kd_lost.proofs.part.read_lines.Goals as goal
 
@@ -41,3 +42,9 @@ returns-clause-text c =
     c.in-Some.ensures (map filled_byte c.args.line.now) (unbroken_filled c.args.line.now c.requires)
     (c.as_slice.ensures.value ∙ c.filled_line.ensures) in
     GoesOn c.in-Some.heading (record { is_heading = found.0; text = found.1 }) c.read_body_after.ensures
+
+pub returns-in_default-clause-came : goal.returns-in_default-clause-came
+returns-in_default-clause-came c = c.letter_count-came.ensures ∙ letters_counted c.args.body.now
+
+pub returns-clause-came : goal.returns-clause-came
+returns-clause-came c = c.letter_count-came.ensures ∙ letters_counted c.args.body.now
