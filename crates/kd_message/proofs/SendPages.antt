@@ -23,11 +23,10 @@ use Rattle.kd_pictures.specs.Drawing.{Draws}
 use Rattle.kd_pictures.proofs.Drawings.{both}
 use Rattle.kd_message.specs.declared.texts.MessageTexts.{MessageTexts}
 use Rattle.kd_message.specs.FormSheet.{form_part}
-use Rattle.kd_message.specs.PartSheet.{part_sheet}
 use Rattle.kd_message.specs.PartWork.{IsWork, Work}
 use Rattle.kd_message.specs.Rows.{pieces}
 use Rattle.kd_message.specs.SendPage.{AreKeysOfText, AreMade, AreWorks, IsSendPage, IsSendRefusal, form_parts}
-use Rattle.kd_message.specs.SendPage.{part_name, part_sheets, text_pieces}
+use Rattle.kd_message.specs.SendPage.{part_name, part_sheets, send_sheet, text_pieces}
 unfoldable use Rattle.kd_message.specs.SendPage.{send_text}
 use Rattle.kd_message.proofs.Orders.{parts_of_order}
 use Rattle.kd_message.proofs.Pieces.{pieces-next, pieces-none}
@@ -94,7 +93,7 @@ module _ {W : Type 0} {taken : W → Option (List ℕ)} {failed : W → Bool} {o
     (s : Day) (part parts : ℕ) where
   pub sheets_next : {all : List Keys} {allp : List (List ℕ)} {k : Keys} {keys : List Keys} {piece : List ℕ}
       {pieces : List (List ℕ)} (work : Work) → all ≡ k ∷ keys → allp ≡ piece ∷ pieces → IsWork s k piece work
-      → Draws taken failed old mid (part_sheet texts s (part_name s part parts) work)
+      → Draws taken failed old mid (send_sheet texts s (part_name s part parts) work)
       → ((works : List Work) × AreWorks s keys pieces works
       × Draws taken failed mid new (part_sheets texts s (part + 1) parts works))
       → (works : List Work) × AreWorks s all allp works
@@ -184,7 +183,7 @@ pub sent : {X : Type 0} (m : Parts) (s : Day) (order : List ℕ) (is_due : X →
 sent m s order is_due found (OffKey other is same) = absurd (cc)
 sent m s order is_due found (WithKey ready is) = (ready, is)
 
-begins : (front : List ℕ) (byte : ℕ) (more : List ℕ)
+pub begins : (front : List ℕ) (byte : ℕ) (more : List ℕ)
     → (first : ℕ) × ((rest : List ℕ) × (front ++ byte ∷ more ≡ first ∷ rest))
 begins [] byte more = (_, (_, refl))
 begins (first ∷ front) byte more = (_, (_, refl))

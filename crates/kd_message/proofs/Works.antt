@@ -5,10 +5,12 @@ use Rattle.kd_state.specs.SheetDay.{Day, OfPins, OfRotors}
 use Rattle.kd_state.specs.TwoCiphers.{IsWindow, sheet_key}
 use Rattle.kd_form.specs.declared.keys.Keys.TheVariants.{Pin}
 use Rattle.kd_form.specs.declared.keys.PinKeys.{PinKeys}
+use Rattle.kd_form.specs.declared.heading.Indicator.{Indicator}
+use Rattle.kd_form.specs.BodyCipher.{HasIndicator}
 use Rattle.kd_form.specs.Keys.{AreKeys}
 use Rattle.std.proofs.lemmas.List.{length-map}
 use Rattle.kd_form.specs.InternalKey.{HaveNoInternalKey, IsInternalKey}
-use Rattle.kd_message.specs.Cells.{copied, pressed_cells}
+use Rattle.kd_message.specs.Cells.{copied, pressed_cells, received_cells, skipped}
 use Rattle.kd_message.specs.PartWork.{IsWorkable, Work, pin_work}
 
 pub pressed_few : (keys lamps : List ℕ) → length (pressed_cells keys lamps) ≤ length keys
@@ -18,6 +20,20 @@ pressed_few (key ∷ keys) (lamp ∷ lamps) = omega (arith, pressed_few keys lam
 
 pub copied_few : (letters : List ℕ) → length (map copied letters) ≡ length letters
 copied_few letters = grind (arith, length-map)
+
+pub received_few : (for_space : Option ℕ) (keys text : List (Option ℕ))
+    → length (received_cells for_space keys text) ≤ length keys
+received_few for_space [] text = omega arith
+received_few for_space (key ∷ keys) [] = omega arith
+received_few for_space (key ∷ keys) (letter ∷ text) = omega (arith, received_few for_space keys text)
+
+pub skipped_few : (letters : List (Option ℕ)) → length (map skipped letters) ≡ length letters
+skipped_few letters = grind (arith, length-map)
+
+-- the ground setting can show in the windows
+pub ground_is_window : (s : Day) (i : Indicator) → HasIndicator s (Some i) → IsWindow (sheet_key s) i.ground_setting
+ground_is_window (OfRotors s) i has = grind (arith, length-map)
+ground_is_window (OfPins s) i has = absurd has
 
 -- a key that is picked from letters that have an internal key
 pub key_picked : {V : Type 0} (letters : List ℕ) (items : V → List ℕ) (found : Option V)

@@ -1,5 +1,5 @@
 -- The cells of a row: a letter's sign above the line, and its sign below the line.
-use Rattle.std.specs.Prelude.{decimal, ℕ, ◌+◌, ◌==◌, true, false, is_some, if◌then◌else◌, List, [], ◌∷◌}
+use Rattle.std.specs.Prelude.{decimal, ℕ, ◌+◌, ◌==◌, true, false, is_some, if◌then◌else◌, List, [], ◌∷◌, Option, None, Some}
 use Rattle.kd_tables.specs.Rings.{place_on, ring_of}
 use Rattle.kd_pictures.specs.Template.{letter_text}
 use Rattle.kd_message.specs.declared.cells.Cell.{Cell}
@@ -31,6 +31,30 @@ abbrev pub pressed_cells : List ℕ → List ℕ → List Cell
 pressed_cells (key ∷ keys) (lamp ∷ lamps) = pressed key lamp ∷ pressed_cells keys lamps
 pressed_cells [] lamps = []
 pressed_cells (key ∷ keys) [] = []
+
+-- ---- Letters that came with a form. `None` is a lost letter.
+
+abbrev pub sign_of : Option ℕ → Sign
+sign_of None = signs.Lost
+sign_of (Some letter) = signs.Letter letter
+
+-- a letter that came with the form, and isn't pressed
+abbrev pub skipped : Option ℕ → Cell
+skipped letter = record { above = sign_of letter; below = signs.Nothing; is_pressed = false; mark = marks.NoMark }
+
+-- the sign of a letter of the text: nothing for a space, for which `for_space` was sent
+abbrev pub text_sign : Option ℕ → Option ℕ → Sign
+text_sign for_space None = signs.Lost
+text_sign None (Some letter) = signs.Letter letter
+text_sign (Some space) (Some letter) = if letter == space then signs.Nothing else signs.Letter letter
+
+-- letters that came with the form and are pressed, and the letters of the text
+abbrev pub received_cells : Option ℕ → List (Option ℕ) → List (Option ℕ) → List Cell
+received_cells for_space (key ∷ keys) (letter ∷ text) =
+    record { above = sign_of key; below = text_sign for_space letter; is_pressed = true; mark = marks.NoMark }
+    ∷ received_cells for_space keys text
+received_cells for_space [] text = []
+received_cells for_space (key ∷ keys) [] = []
 
 -- ---- The internal key of a Converter: wheels 1 to 6 each take the next letter that they have.
 

@@ -7,4 +7,7 @@ pub mod PartWork
 pub mod PartSheet
 pub mod FormSheet
 pub mod SendPage
+pub mod ShownParts
+pub mod TextSheet
+pub mod ReceivePage
 pub mod Laws

@@ -1,5 +1,5 @@
 -- The sheet on which a part is worked.
-use Rattle.std.specs.Prelude.{decimal, ℕ, if◌then◌else◌, List, [], ◌∷◌, ◌++◌, length, map, take, drop}
+use Rattle.std.specs.Prelude.{decimal, ℕ, Bool, if◌then◌else◌, List, [], ◌∷◌, ◌++◌, length, map, take, drop}
 use Rattle.kd_tables.specs.declared.model.Model.{Model}
 use Rattle.kd_tables.specs.declared.model.Model.TheVariants.{EnigmaI, M3, M4, M209}
 use Rattle.kd_tables.specs.Tables.{reflector_text}
@@ -8,6 +8,7 @@ use Rattle.kd_pictures.specs.Template.{filled, letter_text}
 use Rattle.kd_pictures.specs.Words.{is_converter, model_name}
 use Rattle.kd_message.specs.declared.cells.Cell.{Cell}
 use Rattle.kd_message.specs.declared.part_sheet.PartName.{PartName}
+use Rattle.kd_message.specs.declared.part_sheet.Warnings.{Warnings}
 use Rattle.kd_message.specs.declared.rows.Progress.{Progress}
 use Rattle.kd_message.specs.declared.texts.MessageTexts.{MessageTexts}
 use Rattle.kd_message.specs.declared.texts.SheetTexts.{SheetTexts}
@@ -16,8 +17,9 @@ use Rattle.kd_message.specs.Rows.{pieces, progress_after, rows_after}
 use Rattle.kd_message.specs.Windows.{windows_text}
 use Rattle.kd_message.specs.Words.{cables_text, rings_after, wheels_after}
 
-abbrev pub sheet_texts : MessageTexts → Model → SheetTexts
-sheet_texts texts model = if is_converter model then texts.pin_send else texts.rotor_send
+-- a text that is there only sometimes
+abbrev pub text_if : Bool → List ℕ → List ℕ
+text_if is_there text = if is_there then text else []
 
 -- what the heads of a part's steps repeat
 abbrev pub name_values : PartName → List (List ℕ)
@@ -68,22 +70,27 @@ text_rows sheet s name start body =
     rows_after s start beginning (pieces 50 first)
     ++ next_sheet sheet s name start (progress_after beginning first) (drop (first_sheet name.model) body)
 
+-- the warnings on the copies of the indicators, and on the day
+abbrev pub warnings_text : MessageTexts → SheetTexts → Warnings → List ℕ
+warnings_text texts sheet warnings =
+    text_if warnings.copies_lost texts.copies_lost.now ++ text_if warnings.wrong_day sheet.wrong_day.now
+
 -- the step of the text
-unfoldable pub text_step : MessageTexts → SheetTexts → Day → PartName → Work → List ℕ
-text_step texts sheet s name work =
+unfoldable pub text_step : MessageTexts → SheetTexts → Day → PartName → Warnings → Work → List ℕ
+text_step texts sheet s name warnings work =
     text_head sheet name (length work.body) ++ windows_text texts (is_converter name.model) work.start
-    ++ text_rows sheet s name work.start work.body
+    ++ warnings_text texts sheet warnings ++ text_rows sheet s name work.start work.body
 
--- what the end of the sheet says of spaces and signs
-abbrev pub note_text : MessageTexts → Model → List ℕ
-note_text texts EnigmaI = texts.enigma_note.now
-note_text texts M3 = texts.enigma_note.now
-note_text texts M4 = texts.naval_note.now
-note_text texts M209 = texts.converter_note.now
+-- the end of the sheet, which says how spaces and signs are meant
+abbrev pub sheet_end : MessageTexts → SheetTexts → Model → List ℕ
+sheet_end texts sheet EnigmaI = sheet.note.now
+sheet_end texts sheet M3 = sheet.note.now
+sheet_end texts sheet M4 = texts.naval_note.now
+sheet_end texts sheet M209 = sheet.note.now
 
--- the sheet of a part that is sent
-unfoldable pub part_sheet : MessageTexts → Day → PartName → Work → List ℕ
-part_sheet texts s name work =
-    let sheet = sheet_texts texts name.model in
-    head_text sheet name ++ day_key_text texts s ++ sheet.legend.now ++ key_step texts sheet s name work
-    ++ text_step texts sheet s name work ++ note_text texts name.model
+-- the sheet of a part
+unfoldable pub part_sheet : MessageTexts → SheetTexts → Day → PartName → Warnings → Work → List ℕ
+part_sheet texts sheet s name warnings work =
+    head_text sheet name ++ day_key_text texts s ++ sheet.legend.now ++ text_if warnings.letters_lost sheet.lost_letter.now
+    ++ key_step texts sheet s name work ++ text_step texts sheet s name warnings work
+    ++ sheet_end texts sheet name.model

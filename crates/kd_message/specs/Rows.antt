@@ -1,5 +1,5 @@
 -- The rows of a step: ten groups of five letters a row, and at each row's end the letters so far and the windows.
-use Rattle.std.specs.Prelude.{decimal, ℕ, ◌+◌, ◌==◌, Bool, true, false, if◌then◌else◌}
+use Rattle.std.specs.Prelude.{decimal, ℕ, ◌+◌, ◌==◌, Bool, true, false, not, if◌then◌else◌}
 use Rattle.std.specs.Prelude.{List, [], ◌∷◌, ◌++◌, flat_map, length}
 use Rattle.std.specs.Int.{div_ceil}
 use Rattle.std.specs.List.{count_by}
@@ -31,6 +31,17 @@ is_nothing signs.Nothing = true
 is_nothing signs.Lost = false
 is_nothing (signs.Letter letter) = false
 
+-- whether the group came with the form and isn't pressed: all of it is pressed, or nothing
+abbrev pub is_skipped : List Cell → Bool
+is_skipped [] = false
+is_skipped (cell ∷ cells) = if cell.is_pressed then false else not (is_nothing cell.above)
+
+-- what stands above the line, small if it isn't pressed
+abbrev pub above_text : Bool → List Cell → List ℕ
+above_text is_small cells =
+    if is_small then markup.SMALL.now ++ flat_map (place_text lines.Above) cells ++ markup.SMALL_END.now
+    else flat_map (place_text lines.Above) cells
+
 -- whether a sign stands below the line
 abbrev pub has_below : List Cell → Bool
 has_below [] = false
@@ -54,7 +65,7 @@ line_if is_there before after line cells = if is_there then before ++ flat_map (
 -- what stands above the line, what stands below it, and the marks
 unfoldable pub group_text : List Cell → List ℕ
 group_text cells =
-    markup.GROUP.now ++ flat_map (place_text lines.Above) cells ++ markup.ABOVE_END.now
+    markup.GROUP.now ++ above_text (is_skipped cells) cells ++ markup.ABOVE_END.now
     ++ line_if (has_below cells) markup.SMALL.now markup.SMALL_END.now lines.Below cells
     ++ line_if (has_marks cells) markup.MARKS.now markup.MARKS_END.now lines.Marks cells ++ markup.GROUP_END.now
 

@@ -1,5 +1,5 @@
 -- The page for sending an order.
-use Rattle.std.specs.Prelude.{◌≡◌, ◌⊎◌, decimal, ℕ, ◌+◌, ◌==◌, ◌||◌, if◌then◌else◌, List, [], ◌∷◌, ◌++◌, flat_map, length}
+use Rattle.std.specs.Prelude.{◌≡◌, ◌⊎◌, decimal, ℕ, ◌+◌, ◌==◌, ◌||◌, false, if◌then◌else◌, List, [], ◌∷◌, ◌++◌, flat_map, length}
 use Rattle.std.specs.Prelude.{◌≤◌, All, Result, Ok, Err, is_err, OnErr}
 use Rattle.std.specs.List.{range_with_len}
 use Rattle.kd_tables.specs.Ports.{Port}
@@ -18,19 +18,22 @@ use Rattle.kd_form.specs.Sending.{IsFormOf, IsReadAnswer, IsSendFault, OrderPart
 use Rattle.kd_form.specs.Streams.{IsUntouched}
 use Rattle.kd_pictures.specs.declared.texts.TheConstants as page_texts
 use Rattle.kd_pictures.specs.Template.{filled}
-use Rattle.kd_pictures.specs.Words.{model_name}
+use Rattle.kd_pictures.specs.Words.{is_converter, model_name}
+use Rattle.kd_tables.specs.declared.model.Model.{Model}
 use Rattle.kd_message.specs.declared.markup.TheConstants.{ARTICLE_END}
 use Rattle.kd_message.specs.declared.part_sheet.PartName.{PartName}
+use Rattle.kd_message.specs.declared.part_sheet.Warnings.{Warnings}
 use Rattle.kd_message.specs.declared.texts.MessageTexts.{MessageTexts}
+use Rattle.kd_message.specs.declared.texts.SheetTexts.{SheetTexts}
 use Rattle.kd_message.specs.FormSheet.{form_head, form_part}
 use Rattle.kd_message.specs.PartSheet.{part_sheet}
 use Rattle.kd_message.specs.PartWork.{IsWork, Work}
 use Rattle.kd_message.specs.Rows.{pieces}
 
--- the head of the file
-unfoldable pub title_text : MessageTexts → Day → List ℕ
-title_text texts s =
-    texts.head.now ++ filled texts.title_to_send.now (model_name (day_model s) ∷ decimal (day_number s) ∷ [])
+-- the head of the file, with the title that the template `title` gives
+unfoldable pub title_text : MessageTexts → List ℕ → Day → List ℕ
+title_text texts title s =
+    texts.head.now ++ filled title (model_name (day_model s) ∷ decimal (day_number s) ∷ [])
     ++ page_texts.STYLE.now ++ page_texts.MORE_STYLE.now ++ page_texts.BODY.now
 
 -- a part in the list of the sheets
@@ -48,11 +51,22 @@ list_text texts parts =
 abbrev pub part_name : Day → ℕ → ℕ → PartName
 part_name s part parts = record { model = day_model s; day = day_number s; part = part; parts = parts }
 
+abbrev pub send_texts : MessageTexts → Model → SheetTexts
+send_texts texts model = if is_converter model then texts.pin_send else texts.rotor_send
+
+-- a part that is sent has no warnings
+abbrev pub no_warnings : Warnings
+no_warnings = record { letters_lost = false; copies_lost = false; wrong_day = false }
+
+-- the sheet of a part that is sent
+abbrev pub send_sheet : MessageTexts → Day → PartName → Work → List ℕ
+send_sheet texts s name work = part_sheet texts (send_texts texts (day_model s)) s name no_warnings work
+
 -- the sheets of the parts from number `part` on
 abbrev pub part_sheets : MessageTexts → Day → ℕ → ℕ → List Work → List ℕ
 part_sheets texts s part parts [] = []
 part_sheets texts s part parts (work ∷ works) =
-    part_sheet texts s (part_name s part parts) work ++ part_sheets texts s (part + 1) parts works
+    send_sheet texts s (part_name s part parts) work ++ part_sheets texts s (part + 1) parts works
 
 -- the parts of the form
 abbrev pub form_parts : MessageTexts → Day → List Part → List ℕ
@@ -61,7 +75,7 @@ form_parts texts s made = flat_map (form_part texts (day_model s) (day_number s)
 -- the file: a sheet on which each part is worked, and the form
 unfoldable pub send_text : MessageTexts → Day → ℕ → List Work → List Part → List ℕ
 send_text texts s parts works made =
-    title_text texts s ++ list_text texts parts ++ part_sheets texts s 1 parts works ++ form_head texts s
+    title_text texts texts.title_to_send.now s ++ list_text texts parts ++ part_sheets texts s 1 parts works ++ form_head texts s
     ++ form_parts texts s made ++ ARTICLE_END.now ++ page_texts.FOOT.now
 
 -- ---- What is worked for an order, and its form.

@@ -1,7 +1,8 @@
 //! The cells of a row: what stands above the line of a letter, and below it.
 ghost use Rattle.std.specs.Prelude.{◌≡◌, ◌+◌, ◌≤◌, ◌++◌, length, map};
 ghost use Rattle.kd_pictures.specs.Drawing.{Draws};
-ghost use Rattle.kd_message.specs.Cells.{choice_cells, copied, mark_of, mark_text, place_text, pressed_cells, sign_text, taken_after};
+ghost use Rattle.kd_message.specs.Cells.{choice_cells, copied, mark_of, mark_text, place_text, pressed_cells};
+ghost use Rattle.kd_message.specs.Cells.{received_cells, sign_of, sign_text, skipped, taken_after, text_sign};
 
 use crate::markup::{LOST_LETTER, NO_LETTER, STRUCK_OUT};
 use arrayvec::ArrayVec;
@@ -88,6 +89,69 @@ pub(crate) fn push_pressed<const N: usize>(
             mark: Mark::NoMark,
         });
         push_pressed(cells, keys, lamps);
+    }
+}
+
+/// Appends letters that came with the form, and aren't pressed.
+pub(crate) fn push_skipped<const N: usize>(
+    cells: &mut ArrayVec<Cell, N>,
+    letters: &[Option<Letter>],
+)
+    requires { length cells.old.items + length letters.now ≤ N }
+    ensures { cells.new.items ≡ cells.old.items ++ map skipped letters.now }
+{
+    for letter in letters {
+        cells.push(Cell {
+            above: sign_of(*letter),
+            below: Sign::Nothing,
+            is_pressed: false,
+            mark: Mark::NoMark,
+        });
+    }
+}
+
+/// The sign of a letter, which may be lost.
+fn sign_of(letter: Option<Letter>) -> Sign
+    ensures { result ≡ sign_of letter }
+{
+    match letter {
+        Some(letter) => Sign::Letter(letter),
+        None => Sign::Lost,
+    }
+}
+
+/// Appends letters that came with the form and are pressed, with the letters of the text, of which `for_space` is a
+/// space.
+pub(crate) fn push_received<const N: usize>(
+    cells: &mut ArrayVec<Cell, N>,
+    for_space: &Option<Letter>,
+    keys: &[Option<Letter>],
+    text: &[Option<Letter>],
+)
+    requires { length cells.old.items + length keys.now ≤ N }
+    ensures { cells.new.items
+        ≡ cells.old.items ++ received_cells for_space.now keys.now text.now }
+{
+    if let [key, keys @ ..] = keys
+        && let [letter, text @ ..] = text
+    {
+        cells.push(Cell {
+            above: sign_of(*key),
+            below: text_sign(for_space, *letter),
+            is_pressed: true,
+            mark: Mark::NoMark,
+        });
+        push_received(cells, for_space, keys, text);
+    }
+}
+
+/// The sign of a letter of the text: nothing for a space.
+fn text_sign(for_space: &Option<Letter>, letter: Option<Letter>) -> Sign
+    ensures { result ≡ text_sign for_space.now letter }
+{
+    match letter {
+        Some(_) if *for_space == letter => Sign::Nothing,
+        _ => sign_of(letter),
     }
 }
 

@@ -10,11 +10,16 @@ pub mod markup;
 mod order;
 mod part_sheet;
 mod part_work;
+mod received_work;
+mod receiving;
 mod rows;
 mod sending;
+mod shown_parts;
+mod text_sheet;
 pub mod texts;
 mod windows;
 mod words;
 
+pub use receiving::{ReceivePageFault, write_receive_page};
 pub use sending::write_send_page;
 pub use texts::{ENGLISH, GERMAN, MessageTexts};

@@ -66,3 +66,10 @@ pub const FORM_GROUP_END: &str = "</span>";
 
 /// The end of an article.
 pub const ARTICLE_END: &str = "</article>\n";
+
+/// The text of a part: letters that may be broken anywhere, or words.
+pub const TEXT_LETTERS: &str = "<p class=\"text letters\">";
+
+pub const TEXT_WORDS: &str = "<p class=\"text words\">";
+
+pub const TEXT_END: &str = "</p>\n";

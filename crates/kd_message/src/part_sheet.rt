@@ -5,8 +5,8 @@ ghost use Rattle.kd_pictures.specs.Drawing.{Draws};
 ghost use Rattle.kd_state.specs.Entry.{rotor_values, values_of};
 ghost use Rattle.kd_pictures.specs.Template.{filled};
 ghost use Rattle.kd_message.specs.PartSheet.{day_key_text, first_sheet, head_text, key_step, name_values, next_sheet};
-ghost use Rattle.kd_message.specs.PartSheet.{note_text, part_sheet, rotor_key_text, sheet_texts, text_head, text_rows};
-ghost use Rattle.kd_message.specs.PartSheet.{text_step};
+ghost use Rattle.kd_message.specs.PartSheet.{part_sheet, rotor_key_text, sheet_end, text_head, text_if, text_rows};
+ghost use Rattle.kd_message.specs.PartSheet.{text_step, warnings_text};
 ghost use Rattle.kd_message.specs.PartWork.{IsWorkable};
 
 use crate::cells::Cell;
@@ -31,35 +31,63 @@ pub(crate) struct PartName {
     pub(crate) parts: u8,
 }
 
-/// Writes the sheet of a part that is sent.
+/// Writes the sheet of a part.
 pub(crate) fn draw_part_sheet<W: Sink>(
     sink: &mut W,
     texts: &MessageTexts,
+    sheet: &SheetTexts,
     day: &SheetDay,
     name: PartName,
+    warnings: Warnings,
     work: &PartWork,
 )
     requires { IsWorkable day.now work.now }
     ensures { Draws W.taken W.has_failed sink.old sink.new
-        (part_sheet texts.now day.now name work.now) }
+        (part_sheet texts.now sheet.now day.now name warnings work.now) }
 {
-    let sheet = sheet_texts(texts, name.model);
     draw_head(sink, sheet, name);
     draw_day_key(sink, texts, day.entry());
     draw(sink, sheet.legend);
+    draw_if(sink, warnings.letters_lost, sheet.lost_letter);
     draw_key_step(sink, texts, sheet, day, name, work);
-    draw_text_step(sink, texts, sheet, day, name, work);
-    draw(sink, note_text(texts, name.model));
+    draw_text_step(sink, texts, sheet, day, name, warnings, work);
+    draw(sink, sheet_end(texts, sheet, name.model));
 }
 
-fn sheet_texts(texts: &MessageTexts, model: Model) -> &SheetTexts
-    ensures { result.now ≡ sheet_texts texts.now model }
+/// Writes `text` if `is_there`.
+pub(crate) fn draw_if<W: Sink>(sink: &mut W, is_there: bool, text: &str)
+    ensures { Draws W.taken W.has_failed sink.old sink.new (text_if is_there text.now) }
 {
-    if is_converter(model) {
-        &texts.pin_send
+    if is_there {
+        draw(sink, text);
     } else {
-        &texts.rotor_send
+        draw(sink, "");
     }
+}
+
+/// What a received part warns of.
+#[derive(Clone, Copy)]
+pub(crate) struct Warnings {
+    /// A letter of the body is lost.
+    pub(crate) letters_lost: bool,
+    /// A letter of one of the two copies of the indicators is lost.
+    pub(crate) copies_lost: bool,
+    /// The group, or the list letters, aren't the day's.
+    pub(crate) wrong_day: bool,
+}
+
+/// Writes the warnings on the copies of the indicators, and on the day.
+pub(crate) fn draw_warnings<W: Sink>(
+    sink: &mut W,
+    texts: &MessageTexts,
+    sheet: &SheetTexts,
+    warnings: Warnings,
+)
+    ensures { Draws W.taken W.has_failed sink.old sink.new
+        (warnings_text texts.now sheet.now warnings) }
+{
+    draw_if(sink, warnings.copies_lost, texts.copies_lost);
+    draw_if(sink, warnings.wrong_day, sheet.wrong_day);
 }
 
 fn draw_head<W: Sink>(sink: &mut W, sheet: &SheetTexts, name: PartName)
@@ -162,16 +190,18 @@ fn draw_text_step<W: Sink>(
     sheet: &SheetTexts,
     day: &SheetDay,
     name: PartName,
+    warnings: Warnings,
     work: &PartWork,
 )
     requires { IsWorkable day.now work.now }
     ensures { Draws W.taken W.has_failed sink.old sink.new
-        (text_step texts.now sheet.now day.now name work.now) }
+        (text_step texts.now sheet.now day.now name warnings work.now) }
 {
     let start = work.start.as_slice();
     let body = work.body.as_slice();
     draw_text_head(sink, sheet, name, body.len());
     draw_windows(sink, texts, is_converter(name.model), start);
+    draw_warnings(sink, texts, sheet, warnings);
     draw_text_rows(sink, sheet, day, name, start, body);
 }
 
@@ -251,13 +281,13 @@ fn draw_next_sheet<W: Sink>(
     }
 }
 
-/// What the end of a part's sheet says of spaces and signs.
-fn note_text(texts: &MessageTexts, model: Model) -> &'static str
-    ensures { result.now ≡ note_text texts.now model }
+/// The end of a part's sheet, which says how spaces and signs are meant.
+pub(crate) fn sheet_end(texts: &MessageTexts, sheet: &SheetTexts, model: Model) -> &'static str
+    ensures { result.now ≡ sheet_end texts.now sheet.now model }
 {
-    match model {
-        Model::EnigmaI | Model::M3 => texts.enigma_note,
-        Model::M4 => texts.naval_note,
-        Model::M209 => texts.converter_note,
+    if model == Model::M4 {
+        texts.naval_note
+    } else {
+        sheet.note
     }
 }

@@ -125,7 +125,7 @@ fn pin_work_from(day: &SheetDay, keys: &PinKeys, internal: &[Letter], text: &[Le
 }
 
 /// The letters as a list of their own.
-fn letters_of(letters: &[Letter]) -> ArrayVec<Letter, 6>
+pub(crate) fn letters_of(letters: &[Letter]) -> ArrayVec<Letter, 6>
     requires { length letters.now ≤ 6 }
     ensures { result.items ≡ letters.now }
 {

@@ -3,7 +3,7 @@ ghost use Rattle.std.specs.Prelude.{◌≡◌, ◌+◌, ◌≤◌, ◌∷◌, fl
 ghost use Rattle.kd_state.specs.TwoCiphers.{IsWindow, sheet_key};
 ghost use Rattle.kd_pictures.specs.Drawing.{Draws};
 ghost use Rattle.kd_message.specs.Cells.{place_text};
-ghost use Rattle.kd_message.specs.Rows.{group_text, has_below, has_marks, line_if, pieces, pressed_count};
+ghost use Rattle.kd_message.specs.Rows.{above_text, group_text, has_below, has_marks, is_skipped, line_if, pieces, pressed_count};
 ghost use Rattle.kd_message.specs.Rows.{progress_after, row_text, rows_after, shown_after, windows_after};
 
 use crate::cells::{Cell, Line, Mark, Sign, draw_place};
@@ -153,11 +153,34 @@ fn draw_group<W: Sink>(sink: &mut W, group: &[Cell])
     ensures { Draws W.taken W.has_failed sink.old sink.new (group_text group.now) }
 {
     draw(sink, GROUP);
-    draw_line(sink, Line::Above, group);
+    draw_above(sink, is_skipped(group), group);
     draw(sink, ABOVE_END);
     draw_line_if(sink, has_below(group), SMALL, SMALL_END, Line::Below, group);
     draw_line_if(sink, has_marks(group), MARKS, MARKS_END, Line::Marks, group);
     draw(sink, GROUP_END);
+}
+
+/// Whether the group came with the form and isn't pressed: its first letter isn't.
+fn is_skipped(group: &[Cell]) -> bool
+    ensures { result ≡ is_skipped group.now }
+{
+    match group {
+        [cell, ..] => !cell.is_pressed && !matches!(cell.above, Sign::Nothing),
+        [] => false,
+    }
+}
+
+/// Writes what stands above the line, small if it isn't pressed.
+fn draw_above<W: Sink>(sink: &mut W, is_small: bool, group: &[Cell])
+    ensures { Draws W.taken W.has_failed sink.old sink.new (above_text is_small group.now) }
+{
+    if is_small {
+        draw(sink, SMALL);
+        draw_line(sink, Line::Above, group);
+        draw(sink, SMALL_END);
+    } else {
+        draw_line(sink, Line::Above, group);
+    }
 }
 
 /// Whether a sign stands below the line.

@@ -10,16 +10,16 @@ ghost use Rattle.kd_pictures.specs.Drawing.{Draws};
 ghost use Rattle.kd_message.specs.FormSheet.{form_part};
 ghost use Rattle.kd_message.specs.PartWork.{Work};
 ghost use Rattle.kd_message.specs.SendPage.{AreKeysOfText, AreMade, AreWorks, HasForm, IsSendPage, IsSendPageAnswer};
-ghost use Rattle.kd_message.specs.SendPage.{form_parts, list_head, list_text, listed_text, part_name, part_sheets};
+ghost use Rattle.kd_message.specs.SendPage.{form_parts, list_head, list_text, listed_text, part_name, part_sheets, send_texts};
 ghost use Rattle.kd_message.specs.SendPage.{send_text, text_pieces, title_text};
 
 use crate::filling::fill;
 use crate::form_sheet::{draw_form_head, draw_form_part};
 use crate::markup::ARTICLE_END;
 use crate::order::{read_head, take_piece};
-use crate::part_sheet::{PartName, draw_part_sheet};
+use crate::part_sheet::{PartName, Warnings, draw_part_sheet};
 use crate::part_work::work_of;
-use crate::texts::MessageTexts;
+use crate::texts::{MessageTexts, SheetTexts};
 use kd_form::day_machine::DayMachine;
 use kd_form::keys::Keys;
 use kd_form::sending::order_head::HeadReader;
@@ -28,8 +28,9 @@ use kd_form::{FormFault, send};
 use kd_pictures::draw;
 use kd_pictures::template::Value;
 use kd_pictures::texts::{BODY, FOOT, MORE_STYLE, STYLE};
+use kd_pictures::words::is_converter;
 use kd_state::{Machine, SheetDay};
-use kd_tables::{Letter, Sink};
+use kd_tables::{Letter, Model, Sink};
 use std::alloc::Global;
 
 /// Writes the page that says how to encipher `order` by hand on `machine`, which must be on the day's key.
@@ -83,7 +84,7 @@ fn draw_file<W: Sink>(
         (send_text texts.now day.now (length keys.now) works made) }
 {
     let parts = keys.len() as u8;
-    draw_title(sink, texts, day);
+    draw_title(sink, texts, texts.title_to_send, day);
     draw_list(sink, texts, parts);
     draw_part_sheets(sink, texts, day, 1, parts, keys, text);
     draw_form_head(sink, texts, day);
@@ -92,14 +93,15 @@ fn draw_file<W: Sink>(
     draw(sink, FOOT);
 }
 
-/// Writes the head of the file.
-fn draw_title<W: Sink>(sink: &mut W, texts: &MessageTexts, day: &SheetDay)
-    ensures { Draws W.taken W.has_failed sink.old sink.new (title_text texts.now day.now) }
+/// Writes the head of the file, with the title that the template `title` gives.
+pub(crate) fn draw_title<W: Sink>(sink: &mut W, texts: &MessageTexts, title: &str, day: &SheetDay)
+    ensures { Draws W.taken W.has_failed sink.old sink.new
+        (title_text texts.now title.now day.now) }
 {
     draw(sink, texts.head);
     fill(
         sink,
-        texts.title_to_send,
+        title,
         &[
             Value::Model(day.model()),
             Value::Number(u16::from(day.day())),
@@ -115,12 +117,13 @@ fn draw_list<W: Sink>(sink: &mut W, texts: &MessageTexts, parts: u8)
     requires { parts ≤ 99 }
     ensures { Draws W.taken W.has_failed sink.old sink.new (list_text texts.now parts) }
 {
-    draw(sink, list_head(texts, parts));
+    draw(sink, list_head(texts, u16::from(parts)));
     draw_listed(sink, texts, 1, parts, parts);
     draw(sink, texts.list_end_with_form);
 }
 
-fn list_head(texts: &MessageTexts, parts: u8) -> &'static str
+/// The head of the list of the sheets, for this many parts.
+pub(crate) fn list_head(texts: &MessageTexts, parts: u16) -> &'static str
     ensures { result.now ≡ list_head texts.now parts }
 {
     if parts == 1 {
@@ -174,12 +177,37 @@ fn draw_part_sheets<W: Sink>(
     if let [first, rest @ ..] = keys {
         let (piece, later) = take_piece(day, text);
         let work = work_of(day, part, first, piece.as_slice());
-        draw_part_sheet(sink, texts, day, part_name(day, part, parts), &work);
+        draw_part_sheet(
+            sink,
+            texts,
+            send_texts(texts, day.model()),
+            day,
+            part_name(day, part, parts),
+            NO_WARNINGS,
+            &work,
+        );
         draw_part_sheets(sink, texts, day, part + 1, parts, rest, later);
     }
 }
 
-fn part_name(day: &SheetDay, part: u8, parts: u8) -> PartName
+/// A part that is sent has no warnings.
+const NO_WARNINGS: Warnings = Warnings {
+    letters_lost: false,
+    copies_lost: false,
+    wrong_day: false,
+};
+
+fn send_texts(texts: &MessageTexts, model: Model) -> &SheetTexts
+    ensures { result.now ≡ send_texts texts.now model }
+{
+    if is_converter(model) {
+        &texts.pin_send
+    } else {
+        &texts.rotor_send
+    }
+}
+
+pub(crate) fn part_name(day: &SheetDay, part: u8, parts: u8) -> PartName
     ensures { result ≡ part_name day.now part parts }
 {
     PartName {

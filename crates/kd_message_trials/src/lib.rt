@@ -4,6 +4,8 @@
 #[cfg(test)]
 mod pages;
 #[cfg(test)]
+mod receiving;
+#[cfg(test)]
 mod samples;
 #[cfg(test)]
 mod sending;

@@ -713,3 +713,334 @@ pub const M209_GERMAN: &str = "<body>
 </article>
 </main>
 ";
+
+/// `LOST_FORM` received.
+pub const LOST_RECEIVE: &str = "<body>
+<main>
+<nav class=sheets aria-label=\"Sheets\">
+<ul>
+<li><a href=\"#part-1\">Part 1 of 3</a>
+<li><a href=\"#text\">Part 2 of 3</a>, not read
+<li><a href=\"#part-3\">Part 3 of 3</a>
+<li><a href=\"#text\">Text</a>
+</ul>
+</nav>
+<article id=part-1>
+<header>
+<h1>Enigma I, day 4: receive <small>part 1 of 3</small></h1>
+<p class=fields><span>Machine</span><span>Date</span><span>Done by</span></p>
+<p>The machine has to be on the key of the day. Reflector: <b>B</b>. Wheels: <b>II\u{a0}IV\u{a0}V</b>. Rings: <b>B\u{a0}02, U\u{a0}21, L\u{a0}12</b>. Cables: <b>AV BS CG DL FU HZ IN KM OW RX</b>.</p>
+<p>Above the line: press. On it: write the lamp\u{2019}s letter. Below: what it has to be. Skip small letters above.<br>A row ends with the letters so far and the windows. If they differ, set the windows as before the row, and begin it again.<br>? is a lost letter: press any key for it, and write ?.</p>
+</header>
+<section>
+<h2>1 Message key<span>Enigma I, day 4: receive, part 1 of 3</span></h2>
+<label><input type=checkbox> set the windows to the ground from the heading</label>
+<figure class=shown><svg role=\"img\" viewBox=\"0 0 600 66\"><title>Windows to set, from the left: 1: W 23, 2: X 24, 3: C 03.</title>
+<text class=\"label\" x=\"2\" y=\"16\" font-size=\"18\">slot 1</text>
+<rect class=\"set\" x=\"2\" y=\"24\" width=\"40\" height=\"40\"/>
+<text class=\"bold\" x=\"22\" y=\"53\" font-size=\"26\">W</text>
+<text class=\"bold\" x=\"64\" y=\"51\" font-size=\"20\">23</text>
+<text class=\"label\" x=\"98\" y=\"16\" font-size=\"18\">slot 2</text>
+<rect class=\"set\" x=\"98\" y=\"24\" width=\"40\" height=\"40\"/>
+<text class=\"bold\" x=\"118\" y=\"53\" font-size=\"26\">X</text>
+<text class=\"bold\" x=\"160\" y=\"51\" font-size=\"20\">24</text>
+<text class=\"label\" x=\"194\" y=\"16\" font-size=\"18\">slot 3</text>
+<rect class=\"set\" x=\"194\" y=\"24\" width=\"40\" height=\"40\"/>
+<text class=\"bold\" x=\"214\" y=\"53\" font-size=\"26\">C</text>
+<text class=\"bold\" x=\"256\" y=\"51\" font-size=\"20\">03</text>
+</svg>
+</figure>
+<label><input type=checkbox> press the key from the heading: the lamps give the message key</label>
+<div class=row><div class=groups><span><b>KCH</b><small>BLA</small></span></div>
+<label><input type=checkbox><b>3</b><br>W\u{a0}\u{a0}X\u{a0}\u{a0}F<br>23 24 06</label></div>
+</section>
+<section>
+<h2>2 Text <small>letters of the body: 179</small><span>Enigma I, day 4: receive, part 1 of 3</span></h2>
+<label><input type=checkbox> set the windows to the message key</label>
+<figure class=shown><svg role=\"img\" viewBox=\"0 0 600 66\"><title>Windows to set, from the left: 1: B 02, 2: L 12, 3: A 01.</title>
+<text class=\"label\" x=\"2\" y=\"16\" font-size=\"18\">slot 1</text>
+<rect class=\"set\" x=\"2\" y=\"24\" width=\"40\" height=\"40\"/>
+<text class=\"bold\" x=\"22\" y=\"53\" font-size=\"26\">B</text>
+<text class=\"bold\" x=\"64\" y=\"51\" font-size=\"20\">02</text>
+<text class=\"label\" x=\"98\" y=\"16\" font-size=\"18\">slot 2</text>
+<rect class=\"set\" x=\"98\" y=\"24\" width=\"40\" height=\"40\"/>
+<text class=\"bold\" x=\"118\" y=\"53\" font-size=\"26\">L</text>
+<text class=\"bold\" x=\"160\" y=\"51\" font-size=\"20\">12</text>
+<text class=\"label\" x=\"194\" y=\"16\" font-size=\"18\">slot 3</text>
+<rect class=\"set\" x=\"194\" y=\"24\" width=\"40\" height=\"40\"/>
+<text class=\"bold\" x=\"214\" y=\"53\" font-size=\"26\">A</text>
+<text class=\"bold\" x=\"256\" y=\"51\" font-size=\"20\">01</text>
+</svg>
+</figure>
+<div class=row><div class=groups><span><b><small>RFU?Z</small></b></span><span><b>EDPUD</b><small>AUFKL</small></span><span><b>NR?YS</b><small>XA?TE</small></span><span><b>ZRCXN</b><small>ILUNG</small></span><span><b>U???O</b><small>X???X</small></span><span><b>MRMBO</b><small>KURTI</small></span><span><b>FKTBZ</b><small>NOWAX</small></span><span><b>REZKM</b><small>KURTI</small></span><span><b>LXLVE</b><small>NOWAX</small></span><span><b>FGUEY</b><small>NORDW</small></span></div>
+<label><input type=checkbox><b>50</b><br>B\u{a0}\u{a0}M\u{a0}\u{a0}T<br>02 13 20</label></div>
+<div class=row><div class=groups><span><b>SIOZV</b><small>ESTLX</small></span><span><b>EQMIK</b><small>SEBEZ</small></span><span><b>UBPMM</b><small>XSEBE</small></span><span><b>YLKLT</b><small>ZXUAF</small></span><span><b>TDEIS</b><small>FLIEG</small></span><span><b>MDICA</b><small>ERSTR</small></span><span><b>GYKUA</b><small>ASZER</small></span><span><b>CTCDO</b><small>IQTUN</small></span><span><b>MOHWX</b><small>GXDUB</small></span><span><b>MUUIA</b><small>ROWKI</small></span></div>
+<label><input type=checkbox><b>100</b><br>B\u{a0}\u{a0}O\u{a0}\u{a0}R<br>02 15 18</label></div>
+<div class=row><div class=groups><span><b>UBSTS</b><small>XDUBR</small></span><span><b>LR?BZ</b><small>OW?IX</small></span><span><b>SZWNR</b><small>OPOTS</small></span><span><b>FXWFY</b><small>CHKAX</small></span><span><b>SSXJZ</b><small>OPOTS</small></span><span><b>VIJHI</b><small>CHKAX</small></span><span><b>DISHP</b><small>UMXEI</small></span><span><b>RKLKA</b><small>NSAQT</small></span><span><b>YUPAD</b><small>DREIN</small></span><span><b>TXQSP</b><small>ULLXU</small></span></div>
+<label><input type=checkbox><b>150</b><br>B\u{a0}\u{a0}Q\u{a0}\u{a0}P<br>02 17 16</label></div>
+<div class=row><div class=groups><span><b>INQMA</b><small>HRANG</small></span><span><b>TLPIF</b><small>ETRET</small></span><span><b>SVKDA</b><small>ENXAN</small></span><span><b>SCTAC</b><small>GRIFF</small></span><span><b>DPBOP</b><small>XINFX</small></span><span><b>VHJK</b><small>RGTX</small></span></div>
+<label><input type=checkbox><b>179</b><br>B\u{a0}\u{a0}R\u{a0}\u{a0}S<br>02 18 19</label></div>
+<p class=note>Spaces aren\u{2019}t sent. X often stands for a stop, Q for CH. The last group may be short.</p>
+</section>
+</article>
+<article id=part-3>
+<header>
+<h1>Enigma I, day 4: receive <small>part 3 of 3</small></h1>
+<p class=fields><span>Machine</span><span>Date</span><span>Done by</span></p>
+<p>The machine has to be on the key of the day. Reflector: <b>B</b>. Wheels: <b>II\u{a0}IV\u{a0}V</b>. Rings: <b>B\u{a0}02, U\u{a0}21, L\u{a0}12</b>. Cables: <b>AV BS CG DL FU HZ IN KM OW RX</b>.</p>
+<p>Above the line: press. On it: write the lamp\u{2019}s letter. Below: what it has to be. Skip small letters above.<br>A row ends with the letters so far and the windows. If they differ, set the windows as before the row, and begin it again.</p>
+</header>
+<section>
+<h2>1 Message key<span>Enigma I, day 4: receive, part 3 of 3</span></h2>
+<label><input type=checkbox> set the windows to the ground from the heading</label>
+<figure class=shown><svg role=\"img\" viewBox=\"0 0 600 66\"><title>Windows to set, from the left: 1: H 08, 2: N 14, 3: V 22.</title>
+<text class=\"label\" x=\"2\" y=\"16\" font-size=\"18\">slot 1</text>
+<rect class=\"set\" x=\"2\" y=\"24\" width=\"40\" height=\"40\"/>
+<text class=\"bold\" x=\"22\" y=\"53\" font-size=\"26\">H</text>
+<text class=\"bold\" x=\"64\" y=\"51\" font-size=\"20\">08</text>
+<text class=\"label\" x=\"98\" y=\"16\" font-size=\"18\">slot 2</text>
+<rect class=\"set\" x=\"98\" y=\"24\" width=\"40\" height=\"40\"/>
+<text class=\"bold\" x=\"118\" y=\"53\" font-size=\"26\">N</text>
+<text class=\"bold\" x=\"160\" y=\"51\" font-size=\"20\">14</text>
+<text class=\"label\" x=\"194\" y=\"16\" font-size=\"18\">slot 3</text>
+<rect class=\"set\" x=\"194\" y=\"24\" width=\"40\" height=\"40\"/>
+<text class=\"bold\" x=\"214\" y=\"53\" font-size=\"26\">V</text>
+<text class=\"bold\" x=\"256\" y=\"51\" font-size=\"20\">22</text>
+</svg>
+</figure>
+<label><input type=checkbox> press the key from the heading: the lamps give the message key</label>
+<div class=row><div class=groups><span><b>SJR</b><small>QEZ</small></span></div>
+<label><input type=checkbox><b>3</b><br>H\u{a0}\u{a0}N\u{a0}\u{a0}Y<br>08 14 25</label></div>
+</section>
+<section>
+<h2>2 Text <small>letters of the body: 53</small><span>Enigma I, day 4: receive, part 3 of 3</span></h2>
+<label><input type=checkbox> set the windows to the message key</label>
+<figure class=shown><svg role=\"img\" viewBox=\"0 0 600 66\"><title>Windows to set, from the left: 1: Q 17, 2: E 05, 3: Z 26.</title>
+<text class=\"label\" x=\"2\" y=\"16\" font-size=\"18\">slot 1</text>
+<rect class=\"set\" x=\"2\" y=\"24\" width=\"40\" height=\"40\"/>
+<text class=\"bold\" x=\"22\" y=\"53\" font-size=\"26\">Q</text>
+<text class=\"bold\" x=\"64\" y=\"51\" font-size=\"20\">17</text>
+<text class=\"label\" x=\"98\" y=\"16\" font-size=\"18\">slot 2</text>
+<rect class=\"set\" x=\"98\" y=\"24\" width=\"40\" height=\"40\"/>
+<text class=\"bold\" x=\"118\" y=\"53\" font-size=\"26\">E</text>
+<text class=\"bold\" x=\"160\" y=\"51\" font-size=\"20\">05</text>
+<text class=\"label\" x=\"194\" y=\"16\" font-size=\"18\">slot 3</text>
+<rect class=\"set\" x=\"194\" y=\"24\" width=\"40\" height=\"40\"/>
+<text class=\"bold\" x=\"214\" y=\"53\" font-size=\"26\">Z</text>
+<text class=\"bold\" x=\"256\" y=\"51\" font-size=\"20\">26</text>
+</svg>
+</figure>
+<div class=row><div class=groups><span><b><small>UBAPX</small></b></span><span><b>UBYTS</b><small>BRENN</small></span><span><b>EHZXX</b><small>STOFF</small></span><span><b>BPMSW</b><small>REICH</small></span><span><b>KSRWT</b><small>TBISM</small></span><span><b>CJLGE</b><small>ORGEN</small></span><span><b>VWFKI</b><small>FRUEH</small></span><span><b>FBBJW</b><small>XNACH</small></span><span><b>ISLXV</b><small>SCHUB</small></span><span><b>FBSNR</b><small>ERBET</small></span></div>
+<label><input type=checkbox><b>50</b><br>Q\u{a0}\u{a0}G\u{a0}\u{a0}S<br>17 07 19</label></div>
+<div class=row><div class=groups><span><b>VGG</b><small>ENX</small></span></div>
+<label><input type=checkbox><b>53</b><br>Q\u{a0}\u{a0}G\u{a0}\u{a0}V<br>17 07 22</label></div>
+<p class=note>Spaces aren\u{2019}t sent. X often stands for a stop, Q for CH. The last group may be short.</p>
+</section>
+</article>
+<article id=text class=form>
+<header>
+<h1>Enigma I, day 4: text</h1>
+<p class=fields><span>From</span><span>Time</span><span>Read by</span></p>
+</header>
+<section>
+<h2>Part 1 of 3<span>Enigma I, day 4: text</span></h2>
+<p class=\"text letters\">AUFKLXA?TEILUNGX???XKURTINOWAXKURTINOWAXNORDWESTLXSEBEZXSEBEZXUAFFLIEGERSTRASZERIQTUNGXDUBROWKIXDUBROW?IXOPOTSCHKAXOPOTSCHKAXUMXEINSAQTDREINULLXUHRANGETRETENXANGRIFFXINFXRGTX</p>
+<label><input type=checkbox> ask for part 1 again: <b>group 3, group 5, group 22</b></label>
+</section>
+<section>
+<h2>Part 2 of 3<span>Enigma I, day 4: text</span></h2>
+<p class=reason><b>Not read.</b> The heading counts 95, but 94 came.</p>
+<label><input type=checkbox> ask for part 2 again: <b>all of it</b></label>
+</section>
+<section>
+<h2>Part 3 of 3<span>Enigma I, day 4: text</span></h2>
+<p class=\"text letters\">BRENNSTOFFREICHTBISMORGENFRUEHXNACHSCHUBERBETENX</p>
+</section>
+<p class=note>Spaces aren\u{2019}t sent. X often stands for a stop, Q for CH. The last group may be short.</p>
+</article>
+</main>
+";
+
+/// `M209_LOST_FORM` received.
+pub const M209_LOST_RECEIVE: &str = "<body>
+<main>
+<nav aria-label=\"Sheets\">
+<ul>
+<li><a href=\"#part-1\">Part 1 of 1</a>
+<li><a href=\"#text\">Text</a>
+</ul>
+</nav>
+<article id=part-1>
+<header>
+<h1>Converter M-209, day 7: receive <small>part 1 of 1</small></h1>
+<p class=fields><span>Machine</span><span>Date</span><span>Done by</span></p>
+<p>Pins and lugs have to be the day\u{2019}s. List: <b>LK</b>.</p>
+<p>Above the line: enter. On it: write what the machine prints. Below: what it has to be. Skip small letters above.<br>A row ends with the letters so far and the wheels. If they differ, set the wheels as before the row, and begin it again.<br>? is a lost letter: enter any letter for it, and write ?.</p>
+</header>
+<section>
+<h2>1 Internal key<span>Converter M-209, day 7: receive, part 1 of 1</span></h2>
+<label><input type=checkbox> set the knob to <b>C</b></label>
+<label><input type=checkbox> set the wheels to the external letters</label>
+<figure class=shown><svg role=\"img\" viewBox=\"0 0 600 66\"><title>Wheels to set, from the left: 1: B, 2: C, 3: D, 4: E, 5: F, 6: G.</title>
+<text x=\"22\" y=\"16\" font-size=\"18\">1</text>
+<rect class=\"set\" x=\"2\" y=\"24\" width=\"40\" height=\"40\"/>
+<text class=\"bold\" x=\"22\" y=\"53\" font-size=\"26\">B</text>
+<text x=\"82\" y=\"16\" font-size=\"18\">2</text>
+<rect class=\"set\" x=\"62\" y=\"24\" width=\"40\" height=\"40\"/>
+<text class=\"bold\" x=\"82\" y=\"53\" font-size=\"26\">C</text>
+<text x=\"142\" y=\"16\" font-size=\"18\">3</text>
+<rect class=\"set\" x=\"122\" y=\"24\" width=\"40\" height=\"40\"/>
+<text class=\"bold\" x=\"142\" y=\"53\" font-size=\"26\">D</text>
+<text x=\"202\" y=\"16\" font-size=\"18\">4</text>
+<rect class=\"set\" x=\"182\" y=\"24\" width=\"40\" height=\"40\"/>
+<text class=\"bold\" x=\"202\" y=\"53\" font-size=\"26\">E</text>
+<text x=\"262\" y=\"16\" font-size=\"18\">5</text>
+<rect class=\"set\" x=\"242\" y=\"24\" width=\"40\" height=\"40\"/>
+<text class=\"bold\" x=\"262\" y=\"53\" font-size=\"26\">F</text>
+<text x=\"322\" y=\"16\" font-size=\"18\">6</text>
+<rect class=\"set\" x=\"302\" y=\"24\" width=\"40\" height=\"40\"/>
+<text class=\"bold\" x=\"322\" y=\"53\" font-size=\"26\">G</text>
+</svg>
+</figure>
+<label><input type=checkbox> encipher the chosen letter twelve times</label>
+<div class=row><div class=groups><span><b>KKKKK</b><small>PDPHO</small><i>12345</i></span><span><b>KKKKK</b><small>SGNFY</small><i>-6\u{a0}\u{a0}\u{a0}</i></span><span><b>KK</b><small>GA</small><i>\u{a0}\u{a0}</i></span></div>
+<label><input type=checkbox><b>12</b><br>N O P Q R B</label></div>
+<p>The wheels 1 to 6 each take the next letter that they have; - strikes a letter out.</p>
+</section>
+<section>
+<h2>2 Text <small>letters of the body: 45</small><span>Converter M-209, day 7: receive, part 1 of 1</span></h2>
+<label><input type=checkbox> set the knob to <b>D</b></label>
+<label><input type=checkbox> set the wheels to the internal key</label>
+<figure class=shown><svg role=\"img\" viewBox=\"0 0 600 66\"><title>Wheels to set, from the left: 1: P, 2: D, 3: P, 4: H, 5: O, 6: G.</title>
+<text x=\"22\" y=\"16\" font-size=\"18\">1</text>
+<rect class=\"set\" x=\"2\" y=\"24\" width=\"40\" height=\"40\"/>
+<text class=\"bold\" x=\"22\" y=\"53\" font-size=\"26\">P</text>
+<text x=\"82\" y=\"16\" font-size=\"18\">2</text>
+<rect class=\"set\" x=\"62\" y=\"24\" width=\"40\" height=\"40\"/>
+<text class=\"bold\" x=\"82\" y=\"53\" font-size=\"26\">D</text>
+<text x=\"142\" y=\"16\" font-size=\"18\">3</text>
+<rect class=\"set\" x=\"122\" y=\"24\" width=\"40\" height=\"40\"/>
+<text class=\"bold\" x=\"142\" y=\"53\" font-size=\"26\">P</text>
+<text x=\"202\" y=\"16\" font-size=\"18\">4</text>
+<rect class=\"set\" x=\"182\" y=\"24\" width=\"40\" height=\"40\"/>
+<text class=\"bold\" x=\"202\" y=\"53\" font-size=\"26\">H</text>
+<text x=\"262\" y=\"16\" font-size=\"18\">5</text>
+<rect class=\"set\" x=\"242\" y=\"24\" width=\"40\" height=\"40\"/>
+<text class=\"bold\" x=\"262\" y=\"53\" font-size=\"26\">O</text>
+<text x=\"322\" y=\"16\" font-size=\"18\">6</text>
+<rect class=\"set\" x=\"302\" y=\"24\" width=\"40\" height=\"40\"/>
+<text class=\"bold\" x=\"322\" y=\"53\" font-size=\"26\">G</text>
+</svg>
+</figure>
+<p>The first and the last indicators complete each other.</p>
+<div class=row><div class=groups><span><b><small>KK?CD</small></b></span><span><b><small>EFGLK</small></b></span><span><b>DHLMM</b><small>FRESH</small></span><span><b>DWUVX</b><small>\u{a0}BATT</small></span><span><b>CO?DH</b><small>ER?ES</small></span><span><b>UGFTL</b><small>\u{a0}AT\u{a0}D</small></span><span><b>NTXFK</b><small>AWNXX</small></span><span><b><small>KKBCD</small></b></span><span><b><small>?FGLK</small></b></span></div>
+<label><input type=checkbox><b>45</b><br>O D R L B O</label></div>
+<p class=note>The machine prints each Z as a space. X at the end fills the last group.</p>
+</section>
+</article>
+<article id=text class=form>
+<header>
+<h1>Converter M-209, day 7: text</h1>
+<p class=fields><span>From</span><span>Time</span><span>Read by</span></p>
+</header>
+<section>
+<h2>Part 1 of 1<span>Converter M-209, day 7: text</span></h2>
+<p class=\"text words\">FRESH BATTER?ES AT DAWNXX</p>
+<p>The first and the last indicators complete each other.</p>
+<label><input type=checkbox> ask for part 1 again: <b>group 5</b></label>
+</section>
+<p class=note>The machine prints each Z as a space. X at the end fills the last group.</p>
+</article>
+</main>
+";
+
+/// `M4_FORM` received.
+pub const M4_RECEIVE: &str = "<body>
+<main>
+<nav aria-label=\"Sheets\">
+<ul>
+<li><a href=\"#part-1\">Part 1 of 1</a>
+<li><a href=\"#text\">Text</a>
+</ul>
+</nav>
+<article id=part-1>
+<header>
+<h1>Enigma M4, day 6: receive <small>part 1 of 1</small></h1>
+<p class=fields><span>Machine</span><span>Date</span><span>Done by</span></p>
+<p>The machine has to be on the key of the day. Reflector: <b>b</b>. Wheels: <b>Beta\u{a0}II\u{a0}IV\u{a0}I</b>. Rings: <b>A\u{a0}01, A\u{a0}01, A\u{a0}01, V\u{a0}22</b>. Cables: <b>AT BL DF GJ HM NW OP QY RZ VX</b>.</p>
+<p>Above the line: press. On it: write the lamp\u{2019}s letter. Below: what it has to be. Skip small letters above.<br>A row ends with the letters so far and the windows. If they differ, set the windows as before the row, and begin it again.</p>
+</header>
+<section>
+<h2>1 Message key<span>Enigma M4, day 6: receive, part 1 of 1</span></h2>
+<label><input type=checkbox> set the windows to the ground from the heading</label>
+<figure class=shown><svg role=\"img\" viewBox=\"0 0 600 66\"><title>Windows to set, from the left: 1: R 18, 2: T 20, 3: M 13, 4: C 03.</title>
+<text class=\"label\" x=\"2\" y=\"16\" font-size=\"18\">slot 1</text>
+<rect class=\"set\" x=\"2\" y=\"24\" width=\"40\" height=\"40\"/>
+<text class=\"bold\" x=\"22\" y=\"53\" font-size=\"26\">R</text>
+<text class=\"bold\" x=\"64\" y=\"51\" font-size=\"20\">18</text>
+<text class=\"label\" x=\"98\" y=\"16\" font-size=\"18\">slot 2</text>
+<rect class=\"set\" x=\"98\" y=\"24\" width=\"40\" height=\"40\"/>
+<text class=\"bold\" x=\"118\" y=\"53\" font-size=\"26\">T</text>
+<text class=\"bold\" x=\"160\" y=\"51\" font-size=\"20\">20</text>
+<text class=\"label\" x=\"194\" y=\"16\" font-size=\"18\">slot 3</text>
+<rect class=\"set\" x=\"194\" y=\"24\" width=\"40\" height=\"40\"/>
+<text class=\"bold\" x=\"214\" y=\"53\" font-size=\"26\">M</text>
+<text class=\"bold\" x=\"256\" y=\"51\" font-size=\"20\">13</text>
+<text class=\"label\" x=\"290\" y=\"16\" font-size=\"18\">slot 4</text>
+<rect class=\"set\" x=\"290\" y=\"24\" width=\"40\" height=\"40\"/>
+<text class=\"bold\" x=\"310\" y=\"53\" font-size=\"26\">C</text>
+<text class=\"bold\" x=\"352\" y=\"51\" font-size=\"20\">03</text>
+</svg>
+</figure>
+<label><input type=checkbox> press the key from the heading: the lamps give the message key</label>
+<div class=row><div class=groups><span><b>EKIX</b><small>VJNA</small></span></div>
+<label><input type=checkbox><b>4</b><br>R\u{a0}\u{a0}T\u{a0}\u{a0}M\u{a0}\u{a0}G<br>18 20 13 07</label></div>
+</section>
+<section>
+<h2>2 Text <small>letters of the body: 237</small><span>Enigma M4, day 6: receive, part 1 of 1</span></h2>
+<label><input type=checkbox> set the windows to the message key</label>
+<figure class=shown><svg role=\"img\" viewBox=\"0 0 600 66\"><title>Windows to set, from the left: 1: V 22, 2: J 10, 3: N 14, 4: A 01.</title>
+<text class=\"label\" x=\"2\" y=\"16\" font-size=\"18\">slot 1</text>
+<rect class=\"set\" x=\"2\" y=\"24\" width=\"40\" height=\"40\"/>
+<text class=\"bold\" x=\"22\" y=\"53\" font-size=\"26\">V</text>
+<text class=\"bold\" x=\"64\" y=\"51\" font-size=\"20\">22</text>
+<text class=\"label\" x=\"98\" y=\"16\" font-size=\"18\">slot 2</text>
+<rect class=\"set\" x=\"98\" y=\"24\" width=\"40\" height=\"40\"/>
+<text class=\"bold\" x=\"118\" y=\"53\" font-size=\"26\">J</text>
+<text class=\"bold\" x=\"160\" y=\"51\" font-size=\"20\">10</text>
+<text class=\"label\" x=\"194\" y=\"16\" font-size=\"18\">slot 3</text>
+<rect class=\"set\" x=\"194\" y=\"24\" width=\"40\" height=\"40\"/>
+<text class=\"bold\" x=\"214\" y=\"53\" font-size=\"26\">N</text>
+<text class=\"bold\" x=\"256\" y=\"51\" font-size=\"20\">14</text>
+<text class=\"label\" x=\"290\" y=\"16\" font-size=\"18\">slot 4</text>
+<rect class=\"set\" x=\"290\" y=\"24\" width=\"40\" height=\"40\"/>
+<text class=\"bold\" x=\"310\" y=\"53\" font-size=\"26\">A</text>
+<text class=\"bold\" x=\"352\" y=\"51\" font-size=\"20\">01</text>
+</svg>
+</figure>
+<div class=row><div class=groups><span><b><small>QXWIB</small></b></span><span><b>NCZWV</b><small>VONVO</small></span><span><b>USXPN</b><small>NJLOO</small></span><span><b>YMINH</b><small>KSJHF</small></span><span><b>ZXMQX</b><small>FTTTE</small></span><span><b>SFWXW</b><small>INSEI</small></span><span><b>LKJAH</b><small>NSDRE</small></span><span><b>SHNMC</b><small>IZWOY</small></span><span><b>OCCAK</b><small>YQNNS</small></span><span><b>UQPMK</b><small>NEUNI</small></span></div>
+<label><input type=checkbox><b>50</b><br>V\u{a0}\u{a0}J\u{a0}\u{a0}P\u{a0}\u{a0}T<br>22 10 16 20</label></div>
+<div class=row><div class=groups><span><b>CSMHK</b><small>NHALT</small></span><span><b>SEINJ</b><small>XXBEI</small></span><span><b>USBLK</b><small>ANGRI</small></span><span><b>IOSXC</b><small>FFUNT</small></span><span><b>KUBHM</b><small>ERWAS</small></span><span><b>LLXCS</b><small>SERGE</small></span><span><b>JUSRR</b><small>DRUEC</small></span><span><b>DVKOH</b><small>KTYWA</small></span><span><b>ULXWC</b><small>BOSXL</small></span><span><b>CBGVL</b><small>ETZTE</small></span></div>
+<label><input type=checkbox><b>100</b><br>V\u{a0}\u{a0}J\u{a0}\u{a0}R\u{a0}\u{a0}R<br>22 10 18 18</label></div>
+<div class=row><div class=groups><span><b>IYXEO</b><small>RGEGN</small></span><span><b>AHXRH</b><small>ERSTA</small></span><span><b>KKFVD</b><small>NDNUL</small></span><span><b>REWEZ</b><small>ACHTD</small></span><span><b>LXOBA</b><small>REINU</small></span><span><b>FGYUJ</b><small>LUHRM</small></span><span><b>QUKGR</b><small>ARQUA</small></span><span><b>TVUKA</b><small>NTONJ</small></span><span><b>MEURB</b><small>OTANE</small></span><span><b>VEKSU</b><small>UNACH</small></span></div>
+<label><input type=checkbox><b>150</b><br>V\u{a0}\u{a0}J\u{a0}\u{a0}S\u{a0}\u{a0}P<br>22 10 19 16</label></div>
+<div class=row><div class=groups><span><b>HHVOY</b><small>TSEYH</small></span><span><b>HABCJ</b><small>SDREI</small></span><span><b>WMAKL</b><small>YZWOZ</small></span><span><b>FKLMY</b><small>WONUL</small></span><span><b>FVNRI</b><small>GRADY</small></span><span><b>ZRVVR</b><small>ACHTS</small></span><span><b>TKOFD</b><small>MYSTO</small></span><span><b>ANJMO</b><small>SSENA</small></span><span><b>LBGFF</b><small>CHXEK</small></span><span><b>LEOPR</b><small>NSVIE</small></span></div>
+<label><input type=checkbox><b>200</b><br>V\u{a0}\u{a0}J\u{a0}\u{a0}U\u{a0}\u{a0}N<br>22 10 21 14</label></div>
+<div class=row><div class=groups><span><b>GTFLV</b><small>RMBFA</small></span><span><b>RHOWO</b><small>ELLTY</small></span><span><b>PBEKV</b><small>NNNNN</small></span><span><b>WMUQF</b><small>NOOOV</small></span><span><b>MPWPA</b><small>IERYS</small></span><span><b>RMFHA</b><small>ICHTE</small></span><span><b>GKXII</b><small>INSNU</small></span><span><b>BG</b><small>LL</small></span></div>
+<label><input type=checkbox><b>237</b><br>V\u{a0}\u{a0}J\u{a0}\u{a0}W\u{a0}\u{a0}Y<br>22 10 23 25</label></div>
+<p class=note>Spaces aren\u{2019}t sent. X often stands for a stop, Y for a comma. The last group may be short.</p>
+</section>
+</article>
+<article id=text class=form>
+<header>
+<h1>Enigma M4, day 6: text</h1>
+<p class=fields><span>From</span><span>Time</span><span>Read by</span></p>
+</header>
+<section>
+<h2>Part 1 of 1<span>Enigma M4, day 6: text</span></h2>
+<p class=\"text letters\">VONVONJLOOKSJHFFTTTEINSEINSDREIZWOYYQNNSNEUNINHALTXXBEIANGRIFFUNTERWASSERGEDRUECKTYWABOSXLETZTERGEGNERSTANDNULACHTDREINULUHRMARQUANTONJOTANEUNACHTSEYHSDREIYZWOZWONULGRADYACHTSMYSTOSSENACHXEKNSVIERMBFAELLTYNNNNNNOOOVIERYSICHTEINSNULL</p>
+</section>
+<p class=note>Spaces aren\u{2019}t sent. X often stands for a stop, Y for a comma. The last group may be short.</p>
+</article>
+</main>
+";

@@ -7,5 +7,5 @@ use Rattle.kd_message.proofs.rows.draw_group.Goals as goal
 pub returns : goal.returns
 unfolding group_text
 returns g c =
-    joined (both (both (both (both c.draw.ensures c.draw_line.ensures) c.draw-2.ensures) c.draw_line_if.ensures) c.draw_line_if-2.ensures) c.draw-3.ensures
+    joined (both (both (both (both c.draw.ensures c.draw_above.ensures) c.draw-2.ensures) c.draw_line_if.ensures) c.draw_line_if-2.ensures) c.draw-3.ensures
     (grind (arith, common_steps))

@@ -1,7 +1,7 @@
 use Rattle.std.proofs.Common.{arith}
 use Rattle.std.proofs.lemmas.Grind.{common_steps}
-use Rattle.std.proofs.Common.{◌≡◌, ◌∷◌}
-use Rattle.kd_message.proofs.SendPages.{later_keys, next_part, parts_next}
+use Rattle.std.proofs.Common.{[], refl, ◌≡◌, ◌∷◌}
+use Rattle.kd_message.proofs.SendPages.{later_keys, next_part, none_left, nothing_drawn, parts_next}
 use Rattle.kd_message.proofs.sending.+draw_form_parts.Goals as goal
 
 pub draw_made_part-requires-clause-suits : goal.draw_made_part-requires-clause-suits
@@ -30,3 +30,8 @@ returns-in-len1-up g t c =
     c.take_piece-piece.ensures.rest c.requires in
     parts_next _ _ _ _ split next.cut
     (rw (c.part_name.ensures, c.as_slice.ensures.value) at c.draw_made_part.ensures) c.draw_form_parts.ensures
+
+pub returns-in_default : goal.returns-in_default
+returns-in_default g t c =
+    let none = none_left _ _ _ _ _ (grind (arith, common_steps)) c.requires in
+    ([], rw (none.0, none.1) refl, nothing_drawn _ _ _)

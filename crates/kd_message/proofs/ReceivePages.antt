@@ -1,0 +1,106 @@
+-- The page for receiving a form: its parts, one after another.
+use Rattle.std.proofs.Common.{◌≡◌, ◌∙◌, ℕ, ◌+◌, ◌-◌, ◌<◌, ◌==◌, ◌↔◌, Bool, true, false, List, [], ◌∷◌, ◌++◌}
+use Rattle.std.proofs.Common.{All, IsTrue, if◌then◌else◌, arith, refl, sym, Option, Some, None, Ok, Err}
+use Rattle.std.proofs.Common.{Result, append_assoc}
+use Rattle.std.proofs.lemmas.Bool.{false≢true}
+use Rattle.std.proofs.lemmas.List.Elements.{All-cons, All-head, All-nil, All-tail}
+use Rattle.std.specs.List.{range_with_len}
+use Rattle.std.specs.Prelude.{IfOk}
+use Rattle.kd_state.specs.SheetDay.{Day, OfPins, OfRotors}
+use Rattle.kd_state.proofs.OneAnswer.{ThenNext-Ok}
+use Rattle.kd_form.specs.declared.heading.Indicator.{Indicator}
+use Rattle.kd_form.specs.BodyCipher.{HasIndicator}
+use Rattle.kd_lost.specs.declared.damage.PartDamage.{PartDamage}
+use Rattle.kd_lost.specs.declared.damaged_text.DamagedText.{DamagedText}
+use Rattle.kd_lost.specs.declared.damaged_text.TextKeys.{TextKeys}
+use Rattle.kd_lost.specs.declared.part.DamagedPart.{DamagedPart}
+use Rattle.kd_lost.specs.DamagedForm.{AreReadOf}
+use Rattle.kd_lost.specs.DamagedPart.{IsDamagedTextAnswer}
+use Rattle.kd_lost.specs.DamagedText.{AreTextKeys}
+use Rattle.kd_lost.proofs.PartShown.{shown_there}
+use Rattle.kd_message.specs.declared.texts.MessageTexts.{MessageTexts}
+use Rattle.kd_message.specs.PartWork.{AreShowable}
+unfoldable use Rattle.kd_message.specs.ReceivePage.{receive_text}
+use Rattle.kd_message.specs.ReceivePage.{AreWorkable}
+use Rattle.kd_message.specs.ShownParts.{later_or, number_of, shown_from}
+use Rattle.kd_message.proofs.SendPages.{begins}
+use Rattle.kd_message.proofs.Sheets.{range_first}
+
+-- ---- Whether all of the form was read.
+
+pub number_there : (P : ℕ → Type 0) (number count : ℕ) {one more : Bool} → 0 < count → (IsTrue one ↔ P number)
+    → one ≡ true → (IsTrue more ↔ All P (range_with_len (number + 1) (count - 1)))
+    → IsTrue more ↔ All P (range_with_len number count)
+number_there P number count some is there rest =
+    let later = range_with_len (number + 1) (count - 1) in
+    rw (range_first number count some)
+    ((λ told. All-cons P number later (is.0 there) (rest.0 told)), (λ all. rest.1 (All-tail P number later all)))
+
+pub number_missing : (P : ℕ → Type 0) (number count : ℕ) {one : Bool} → 0 < count → (IsTrue one ↔ P number)
+    → one ≡ false → IsTrue one ↔ All P (range_with_len number count)
+number_missing P number count some is missing =
+    let later = range_with_len (number + 1) (count - 1) in
+    rw (range_first number count some)
+    ((λ told. absurd (false≢true (sym missing ∙ told))), (λ all. is.1 (All-head P number later all)))
+
+-- ---- What holds for each part holds for the part that is shown.
+
+chosen_holds : (P : DamagedPart → Type 0) (is_it : Bool) (one part : DamagedPart) → P one
+    → (if is_it then Some one else None) ≡ Some part → P part
+chosen_holds P true one part holds is = let e : one ≡ part = cc in rw (← e) holds
+chosen_holds P false one part holds is = absurd (cc)
+
+later_holds : (P : DamagedPart → Type 0) (place number : ℕ) (one : DamagedPart) (later : Option DamagedPart)
+    (part : DamagedPart) → P one → ((other : DamagedPart) → later ≡ Some other → P other)
+    → later_or place number one later ≡ Some part → P part
+later_holds P place number one (Some later) part holds rest is =
+    let e : later ≡ part = cc in rw (← e) (rest later refl)
+later_holds P place number one None part holds rest is =
+    chosen_holds P (number_of place one.numbers == number) one part holds is
+
+pub shown_holds : (P : DamagedPart → Type 0) (place number : ℕ) (parts : List DamagedPart) (part : DamagedPart)
+    → All P parts → shown_from place number parts ≡ Some part → P part
+shown_holds P place number [] part all is = absurd (cc)
+shown_holds P place number (one ∷ parts) part all is =
+    later_holds P place number one (shown_from (place + 1) number parts) part (All-head P one parts all)
+    (λ other there. shown_holds P (place + 1) number parts other (All-tail P one parts all) there) is
+
+-- ---- The machine can show the keys of each part that is read.
+
+keys_showable : (s : Day) (i : Option Indicator) (received : List (Option ℕ)) (keys : TextKeys) → HasIndicator s i
+    → AreTextKeys s i received keys → AreShowable s keys
+keys_showable s (Some i) received keys has (is_key, is) = rw is is_key
+keys_showable (OfPins s) None received keys has (pin, is, copies, window, internal) =
+    rw is (window, internal.picked.on_wheels)
+keys_showable (OfRotors s) None received keys has are = absurd has
+
+text_showable : (s : Day) (part : List ℕ) (text : Result DamagedText PartDamage) → IsDamagedTextAnswer s part text
+    → IfOk text (λ shown. AreShowable s shown.keys)
+text_showable s part (Ok shown) read =
+    let one = ThenNext-Ok read in
+    let two = ThenNext-Ok one.next in
+    let three = ThenNext-Ok two.next in
+    let four = ThenNext-Ok three.next in
+    keys_showable s one.found.indicator _ shown.keys one.says.is_heading.indicator
+    (shown_there s one.found.indicator _ shown four.next).keys
+text_showable s part (Err damage) read = tt
+
+pub are_workable : (s : Day) (parts : List (List ℕ)) (reads : List DamagedPart) → AreReadOf s parts reads
+    → AreWorkable s reads
+are_workable s [] [] are = All-nil (λ part. IfOk part.text (λ shown. AreShowable s shown.keys))
+are_workable s [] (read ∷ reads) are = absurd are
+are_workable s (part ∷ parts) [] are = absurd are
+are_workable s (part ∷ parts) (read ∷ reads) are =
+    All-cons (λ part. IfOk part.text (λ shown. AreShowable s shown.keys)) read reads
+    (text_showable s part read.text are.0.text) (are_workable s parts reads are.1)
+
+-- ---- The page.
+
+-- a page isn't empty
+pub page_begins : (texts : MessageTexts) (s : Day) (parts : List DamagedPart)
+    → (first : ℕ) × ((rest : List ℕ) × (receive_text texts s parts ≡ first ∷ rest))
+unfolding receive_text
+page_begins texts s parts = begins _ _ _
+
+pub five_joined : (a b c d e : List ℕ) → a ++ b ++ c ++ d ++ e ≡ (((a ++ b) ++ c) ++ d) ++ e
+five_joined a b c d e = grind (arith, append_assoc)

@@ -1,0 +1,9 @@
+use Rattle.std.proofs.Common.{arith}
+use Rattle.std.proofs.lemmas.Grind.{common_steps}
+use Rattle.kd_pictures.proofs.Drawings.{both, joined}
+use Rattle.kd_message.proofs.receiving.draw_missing_text.Goals as goal
+
+pub returns : goal.returns
+returns g c =
+    joined (both c.draw_text_part_head.ensures c.draw_missing.ensures) c.draw.ensures
+    (grind (arith, common_steps))

@@ -1,0 +1,43 @@
+use Rattle.std.proofs.Common.{◌≤◌, length, arith, refl, ap, sym, subst, Err, rules}
+use Rattle.kd_lost.specs.DamagedForm.{damaged_parts_of}
+use Rattle.kd_lost.proofs.Forms.{as_many_read}
+use Rattle.kd_pictures.proofs.Drawings.{writes_part}
+use Rattle.kd_message.specs.ReceivePage.{AreWorkable, FormNotRead, ReceivedPageWritten}
+use Rattle.kd_message.proofs.ReceivePages.{are_workable, page_begins}
+use Rattle.kd_message.proofs.receiving.write_receive_page.Goals as goal
+
+pub returns-in-Err : goal.returns-in-Err
+returns-in-Err g c =
+    FormNotRead c.in-Err.fault c.in-Err.ensures.read (ap Err c.page_fault.ensures) (record { has = refl; well = refl })
+
+pub draw_page-requires-clause-workable : goal.draw_page-requires-clause-workable
+draw_page-requires-clause-workable g c =
+    subst (AreWorkable c.args.day.now) (sym c.as_slice.ensures.value)
+    (are_workable c.args.day.now (damaged_parts_of c.args.form.now) c.in-Ok.parts.items c.in-Ok.ensures.read)
+
+pub returns-then-failed : goal.returns-then-failed
+returns-then-failed g c =
+    let few : length (damaged_parts_of c.args.form.now) ≤ 255 =
+    omega (
+      arith,
+      as_many_read c.args.day.now (damaged_parts_of c.args.form.now) c.in-Ok.parts.items
+          c.in-Ok.ensures.read,
+      c.in-Ok.ensures.few,
+    ) in
+    let drawn = rw c.as_slice.ensures.value at c.draw_page.ensures in
+    ReceivedPageWritten c.in-Ok.parts.items c.in-Ok.ensures.read few
+    (writes_part _ (page_begins c.args.texts.now c.args.day.now c.in-Ok.parts.items).1.1 drawn (search rules)) refl
+    (search rules)
+
+pub returns : goal.returns
+returns g c =
+    let few : length (damaged_parts_of c.args.form.now) ≤ 255 =
+    omega (
+      arith,
+      as_many_read c.args.day.now (damaged_parts_of c.args.form.now) c.in-Ok.parts.items
+          c.in-Ok.ensures.read,
+      c.in-Ok.ensures.few,
+    ) in
+    let drawn = rw c.as_slice.ensures.value at c.draw_page.ensures in
+    ReceivedPageWritten c.in-Ok.parts.items c.in-Ok.ensures.read few (search rules)
+    (rw c.as_slice-else-failed.ensures.value at c.is_whole.ensures) (search rules)

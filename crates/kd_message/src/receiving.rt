@@ -1,0 +1,332 @@
+//! The page for receiving a form, in which letters may be lost.
+ghost use Rattle.std.specs.Prelude.{◌≡◌, ◌≤◌, ◌+◌, [], flat_map, if◌then◌else◌, IfOk, length};
+ghost use Rattle.std.specs.List.{range_with_len};
+ghost use Rattle.kd_tables.specs.Ports.{port};
+ghost use Rattle.kd_pictures.specs.Drawing.{Draws};
+ghost use Rattle.kd_message.specs.PartWork.{AreShowable};
+ghost use Rattle.kd_message.specs.ReceivePage.{AreWorkable, IsReceivePageAnswer, listed_text, listed_unread, missing_in};
+ghost use Rattle.kd_message.specs.ReceivePage.{number_in, page_fault, part_in, receive_text, receive_texts, section_text};
+ghost use Rattle.kd_message.specs.ReceivePage.{text_or_damage, worked_text};
+
+use crate::filling::fill;
+use crate::markup::ARTICLE_END;
+use crate::part_sheet::{PartName, draw_part_sheet};
+use crate::received_work::received_work;
+use crate::sending::{draw_title, list_head, part_name};
+use crate::shown_parts::{is_whole, last_of, shown_under, total_of};
+use crate::text_sheet::{
+    draw_damage, draw_missing, draw_read_text, draw_text_part_head, draw_text_sheet_head,
+    text_note, warnings_of,
+};
+use crate::texts::{MessageTexts, SheetTexts};
+use kd_lost::{DamagedFormFault, DamagedPart, DamagedText, PartDamage, read_damaged_form};
+use kd_pictures::draw;
+use kd_pictures::template::Value;
+use kd_pictures::texts::FOOT;
+use kd_pictures::words::is_converter;
+use kd_state::SheetDay;
+use kd_tables::{Model, Sink};
+use std::alloc::Global;
+
+/// Why the page of a form isn't written.
+#[derive(Clone, Copy, Debug, PartialEq, Eq)]
+pub enum ReceivePageFault {
+    /// There was no memory for what is read of the parts.
+    NoMemory,
+    /// The form would have more than 255 parts.
+    TooManyParts,
+    /// A write to the sink failed.
+    Device,
+}
+
+/// Writes the page that says how to decipher `form` by hand on a machine on the day's key, and its text.
+///
+/// Returns whether all of the form was read. After the fault `Device`, a prefix of the page is written, after other faults
+/// nothing.
+pub fn write_receive_page<W: Sink>(
+    alloc: Global,
+    texts: &MessageTexts,
+    day: &SheetDay,
+    form: &[u8],
+    sink: &mut W,
+) -> Result<bool, ReceivePageFault>
+    ensures { IsReceivePageAnswer texts.now day.now form.now
+        (port W.taken W.has_failed sink.old sink.new) result }
+{
+    let parts = match read_damaged_form(alloc, day, form) {
+        Ok(parts) => parts,
+        Err(fault) => return Err(page_fault(fault)),
+    };
+    draw_page(sink, texts, day, parts.as_slice());
+    if sink.failed() {
+        Err(ReceivePageFault::Device)
+    } else {
+        Ok(is_whole(parts.as_slice()))
+    }
+}
+
+fn page_fault(fault: DamagedFormFault) -> ReceivePageFault
+    ensures { result ≡ page_fault fault }
+{
+    match fault {
+        DamagedFormFault::NoMemory => ReceivePageFault::NoMemory,
+        DamagedFormFault::TooManyParts => ReceivePageFault::TooManyParts,
+    }
+}
+
+/// A section of the page.
+#[derive(Clone, Copy)]
+pub(crate) enum Section {
+    /// The list of the sheets.
+    Listed,
+    /// The sheets on which parts are worked.
+    Worked,
+    /// The texts of the parts.
+    Texts,
+}
+
+/// Writes the page of a form of which `parts` were read.
+fn draw_page<W: Sink>(sink: &mut W, texts: &MessageTexts, day: &SheetDay, parts: &[DamagedPart])
+    requires few { length parts.now ≤ 255 }
+    requires workable { AreWorkable day.now parts.now }
+    ensures { Draws W.taken W.has_failed sink.old sink.new
+        (receive_text texts.now day.now parts.now) }
+{
+    draw_title(sink, texts, texts.title_to_receive, day);
+    draw(sink, list_head(texts, last_of(parts)));
+    draw_section(sink, Section::Listed, texts, day, parts);
+    draw(sink, texts.list_end_with_text);
+    draw_section(sink, Section::Worked, texts, day, parts);
+    draw_text_sheet_head(sink, texts, day);
+    draw_section(sink, Section::Texts, texts, day, parts);
+    draw(sink, text_note(texts, day.model()));
+    draw(sink, ARTICLE_END);
+    draw(sink, FOOT);
+}
+
+/// Writes what a section has for each number.
+fn draw_section<W: Sink>(
+    sink: &mut W,
+    section: Section,
+    texts: &MessageTexts,
+    day: &SheetDay,
+    parts: &[DamagedPart],
+)
+    requires few { length parts.now ≤ 255 }
+    requires workable { AreWorkable day.now parts.now }
+    ensures { Draws W.taken W.has_failed sink.old sink.new
+        (section_text section texts.now day.now parts.now) }
+{
+    draw_numbers(sink, section, texts, day, parts, 1, last_of(parts));
+}
+
+/// Writes what a section has for the `count` numbers from `number` on.
+fn draw_numbers<W: Sink>(
+    sink: &mut W,
+    section: Section,
+    texts: &MessageTexts,
+    day: &SheetDay,
+    parts: &[DamagedPart],
+    number: u16,
+    count: u16,
+)
+    requires few { length parts.now ≤ 255 }
+    requires workable { AreWorkable day.now parts.now }
+    requires numbers { number + count ≤ 256 }
+    ensures { Draws W.taken W.has_failed sink.old sink.new
+        (flat_map (number_in section texts.now day.now parts.now) (range_with_len number count)) }
+{
+    if count > 0 {
+        draw_number(sink, section, texts, day, parts, number);
+        draw_numbers(sink, section, texts, day, parts, number + 1, count - 1);
+    }
+}
+
+/// Writes what a section has for the part that is shown under `number`.
+fn draw_number<W: Sink>(
+    sink: &mut W,
+    section: Section,
+    texts: &MessageTexts,
+    day: &SheetDay,
+    parts: &[DamagedPart],
+    number: u16,
+)
+    requires few { length parts.now ≤ 255 }
+    requires workable { AreWorkable day.now parts.now }
+    requires number { number ≤ 255 }
+    ensures { Draws W.taken W.has_failed sink.old sink.new
+        (number_in section texts.now day.now parts.now number) }
+{
+    let total = total_of(parts);
+    let name = part_name(day, number as u8, total);
+    match shown_under(parts, number) {
+        Some(part) => draw_part(sink, section, texts, day, name, part),
+        None => draw_missing_if(sink, number <= u16::from(total), section, texts, name),
+    }
+}
+
+/// Writes what a section has for a part that came.
+fn draw_part<W: Sink>(
+    sink: &mut W,
+    section: Section,
+    texts: &MessageTexts,
+    day: &SheetDay,
+    name: PartName,
+    part: &DamagedPart,
+)
+    requires { IfOk part.now.text (λ shown. AreShowable day.now shown.keys) }
+    ensures { Draws W.taken W.has_failed sink.old sink.new
+        (part_in section texts.now day.now name part.now) }
+{
+    match section {
+        Section::Listed => draw_listed(sink, texts, name, &part.text),
+        Section::Worked => draw_worked(sink, texts, day, name, &part.text),
+        Section::Texts => draw_part_text(sink, texts, day, name, part),
+    }
+}
+
+/// Writes a part in the list of the sheets.
+fn draw_listed<W: Sink>(
+    sink: &mut W,
+    texts: &MessageTexts,
+    name: PartName,
+    text: &Result<DamagedText, PartDamage>,
+)
+    ensures { Draws W.taken W.has_failed sink.old sink.new (listed_text texts.now name text.now) }
+{
+    match text {
+        Ok(_) => fill(
+            sink,
+            texts.listed_part,
+            &[
+                Value::Number(u16::from(name.part)),
+                Value::Number(u16::from(name.part)),
+                Value::Number(u16::from(name.parts)),
+            ],
+        ),
+        Err(_) => draw_listed_unread(sink, texts, name),
+    }
+}
+
+/// Writes a part that isn't read in the list of the sheets.
+fn draw_listed_unread<W: Sink>(sink: &mut W, texts: &MessageTexts, name: PartName)
+    ensures { Draws W.taken W.has_failed sink.old sink.new (listed_unread texts.now name) }
+{
+    fill(
+        sink,
+        texts.listed_unread,
+        &[
+            Value::Number(u16::from(name.part)),
+            Value::Number(u16::from(name.parts)),
+        ],
+    );
+}
+
+/// Writes the sheet on which a part is worked, if it is read.
+fn draw_worked<W: Sink>(
+    sink: &mut W,
+    texts: &MessageTexts,
+    day: &SheetDay,
+    name: PartName,
+    text: &Result<DamagedText, PartDamage>,
+)
+    requires { IfOk text.now (λ shown. AreShowable day.now shown.keys) }
+    ensures { Draws W.taken W.has_failed sink.old sink.new
+        (worked_text texts.now day.now name text.now) }
+{
+    match text {
+        Ok(shown) => draw_part_sheet(
+            sink,
+            texts,
+            receive_texts(texts, day.model()),
+            day,
+            name,
+            warnings_of(shown),
+            &received_work(day, shown),
+        ),
+        Err(_) => draw(sink, ""),
+    }
+}
+
+fn receive_texts(texts: &MessageTexts, model: Model) -> &SheetTexts
+    ensures { result.now ≡ receive_texts texts.now model }
+{
+    if is_converter(model) {
+        &texts.pin_receive
+    } else {
+        &texts.rotor_receive
+    }
+}
+
+/// Writes a part of the text: its head, and its text or why it isn't read.
+fn draw_part_text<W: Sink>(
+    sink: &mut W,
+    texts: &MessageTexts,
+    day: &SheetDay,
+    name: PartName,
+    part: &DamagedPart,
+)
+    ensures { Draws W.taken W.has_failed sink.old sink.new
+        (part_in Section.Texts texts.now day.now name part.now) }
+{
+    draw_text_part_head(sink, texts, name);
+    draw_text_or_damage(sink, texts, day, name, part);
+    draw(sink, texts.text_part_end);
+}
+
+fn draw_text_or_damage<W: Sink>(
+    sink: &mut W,
+    texts: &MessageTexts,
+    day: &SheetDay,
+    name: PartName,
+    part: &DamagedPart,
+)
+    ensures { Draws W.taken W.has_failed sink.old sink.new
+        (text_or_damage texts.now day.now name part.now part.now.text) }
+{
+    match &part.text {
+        Ok(shown) => {
+            let sheet = receive_texts(texts, day.model());
+            draw_read_text(sink, texts, sheet, day, name, shown)
+        }
+        Err(damage) => draw_damage(sink, texts, name, part, *damage),
+    }
+}
+
+/// Writes what a section has for a part that didn't come, if the form has such a part.
+fn draw_missing_if<W: Sink>(
+    sink: &mut W,
+    is_missing: bool,
+    section: Section,
+    texts: &MessageTexts,
+    name: PartName,
+)
+    ensures { Draws W.taken W.has_failed sink.old sink.new
+        (if is_missing then missing_in section texts.now name else []) }
+{
+    if is_missing {
+        draw_missing_in(sink, section, texts, name);
+    } else {
+        draw(sink, "");
+    }
+}
+
+/// Writes what a section has for a part that didn't come.
+fn draw_missing_in<W: Sink>(sink: &mut W, section: Section, texts: &MessageTexts, name: PartName)
+    ensures { Draws W.taken W.has_failed sink.old sink.new (missing_in section texts.now name) }
+{
+    match section {
+        Section::Listed => draw_listed_unread(sink, texts, name),
+        Section::Worked => draw(sink, ""),
+        Section::Texts => draw_missing_text(sink, texts, name),
+    }
+}
+
+fn draw_missing_text<W: Sink>(sink: &mut W, texts: &MessageTexts, name: PartName)
+    ensures { Draws W.taken W.has_failed sink.old sink.new
+        (missing_in Section.Texts texts.now name) }
+{
+    draw_text_part_head(sink, texts, name);
+    draw_missing(sink, texts, name);
+    draw(sink, texts.text_part_end);
+}

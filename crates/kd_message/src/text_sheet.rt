@@ -1,0 +1,374 @@
+//! The sheet with the text of a received form, and what to ask the other station for.
+ghost use Rattle.std.specs.Prelude.{◌≡◌, ◌∷◌, ◌++◌, ◌+◌, ◌/◌, ◌≤◌, [], decimal, length, map};
+ghost use Rattle.kd_pictures.specs.Drawing.{Draws};
+ghost use Rattle.kd_form.specs.Sending.{space_letter};
+ghost use Rattle.kd_lost.specs.DamagedForm.{shown_byte};
+ghost use Rattle.kd_message.specs.Rows.{pieces};
+ghost use Rattle.kd_message.specs.TextSheet.{ask_for_lost, ask_text, asked_words, counts_text, damage_text};
+ghost use Rattle.kd_message.specs.TextSheet.{first_text_group, group_words, has_lost, heading_count, indicator_groups};
+ghost use Rattle.kd_message.specs.TextSheet.{indicator_place, is_copy_lost, is_wrong_day, lost_groups, missing_text};
+ghost use Rattle.kd_message.specs.TextSheet.{read_text, reason_text, text_begin, text_note, text_part_head};
+ghost use Rattle.kd_message.specs.TextSheet.{text_sheet_head, warnings_of};
+
+use crate::filling::fill;
+use crate::markup::{COMMA, LOST_LETTER, SPACE, TEXT_END, TEXT_LETTERS, TEXT_WORDS};
+use crate::part_sheet::{PartName, Warnings, draw_warnings};
+use crate::texts::{MessageTexts, SheetTexts};
+use itoa::Buffer;
+use kd_form::text_bytes::space_letter;
+use kd_lost::{DamagedPart, DamagedText, GroupTest, LostCopies, PartDamage, PartNumbers};
+use kd_pictures::draw;
+use kd_pictures::template::{Value, draw_letter};
+use kd_pictures::words::is_converter;
+use kd_state::SheetDay;
+use kd_tables::{Letter, Model, Sink};
+
+/// Writes the head of the sheet.
+pub(crate) fn draw_text_sheet_head<W: Sink>(sink: &mut W, texts: &MessageTexts, day: &SheetDay)
+    ensures { Draws W.taken W.has_failed sink.old sink.new (text_sheet_head texts.now day.now) }
+{
+    fill(
+        sink,
+        texts.text,
+        &[
+            Value::Model(day.model()),
+            Value::Number(u16::from(day.day())),
+        ],
+    );
+}
+
+/// Writes the head of a part of the text.
+pub(crate) fn draw_text_part_head<W: Sink>(sink: &mut W, texts: &MessageTexts, name: PartName)
+    ensures { Draws W.taken W.has_failed sink.old sink.new (text_part_head texts.now name) }
+{
+    fill(
+        sink,
+        texts.text_part,
+        &[
+            Value::Number(u16::from(name.part)),
+            Value::Number(u16::from(name.parts)),
+            Value::Model(name.model),
+            Value::Number(u16::from(name.day)),
+        ],
+    );
+}
+
+/// Writes the text of a part, its warnings, and the groups to ask for.
+pub(crate) fn draw_read_text<W: Sink>(
+    sink: &mut W,
+    texts: &MessageTexts,
+    sheet: &SheetTexts,
+    day: &SheetDay,
+    name: PartName,
+    shown: &DamagedText,
+)
+    ensures { Draws W.taken W.has_failed sink.old sink.new
+        (read_text texts.now sheet.now day.now name shown.now) }
+{
+    draw(sink, text_begin(name.model));
+    draw_letters_shown(sink, &space_letter(day), shown.letters.as_slice());
+    draw(sink, TEXT_END);
+    draw_warnings(sink, texts, sheet, warnings_of(shown));
+    draw_ask_for_lost(sink, texts, name, shown.letters.as_slice());
+}
+
+/// What stands before the text.
+fn text_begin(model: Model) -> &'static str
+    ensures { result.now ≡ text_begin model }
+{
+    if is_converter(model) {
+        TEXT_WORDS
+    } else {
+        TEXT_LETTERS
+    }
+}
+
+/// Writes letters of a text: `?` for each lost one, a space for each letter `for_space`.
+fn draw_letters_shown<W: Sink>(sink: &mut W, for_space: &Option<Letter>, letters: &[Option<Letter>])
+    ensures { Draws W.taken W.has_failed sink.old sink.new
+        (map (shown_byte for_space.now) letters.now) }
+{
+    if let [letter, rest @ ..] = letters {
+        draw_letter_shown(sink, for_space, letter);
+        draw_letters_shown(sink, for_space, rest);
+    }
+}
+
+fn draw_letter_shown<W: Sink>(sink: &mut W, for_space: &Option<Letter>, letter: &Option<Letter>)
+    ensures { Draws W.taken W.has_failed sink.old sink.new
+        (shown_byte for_space.now letter.now ∷ []) }
+{
+    match (for_space, letter) {
+        (_, None) => draw(sink, LOST_LETTER),
+        (Some(for_space), Some(letter)) if *for_space == *letter => draw(sink, SPACE),
+        (_, Some(letter)) => draw_letter(sink, *letter),
+    }
+}
+
+/// What a part that is read warns of.
+pub(crate) fn warnings_of(shown: &DamagedText) -> Warnings
+    ensures { result ≡ warnings_of shown.now }
+{
+    Warnings {
+        letters_lost: has_lost(shown.received.as_slice()),
+        copies_lost: is_copy_lost(&shown.copies),
+        wrong_day: is_wrong_day(shown.group),
+    }
+}
+
+/// Whether a letter of the indicators is lost in one copy.
+fn is_copy_lost(copies: &Option<LostCopies>) -> bool
+    ensures { result ≡ is_copy_lost copies.now }
+{
+    match copies {
+        Some(copies) => copies.at_start || copies.at_end,
+        None => false,
+    }
+}
+
+fn is_wrong_day(group: GroupTest) -> bool
+    ensures { result ≡ is_wrong_day group }
+{
+    match group {
+        GroupTest::Wrong => true,
+        GroupTest::Right | GroupTest::NotTested => false,
+    }
+}
+
+/// Whether a letter is lost.
+fn has_lost(letters: &[Option<Letter>]) -> bool
+    ensures { result ≡ has_lost letters.now }
+{
+    match letters {
+        [letter, rest @ ..] => letter.is_none() || has_lost(rest),
+        [] => false,
+    }
+}
+
+/// Writes the box for the groups in which letters are lost, if there are such groups.
+fn draw_ask_for_lost<W: Sink>(
+    sink: &mut W,
+    texts: &MessageTexts,
+    name: PartName,
+    letters: &[Option<Letter>],
+)
+    requires { length letters.now ≤ 500 }
+    ensures { Draws W.taken W.has_failed sink.old sink.new
+        (ask_for_lost texts.now name letters.now) }
+{
+    if has_lost(letters) {
+        draw_ask_groups(sink, texts, name, letters);
+    } else {
+        draw(sink, "");
+    }
+}
+
+fn draw_ask_groups<W: Sink>(
+    sink: &mut W,
+    texts: &MessageTexts,
+    name: PartName,
+    letters: &[Option<Letter>],
+)
+    requires { length letters.now ≤ 500 }
+    ensures { Draws W.taken W.has_failed sink.old sink.new
+        (ask_text texts.now name.part
+        (lost_groups texts.now [] (first_text_group name.model) (pieces 5 letters.now))) }
+{
+    fill(sink, texts.ask, &[Value::Number(u16::from(name.part))]);
+    draw_lost_groups(sink, texts, "", first_text_group(name.model), letters);
+    draw(sink, texts.ask_end);
+}
+
+/// The number of the group with which the text begins.
+fn first_text_group(model: Model) -> usize
+    ensures { result ≡ first_text_group model }
+{
+    if is_converter(model) { 3 } else { 2 }
+}
+
+/// Writes the numbers of the groups of `letters` in which letters are lost, the first after `first`.
+fn draw_lost_groups<W: Sink>(
+    sink: &mut W,
+    texts: &MessageTexts,
+    first: &str,
+    number: usize,
+    letters: &[Option<Letter>],
+)
+    requires { number + length letters.now ≤ 1000 }
+    ensures { Draws W.taken W.has_failed sink.old sink.new
+        (lost_groups texts.now first.now number (pieces 5 letters.now)) }
+{
+    if !letters.is_empty() {
+        let (group, rest) = first_group(letters);
+        if has_lost(group) {
+            draw_group_words(sink, texts, first, number);
+            draw_lost_groups(sink, texts, COMMA, number + 1, rest);
+        } else {
+            draw_lost_groups(sink, texts, first, number + 1, rest);
+        }
+    }
+}
+
+/// Splits `letters` after the first five, or after the last letter if there are fewer.
+#[tactic(auto, using(crate::proofs::Pieces::first_pieces))]
+fn first_group(letters: &[Option<Letter>]) -> (&[Option<Letter>], &[Option<Letter>])
+    requires { 1 ≤ length letters.now }
+    ensures pieces { pieces 5 letters.now ≡ result.0.now ∷ pieces 5 result.1.now }
+    ensures some { 1 ≤ length result.0.now }
+    ensures len { length result.0.now + length result.1.now ≡ length letters.now }
+{
+    letters.split_at(letters.len().min(5))
+}
+
+/// Writes a group's number, after `first`.
+fn draw_group_words<W: Sink>(sink: &mut W, texts: &MessageTexts, first: &str, number: usize)
+    ensures { Draws W.taken W.has_failed sink.old sink.new
+        (group_words texts.now first.now number) }
+{
+    draw(sink, first);
+    draw(sink, texts.group);
+    draw_count(sink, number);
+}
+
+fn draw_count<W: Sink>(sink: &mut W, number: usize)
+    ensures { Draws W.taken W.has_failed sink.old sink.new (decimal number) }
+{
+    draw(sink, Buffer::new().format(number));
+}
+
+/// Writes that a part didn't come.
+pub(crate) fn draw_missing<W: Sink>(sink: &mut W, texts: &MessageTexts, name: PartName)
+    ensures { Draws W.taken W.has_failed sink.old sink.new (missing_text texts.now name) }
+{
+    draw(sink, texts.unread);
+    draw(sink, texts.did_not_come);
+    draw(sink, texts.reason_end);
+    draw_ask(sink, texts, name, texts.all_of_it);
+}
+
+/// Writes the box for `words`.
+fn draw_ask<W: Sink>(sink: &mut W, texts: &MessageTexts, name: PartName, words: &str)
+    ensures { Draws W.taken W.has_failed sink.old sink.new
+        (ask_text texts.now name.part words.now) }
+{
+    fill(sink, texts.ask, &[Value::Number(u16::from(name.part))]);
+    draw(sink, words);
+    draw(sink, texts.ask_end);
+}
+
+/// Writes why a part isn't read, and what to ask for.
+pub(crate) fn draw_damage<W: Sink>(
+    sink: &mut W,
+    texts: &MessageTexts,
+    name: PartName,
+    part: &DamagedPart,
+    damage: PartDamage,
+)
+    ensures { Draws W.taken W.has_failed sink.old sink.new
+        (damage_text texts.now name part.now damage) }
+{
+    draw(sink, texts.unread);
+    draw_reason(sink, texts, part, damage);
+    draw(sink, texts.reason_end);
+    fill(sink, texts.ask, &[Value::Number(u16::from(name.part))]);
+    draw_asked(sink, texts, part, damage);
+    draw(sink, texts.ask_end);
+}
+
+/// Writes why a part isn't read.
+fn draw_reason<W: Sink>(sink: &mut W, texts: &MessageTexts, part: &DamagedPart, damage: PartDamage)
+    ensures { Draws W.taken W.has_failed sink.old sink.new
+        (reason_text texts.now part.now damage) }
+{
+    match damage {
+        PartDamage::HeadingDamaged => draw(sink, texts.heading_damaged),
+        PartDamage::HeadingKeyLost => draw(sink, texts.heading_key_lost),
+        PartDamage::BadByte => draw(sink, texts.bad_byte),
+        PartDamage::CountWrong => {
+            draw_counts(sink, texts, heading_count(&part.numbers), part.came)
+        }
+        PartDamage::CopiesDiffer(number) => fill(
+            sink,
+            texts.copies_differ,
+            &[Value::Number(indicator_place(number))],
+        ),
+        PartDamage::KeyLetterLost(number) => fill(
+            sink,
+            texts.key_letter_lost,
+            &[Value::Number(indicator_place(number))],
+        ),
+        PartDamage::KeyNotOnWheel => draw(sink, texts.key_not_on_wheel),
+        PartDamage::NoInternalKey => draw(sink, texts.no_internal_key),
+    }
+}
+
+/// Writes how many letters the heading counts, and how many came.
+fn draw_counts<W: Sink>(sink: &mut W, texts: &MessageTexts, counted: usize, came: usize)
+    ensures { Draws W.taken W.has_failed sink.old sink.new
+        (counts_text texts.now counted came) }
+{
+    draw(sink, texts.count_wrong);
+    draw_count(sink, counted);
+    draw(sink, texts.count_came);
+    draw_count(sink, came);
+    draw(sink, texts.count_end);
+}
+
+/// How many letters the body has, by the heading.
+fn heading_count(numbers: &Option<PartNumbers>) -> usize
+    ensures { result ≡ heading_count numbers.now }
+{
+    match numbers {
+        Some(numbers) => numbers.letters,
+        None => 0,
+    }
+}
+
+/// Where the key letter `number` stands among the indicators: the chosen letter stands twice.
+fn indicator_place(number: u8) -> u16
+    ensures { result ≡ indicator_place number }
+{
+    if number == 0 {
+        1
+    } else {
+        u16::from(number) + 2
+    }
+}
+
+/// Writes what to ask for if a part isn't read.
+fn draw_asked<W: Sink>(sink: &mut W, texts: &MessageTexts, part: &DamagedPart, damage: PartDamage)
+    ensures { Draws W.taken W.has_failed sink.old sink.new
+        (asked_words texts.now part.now damage) }
+{
+    match damage {
+        PartDamage::HeadingDamaged | PartDamage::HeadingKeyLost => draw(sink, texts.its_heading),
+        PartDamage::BadByte | PartDamage::CountWrong => draw(sink, texts.all_of_it),
+        PartDamage::CopiesDiffer(_)
+        | PartDamage::KeyLetterLost(_)
+        | PartDamage::KeyNotOnWheel
+        | PartDamage::NoInternalKey => draw_indicator_groups(sink, texts, part.came),
+    }
+}
+
+/// Writes the groups with the indicators, of a body with this many letters: the first two and the last two.
+fn draw_indicator_groups<W: Sink>(sink: &mut W, texts: &MessageTexts, came: usize)
+    ensures { Draws W.taken W.has_failed sink.old sink.new
+        (indicator_groups texts.now came) }
+{
+    let last = came / 5;
+    draw_group_words(sink, texts, "", 1);
+    draw_group_words(sink, texts, COMMA, 2);
+    draw_group_words(sink, texts, COMMA, last.saturating_sub(1));
+    draw_group_words(sink, texts, COMMA, last);
+}
+
+/// How spaces and signs of the text are meant.
+pub(crate) fn text_note(texts: &MessageTexts, model: Model) -> &'static str
+    ensures { result.now ≡ text_note texts.now model }
+{
+    match model {
+        Model::EnigmaI | Model::M3 => texts.enigma_text_note,
+        Model::M4 => texts.naval_text_note,
+        Model::M209 => texts.converter_text_note,
+    }
+}
