@@ -18,7 +18,7 @@ use Rattle.kd_lost.specs.declared.damaged_text.TextKeys.TheVariants as text_keys
 use Rattle.kd_lost.specs.Lost.{Completes, IsLetterFor, covered}
 use Rattle.kd_lost.specs.Copies.{IsKeysAnswer, chosen_copies}
 use Rattle.kd_lost.specs.WholePart.{HasKeysAround}
-use Rattle.kd_lost.specs.DamagedText.{IsDamagedLettersAnswer, IsKeyedTextAnswer, AreWarnings}
+use Rattle.kd_lost.specs.DamagedText.{IsDamagedLettersAnswer, IsKeyedTextAnswer, AreWarnings, text_window}
 use Rattle.kd_lost.proofs.KeyLetters.{four_hold, only_letter, only_letters}
 use Rattle.kd_lost.proofs.Completions.{completes_length, front_completes, rest_completes}
 
@@ -123,5 +123,9 @@ keyed_text s received middle keys shown internal text some is eight also same ca
         one.says,
         subst (IsInternalKey (enciphered_choice s keys)) (sym two.next.0) two.says,
       );
+      from_keys = λ whole inside.
+          let window : two.found ≡ text_window s text.keys = sym two.next.0 ∙ ap (text_window s) (sym kept) in
+          ap (λ l. l.items) same ∙ two.next.1 whole (subst (λ l. Completes l whole) (sym is) inside)
+          ∙ λ i. covered (is i) (cipher_from s (window i) whole);
       warnings = warnings;
     })))

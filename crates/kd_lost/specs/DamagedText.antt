@@ -7,7 +7,7 @@ use Rattle.kd_state.specs.AnswerRules.{AnswerRule, ◌>>=◌, Finds, Demands, Fi
 use Rattle.kd_state.specs.SheetDay.{Day, AreADaysGroup}
 use Rattle.kd_state.specs.TwoCiphers.{IsWindow, sheet_key}
 use Rattle.kd_form.specs.declared.heading.Indicator.{Indicator}
-use Rattle.kd_form.specs.BodyCipher.{HasIndicator}
+use Rattle.kd_form.specs.BodyCipher.{HasIndicator, deciphered_key}
 use Rattle.kd_form.specs.InternalKey.{IsInternalKey}
 use Rattle.arrayvec.specs.ArrayVec.{ArrayVec}
 use Rattle.kd_form.specs.declared.keys.PinKeys.{PinKeys}
@@ -80,14 +80,22 @@ AreTextKeys s None received keys =
     × IsWindow (sheet_key s) pin.indicator.external
     × IsInternalKey (enciphered_choice s pin.indicator) pin.internal.items
 
+-- the letters in the windows, or on the pin wheels, before the text is deciphered: the message key, or the internal key
+abbrev pub text_window : Day → TextKeys → List ℕ
+text_window s (text_keys.Rotor i) = deciphered_key s i
+text_window s (text_keys.Pin pin) = pin.internal.items
+
 -- `shown` has the text of each completion of the letters `received`, without the letters that were lost; the letters
--- `received` themselves; and the keys.
+-- `received` themselves; and the keys. From these keys, the machine gives the letters shown, whatever letters stand for
+-- the lost ones.
 pub record IsTextShown (s : Day) (i : Option Indicator) (received : List (Option ℕ))
     (shown : DamagedText) : Type 0 where
   pub each : (whole text : List ℕ) → Completes received whole → IsLettersText s i whole text
       → shown.letters.items ≡ covered (text_part i received) text
   pub as_received : shown.received.items ≡ received
   pub keys : AreTextKeys s i received shown.keys
+  pub from_keys : (whole : List ℕ) → Completes (text_part i received) whole
+      → shown.letters.items ≡ covered (text_part i received) (cipher_from s (text_window s shown.keys) whole)
   pub warnings : AreWarnings s i received shown
 
 -- The answer for the letters of a body. On a rotor machine, they always give a text. On the Converter M-209, the tests

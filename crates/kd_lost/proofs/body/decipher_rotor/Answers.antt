@@ -17,5 +17,6 @@ returns c =
           ∙ ap (covered (drop 5 received)) (sym is);
       as_received = c.list_of.ensures;
       keys = (c.requires.indicator, refl);
+      from_keys = shown;
       warnings = (c.test_group.ensures, refl);
     }
