@@ -5,3 +5,4 @@ pub mod Works
 pub mod SendPages
 pub mod ReceivePages
 pub mod Chunks
+pub mod ReceivedRows

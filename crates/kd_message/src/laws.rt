@@ -1,7 +1,12 @@
-//! A law of the rows of a page.
-ghost use Rattle.kd_message.specs.Laws.{RowsAreEnciphered};
+//! Laws of the rows of a page.
+ghost use Rattle.kd_message.specs.Laws.{RowsAreDeciphered, RowsAreEnciphered};
 
 /// A row can be worked again by itself: its lamps follow from its keys and from the windows before it.
 pub fn rows_are_enciphered()
     ensures { RowsAreEnciphered }
+{}
+
+/// What stands below a received letter is what the machine makes of it, whatever key is pressed for a lost letter.
+pub fn rows_are_deciphered()
+    ensures { RowsAreDeciphered }
 {}
