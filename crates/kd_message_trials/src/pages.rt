@@ -1044,3 +1044,243 @@ pub const M4_RECEIVE: &str = "<body>
 </article>
 </main>
 ";
+
+/// The German page of `LOST_RECEIVE`.
+pub const LOST_GERMAN: &str = "<body>
+<main>
+<nav class=sheets aria-label=\"Blätter\">
+<ul>
+<li><a href=\"#part-1\">Teil 1 von 3</a>
+<li><a href=\"#text\">Teil 2 von 3</a>, nicht lesbar
+<li><a href=\"#part-3\">Teil 3 von 3</a>
+<li><a href=\"#text\">Klartext</a>
+</ul>
+</nav>
+<article id=part-1>
+<header>
+<h1>Enigma I, Tag 4: Entschlüsseln <small>Teil 1 von 3</small></h1>
+<p class=fields><span>Maschine</span><span>Datum</span><span>Ausgeführt von</span></p>
+<p>Die Maschine muss auf dem Tagesschlüssel stehen. Umkehrwalze: <b>B</b>. Walzenlage: <b>II IV V</b>. Ringstellung: <b>B 02, U 21, L 12</b>. Steckerverbindungen: <b>AV BS CG DL FU HZ IN KM OW RX</b>.</p>
+<p>Über der Linie: tasten. Auf die Linie: den Buchstaben der Lampe schreiben. Darunter: wie er lauten muss. Kleine Buchstaben darüber auslassen.<br>Am Ende der Zeile: Buchstaben bis hier, und Fenster. Weichen sie ab, die Fenster wie vor der Zeile einstellen und die Zeile wiederholen.<br>? ist ein verlorener Buchstabe: dafür eine beliebige Taste drücken und ? schreiben.</p>
+</header>
+<section>
+<h2>1 Spruchschlüssel<span>Enigma I, Tag 4: Entschlüsseln, Teil 1 von 3</span></h2>
+<label><input type=checkbox> Fenster auf die Grundstellung aus dem Spruchkopf stellen</label>
+<figure class=shown><svg role=\"img\" viewBox=\"0 0 600 66\"><title>Fenster, von links einzustellen: 1: W 23, 2: X 24, 3: C 03.</title>
+<text class=\"label\" x=\"2\" y=\"16\" font-size=\"18\">Platz 1</text>
+<rect class=\"set\" x=\"2\" y=\"24\" width=\"40\" height=\"40\"/>
+<text class=\"bold\" x=\"22\" y=\"53\" font-size=\"26\">W</text>
+<text class=\"bold\" x=\"64\" y=\"51\" font-size=\"20\">23</text>
+<text class=\"label\" x=\"98\" y=\"16\" font-size=\"18\">Platz 2</text>
+<rect class=\"set\" x=\"98\" y=\"24\" width=\"40\" height=\"40\"/>
+<text class=\"bold\" x=\"118\" y=\"53\" font-size=\"26\">X</text>
+<text class=\"bold\" x=\"160\" y=\"51\" font-size=\"20\">24</text>
+<text class=\"label\" x=\"194\" y=\"16\" font-size=\"18\">Platz 3</text>
+<rect class=\"set\" x=\"194\" y=\"24\" width=\"40\" height=\"40\"/>
+<text class=\"bold\" x=\"214\" y=\"53\" font-size=\"26\">C</text>
+<text class=\"bold\" x=\"256\" y=\"51\" font-size=\"20\">03</text>
+</svg>
+</figure>
+<label><input type=checkbox> Schlüssel aus dem Spruchkopf tasten: Die Lampen ergeben den Spruchschlüssel</label>
+<div class=row><div class=groups><span><b>KCH</b><small>BLA</small></span></div>
+<label><input type=checkbox><b>3</b><br>W  X  F<br>23 24 06</label></div>
+</section>
+<section>
+<h2>2 Text <small>Buchstaben des Spruchs: 179</small><span>Enigma I, Tag 4: Entschlüsseln, Teil 1 von 3</span></h2>
+<label><input type=checkbox> Fenster auf den Spruchschlüssel stellen</label>
+<figure class=shown><svg role=\"img\" viewBox=\"0 0 600 66\"><title>Fenster, von links einzustellen: 1: B 02, 2: L 12, 3: A 01.</title>
+<text class=\"label\" x=\"2\" y=\"16\" font-size=\"18\">Platz 1</text>
+<rect class=\"set\" x=\"2\" y=\"24\" width=\"40\" height=\"40\"/>
+<text class=\"bold\" x=\"22\" y=\"53\" font-size=\"26\">B</text>
+<text class=\"bold\" x=\"64\" y=\"51\" font-size=\"20\">02</text>
+<text class=\"label\" x=\"98\" y=\"16\" font-size=\"18\">Platz 2</text>
+<rect class=\"set\" x=\"98\" y=\"24\" width=\"40\" height=\"40\"/>
+<text class=\"bold\" x=\"118\" y=\"53\" font-size=\"26\">L</text>
+<text class=\"bold\" x=\"160\" y=\"51\" font-size=\"20\">12</text>
+<text class=\"label\" x=\"194\" y=\"16\" font-size=\"18\">Platz 3</text>
+<rect class=\"set\" x=\"194\" y=\"24\" width=\"40\" height=\"40\"/>
+<text class=\"bold\" x=\"214\" y=\"53\" font-size=\"26\">A</text>
+<text class=\"bold\" x=\"256\" y=\"51\" font-size=\"20\">01</text>
+</svg>
+</figure>
+<div class=row><div class=groups><span><b><small>RFU?Z</small></b></span><span><b>EDPUD</b><small>AUFKL</small></span><span><b>NR?YS</b><small>XA?TE</small></span><span><b>ZRCXN</b><small>ILUNG</small></span><span><b>U???O</b><small>X???X</small></span><span><b>MRMBO</b><small>KURTI</small></span><span><b>FKTBZ</b><small>NOWAX</small></span><span><b>REZKM</b><small>KURTI</small></span><span><b>LXLVE</b><small>NOWAX</small></span><span><b>FGUEY</b><small>NORDW</small></span></div>
+<label><input type=checkbox><b>50</b><br>B  M  T<br>02 13 20</label></div>
+<div class=row><div class=groups><span><b>SIOZV</b><small>ESTLX</small></span><span><b>EQMIK</b><small>SEBEZ</small></span><span><b>UBPMM</b><small>XSEBE</small></span><span><b>YLKLT</b><small>ZXUAF</small></span><span><b>TDEIS</b><small>FLIEG</small></span><span><b>MDICA</b><small>ERSTR</small></span><span><b>GYKUA</b><small>ASZER</small></span><span><b>CTCDO</b><small>IQTUN</small></span><span><b>MOHWX</b><small>GXDUB</small></span><span><b>MUUIA</b><small>ROWKI</small></span></div>
+<label><input type=checkbox><b>100</b><br>B  O  R<br>02 15 18</label></div>
+<div class=row><div class=groups><span><b>UBSTS</b><small>XDUBR</small></span><span><b>LR?BZ</b><small>OW?IX</small></span><span><b>SZWNR</b><small>OPOTS</small></span><span><b>FXWFY</b><small>CHKAX</small></span><span><b>SSXJZ</b><small>OPOTS</small></span><span><b>VIJHI</b><small>CHKAX</small></span><span><b>DISHP</b><small>UMXEI</small></span><span><b>RKLKA</b><small>NSAQT</small></span><span><b>YUPAD</b><small>DREIN</small></span><span><b>TXQSP</b><small>ULLXU</small></span></div>
+<label><input type=checkbox><b>150</b><br>B  Q  P<br>02 17 16</label></div>
+<div class=row><div class=groups><span><b>INQMA</b><small>HRANG</small></span><span><b>TLPIF</b><small>ETRET</small></span><span><b>SVKDA</b><small>ENXAN</small></span><span><b>SCTAC</b><small>GRIFF</small></span><span><b>DPBOP</b><small>XINFX</small></span><span><b>VHJK</b><small>RGTX</small></span></div>
+<label><input type=checkbox><b>179</b><br>B  R  S<br>02 18 19</label></div>
+<p class=note>Zwischenräume werden nicht gesendet. X steht oft für einen Punkt, Q für CH. Die letzte Gruppe kann kürzer sein.</p>
+</section>
+</article>
+<article id=part-3>
+<header>
+<h1>Enigma I, Tag 4: Entschlüsseln <small>Teil 3 von 3</small></h1>
+<p class=fields><span>Maschine</span><span>Datum</span><span>Ausgeführt von</span></p>
+<p>Die Maschine muss auf dem Tagesschlüssel stehen. Umkehrwalze: <b>B</b>. Walzenlage: <b>II IV V</b>. Ringstellung: <b>B 02, U 21, L 12</b>. Steckerverbindungen: <b>AV BS CG DL FU HZ IN KM OW RX</b>.</p>
+<p>Über der Linie: tasten. Auf die Linie: den Buchstaben der Lampe schreiben. Darunter: wie er lauten muss. Kleine Buchstaben darüber auslassen.<br>Am Ende der Zeile: Buchstaben bis hier, und Fenster. Weichen sie ab, die Fenster wie vor der Zeile einstellen und die Zeile wiederholen.</p>
+</header>
+<section>
+<h2>1 Spruchschlüssel<span>Enigma I, Tag 4: Entschlüsseln, Teil 3 von 3</span></h2>
+<label><input type=checkbox> Fenster auf die Grundstellung aus dem Spruchkopf stellen</label>
+<figure class=shown><svg role=\"img\" viewBox=\"0 0 600 66\"><title>Fenster, von links einzustellen: 1: H 08, 2: N 14, 3: V 22.</title>
+<text class=\"label\" x=\"2\" y=\"16\" font-size=\"18\">Platz 1</text>
+<rect class=\"set\" x=\"2\" y=\"24\" width=\"40\" height=\"40\"/>
+<text class=\"bold\" x=\"22\" y=\"53\" font-size=\"26\">H</text>
+<text class=\"bold\" x=\"64\" y=\"51\" font-size=\"20\">08</text>
+<text class=\"label\" x=\"98\" y=\"16\" font-size=\"18\">Platz 2</text>
+<rect class=\"set\" x=\"98\" y=\"24\" width=\"40\" height=\"40\"/>
+<text class=\"bold\" x=\"118\" y=\"53\" font-size=\"26\">N</text>
+<text class=\"bold\" x=\"160\" y=\"51\" font-size=\"20\">14</text>
+<text class=\"label\" x=\"194\" y=\"16\" font-size=\"18\">Platz 3</text>
+<rect class=\"set\" x=\"194\" y=\"24\" width=\"40\" height=\"40\"/>
+<text class=\"bold\" x=\"214\" y=\"53\" font-size=\"26\">V</text>
+<text class=\"bold\" x=\"256\" y=\"51\" font-size=\"20\">22</text>
+</svg>
+</figure>
+<label><input type=checkbox> Schlüssel aus dem Spruchkopf tasten: Die Lampen ergeben den Spruchschlüssel</label>
+<div class=row><div class=groups><span><b>SJR</b><small>QEZ</small></span></div>
+<label><input type=checkbox><b>3</b><br>H  N  Y<br>08 14 25</label></div>
+</section>
+<section>
+<h2>2 Text <small>Buchstaben des Spruchs: 53</small><span>Enigma I, Tag 4: Entschlüsseln, Teil 3 von 3</span></h2>
+<label><input type=checkbox> Fenster auf den Spruchschlüssel stellen</label>
+<figure class=shown><svg role=\"img\" viewBox=\"0 0 600 66\"><title>Fenster, von links einzustellen: 1: Q 17, 2: E 05, 3: Z 26.</title>
+<text class=\"label\" x=\"2\" y=\"16\" font-size=\"18\">Platz 1</text>
+<rect class=\"set\" x=\"2\" y=\"24\" width=\"40\" height=\"40\"/>
+<text class=\"bold\" x=\"22\" y=\"53\" font-size=\"26\">Q</text>
+<text class=\"bold\" x=\"64\" y=\"51\" font-size=\"20\">17</text>
+<text class=\"label\" x=\"98\" y=\"16\" font-size=\"18\">Platz 2</text>
+<rect class=\"set\" x=\"98\" y=\"24\" width=\"40\" height=\"40\"/>
+<text class=\"bold\" x=\"118\" y=\"53\" font-size=\"26\">E</text>
+<text class=\"bold\" x=\"160\" y=\"51\" font-size=\"20\">05</text>
+<text class=\"label\" x=\"194\" y=\"16\" font-size=\"18\">Platz 3</text>
+<rect class=\"set\" x=\"194\" y=\"24\" width=\"40\" height=\"40\"/>
+<text class=\"bold\" x=\"214\" y=\"53\" font-size=\"26\">Z</text>
+<text class=\"bold\" x=\"256\" y=\"51\" font-size=\"20\">26</text>
+</svg>
+</figure>
+<div class=row><div class=groups><span><b><small>UBAPX</small></b></span><span><b>UBYTS</b><small>BRENN</small></span><span><b>EHZXX</b><small>STOFF</small></span><span><b>BPMSW</b><small>REICH</small></span><span><b>KSRWT</b><small>TBISM</small></span><span><b>CJLGE</b><small>ORGEN</small></span><span><b>VWFKI</b><small>FRUEH</small></span><span><b>FBBJW</b><small>XNACH</small></span><span><b>ISLXV</b><small>SCHUB</small></span><span><b>FBSNR</b><small>ERBET</small></span></div>
+<label><input type=checkbox><b>50</b><br>Q  G  S<br>17 07 19</label></div>
+<div class=row><div class=groups><span><b>VGG</b><small>ENX</small></span></div>
+<label><input type=checkbox><b>53</b><br>Q  G  V<br>17 07 22</label></div>
+<p class=note>Zwischenräume werden nicht gesendet. X steht oft für einen Punkt, Q für CH. Die letzte Gruppe kann kürzer sein.</p>
+</section>
+</article>
+<article id=text class=form>
+<header>
+<h1>Enigma I, Tag 4: Klartext</h1>
+<p class=fields><span>Von</span><span>Uhrzeit</span><span>Entschlüsselt durch</span></p>
+</header>
+<section>
+<h2>Teil 1 von 3<span>Enigma I, Tag 4: Klartext</span></h2>
+<p class=\"text letters\">AUFKLXA?TEILUNGX???XKURTINOWAXKURTINOWAXNORDWESTLXSEBEZXSEBEZXUAFFLIEGERSTRASZERIQTUNGXDUBROWKIXDUBROW?IXOPOTSCHKAXOPOTSCHKAXUMXEINSAQTDREINULLXUHRANGETRETENXANGRIFFXINFXRGTX</p>
+<label><input type=checkbox> von Teil 1 wiederholen lassen: <b>Gruppe 3, Gruppe 5, Gruppe 22</b></label>
+</section>
+<section>
+<h2>Teil 2 von 3<span>Enigma I, Tag 4: Klartext</span></h2>
+<p class=reason><b>Nicht lesbar.</b> Buchstaben nach dem Spruchkopf: 95, eingegangen: 94.</p>
+<label><input type=checkbox> von Teil 2 wiederholen lassen: <b>alles</b></label>
+</section>
+<section>
+<h2>Teil 3 von 3<span>Enigma I, Tag 4: Klartext</span></h2>
+<p class=\"text letters\">BRENNSTOFFREICHTBISMORGENFRUEHXNACHSCHUBERBETENX</p>
+</section>
+<p class=note>Zwischenräume werden nicht gesendet. X steht oft für einen Punkt, Q für CH. Die letzte Gruppe kann kürzer sein.</p>
+</article>
+</main>
+";
+
+/// The German page of `M209_LOST_RECEIVE`.
+pub const M209_LOST_GERMAN: &str = "<body>
+<main>
+<nav aria-label=\"Blätter\">
+<ul>
+<li><a href=\"#part-1\">Teil 1 von 1</a>
+<li><a href=\"#text\">Klartext</a>
+</ul>
+</nav>
+<article id=part-1>
+<header>
+<h1>Converter M-209, Tag 7: Entschlüsseln <small>Teil 1 von 1</small></h1>
+<p class=fields><span>Maschine</span><span>Datum</span><span>Ausgeführt von</span></p>
+<p>Stifte und Reiter müssen auf dem Tagesschlüssel stehen. Liste: <b>LK</b>.</p>
+<p>Über der Linie: eingeben. Auf die Linie: schreiben, was die Maschine druckt. Darunter: wie es lauten muss. Kleine Buchstaben darüber auslassen.<br>Am Ende der Zeile: Buchstaben bis hier, und Räder. Weichen sie ab, die Räder wie vor der Zeile einstellen und die Zeile wiederholen.<br>? ist ein verlorener Buchstabe: dafür einen beliebigen eingeben und ? schreiben.</p>
+</header>
+<section>
+<h2>1 Innerer Schlüssel<span>Converter M-209, Tag 7: Entschlüsseln, Teil 1 von 1</span></h2>
+<label><input type=checkbox> Knopf auf <b>C</b> stellen</label>
+<label><input type=checkbox> Räder auf den äußeren Schlüssel stellen</label>
+<figure class=shown><svg role=\"img\" viewBox=\"0 0 600 66\"><title>Räder, von links einzustellen: 1: B, 2: C, 3: D, 4: E, 5: F, 6: G.</title>
+<text x=\"22\" y=\"16\" font-size=\"18\">1</text>
+<rect class=\"set\" x=\"2\" y=\"24\" width=\"40\" height=\"40\"/>
+<text class=\"bold\" x=\"22\" y=\"53\" font-size=\"26\">B</text>
+<text x=\"82\" y=\"16\" font-size=\"18\">2</text>
+<rect class=\"set\" x=\"62\" y=\"24\" width=\"40\" height=\"40\"/>
+<text class=\"bold\" x=\"82\" y=\"53\" font-size=\"26\">C</text>
+<text x=\"142\" y=\"16\" font-size=\"18\">3</text>
+<rect class=\"set\" x=\"122\" y=\"24\" width=\"40\" height=\"40\"/>
+<text class=\"bold\" x=\"142\" y=\"53\" font-size=\"26\">D</text>
+<text x=\"202\" y=\"16\" font-size=\"18\">4</text>
+<rect class=\"set\" x=\"182\" y=\"24\" width=\"40\" height=\"40\"/>
+<text class=\"bold\" x=\"202\" y=\"53\" font-size=\"26\">E</text>
+<text x=\"262\" y=\"16\" font-size=\"18\">5</text>
+<rect class=\"set\" x=\"242\" y=\"24\" width=\"40\" height=\"40\"/>
+<text class=\"bold\" x=\"262\" y=\"53\" font-size=\"26\">F</text>
+<text x=\"322\" y=\"16\" font-size=\"18\">6</text>
+<rect class=\"set\" x=\"302\" y=\"24\" width=\"40\" height=\"40\"/>
+<text class=\"bold\" x=\"322\" y=\"53\" font-size=\"26\">G</text>
+</svg>
+</figure>
+<label><input type=checkbox> den gewählten Buchstaben zwölfmal schlüsseln</label>
+<div class=row><div class=groups><span><b>KKKKK</b><small>PDPHO</small><i>12345</i></span><span><b>KKKKK</b><small>SGNFY</small><i>-6   </i></span><span><b>KK</b><small>GA</small><i>  </i></span></div>
+<label><input type=checkbox><b>12</b><br>N O P Q R B</label></div>
+<p>Die Räder 1 bis 6 nehmen je den nächsten Buchstaben, den sie haben; - streicht einen Buchstaben.</p>
+</section>
+<section>
+<h2>2 Text <small>Buchstaben des Spruchs: 45</small><span>Converter M-209, Tag 7: Entschlüsseln, Teil 1 von 1</span></h2>
+<label><input type=checkbox> Knopf auf <b>D</b> stellen</label>
+<label><input type=checkbox> Räder auf den inneren Schlüssel stellen</label>
+<figure class=shown><svg role=\"img\" viewBox=\"0 0 600 66\"><title>Räder, von links einzustellen: 1: P, 2: D, 3: P, 4: H, 5: O, 6: G.</title>
+<text x=\"22\" y=\"16\" font-size=\"18\">1</text>
+<rect class=\"set\" x=\"2\" y=\"24\" width=\"40\" height=\"40\"/>
+<text class=\"bold\" x=\"22\" y=\"53\" font-size=\"26\">P</text>
+<text x=\"82\" y=\"16\" font-size=\"18\">2</text>
+<rect class=\"set\" x=\"62\" y=\"24\" width=\"40\" height=\"40\"/>
+<text class=\"bold\" x=\"82\" y=\"53\" font-size=\"26\">D</text>
+<text x=\"142\" y=\"16\" font-size=\"18\">3</text>
+<rect class=\"set\" x=\"122\" y=\"24\" width=\"40\" height=\"40\"/>
+<text class=\"bold\" x=\"142\" y=\"53\" font-size=\"26\">P</text>
+<text x=\"202\" y=\"16\" font-size=\"18\">4</text>
+<rect class=\"set\" x=\"182\" y=\"24\" width=\"40\" height=\"40\"/>
+<text class=\"bold\" x=\"202\" y=\"53\" font-size=\"26\">H</text>
+<text x=\"262\" y=\"16\" font-size=\"18\">5</text>
+<rect class=\"set\" x=\"242\" y=\"24\" width=\"40\" height=\"40\"/>
+<text class=\"bold\" x=\"262\" y=\"53\" font-size=\"26\">O</text>
+<text x=\"322\" y=\"16\" font-size=\"18\">6</text>
+<rect class=\"set\" x=\"302\" y=\"24\" width=\"40\" height=\"40\"/>
+<text class=\"bold\" x=\"322\" y=\"53\" font-size=\"26\">G</text>
+</svg>
+</figure>
+<p>Die ersten und die letzten Kennbuchstaben ergänzen einander.</p>
+<div class=row><div class=groups><span><b><small>KK?CD</small></b></span><span><b><small>EFGLK</small></b></span><span><b>DHLMM</b><small>FRESH</small></span><span><b>DWUVX</b><small> BATT</small></span><span><b>CO?DH</b><small>ER?ES</small></span><span><b>UGFTL</b><small> AT D</small></span><span><b>NTXFK</b><small>AWNXX</small></span><span><b><small>KKBCD</small></b></span><span><b><small>?FGLK</small></b></span></div>
+<label><input type=checkbox><b>45</b><br>O D R L B O</label></div>
+<p class=note>Die Maschine druckt jedes Z als Zwischenraum. X am Ende füllt die letzte Gruppe.</p>
+</section>
+</article>
+<article id=text class=form>
+<header>
+<h1>Converter M-209, Tag 7: Klartext</h1>
+<p class=fields><span>Von</span><span>Uhrzeit</span><span>Entschlüsselt durch</span></p>
+</header>
+<section>
+<h2>Teil 1 von 1<span>Converter M-209, Tag 7: Klartext</span></h2>
+<p class=\"text words\">FRESH BATTER?ES AT DAWNXX</p>
+<p>Die ersten und die letzten Kennbuchstaben ergänzen einander.</p>
+<label><input type=checkbox> von Teil 1 wiederholen lassen: <b>Gruppe 5</b></label>
+</section>
+<p class=note>Die Maschine druckt jedes Z als Zwischenraum. X am Ende füllt die letzte Gruppe.</p>
+</article>
+</main>
+";
