@@ -16,5 +16,5 @@ pub mod texts;
 mod windows;
 mod words;
 
-pub use sending::write_send_page;
-pub use texts::{ENGLISH, GERMAN, MessageTexts};
+pub use kd_pictures::Language;
+pub use sending::{SendPageFault, write_send_page};

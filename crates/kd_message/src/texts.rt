@@ -1,6 +1,12 @@
-//! The fixed texts of a message's pages, in each language. In a template, each sign `~` stands for a value.
+//! The fixed texts of a message's pages, each in English and in German. In a template, each sign `~` stands for a value.
+
+ghost use Rattle.kd_message.specs.Texts.{AreTexts, ArePinSendTexts, AreRotorSendTexts};
+
+use kd_pictures::Language;
+use kd_pictures::texts::Text;
 
 /// The texts in one language.
+#[derive(Drop)]
 pub struct MessageTexts {
     /// The head of the file, before its title.
     pub head: &'static str,
@@ -51,6 +57,7 @@ pub struct MessageTexts {
 }
 
 /// The texts of the sheet on which a part is worked.
+#[derive(Drop)]
 pub struct SheetTexts {
     /// The head: the part, the model, the day, the part, and the number of parts.
     pub head: &'static str,
@@ -68,100 +75,274 @@ pub struct SheetTexts {
     pub next_step: &'static str,
 }
 
-/// The English texts.
-pub static ENGLISH: MessageTexts = MessageTexts {
-    head: "<!DOCTYPE html>\n<html lang=en>\n<meta charset=utf-8>\n<meta name=viewport content=\"width=device-width,initial-scale=1\">\n<title>",
-    title_to_send: "~, day ~: send",
-    list_of_one: "<nav aria-label=\"Sheets\">\n<ul>\n",
-    list_of_several: "<nav class=sheets aria-label=\"Sheets\">\n<ul>\n",
-    listed_part: "<li><a href=\"#part-~\">Part ~ of ~</a>\n",
-    list_end_with_form: "<li><a href=\"#form\">Form</a>\n</ul>\n</nav>\n",
-    rotor_send: SheetTexts {
-        head: "<article id=part-~>\n<header>\n<h1>~, day ~: send <small>part ~ of ~</small></h1>\n<p class=fields><span>Machine</span><span>Date</span><span>Done by</span></p>\n",
-        legend: "</p>\n<p>Above the line: press. On it: write the lamp\u{2019}s letter. Below: what it has to be. Where nothing stands above, copy.<br>A row ends with the letters so far and the windows. If they differ, set the windows as before the row, and begin it again.",
-        key_step: "</p>\n</header>\n<section>\n<h2>1 Message key<span>~, day ~: send, part ~ of ~</span></h2>\n<label><input type=checkbox> set the windows to the ground</label>\n",
-        key_words: "<label><input type=checkbox> press the message key: the lamps give the key for the heading</label>\n",
-        key_step_end: "</section>\n",
-        text_step: "<section>\n<h2>2 Text <small>letters of the body: ~</small><span>~, day ~: send, part ~ of ~</span></h2>\n<label><input type=checkbox> set the windows to the message key</label>\n",
-        next_step: "</section>\n<section class=next>\n<h2>2 Text, from letter 251<span>~, day ~: send, part ~ of ~</span></h2>\n",
-    },
-    pin_send: SheetTexts {
-        head: "<article id=part-~>\n<header>\n<h1>~, day ~: send <small>part ~ of ~</small></h1>\n<p class=fields><span>Machine</span><span>Date</span><span>Done by</span></p>\n",
-        legend: "</p>\n<p>Above the line: enter. On it: write what the machine prints. Below: what it has to be. Where nothing stands above, copy.<br>A row ends with the letters so far and the wheels. If they differ, set the wheels as before the row, and begin it again.",
-        key_step: "</p>\n</header>\n<section>\n<h2>1 Internal key<span>~, day ~: send, part ~ of ~</span></h2>\n<label><input type=checkbox> set the knob to <b>C</b></label>\n<label><input type=checkbox> set the wheels to the external letters</label>\n",
-        key_words: "<label><input type=checkbox> encipher the chosen letter twelve times</label>\n",
-        key_step_end: "<p>The wheels 1 to 6 each take the next letter that they have; - strikes a letter out.</p>\n</section>\n",
-        text_step: "<section>\n<h2>2 Text <small>letters of the body: ~</small><span>~, day ~: send, part ~ of ~</span></h2>\n<label><input type=checkbox> set the wheels to the internal key</label>\n",
-        next_step: "</section>\n<section class=next>\n<h2>2 Text, from letter 201<span>~, day ~: send, part ~ of ~</span></h2>\n",
-    },
-    reflector: "<p>The machine has to be on the key of the day. Reflector: <b>~</b>. Wheels: <b>",
-    rings: "</b>. Rings: <b>",
-    cables: "</b>. Cables: <b>",
-    no_cables: "none",
-    key_end: "</b>.",
-    list: "<p>Pins and lugs have to be the day\u{2019}s. List: <b>~~</b>.",
-    enigma_note: "<p class=note>Spaces aren\u{2019}t sent. X often stands for a stop, Q for CH. The last group may be short.</p>\n</section>\n</article>\n",
-    naval_note: "<p class=note>Spaces aren\u{2019}t sent. X often stands for a stop, Y for a comma. The last group may be short.</p>\n</section>\n</article>\n",
-    converter_note: "<p class=note>Each space is sent as Z. X at the end fills the last group.</p>\n</section>\n</article>\n",
-    windows: "<figure class=shown><svg role=\"img\" viewBox=\"0 0 600 66\"><title>Windows to set, from the left: ",
-    window: "<text class=\"label\" x=\"~\" y=\"16\" font-size=\"18\">slot ~</text>\n<rect class=\"set\" x=\"~\" y=\"24\" width=\"40\" height=\"40\"/>\n<text class=\"bold\" x=\"~\" y=\"53\" font-size=\"26\">~</text>\n<text class=\"bold\" x=\"~\" y=\"51\" font-size=\"20\">~</text>\n",
-    wheels: "<figure class=shown><svg role=\"img\" viewBox=\"0 0 600 66\"><title>Wheels to set, from the left: ",
-    wheel: "<text x=\"~\" y=\"16\" font-size=\"18\">~</text>\n<rect class=\"set\" x=\"~\" y=\"24\" width=\"40\" height=\"40\"/>\n<text class=\"bold\" x=\"~\" y=\"53\" font-size=\"26\">~</text>\n",
-    form: "<article id=form class=form>\n<header>\n<h1>~, day ~: form for the radio</h1>\n<p class=fields><span>To</span><span>From</span><span>Time</span><span>Sent by</span></p>\n</header>\n",
-    form_part: "<section>\n<h2>Part ~ of ~<span>~, day ~: form for the radio</span></h2>\n<p class=heading><span>part <b>PART ~/~</b></span><span>letters <b>~</b></span>",
-    form_ground: "<span>ground <b>",
-    form_key: "</b></span><span>key, enciphered <b>",
-    form_key_end: "</b></span>",
-    form_groups: "</p>\n<div class=groups>",
-    form_rotor_note: "</div>\n<p class=note>Group 1: two fillers, then the group of the day.</p>\n</section>\n",
-    form_pin_note: "</div>\n<p class=note>The first two groups, and the last two: the indicators.</p>\n</section>\n",
-};
+/// The texts in this language.
+pub fn message_texts(language: Language) -> MessageTexts
+    ensures { AreTexts language result }
+{
+    MessageTexts {
+        head: language.text(HEAD),
+        title_to_send: language.text(TITLE_TO_SEND),
+        list_of_one: language.text(LIST_OF_ONE),
+        list_of_several: language.text(LIST_OF_SEVERAL),
+        listed_part: language.text(LISTED_PART),
+        list_end_with_form: language.text(LIST_END_WITH_FORM),
+        rotor_send: rotor_send(language),
+        pin_send: pin_send(language),
+        reflector: language.text(REFLECTOR),
+        rings: language.text(RINGS),
+        cables: language.text(CABLES),
+        no_cables: language.text(NO_CABLES),
+        key_end: language.text(KEY_END),
+        list: language.text(LIST),
+        enigma_note: language.text(ENIGMA_NOTE),
+        naval_note: language.text(NAVAL_NOTE),
+        converter_note: language.text(CONVERTER_NOTE),
+        windows: language.text(WINDOWS),
+        window: language.text(WINDOW),
+        wheels: language.text(WHEELS),
+        wheel: language.text(WHEEL),
+        form: language.text(FORM),
+        form_part: language.text(FORM_PART),
+        form_ground: language.text(FORM_GROUND),
+        form_key: language.text(FORM_KEY),
+        form_key_end: language.text(FORM_KEY_END),
+        form_groups: language.text(FORM_GROUPS),
+        form_rotor_note: language.text(FORM_ROTOR_NOTE),
+        form_pin_note: language.text(FORM_PIN_NOTE),
+    }
+}
 
-/// The German texts.
-pub static GERMAN: MessageTexts = MessageTexts {
-    head: "<!DOCTYPE html>\n<html lang=de>\n<meta charset=utf-8>\n<meta name=viewport content=\"width=device-width,initial-scale=1\">\n<title>",
-    title_to_send: "~, Tag ~: Verschlüsseln",
-    list_of_one: "<nav aria-label=\"Blätter\">\n<ul>\n",
-    list_of_several: "<nav class=sheets aria-label=\"Blätter\">\n<ul>\n",
-    listed_part: "<li><a href=\"#part-~\">Teil ~ von ~</a>\n",
-    list_end_with_form: "<li><a href=\"#form\">Funkspruch</a>\n</ul>\n</nav>\n",
-    rotor_send: SheetTexts {
-        head: "<article id=part-~>\n<header>\n<h1>~, Tag ~: Verschlüsseln <small>Teil ~ von ~</small></h1>\n<p class=fields><span>Maschine</span><span>Datum</span><span>Ausgeführt von</span></p>\n",
-        legend: "</p>\n<p>Über der Linie: tasten. Auf die Linie: den Buchstaben der Lampe schreiben. Darunter: wie er lauten muss. Wo darüber nichts steht: abschreiben.<br>Am Ende der Zeile: Buchstaben bis hier, und Fenster. Weichen sie ab, die Fenster wie vor der Zeile einstellen und die Zeile wiederholen.",
-        key_step: "</p>\n</header>\n<section>\n<h2>1 Spruchschlüssel<span>~, Tag ~: Verschlüsseln, Teil ~ von ~</span></h2>\n<label><input type=checkbox> Fenster auf die Grundstellung stellen</label>\n",
-        key_words: "<label><input type=checkbox> Spruchschlüssel tasten: Die Lampen ergeben den Schlüssel für den Spruchkopf</label>\n",
-        key_step_end: "</section>\n",
-        text_step: "<section>\n<h2>2 Text <small>Buchstaben des Spruchs: ~</small><span>~, Tag ~: Verschlüsseln, Teil ~ von ~</span></h2>\n<label><input type=checkbox> Fenster auf den Spruchschlüssel stellen</label>\n",
-        next_step: "</section>\n<section class=next>\n<h2>2 Text, ab Buchstabe 251<span>~, Tag ~: Verschlüsseln, Teil ~ von ~</span></h2>\n",
-    },
-    pin_send: SheetTexts {
-        head: "<article id=part-~>\n<header>\n<h1>~, Tag ~: Verschlüsseln <small>Teil ~ von ~</small></h1>\n<p class=fields><span>Maschine</span><span>Datum</span><span>Ausgeführt von</span></p>\n",
-        legend: "</p>\n<p>Über der Linie: eingeben. Auf die Linie: schreiben, was die Maschine druckt. Darunter: wie es lauten muss. Wo darüber nichts steht: abschreiben.<br>Am Ende der Zeile: Buchstaben bis hier, und Räder. Weichen sie ab, die Räder wie vor der Zeile einstellen und die Zeile wiederholen.",
-        key_step: "</p>\n</header>\n<section>\n<h2>1 Innerer Schlüssel<span>~, Tag ~: Verschlüsseln, Teil ~ von ~</span></h2>\n<label><input type=checkbox> Knopf auf <b>C</b> stellen</label>\n<label><input type=checkbox> Räder auf den äußeren Schlüssel stellen</label>\n",
-        key_words: "<label><input type=checkbox> den gewählten Buchstaben zwölfmal schlüsseln</label>\n",
-        key_step_end: "<p>Die Räder 1 bis 6 nehmen je den nächsten Buchstaben, den sie haben; - streicht einen Buchstaben.</p>\n</section>\n",
-        text_step: "<section>\n<h2>2 Text <small>Buchstaben des Spruchs: ~</small><span>~, Tag ~: Verschlüsseln, Teil ~ von ~</span></h2>\n<label><input type=checkbox> Räder auf den inneren Schlüssel stellen</label>\n",
-        next_step: "</section>\n<section class=next>\n<h2>2 Text, ab Buchstabe 201<span>~, Tag ~: Verschlüsseln, Teil ~ von ~</span></h2>\n",
-    },
-    reflector: "<p>Die Maschine muss auf dem Tagesschlüssel stehen. Umkehrwalze: <b>~</b>. Walzenlage: <b>",
-    rings: "</b>. Ringstellung: <b>",
-    cables: "</b>. Steckerverbindungen: <b>",
-    no_cables: "keine",
-    key_end: "</b>.",
-    list: "<p>Stifte und Reiter müssen auf dem Tagesschlüssel stehen. Liste: <b>~~</b>.",
-    enigma_note: "<p class=note>Zwischenräume werden nicht gesendet. X steht oft für einen Punkt, Q für CH. Die letzte Gruppe kann kürzer sein.</p>\n</section>\n</article>\n",
-    naval_note: "<p class=note>Zwischenräume werden nicht gesendet. X steht oft für einen Punkt, Y für ein Komma. Die letzte Gruppe kann kürzer sein.</p>\n</section>\n</article>\n",
-    converter_note: "<p class=note>Jeder Zwischenraum wird als Z gesendet. X am Ende füllt die letzte Gruppe.</p>\n</section>\n</article>\n",
-    windows: "<figure class=shown><svg role=\"img\" viewBox=\"0 0 600 66\"><title>Fenster, von links einzustellen: ",
-    window: "<text class=\"label\" x=\"~\" y=\"16\" font-size=\"18\">Platz ~</text>\n<rect class=\"set\" x=\"~\" y=\"24\" width=\"40\" height=\"40\"/>\n<text class=\"bold\" x=\"~\" y=\"53\" font-size=\"26\">~</text>\n<text class=\"bold\" x=\"~\" y=\"51\" font-size=\"20\">~</text>\n",
-    wheels: "<figure class=shown><svg role=\"img\" viewBox=\"0 0 600 66\"><title>Räder, von links einzustellen: ",
-    wheel: "<text x=\"~\" y=\"16\" font-size=\"18\">~</text>\n<rect class=\"set\" x=\"~\" y=\"24\" width=\"40\" height=\"40\"/>\n<text class=\"bold\" x=\"~\" y=\"53\" font-size=\"26\">~</text>\n",
-    form: "<article id=form class=form>\n<header>\n<h1>~, Tag ~: Funkspruch</h1>\n<p class=fields><span>An</span><span>Von</span><span>Uhrzeit</span><span>Befördert durch</span></p>\n</header>\n",
-    form_part: "<section>\n<h2>Teil ~ von ~<span>~, Tag ~: Funkspruch</span></h2>\n<p class=heading><span>Teil <b>PART ~/~</b></span><span>Buchstaben <b>~</b></span>",
-    form_ground: "<span>Grundstellung <b>",
-    form_key: "</b></span><span>Schlüssel, verschlüsselt <b>",
-    form_key_end: "</b></span>",
-    form_groups: "</p>\n<div class=groups>",
-    form_rotor_note: "</div>\n<p class=note>Gruppe 1: zwei Füllbuchstaben, dann die Kenngruppe des Tages.</p>\n</section>\n",
-    form_pin_note: "</div>\n<p class=note>Die ersten zwei und die letzten zwei Gruppen: die Kennbuchstaben.</p>\n</section>\n",
-};
+/// The texts of the sheet of a part that is sent on a rotor machine.
+fn rotor_send(language: Language) -> SheetTexts
+    ensures { AreRotorSendTexts language result }
+{
+    SheetTexts {
+        head: language.text(ROTOR_SEND_HEAD),
+        legend: language.text(ROTOR_SEND_LEGEND),
+        key_step: language.text(ROTOR_SEND_KEY_STEP),
+        key_words: language.text(ROTOR_SEND_KEY_WORDS),
+        key_step_end: language.text(ROTOR_SEND_KEY_STEP_END),
+        text_step: language.text(ROTOR_SEND_TEXT_STEP),
+        next_step: language.text(ROTOR_SEND_NEXT_STEP),
+    }
+}
+
+/// The texts of the sheet of a part that is sent on a Converter.
+fn pin_send(language: Language) -> SheetTexts
+    ensures { ArePinSendTexts language result }
+{
+    SheetTexts {
+        head: language.text(PIN_SEND_HEAD),
+        legend: language.text(PIN_SEND_LEGEND),
+        key_step: language.text(PIN_SEND_KEY_STEP),
+        key_words: language.text(PIN_SEND_KEY_WORDS),
+        key_step_end: language.text(PIN_SEND_KEY_STEP_END),
+        text_step: language.text(PIN_SEND_TEXT_STEP),
+        next_step: language.text(PIN_SEND_NEXT_STEP),
+    }
+}
+
+pub const HEAD: Text = (
+    "<!DOCTYPE html>\n<html lang=en>\n<meta charset=utf-8>\n<meta name=viewport content=\"width=device-width,initial-scale=1\">\n<title>",
+    "<!DOCTYPE html>\n<html lang=de>\n<meta charset=utf-8>\n<meta name=viewport content=\"width=device-width,initial-scale=1\">\n<title>",
+);
+
+pub const TITLE_TO_SEND: Text = (
+    "~, day ~: send",
+    "~, Tag ~: Verschlüsseln",
+);
+
+pub const LIST_OF_ONE: Text = (
+    "<nav aria-label=\"Sheets\">\n<ul>\n",
+    "<nav aria-label=\"Blätter\">\n<ul>\n",
+);
+
+pub const LIST_OF_SEVERAL: Text = (
+    "<nav class=sheets aria-label=\"Sheets\">\n<ul>\n",
+    "<nav class=sheets aria-label=\"Blätter\">\n<ul>\n",
+);
+
+pub const LISTED_PART: Text = (
+    "<li><a href=\"#part-~\">Part ~ of ~</a>\n",
+    "<li><a href=\"#part-~\">Teil ~ von ~</a>\n",
+);
+
+pub const LIST_END_WITH_FORM: Text = (
+    "<li><a href=\"#form\">Form</a>\n</ul>\n</nav>\n",
+    "<li><a href=\"#form\">Funkspruch</a>\n</ul>\n</nav>\n",
+);
+
+pub const ROTOR_SEND_HEAD: Text = (
+    "<article id=part-~>\n<header>\n<h1>~, day ~: send <small>part ~ of ~</small></h1>\n<p class=fields><span>Machine</span><span>Date</span><span>Done by</span></p>\n",
+    "<article id=part-~>\n<header>\n<h1>~, Tag ~: Verschlüsseln <small>Teil ~ von ~</small></h1>\n<p class=fields><span>Maschine</span><span>Datum</span><span>Ausgeführt von</span></p>\n",
+);
+
+pub const ROTOR_SEND_LEGEND: Text = (
+    "</p>\n<p>Above the line: press. On it: write the lamp\u{2019}s letter. Below: what it has to be. Where nothing stands above, copy.<br>A row ends with the letters so far and the windows. If they differ, set the windows as before the row, and begin it again.",
+    "</p>\n<p>Über der Linie: tasten. Auf die Linie: den Buchstaben der Lampe schreiben. Darunter: wie er lauten muss. Wo darüber nichts steht: abschreiben.<br>Am Ende der Zeile: Buchstaben bis hier, und Fenster. Weichen sie ab, die Fenster wie vor der Zeile einstellen und die Zeile wiederholen.",
+);
+
+pub const ROTOR_SEND_KEY_STEP: Text = (
+    "</p>\n</header>\n<section>\n<h2>1 Message key<span>~, day ~: send, part ~ of ~</span></h2>\n<label><input type=checkbox> set the windows to the ground</label>\n",
+    "</p>\n</header>\n<section>\n<h2>1 Spruchschlüssel<span>~, Tag ~: Verschlüsseln, Teil ~ von ~</span></h2>\n<label><input type=checkbox> Fenster auf die Grundstellung stellen</label>\n",
+);
+
+pub const ROTOR_SEND_KEY_WORDS: Text = (
+    "<label><input type=checkbox> press the message key: the lamps give the key for the heading</label>\n",
+    "<label><input type=checkbox> Spruchschlüssel tasten: Die Lampen ergeben den Schlüssel für den Spruchkopf</label>\n",
+);
+
+pub const ROTOR_SEND_KEY_STEP_END: Text = (
+    "</section>\n",
+    "</section>\n",
+);
+
+pub const ROTOR_SEND_TEXT_STEP: Text = (
+    "<section>\n<h2>2 Text <small>letters of the body: ~</small><span>~, day ~: send, part ~ of ~</span></h2>\n<label><input type=checkbox> set the windows to the message key</label>\n",
+    "<section>\n<h2>2 Text <small>Buchstaben des Spruchs: ~</small><span>~, Tag ~: Verschlüsseln, Teil ~ von ~</span></h2>\n<label><input type=checkbox> Fenster auf den Spruchschlüssel stellen</label>\n",
+);
+
+pub const ROTOR_SEND_NEXT_STEP: Text = (
+    "</section>\n<section class=next>\n<h2>2 Text, from letter 251<span>~, day ~: send, part ~ of ~</span></h2>\n",
+    "</section>\n<section class=next>\n<h2>2 Text, ab Buchstabe 251<span>~, Tag ~: Verschlüsseln, Teil ~ von ~</span></h2>\n",
+);
+
+pub const PIN_SEND_HEAD: Text = (
+    "<article id=part-~>\n<header>\n<h1>~, day ~: send <small>part ~ of ~</small></h1>\n<p class=fields><span>Machine</span><span>Date</span><span>Done by</span></p>\n",
+    "<article id=part-~>\n<header>\n<h1>~, Tag ~: Verschlüsseln <small>Teil ~ von ~</small></h1>\n<p class=fields><span>Maschine</span><span>Datum</span><span>Ausgeführt von</span></p>\n",
+);
+
+pub const PIN_SEND_LEGEND: Text = (
+    "</p>\n<p>Above the line: enter. On it: write what the machine prints. Below: what it has to be. Where nothing stands above, copy.<br>A row ends with the letters so far and the wheels. If they differ, set the wheels as before the row, and begin it again.",
+    "</p>\n<p>Über der Linie: eingeben. Auf die Linie: schreiben, was die Maschine druckt. Darunter: wie es lauten muss. Wo darüber nichts steht: abschreiben.<br>Am Ende der Zeile: Buchstaben bis hier, und Räder. Weichen sie ab, die Räder wie vor der Zeile einstellen und die Zeile wiederholen.",
+);
+
+pub const PIN_SEND_KEY_STEP: Text = (
+    "</p>\n</header>\n<section>\n<h2>1 Internal key<span>~, day ~: send, part ~ of ~</span></h2>\n<label><input type=checkbox> set the knob to <b>C</b></label>\n<label><input type=checkbox> set the wheels to the external letters</label>\n",
+    "</p>\n</header>\n<section>\n<h2>1 Innerer Schlüssel<span>~, Tag ~: Verschlüsseln, Teil ~ von ~</span></h2>\n<label><input type=checkbox> Knopf auf <b>C</b> stellen</label>\n<label><input type=checkbox> Räder auf den äußeren Schlüssel stellen</label>\n",
+);
+
+pub const PIN_SEND_KEY_WORDS: Text = (
+    "<label><input type=checkbox> encipher the chosen letter twelve times</label>\n",
+    "<label><input type=checkbox> den gewählten Buchstaben zwölfmal schlüsseln</label>\n",
+);
+
+pub const PIN_SEND_KEY_STEP_END: Text = (
+    "<p>The wheels 1 to 6 each take the next letter that they have; - strikes a letter out.</p>\n</section>\n",
+    "<p>Die Räder 1 bis 6 nehmen je den nächsten Buchstaben, den sie haben; - streicht einen Buchstaben.</p>\n</section>\n",
+);
+
+pub const PIN_SEND_TEXT_STEP: Text = (
+    "<section>\n<h2>2 Text <small>letters of the body: ~</small><span>~, day ~: send, part ~ of ~</span></h2>\n<label><input type=checkbox> set the wheels to the internal key</label>\n",
+    "<section>\n<h2>2 Text <small>Buchstaben des Spruchs: ~</small><span>~, Tag ~: Verschlüsseln, Teil ~ von ~</span></h2>\n<label><input type=checkbox> Räder auf den inneren Schlüssel stellen</label>\n",
+);
+
+pub const PIN_SEND_NEXT_STEP: Text = (
+    "</section>\n<section class=next>\n<h2>2 Text, from letter 201<span>~, day ~: send, part ~ of ~</span></h2>\n",
+    "</section>\n<section class=next>\n<h2>2 Text, ab Buchstabe 201<span>~, Tag ~: Verschlüsseln, Teil ~ von ~</span></h2>\n",
+);
+
+pub const REFLECTOR: Text = (
+    "<p>The machine has to be on the key of the day. Reflector: <b>~</b>. Wheels: <b>",
+    "<p>Die Maschine muss auf dem Tagesschlüssel stehen. Umkehrwalze: <b>~</b>. Walzenlage: <b>",
+);
+
+pub const RINGS: Text = (
+    "</b>. Rings: <b>",
+    "</b>. Ringstellung: <b>",
+);
+
+pub const CABLES: Text = (
+    "</b>. Cables: <b>",
+    "</b>. Steckerverbindungen: <b>",
+);
+
+pub const NO_CABLES: Text = (
+    "none",
+    "keine",
+);
+
+pub const KEY_END: Text = (
+    "</b>.",
+    "</b>.",
+);
+
+pub const LIST: Text = (
+    "<p>Pins and lugs have to be the day\u{2019}s. List: <b>~~</b>.",
+    "<p>Stifte und Reiter müssen auf dem Tagesschlüssel stehen. Liste: <b>~~</b>.",
+);
+
+pub const ENIGMA_NOTE: Text = (
+    "<p class=note>Spaces aren\u{2019}t sent. X often stands for a stop, Q for CH. The last group may be short.</p>\n</section>\n</article>\n",
+    "<p class=note>Zwischenräume werden nicht gesendet. X steht oft für einen Punkt, Q für CH. Die letzte Gruppe kann kürzer sein.</p>\n</section>\n</article>\n",
+);
+
+pub const NAVAL_NOTE: Text = (
+    "<p class=note>Spaces aren\u{2019}t sent. X often stands for a stop, Y for a comma. The last group may be short.</p>\n</section>\n</article>\n",
+    "<p class=note>Zwischenräume werden nicht gesendet. X steht oft für einen Punkt, Y für ein Komma. Die letzte Gruppe kann kürzer sein.</p>\n</section>\n</article>\n",
+);
+
+pub const CONVERTER_NOTE: Text = (
+    "<p class=note>Each space is sent as Z. X at the end fills the last group.</p>\n</section>\n</article>\n",
+    "<p class=note>Jeder Zwischenraum wird als Z gesendet. X am Ende füllt die letzte Gruppe.</p>\n</section>\n</article>\n",
+);
+
+pub const WINDOWS: Text = (
+    "<figure class=shown><svg role=\"img\" viewBox=\"0 0 600 66\"><title>Windows to set, from the left: ",
+    "<figure class=shown><svg role=\"img\" viewBox=\"0 0 600 66\"><title>Fenster, von links einzustellen: ",
+);
+
+pub const WINDOW: Text = (
+    "<text class=\"label\" x=\"~\" y=\"16\" font-size=\"18\">slot ~</text>\n<rect class=\"set\" x=\"~\" y=\"24\" width=\"40\" height=\"40\"/>\n<text class=\"bold\" x=\"~\" y=\"53\" font-size=\"26\">~</text>\n<text class=\"bold\" x=\"~\" y=\"51\" font-size=\"20\">~</text>\n",
+    "<text class=\"label\" x=\"~\" y=\"16\" font-size=\"18\">Platz ~</text>\n<rect class=\"set\" x=\"~\" y=\"24\" width=\"40\" height=\"40\"/>\n<text class=\"bold\" x=\"~\" y=\"53\" font-size=\"26\">~</text>\n<text class=\"bold\" x=\"~\" y=\"51\" font-size=\"20\">~</text>\n",
+);
+
+pub const WHEELS: Text = (
+    "<figure class=shown><svg role=\"img\" viewBox=\"0 0 600 66\"><title>Wheels to set, from the left: ",
+    "<figure class=shown><svg role=\"img\" viewBox=\"0 0 600 66\"><title>Räder, von links einzustellen: ",
+);
+
+pub const WHEEL: Text = (
+    "<text x=\"~\" y=\"16\" font-size=\"18\">~</text>\n<rect class=\"set\" x=\"~\" y=\"24\" width=\"40\" height=\"40\"/>\n<text class=\"bold\" x=\"~\" y=\"53\" font-size=\"26\">~</text>\n",
+    "<text x=\"~\" y=\"16\" font-size=\"18\">~</text>\n<rect class=\"set\" x=\"~\" y=\"24\" width=\"40\" height=\"40\"/>\n<text class=\"bold\" x=\"~\" y=\"53\" font-size=\"26\">~</text>\n",
+);
+
+pub const FORM: Text = (
+    "<article id=form class=form>\n<header>\n<h1>~, day ~: form for the radio</h1>\n<p class=fields><span>To</span><span>From</span><span>Time</span><span>Sent by</span></p>\n</header>\n",
+    "<article id=form class=form>\n<header>\n<h1>~, Tag ~: Funkspruch</h1>\n<p class=fields><span>An</span><span>Von</span><span>Uhrzeit</span><span>Befördert durch</span></p>\n</header>\n",
+);
+
+pub const FORM_PART: Text = (
+    "<section>\n<h2>Part ~ of ~<span>~, day ~: form for the radio</span></h2>\n<p class=heading><span>part <b>PART ~/~</b></span><span>letters <b>~</b></span>",
+    "<section>\n<h2>Teil ~ von ~<span>~, Tag ~: Funkspruch</span></h2>\n<p class=heading><span>Teil <b>PART ~/~</b></span><span>Buchstaben <b>~</b></span>",
+);
+
+pub const FORM_GROUND: Text = (
+    "<span>ground <b>",
+    "<span>Grundstellung <b>",
+);
+
+pub const FORM_KEY: Text = (
+    "</b></span><span>key, enciphered <b>",
+    "</b></span><span>Schlüssel, verschlüsselt <b>",
+);
+
+pub const FORM_KEY_END: Text = (
+    "</b></span>",
+    "</b></span>",
+);
+
+pub const FORM_GROUPS: Text = (
+    "</p>\n<div class=groups>",
+    "</p>\n<div class=groups>",
+);
+
+pub const FORM_ROTOR_NOTE: Text = (
+    "</div>\n<p class=note>Group 1: two fillers, then the group of the day.</p>\n</section>\n",
+    "</div>\n<p class=note>Gruppe 1: zwei Füllbuchstaben, dann die Kenngruppe des Tages.</p>\n</section>\n",
+);
+
+pub const FORM_PIN_NOTE: Text = (
+    "</div>\n<p class=note>The first two groups, and the last two: the indicators.</p>\n</section>\n",
+    "</div>\n<p class=note>Die ersten zwei und die letzten zwei Gruppen: die Kennbuchstaben.</p>\n</section>\n",
+);
