@@ -5,7 +5,8 @@
    on, or with one byte moved at a time. What the program writes is kept here, and judged when the child has ended.
 
    The first run has nothing refused: what it writes and answers is the command's own answer. Then holds of each run:
-   - memory refused: `refused 26 NoMemory` and nothing written, or the command's own answer;
+   - memory refused: `refused 26 NoMemory`, perhaps behind lines of the own text on standard error, and nothing written; or
+     the command's own answer;
    - an open refused: `refused 6 Device`, and nothing written;
    - a read refused: `refused 6 Device`, and as much of the own answer as KEEPS allows: `letters` is the letters that
      standard input had given before, else it is a list of lengths;
@@ -135,6 +136,16 @@ static int refuses(const struct run *r, const char *line)
     return answers(r, 1, line, strlen(line));
 }
 
+/* Whether the run was refused for want of memory, perhaps after some lines of the own text on standard error. */
+static int lacks_memory(const struct run *r)
+{
+    const char *line = "refused 26 NoMemory\n";
+    size_t length = strlen(line), told = r->err < length ? 0 : r->err - length;
+    return WIFEXITED(r->status) && WEXITSTATUS(r->status) == 1 && r->out == 0 && r->err == told + length
+        && memcmp(r->err_bytes + told, line, length) == 0 && told <= own->err
+        && memcmp(r->err_bytes, own->err_bytes, told) == 0 && (told == 0 || r->err_bytes[told - 1] == '\n');
+}
+
 static int is_own_out(const struct run *r)
 {
     return r->out == own->out && memcmp(r->out_bytes, own->out_bytes, r->out) == 0;
@@ -171,7 +182,7 @@ static int is_right(const struct run *r)
 {
     const char *device = "refused 6 Device\n";
     switch (r->kind) {
-    case MEMORY: return is_own(r) || (refuses(r, "refused 26 NoMemory\n") && r->out == 0);
+    case MEMORY: return is_own(r) || lacks_memory(r);
     case OPEN: return refuses(r, device) && r->out == 0;
     case READ: return refuses(r, device) && is_prefix(r) && keeps(r);
     case WRITE: return refuses(r, device) && is_prefix(r) && stops(r);

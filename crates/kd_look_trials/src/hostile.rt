@@ -43,11 +43,11 @@ fn numbers_are_no_entries(rt: HostRuntime) -> Result<(), Fail> {
 }
 
 #[test]
-fn no_more_than_a_hundred_faults_are_listed(rt: HostRuntime) -> Result<(), Fail> {
-    let file = numbers_for_days(rt.alloc(), 120)?;
+fn no_more_than_three_hundred_faults_are_listed(rt: HostRuntime) -> Result<(), Fail> {
+    let file = numbers_for_days(rt.alloc(), 320)?;
     let lines = lines_on(rt.alloc(), "s", file.as_str())?;
-    assert!(rt; lines.as_str().contains("s, entry 100, day: "));
-    assert!(rt; !lines.as_str().contains("s, entry 101, day: "));
+    assert!(rt; lines.as_str().contains("s, entry 300, day: "));
+    assert!(rt; !lines.as_str().contains("s, entry 301, day: "));
     Ok(())
 }
 

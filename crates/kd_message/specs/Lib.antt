@@ -1,3 +1,4 @@
+pub mod Texts
 pub mod Cells
 pub mod LettersAfter
 pub mod Words

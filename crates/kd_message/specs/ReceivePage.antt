@@ -1,6 +1,6 @@
 -- The page for receiving a form.
 use Rattle.std.specs.Prelude.{◌≡◌, decimal, ℕ, ◌≤◌, ◌||◌, nat_le, if◌then◌else◌, List, [], ◌∷◌, ◌++◌, flat_map, length}
-use Rattle.std.specs.Prelude.{◌↔◌, All, Bool, IsTrue, IfOk, Option, Some, None, Result, Ok, Err, is_err}
+use Rattle.std.specs.Prelude.{◌↔◌, All, Bool, true, false, IsTrue, IfOk, Option, Some, None, Result, Ok, Err, is_err}
 use Rattle.std.specs.Prelude.{MatchResult}
 use Rattle.std.specs.List.{range_with_len}
 use Rattle.kd_tables.specs.declared.model.Model.{Model}
@@ -103,6 +103,11 @@ receive_text texts s parts =
 abbrev pub page_fault : DamagedFormFault → ReceivePageFault
 page_fault form_faults.NoMemory = faults.NoMemory
 page_fault form_faults.TooManyParts = faults.TooManyParts
+
+-- whether the answer is that a write failed
+abbrev pub is_device_fault : Result Bool ReceivePageFault → Bool
+is_device_fault (Err faults.Device) = true
+is_device_fault _ = false
 
 -- `ReceivedPageWritten`: the page was written, of what is read of the form's parts, and the answer says whether all of
 -- the form was read; or only a prefix of the page was written, since the sink failed. `FormNotRead`: nothing was written.

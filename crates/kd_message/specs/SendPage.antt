@@ -1,13 +1,12 @@
 -- The page for sending an order.
-use Rattle.std.specs.Prelude.{◌≡◌, ◌⊎◌, decimal, ℕ, ◌+◌, ◌==◌, ◌||◌, false, if◌then◌else◌, List, [], ◌∷◌, ◌++◌, flat_map, length}
-use Rattle.std.specs.Prelude.{◌≤◌, All, Result, Ok, Err, is_err, OnErr}
+use Rattle.std.specs.Prelude.{◌≡◌, ◌⊎◌, decimal, ℕ, ◌+◌, ◌==◌, ◌||◌, if◌then◌else◌, List, [], ◌∷◌, ◌++◌, flat_map, length}
+use Rattle.std.specs.Prelude.{◌≤◌, All, Bool, true, false, Result, Ok, Err, is_err, OnErr}
 use Rattle.std.specs.List.{range_with_len}
 use Rattle.kd_tables.specs.Ports.{Port}
 use Rattle.kd_tables.specs.Writing.{Writes}
 use Rattle.kd_state.specs.declared.machine.parts.Parts.{Parts}
 use Rattle.kd_state.specs.SheetDay.{Day, day_model, day_number}
 use Rattle.kd_form.specs.declared.fault.FormFault.{FormFault}
-use Rattle.kd_form.specs.declared.fault.FormFault.TheVariants.{Device}
 use Rattle.kd_form.specs.declared.keys.Keys.{Keys}
 use Rattle.kd_form.specs.InTurn.{InTurn}
 use Rattle.kd_form.specs.Keys.{AreKeys}
@@ -23,6 +22,8 @@ use Rattle.kd_tables.specs.declared.model.Model.{Model}
 use Rattle.kd_message.specs.declared.markup.TheConstants.{ARTICLE_END}
 use Rattle.kd_message.specs.declared.part_sheet.PartName.{PartName}
 use Rattle.kd_message.specs.declared.part_sheet.Warnings.{Warnings}
+use Rattle.kd_message.specs.declared.sending.SendPageFault.{SendPageFault}
+use Rattle.kd_message.specs.declared.sending.SendPageFault.TheVariants.{Order, Device}
 use Rattle.kd_message.specs.declared.texts.MessageTexts.{MessageTexts}
 use Rattle.kd_message.specs.declared.texts.SheetTexts.{SheetTexts}
 use Rattle.kd_message.specs.FormSheet.{form_head, form_part}
@@ -121,15 +122,20 @@ IsSendRefusal m s order fault =
     IsKeyFault m s fault
     ⊎ (IsReadyOnKey m s × IsFaultOrNoMemory (IsSendFault s order) ((form : List ℕ) × IsFormOf s order form) fault)
 
+-- whether the answer is that a write failed
+abbrev pub is_device : Result (Unit {0}) SendPageFault → Bool
+is_device (Err Device) = true
+is_device _ = false
+
 -- `PageWritten`: the order has a form, and the page was written; or only a prefix of it, since the sink failed.
 -- `Refused`: nothing was written.
 pub data IsSendPageAnswer (texts : MessageTexts) (m : Parts) (s : Day) (order : List ℕ) (sink : Port)
-    (answer : Result (Unit {0}) FormFault) : Type 0 where
+    (answer : Result (Unit {0}) SendPageFault) : Type 0 where
   PageWritten : (form page : List ℕ) → IsReadyOnKey m s → IsFormOf s order form → IsSendPage texts s order form page
       → Writes sink.had sink.has page answer → OnErr answer (answer ≡ Err Device)
       → sink.has_failed ≡ (sink.had_failed || is_err answer)
       → IsSendPageAnswer texts m s order sink answer
-  Refused : (fault : FormFault) → IsSendRefusal m s order fault → answer ≡ Err fault → IsUntouched sink
+  Refused : (fault : FormFault) → IsSendRefusal m s order fault → answer ≡ Err (Order fault) → IsUntouched sink
       → IsSendPageAnswer texts m s order sink answer
 
 -- ---- What the code holds. No public contract cites these definitions.

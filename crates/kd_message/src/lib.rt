@@ -20,6 +20,6 @@ pub mod texts;
 mod windows;
 mod words;
 
+pub use kd_pictures::Language;
 pub use receiving::{ReceivePageFault, write_receive_page};
-pub use sending::write_send_page;
-pub use texts::{ENGLISH, GERMAN, MessageTexts};
+pub use sending::{SendPageFault, write_send_page};

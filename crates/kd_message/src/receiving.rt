@@ -1,12 +1,14 @@
 //! The page for receiving a form, in which letters may be lost.
-ghost use Rattle.std.specs.Prelude.{◌≡◌, ◌≤◌, ◌+◌, [], flat_map, if◌then◌else◌, IfOk, length};
+ghost use Rattle.std.specs.Prelude.{◌≡◌, ◌≤◌, ◌+◌, ◌||◌, [], false, flat_map, if◌then◌else◌, IfOk, IsErr, length};
 ghost use Rattle.std.specs.List.{range_with_len};
 ghost use Rattle.kd_tables.specs.Ports.{port};
 ghost use Rattle.kd_pictures.specs.Drawing.{Draws};
 ghost use Rattle.kd_message.specs.PartWork.{AreShowable};
 ghost use Rattle.kd_message.specs.ReceivePage.{AreWorkable, IsReceivePageAnswer, listed_text, listed_unread, missing_in};
 ghost use Rattle.kd_message.specs.ReceivePage.{number_in, page_fault, part_in, receive_text, receive_texts, section_text};
-ghost use Rattle.kd_message.specs.ReceivePage.{text_or_damage, worked_text};
+ghost use Rattle.kd_message.specs.ReceivePage.{is_device_fault, text_or_damage, worked_text};
+ghost use Rattle.kd_message.specs.Texts.{AreTexts};
+ghost use Rattle.kd_message.specs.declared.texts.MessageTexts.{MessageTexts};
 
 use crate::filling::fill;
 use crate::markup::ARTICLE_END;
@@ -18,12 +20,12 @@ use crate::text_sheet::{
     draw_damage, draw_missing, draw_read_text, draw_text_part_head, draw_text_sheet_head,
     text_note, warnings_of,
 };
-use crate::texts::{MessageTexts, SheetTexts};
+use crate::texts::{MessageTexts, SheetTexts, message_texts};
 use kd_lost::{DamagedFormFault, DamagedPart, DamagedText, PartDamage, read_damaged_form};
-use kd_pictures::draw;
 use kd_pictures::template::Value;
 use kd_pictures::texts::FOOT;
 use kd_pictures::words::is_converter;
+use kd_pictures::{Language, draw};
 use kd_state::SheetDay;
 use kd_tables::{Model, Sink};
 use std::alloc::Global;
@@ -39,25 +41,29 @@ pub enum ReceivePageFault {
     Device,
 }
 
-/// Writes the page that says how to decipher `form` by hand on a machine on the day's key, and its text.
+/// Writes the page in this language that says how to decipher `form` by hand on a machine on the day's key, and its text.
 ///
-/// Returns whether all of the form was read. After the fault `Device`, a prefix of the page is written, after other faults
-/// nothing.
+/// Returns whether all of the form was read. For `Device`, a prefix of the page is written. For other faults, nothing is
+/// written.
 pub fn write_receive_page<W: Sink>(
     alloc: Global,
-    texts: &MessageTexts,
+    language: Language,
     day: &SheetDay,
     form: &[u8],
     sink: &mut W,
 ) -> Result<bool, ReceivePageFault>
-    ensures { IsReceivePageAnswer texts.now day.now form.now
+    ensures page { (texts : MessageTexts) × AreTexts language texts
+        × IsReceivePageAnswer texts day.now form.now
         (port W.taken W.has_failed sink.old sink.new) result }
+    ensures untouched { IsErr result → is_device_fault result ≡ false → sink.new ≡ sink.old }
+    ensures failed { W.has_failed sink.new ≡ (W.has_failed sink.old || is_device_fault result) }
 {
+    let texts = message_texts(language);
     let parts = match read_damaged_form(alloc, day, form) {
         Ok(parts) => parts,
         Err(fault) => return Err(page_fault(fault)),
     };
-    draw_page(sink, texts, day, parts.as_slice());
+    draw_page(sink, &texts, day, parts.as_slice());
     if sink.failed() {
         Err(ReceivePageFault::Device)
     } else {

@@ -1,5 +1,5 @@
 //! The page for sending an order.
-ghost use Rattle.std.specs.Prelude.{◌≡◌, ◌+◌, ◌≤◌, ◌++◌, ℕ, List, flat_map, length, Ok};
+ghost use Rattle.std.specs.Prelude.{◌≡◌, ◌+◌, ◌≤◌, ◌++◌, ◌||◌, ℕ, List, false, flat_map, length, IsErr, Ok};
 ghost use Rattle.std.specs.List.{range_with_len};
 ghost use Rattle.kd_tables.specs.Ports.{port};
 ghost use Rattle.kd_form.specs.Keys.{AreKeys};
@@ -10,8 +10,11 @@ ghost use Rattle.kd_pictures.specs.Drawing.{Draws};
 ghost use Rattle.kd_message.specs.FormSheet.{form_part};
 ghost use Rattle.kd_message.specs.PartWork.{Work};
 ghost use Rattle.kd_message.specs.SendPage.{AreKeysOfText, AreMade, AreWorks, HasForm, IsSendPage, IsSendPageAnswer};
-ghost use Rattle.kd_message.specs.SendPage.{form_parts, list_head, list_text, listed_text, part_name, part_sheets, send_texts};
+ghost use Rattle.kd_message.specs.SendPage.{form_parts, is_device, list_head, list_text, listed_text, part_name};
+ghost use Rattle.kd_message.specs.SendPage.{part_sheets, send_texts};
 ghost use Rattle.kd_message.specs.SendPage.{send_text, text_pieces, title_text};
+ghost use Rattle.kd_message.specs.Texts.{AreTexts};
+ghost use Rattle.kd_message.specs.declared.texts.MessageTexts.{MessageTexts};
 
 use crate::filling::fill;
 use crate::form_sheet::{draw_form_head, draw_form_part};
@@ -19,38 +22,63 @@ use crate::markup::ARTICLE_END;
 use crate::order::{read_head, take_piece};
 use crate::part_sheet::{PartName, Warnings, draw_part_sheet};
 use crate::part_work::work_of;
-use crate::texts::{MessageTexts, SheetTexts};
+use crate::texts::{MessageTexts, SheetTexts, message_texts};
 use kd_form::day_machine::DayMachine;
 use kd_form::keys::Keys;
 use kd_form::sending::order_head::HeadReader;
 use kd_form::sending::part::{indicator_of, pin_letters, rotor_letters};
 use kd_form::{FormFault, send};
-use kd_pictures::draw;
 use kd_pictures::template::Value;
 use kd_pictures::texts::{BODY, FOOT, MORE_STYLE, STYLE};
 use kd_pictures::words::is_converter;
+use kd_pictures::{Language, draw};
 use kd_state::{Machine, SheetDay};
 use kd_tables::{Letter, Model, Sink};
 use std::alloc::Global;
 
-/// Writes the page that says how to encipher `order` by hand on `machine`, which must be on the day's key.
+/// Why the page of an order isn't written.
+#[derive(Clone, Copy, Debug, PartialEq, Eq)]
+pub enum SendPageFault {
+    /// The machine isn't on the day's key, or the order has this fault. `send` returns it, too.
+    Order(FormFault),
+    /// A write to the sink failed.
+    Device,
+}
+
+impl From<FormFault> for SendPageFault {
+    ghost use Rattle.std.specs.Prelude.{◌≡◌};
+    ghost use Rattle.kd_message.specs.declared.sending.SendPageFault.TheVariants.{Order};
+
+    ghost from_gives = { λ fault page. page ≡ Order fault };
+
+    fn from(fault: FormFault) -> SendPageFault {
+        SendPageFault::Order(fault)
+    }
+}
+
+/// Writes the page in this language that says how to encipher `order` by hand on `machine`, which must be on the day's
+/// key.
 ///
-/// Its faults are those of `send`, and then nothing is written; or `Device`, and then a prefix of the page is written.
+/// For a fault of `send`, nothing is written. For `Device`, a prefix of the page is written.
 pub fn write_send_page<W: Sink>(
     alloc: Global,
-    texts: &MessageTexts,
+    language: Language,
     machine: &Machine,
     day: &SheetDay,
     order: &[u8],
     sink: &mut W,
-) -> Result<(), FormFault>
-    ensures { IsSendPageAnswer texts.now machine.now day.now order.now
+) -> Result<(), SendPageFault>
+    ensures page { (texts : MessageTexts) × AreTexts language texts
+        × IsSendPageAnswer texts machine.now day.now order.now
         (port W.taken W.has_failed sink.old sink.new) result }
+    ensures untouched { IsErr result → is_device result ≡ false → sink.new ≡ sink.old }
+    ensures failed { W.has_failed sink.new ≡ (W.has_failed sink.old || is_device result) }
 {
+    let texts = message_texts(language);
     send(alloc, machine, day, order)?;
-    draw_page(sink, texts, day, order);
+    draw_page(sink, &texts, day, order);
     if sink.failed() {
-        Err(FormFault::Device)
+        Err(SendPageFault::Device)
     } else {
         Ok(())
     }

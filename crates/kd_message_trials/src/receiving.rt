@@ -6,7 +6,7 @@ use crate::samples::{
     ENIGMA_DAY, IDLE_DAY, LOST_FORM, M4_DAY, M4_FORM, M4_FORM_AGAIN, M209_DAY, M209_LOST_FORM,
     MANY_PARTS,
 };
-use kd_message::{ENGLISH, GERMAN, MessageTexts, ReceivePageFault, write_receive_page};
+use kd_message::{Language, ReceivePageFault, write_receive_page};
 use kd_sheet::read_sheet;
 use kd_tables::MemorySink;
 use std::alloc::Global;
@@ -109,7 +109,7 @@ static CUT_OFF: Form = (M4_DAY, 6, M4_FORM);
 fn written(
     rt: &impl Abort,
     alloc: Global,
-    texts: &MessageTexts,
+    language: Language,
     form: &Form,
     room: usize,
 ) -> (Result<bool, ReceivePageFault>, MemorySink<65536>)
@@ -121,13 +121,13 @@ fn written(
         .expect(rt, "a sheet");
     let day = sheet.day(*day).expect(rt, "a day");
     let mut sink = MemorySink::new(room);
-    let answer = write_receive_page(alloc, texts, day, form.as_bytes(), &mut sink);
+    let answer = write_receive_page(alloc, language, day, form.as_bytes(), &mut sink);
     (answer, sink)
 }
 
 /// Checks that the form's page is the one that is due.
-fn is_received(rt: &impl Abort, alloc: Global, texts: &MessageTexts, received: &Received) {
-    let (answer, sink) = written(rt, alloc, texts, &received.0, 65536);
+fn is_received(rt: &impl Abort, alloc: Global, language: Language, received: &Received) {
+    let (answer, sink) = written(rt, alloc, language, &received.0, 65536);
     let shown = std::str::from_utf8(sink.taken()).unwrap_or("?");
     let (_, body) = shown.split_once("</style>\n").unwrap_or(("", shown));
     assert!(rt; body == received.2, "{body}");
@@ -136,7 +136,7 @@ fn is_received(rt: &impl Abort, alloc: Global, texts: &MessageTexts, received: &
 
 /// Checks that the form's page says why a part isn't read.
 fn is_unread(rt: &impl Abort, alloc: Global, unread: &Unread) {
-    let (answer, sink) = written(rt, alloc, &ENGLISH, &unread.0, 65536);
+    let (answer, sink) = written(rt, alloc, Language::English, &unread.0, 65536);
     let shown = std::str::from_utf8(sink.taken()).unwrap_or("?");
     assert!(rt; shown.contains(unread.1), "{shown}");
     assert!(rt; answer == Ok(false));
@@ -145,10 +145,10 @@ fn is_unread(rt: &impl Abort, alloc: Global, unread: &Unread) {
 #[test]
 fn forms_become_pages(rt: HostRuntime) {
     for received in &RECEIVED {
-        is_received(&rt, rt.alloc(), &ENGLISH, received);
+        is_received(&rt, rt.alloc(), Language::English, received);
     }
     for received in &RECEIVED_IN_GERMAN {
-        is_received(&rt, rt.alloc(), &GERMAN, received);
+        is_received(&rt, rt.alloc(), Language::German, received);
     }
 }
 
@@ -161,8 +161,8 @@ fn pages_say_why_parts_are_not_read(rt: HostRuntime) {
 
 #[test]
 fn pages_of_forms_are_refused_and_cut_off(rt: HostRuntime) {
-    let (answer, sink) = written(&rt, rt.alloc(), &ENGLISH, &TOO_LONG, 65536);
+    let (answer, sink) = written(&rt, rt.alloc(), Language::English, &TOO_LONG, 65536);
     assert!(rt; answer == Err(ReceivePageFault::TooManyParts) && sink.taken().is_empty());
-    let (answer, sink) = written(&rt, rt.alloc(), &ENGLISH, &CUT_OFF, 300);
+    let (answer, sink) = written(&rt, rt.alloc(), Language::English, &CUT_OFF, 300);
     assert!(rt; answer == Err(ReceivePageFault::Device) && sink.taken().len() == 300);
 }

@@ -7,7 +7,7 @@ use crate::samples::{
     M209_ORDER,
 };
 use kd_form::FormFault;
-use kd_message::{ENGLISH, GERMAN, MessageTexts, write_send_page};
+use kd_message::{Language, SendPageFault, write_send_page};
 use kd_sheet::{read_machine, read_sheet};
 use kd_tables::MemorySink;
 use std::alloc::Global;
@@ -37,10 +37,10 @@ static CUT_OFF: Sent = (M4, M4_DAY, 6, M4_ORDER, "");
 fn written(
     rt: &impl Abort,
     alloc: Global,
-    texts: &MessageTexts,
+    language: Language,
     sent: &Sent,
     room: usize,
-) -> (Result<(), FormFault>, MemorySink<65536>)
+) -> (Result<(), SendPageFault>, MemorySink<65536>)
     requires { room ≤ 65536 }
 {
     let (machine, sheet, day, order, _) = sent;
@@ -52,13 +52,13 @@ fn written(
         .expect(rt, "a sheet");
     let day = sheet.day(*day).expect(rt, "a day");
     let mut sink = MemorySink::new(room);
-    let answer = write_send_page(alloc, texts, &machine, day, order.as_bytes(), &mut sink);
+    let answer = write_send_page(alloc, language, &machine, day, order.as_bytes(), &mut sink);
     (answer, sink)
 }
 
 /// Checks that the order's page is the one that is due.
-fn is_sent(rt: &impl Abort, alloc: Global, texts: &MessageTexts, sent: &Sent) {
-    let (answer, sink) = written(rt, alloc, texts, sent, 65536);
+fn is_sent(rt: &impl Abort, alloc: Global, language: Language, sent: &Sent) {
+    let (answer, sink) = written(rt, alloc, language, sent, 65536);
     assert!(rt; answer == Ok(()));
     let shown = std::str::from_utf8(sink.taken()).unwrap_or("?");
     let (_, body) = shown.split_once("</style>\n").unwrap_or(("", shown));
@@ -68,17 +68,19 @@ fn is_sent(rt: &impl Abort, alloc: Global, texts: &MessageTexts, sent: &Sent) {
 #[test]
 fn orders_become_pages(rt: HostRuntime) {
     for sent in &SENT {
-        is_sent(&rt, rt.alloc(), &ENGLISH, sent);
+        is_sent(&rt, rt.alloc(), Language::English, sent);
     }
     for sent in &SENT_IN_GERMAN {
-        is_sent(&rt, rt.alloc(), &GERMAN, sent);
+        is_sent(&rt, rt.alloc(), Language::German, sent);
     }
 }
 
 #[test]
 fn pages_are_refused_and_cut_off(rt: HostRuntime) {
-    let (answer, sink) = written(&rt, rt.alloc(), &ENGLISH, &EMPTY, 65536);
-    assert!(rt; answer == Err(FormFault::EmptyText) && sink.taken().is_empty());
-    let (answer, sink) = written(&rt, rt.alloc(), &ENGLISH, &CUT_OFF, 300);
-    assert!(rt; answer == Err(FormFault::Device) && sink.taken().len() == 300);
+    let (answer, sink) = written(&rt, rt.alloc(), Language::English, &EMPTY, 65536);
+    assert!(rt;
+        answer == Err(SendPageFault::Order(FormFault::EmptyText)) && sink.taken().is_empty()
+    );
+    let (answer, sink) = written(&rt, rt.alloc(), Language::English, &CUT_OFF, 300);
+    assert!(rt; answer == Err(SendPageFault::Device) && sink.taken().len() == 300);
 }

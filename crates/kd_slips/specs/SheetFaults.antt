@@ -89,12 +89,13 @@ abbrev pub faults_after : List Data → List Data → List (Place × SheetFault)
 faults_after earlier [] = []
 faults_after earlier (item ∷ rest) = entry_faults earlier item ++ faults_after (earlier ++ item ∷ []) rest
 
--- The list has the faults of the first entries: of all of them, if the list has fewer than 100.
+-- The list has the faults of the first entries: of all of them, if the list has fewer than 300. A month, whose 31 days
+-- have at most 8 keys each, has fewer.
 pub record AreSheetFaults (items : List Data) (faults : List (Place × SheetFault)) : Type 0 where
   pub count : ℕ
   pub within : count ≤ length items
   pub are : faults ≡ faults_after [] (take count items)
-  pub many : (count ≡ length items) ⊎ (100 ≤ length faults)
+  pub many : (count ≡ length items) ⊎ (300 ≤ length faults)
 
 -- the items of the array `day`, if the document has this array
 abbrev pub entries_of : Members → Option (List Data)

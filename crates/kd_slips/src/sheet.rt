@@ -32,7 +32,7 @@ use toml::{Table, Value};
 const DAYS: u8 = 31;
 
 /// The number of faults after which no later entry is judged.
-const MOST_FAULTS: usize = 100;
+const MOST_FAULTS: usize = 300;
 
 /// Whether `item` is an entry with the day `number`.
 fn has_number(item: &Value, number: u8) -> bool
@@ -257,7 +257,7 @@ fn judge_entry(
     }
 }
 
-/// Finds the faults of the entries of a key sheet, up to the entry with the hundredth fault.
+/// Finds the faults of the entries of a key sheet, up to the entry with the three hundredth fault.
 pub fn sheet_faults(alloc: Global, items: &[Value]) -> Result<Vec<Finding>, AllocError>
     ensures { IfOk result (λ list. AreSheetFaults (map view items.now) (faults_of list.items)) }
 {

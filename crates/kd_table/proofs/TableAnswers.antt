@@ -1,5 +1,5 @@
 -- What the rows of a table make of the table.
-use Rattle.std.proofs.Common.{◌≡◌, ◌∙◌, ◌<◌, ℕ, Bool, true, false, List, [], ◌∷◌, ◌++◌, Ok, append_assoc, Option, Some, None, length, refl, sym, subst, arith}
+use Rattle.std.proofs.Common.{◌≡◌, ◌∙◌, ◌<◌, ◌⊎◌, inl, inr, Err, Result, ℕ, Bool, true, false, List, [], ◌∷◌, ◌++◌, Ok, append_assoc, Option, Some, None, length, refl, sym, subst, arith}
 use Rattle.std.proofs.lemmas.Bool.{false≢true}
 use Rattle.kd_state.specs.SheetDay.{Day, IsLegalDay, day_number}
 use Rattle.std.proofs.lemmas.List.{append-nil}
@@ -10,6 +10,8 @@ use Rattle.kd_table.specs.Columns.{columns_of}
 use Rattle.kd_table.specs.Rows.{is_well_quoted}
 use Rattle.kd_table.specs.Table.{AreRows, TableMeans, IsRefusedTable, RefusedRow, NoDays, NoFirstRow, IsRead, AreDaysOfRows, BlankRow, DayRow, NoRows, is_taken}
 use Rattle.kd_table.specs.declared.columns.Columns.{Columns}
+use Rattle.kd_table.specs.declared.fault.SpreadsheetFault.{SpreadsheetFault}
+use Rattle.kd_table.specs.declared.fault.SpreadsheetFault.TheVariants.{NoMemory, Refused}
 use Rattle.kd_table.specs.Options.{OptionTexts}
 
 module _ (options : OptionTexts) (table : List ℕ) where
@@ -58,3 +60,15 @@ pub read_back : (options : OptionTexts) (table : List ℕ) (days : List Day) →
 read_back options table [] means = let some = means.some in absurd (omega arith)
 read_back options table (day ∷ days) means =
     sheet_again day days (sheet_days options (columns_of means.head) means.rows (day ∷ days) means.described)
+
+-- ---- a fault that is kept
+
+pub same_fault : {T : Type 0} (one other : SpreadsheetFault)
+    → ◌≡◌ {A = Result T SpreadsheetFault} (Err one) (Err other) → one ≡ other
+same_fault one other same = cc
+
+-- a table that is refused in the end was refused at first, if only want of memory comes between
+pub still_refused : (fault told : SpreadsheetFault) → (told ≡ fault) ⊎ (told ≡ NoMemory) → told ≡ Refused
+    → fault ≡ Refused
+still_refused fault told (inl is) same = sym is ∙ same
+still_refused fault told (inr none) same = absurd (let wrong : Refused ≡ NoMemory = sym same ∙ none in cc)

@@ -10,7 +10,7 @@ pub enum SpreadsheetFault {
     /// The sink failed.
     #[error("the sheet can't be written")]
     Device,
-    /// Memory ran out while the table was read.
+    /// Memory ran out while the table was read, or while its faults were told.
     #[error("no memory")]
     NoMemory,
 }

@@ -1,4 +1,5 @@
 //! Tells in words what is wrong with a table. The words aren't proved; tests try them.
+ghost use Rattle.std.specs.Prelude.{◌≡◌, IfErr};
 ghost use Rattle.kd_tables.specs.Ports.{port};
 ghost use Rattle.kd_table.specs.Notes.{Tells};
 
@@ -10,6 +11,7 @@ mod row_notes;
 mod row_numbers;
 
 use crate::columns::{Columns, cell_at, cell_or};
+use crate::fault::SpreadsheetFault;
 use crate::items::{is_blank, number_in};
 use crate::names::model_named;
 use crate::options::TableOptions;
@@ -36,20 +38,23 @@ struct Found {
 }
 
 /// Writes a line for each column that isn't read, and, of a refused table, for each fault.
+///
+/// `NoMemory` if memory ran out for a row; then lines are missing.
 pub fn tell_table<N: Sink>(
     alloc: Global,
     table: &[u8],
     options: &TableOptions<&[u8]>,
     is_refused: bool,
     notes: &mut N,
-)
-    ensures { Tells (port N.taken N.has_failed notes.old notes.new) }
+) -> Result<(), SpreadsheetFault>
+    ensures told { Tells (port N.taken N.has_failed notes.old notes.new) }
+    ensures fault { IfErr result (λ fault. fault ≡ SpreadsheetFault.NoMemory) }
 {
     if !is_well_quoted(table) {
         let mut lines = Lines::new();
         lines.add("a quote isn't closed, or something follows the closing quote of a cell\n");
         lines.put(notes);
-        return;
+        return Ok(());
     }
     let separator = separator_of(table);
     let rdr = ReaderBuilder::new()
@@ -66,7 +71,7 @@ pub fn tell_table<N: Sink>(
     let mut first: Option<(ByteRecord, Columns)> = None;
     for row in rdr.into_byte_records() {
         let Ok(row) = row else {
-            return;
+            return Err(SpreadsheetFault::NoMemory);
         };
         let number = numbers.next_row();
         match &first {
@@ -78,14 +83,16 @@ pub fn tell_table<N: Sink>(
             Some((head, columns)) if is_refused => {
                 tell_row(&mut found, options, columns, head, number, &row, notes);
             }
-            Some(_) => return,
+            Some(_) => return Ok(()),
         }
     }
-    if is_refused && !found.has_row {
-        let mut lines = Lines::new();
-        lines.add("the table has no row with a day\n");
-        lines.put(notes);
+    if !is_refused || found.has_row {
+        return Ok(());
     }
+    let mut lines = Lines::new();
+    lines.add("the table has no row with a day\n");
+    lines.put(notes);
+    Ok(())
 }
 
 /// Tells the columns that aren't read, and, of a refused table, the columns that any table needs.

@@ -1,5 +1,5 @@
 //! The command `sheet`: makes a key sheet of a table.
-ghost use Rattle.std.specs.Prelude.{◌≡◌, ◌||◌, Ok, Err, IfOk, IsErr, List, false};
+ghost use Rattle.std.specs.Prelude.{◌≡◌, ◌⊎◌, ◌||◌, Ok, Err, IfOk, IsErr, List, false};
 ghost use Rattle.std.specs.Io.KnownBytes.{Appends};
 ghost use Rattle.kd_tables.specs.Writing.{TakesPrefix};
 ghost use Rattle.kd_state.specs.SheetDay.{Day};
@@ -46,25 +46,30 @@ fn read_days(
     Ok(days)
 }
 
-/// Tells the faults of a table, if it is refused for its faults.
+/// Tells the faults of a table that is refused for its faults. Returns `fault`, unless memory runs out for telling.
 fn tell_refused<N: Sink>(
     fault: SpreadsheetFault,
     alloc: Global,
     table: &[u8],
     options: &TableOptions<&[u8]>,
     notes: &mut N,
-)
-    ensures { Tells (port N.taken N.has_failed notes.old notes.new) }
+) -> SpreadsheetFault
+    ensures told { Tells (port N.taken N.has_failed notes.old notes.new) }
+    ensures fault { (result ≡ fault) ⊎ (result ≡ SpreadsheetFault.NoMemory) }
 {
-    if let SpreadsheetFault::Refused = fault {
-        tell_table(alloc, table, options, true, notes);
+    if let SpreadsheetFault::Refused = fault
+        && let Err(fault) = tell_table(alloc, table, options, true, notes)
+    {
+        return fault;
     }
+    fault
 }
 
 /// Writes the key sheet that the days of `table` make.
 ///
 /// `Refused` if the table is refused: nothing is written, and `notes` gets a line for each fault. On `Device`, the sink
-/// has taken a prefix of the sheet. `notes` gets a line for each column that isn't read, too.
+/// has taken a prefix of the sheet. `notes` gets a line for each column that isn't read, too. On `NoMemory`, nothing is
+/// written, and `notes` may lack lines.
 pub fn run_sheet<W: Sink, N: Sink>(
     alloc: Global,
     table: &[u8],
@@ -84,12 +89,9 @@ pub fn run_sheet<W: Sink, N: Sink>(
 {
     let days = match read_days(alloc, table, options) {
         Ok(days) => days,
-        Err(fault) => {
-            tell_refused(fault, alloc, table, options, notes);
-            return Err(fault);
-        }
+        Err(fault) => return Err(tell_refused(fault, alloc, table, options, notes)),
     };
-    tell_table(alloc, table, options, false, notes);
+    tell_table(alloc, table, options, false, notes)?;
     match write_sheet(sink, days.as_slice()) {
         Ok(()) => Ok(()),
         Err(Device) => Err(SpreadsheetFault::Device),

@@ -6,17 +6,20 @@ use Rattle.kd_message.specs.ReceivePage.{AreWorkable, FormNotRead, ReceivedPageW
 use Rattle.kd_message.proofs.ReceivePages.{are_workable, page_begins}
 use Rattle.kd_message.proofs.receiving.write_receive_page.Goals as goal
 
-pub returns-in-Err : goal.returns-in-Err
-returns-in-Err g c =
-    FormNotRead c.in-Err.fault c.in-Err.ensures.read (ap Err c.page_fault.ensures) (record { has = refl; well = refl })
+pub returns-in-Err-clause-page : goal.returns-in-Err-clause-page
+returns-in-Err-clause-page g c = (
+  c.message_texts-texts.result,
+  c.message_texts-texts.ensures,
+  FormNotRead c.in-Err.fault c.in-Err.ensures.read (ap Err c.page_fault.ensures) (record { has = refl; well = refl }),
+)
 
 pub draw_page-requires-clause-workable : goal.draw_page-requires-clause-workable
 draw_page-requires-clause-workable g c =
     subst (AreWorkable c.args.day.now) (sym c.as_slice.ensures.value)
     (are_workable c.args.day.now (damaged_parts_of c.args.form.now) c.in-Ok.parts.items c.in-Ok.ensures.read)
 
-pub returns-then-failed : goal.returns-then-failed
-returns-then-failed g c =
+pub returns-then-failed-clause-page : goal.returns-then-failed-clause-page
+returns-then-failed-clause-page g c =
     let few : length (damaged_parts_of c.args.form.now) ≤ 255 =
     omega (
       arith,
@@ -24,13 +27,16 @@ returns-then-failed g c =
           c.in-Ok.ensures.read,
       c.in-Ok.ensures.few,
     ) in
-    let drawn = rw c.as_slice.ensures.value at c.draw_page.ensures in
-    ReceivedPageWritten c.in-Ok.parts.items c.in-Ok.ensures.read few
-    (writes_part _ (page_begins c.args.texts.now c.args.day.now c.in-Ok.parts.items).1.1 drawn (search rules)) refl
-    (search rules)
+    let drawn = rw c.as_slice.ensures.value at c.draw_page.ensures in (
+      c.message_texts-texts.result,
+      c.message_texts-texts.ensures,
+      ReceivedPageWritten c.in-Ok.parts.items c.in-Ok.ensures.read few
+          (writes_part _ (page_begins c.message_texts-texts.result c.args.day.now c.in-Ok.parts.items).1.1 drawn
+          (search rules)) refl (search rules),
+    )
 
-pub returns : goal.returns
-returns g c =
+pub returns-clause-page : goal.returns-clause-page
+returns-clause-page g c =
     let few : length (damaged_parts_of c.args.form.now) ≤ 255 =
     omega (
       arith,
@@ -38,6 +44,12 @@ returns g c =
           c.in-Ok.ensures.read,
       c.in-Ok.ensures.few,
     ) in
-    let drawn = rw c.as_slice.ensures.value at c.draw_page.ensures in
-    ReceivedPageWritten c.in-Ok.parts.items c.in-Ok.ensures.read few (search rules)
-    (rw c.as_slice-else-failed.ensures.value at c.is_whole.ensures) (search rules)
+    let drawn = rw c.as_slice.ensures.value at c.draw_page.ensures in (
+      c.message_texts-texts.result,
+      c.message_texts-texts.ensures,
+      ReceivedPageWritten c.in-Ok.parts.items c.in-Ok.ensures.read few (search rules)
+          (rw c.as_slice-else-failed.ensures.value at c.is_whole.ensures) (search rules),
+    )
+
+pub returns-clause-failed : goal.returns-clause-failed
+returns-clause-failed g c = let drawn = c.draw_page.ensures in (search rules)

@@ -1,12 +1,12 @@
 use Rattle.std.proofs.Common.{◌≡◌, ◌∙◌, Err, ap}
-use Rattle.kd_table.specs.declared.fault.SpreadsheetFault.TheVariants as faults
 use Rattle.kd_table.specs.Options.{texts_of}
-use Rattle.kd_table.proofs.TableAnswers.{read_back}
+use Rattle.kd_table.proofs.TableAnswers.{read_back, same_fault, still_refused}
 use Rattle.kd_table.proofs.sheet.run_sheet.Goals as goal
 
 pub returns-in-Err-clause-refused : goal.returns-in-Err-clause-refused
 returns-in-Err-clause-refused g c = λ same.
-    let e : c.in-Err.fault ≡ faults.Refused = cc in c.read_days.ensures.refused (c.in-Err.is ∙ ap (λ fault. Err fault) e)
+    let e = still_refused c.in-Err.fault c.tell_refused.result c.tell_refused.ensures.fault (same_fault _ _ same) in
+    c.read_days.ensures.refused (c.in-Err.is ∙ ap (λ fault. Err fault) e)
 
 pub returns-in-Ok-write_sheet-clause-sheet : goal.returns-in-Ok-write_sheet-clause-sheet
 returns-in-Ok-write_sheet-clause-sheet g c =
