@@ -257,7 +257,8 @@ fn draw_form_parts<W: Sink>(
     text: &[u8],
 )
     requires { AreKeysOfText day.now part parts keys.now text.now }
-    ensures { (made : List Part) × AreMade day.now part parts keys.now (text_pieces day.now text.now) made
+    ensures { (made : List Part)
+        × AreMade day.now part parts keys.now (text_pieces day.now text.now) made
         × Draws W.taken W.has_failed sink.old sink.new (form_parts texts.now day.now made) }
 {
     if let [first, rest @ ..] = keys {
