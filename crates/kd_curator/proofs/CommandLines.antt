@@ -6,12 +6,21 @@ use Rattle.kd_curator.proofs.Prelude.{is_simple_and_free, kind_of, rows_of, subc
 use Rattle.kd_curator.proofs.Prelude.{same_Some}
 use Rattle.kd_curator.proofs.Prelude.{inl, inr, IsDayNumber, NamedCommand, IsCommandLineOf, IsNoCommandLine, arith}
 use Rattle.kd_curator.proofs.Prelude.{AsksForHelp, HasNoCommand, IsToldAs, is_help, Error, ErrorKind, OutOfMemory}
-use Rattle.kd_curator.proofs.Prelude.{AreDays, IsMeant, IsTaskOf, codes}
+use Rattle.kd_curator.proofs.Prelude.{AreDays, HasDay, HasDays, HasLanguage, IsMeant, IsTaskOf, codes}
+use Rattle.std.specs.Prelude.{◌⊎◌, nat_eq}
 use Rattle.std.proofs.Common.{get_or}
 use Rattle.kd_curator.specs.declared.command.Task.{Task}
 use Rattle.kd_curator.specs.declared.command.Task.TheVariants as tasks
 use Rattle.kd_curator.specs.declared.command.Command.TheVariants as commands
 use Rattle.kd_curator.specs.CommandLine.{HasForm, IsCommandOf, IsFormNamed, IsTaskWith, task_name}
+use Rattle.kd_curator.specs.CommandLine.{IsEmptySheetOf, IsLookOf, IsMessageOf, IsSheetOf, IsTableOf, message_name}
+use Rattle.kd_curator.specs.Locale.{language_code}
+use Rattle.kd_curator.specs.declared.command.MessageKind.{MessageKind}
+use Rattle.kd_curator.specs.declared.command.MessageKind.TheVariants as kinds
+use Rattle.kd_curator.specs.declared.command.MessageTask.{MessageTask}
+use Rattle.kd_curator.specs.declared.up_to_three.UpToThree.{UpToThree}
+use Rattle.kd_pictures.specs.declared.language.Language.{Language}
+use Rattle.kd_table.specs.Options.{OptionTexts}
 use Rattle.kd_curator.specs.CommandLine.{IsMonthNamed, are_blank, option_text, option_texts}
 use Rattle.kd_tables.specs.declared.model.Model.{Model}
 use Rattle.std.specs.Prelude.{unwrap_or}
@@ -118,18 +127,9 @@ other_days words kind (Asked text) taken none other told = absurd (let wrong : t
 other_days words kind (Usage text) taken none other told = (none, no_help_taken words taken)
 other_days words kind NoMemory taken none other told = tt
 
-pub first_differs : ◌≡◌ {A = ℕ} 112 108 → ⊥
-first_differs wrong = omega (arith, wrong)
-
--- a word that names no days is no task of `page`
-pub other_page : (rows : List Row) (word : List ℕ) → first_of (codes "DAYS") rows ≡ Some word
-    → ((days : List ℕ) → AreDays word days → ⊥) → (task : Task) → IsTaskOf (codes "page", rows) task → ⊥
-other_page rows word is none (tasks.Page None) of = let wrong : Some word ≡ None = sym is ∙ of.days in cc
-other_page rows word is none (tasks.Page (Some days)) of =
-    let same = same_Some word of.days.0 (sym is ∙ of.days.1) in
-    none days (subst (λ w. AreDays w days) (sym same) of.days.2)
-other_page rows word is none (tasks.List day) of =
-    absurd (first_differs (ap (λ l. get_or l 0 0) of.name))
+-- an argument that has no value in the rows has none
+pub missing : (rows : List Row) (id word : List ℕ) → first_of id rows ≡ None → first_of id rows ≡ Some word → ⊥
+missing rows id word none some = let wrong : None ≡ Some word = sym none ∙ some in cc
 
 -- what follows from a property of a value, if there is one, holds of the same value
 pub some_also : {T : Type 0} (answer : Option T) (P Q : T → Type 0) → ((x : T) → P x → Q x) → IfSome answer P
@@ -137,122 +137,183 @@ pub some_also : {T : Type 0} (answer : Option T) (P Q : T → Type 0) → ((x : 
 some_also None P Q more holds = tt
 some_also (Some x) P Q more holds = more x holds
 
-third_differs : ◌≡◌ {A = ℕ} 116 112 → ⊥
-third_differs wrong = omega (arith, wrong)
+-- ---- the names of commands
 
-third_from_second : ◌≡◌ {A = ℕ} 116 108 → ⊥
-third_from_second wrong = omega (arith, wrong)
+itself : (n : ℕ) → nat_eq n n ≡ true
+itself n = grind (arith)
 
--- the name of the command `table` is no task's
-pub table_is_no_task : (task : Task) → codes "table" ≡ task_name task → ⊥
-table_is_no_task (tasks.Page days) is = third_differs (ap (λ l. get_or l 0 0) is)
-table_is_no_task (tasks.List day) is = third_from_second (ap (λ l. get_or l 0 0) is)
+-- words that differ at a place are different
+pub apart : (place : ℕ) (one other : List ℕ) → nat_eq (get_or one place 0) (get_or other place 0) ≡ false → one ≡ other
+    → ⊥
+apart place one other differ is =
+    let same = ap (λ l. nat_eq (get_or one place 0) (get_or l place 0)) is in
+    let wrong : true ≡ false = sym (itself (get_or one place 0)) ∙ same ∙ differ in cc
 
-sheet_from_page : ◌≡◌ {A = ℕ} 115 112 → ⊥
-sheet_from_page wrong = omega (arith, wrong)
+abbrev pub name_of : NamedCommand → List ℕ
+name_of (commands.OnMachine machine sheet task) = task_name task
+name_of (commands.Message machine sheet message task) = message_name task.kind
+name_of (commands.Table sheet form language) = codes "table"
+name_of (commands.Sheet table options) = codes "sheet"
+name_of (commands.Look names files) = codes "look"
+name_of (commands.EmptySheet model days) = codes "sheet"
 
-sheet_from_list : ◌≡◌ {A = ℕ} 115 108 → ⊥
-sheet_from_list wrong = omega (arith, wrong)
+pub name_said : (said : List ℕ × List Row) (command : NamedCommand) → IsCommandOf said command
+    → said.0 ≡ name_of command
+name_said said (commands.OnMachine machine sheet task) of = of.task.name
+name_said said (commands.Message machine sheet message task) of = of.name
+name_said said (commands.Table sheet form language) of = of.name
+name_said said (commands.Sheet table options) of = of.name
+name_said said (commands.Look names files) of = of.name
+name_said said (commands.EmptySheet model days) of = of.name
 
-sheet_from_table : ◌≡◌ {A = ℕ} 115 116 → ⊥
-sheet_from_table wrong = omega (arith, wrong)
+-- the names of commands differ in their third letters
+pub message_apart : (kind : MessageKind) (name : List ℕ)
+    → nat_eq (get_or (codes "send") 2 0) (get_or name 2 0) ≡ false
+    → nat_eq (get_or (codes "receive") 2 0) (get_or name 2 0) ≡ false → message_name kind ≡ name → ⊥
+message_apart kinds.Order name send receive is = apart 2 (codes "send") name send is
+message_apart kinds.Form name send receive is = apart 2 (codes "receive") name receive is
 
--- the name of the command `sheet` is no task's
-pub sheet_is_no_task : (task : Task) → codes "sheet" ≡ task_name task → ⊥
-sheet_is_no_task (tasks.Page days) is = sheet_from_page (ap (λ l. get_or l 0 0) is)
-sheet_is_no_task (tasks.List day) is = sheet_from_list (ap (λ l. get_or l 0 0) is)
+pub same_kind : (one other : MessageKind) → message_name one ≡ message_name other → one ≡ other
+same_kind kinds.Order kinds.Order is = refl
+same_kind kinds.Form kinds.Form is = refl
+same_kind kinds.Order kinds.Form is = absurd (apart 2 (codes "send") (codes "receive") refl is)
+same_kind kinds.Form kinds.Order is = absurd (apart 2 (codes "receive") (codes "send") refl is)
 
-pub sheet_is_no_table : codes "sheet" ≡ codes "table" → ⊥
-sheet_is_no_table is = sheet_from_table (ap (λ l. get_or l 0 0) is)
-
-look_from_page : ◌≡◌ {A = ℕ} 108 112 → ⊥
-look_from_page wrong = omega (arith, wrong)
-
-look_from_list : ◌≡◌ {A = ℕ} 111 105 → ⊥
-look_from_list wrong = omega (arith, wrong)
-
-look_from_table : ◌≡◌ {A = ℕ} 108 116 → ⊥
-look_from_table wrong = omega (arith, wrong)
-
-look_from_sheet : ◌≡◌ {A = ℕ} 108 115 → ⊥
-look_from_sheet wrong = omega (arith, wrong)
-
--- the name of the command `look` is no task's; `list` differs in its second letter
-pub look_is_no_task : (task : Task) → codes "look" ≡ task_name task → ⊥
-look_is_no_task (tasks.Page days) is = look_from_page (ap (λ l. get_or l 0 0) is)
-look_is_no_task (tasks.List day) is = look_from_list (ap (λ l. get_or l 1 0) is)
-
-pub look_is_no_table : codes "look" ≡ codes "table" → ⊥
-look_is_no_table is = look_from_table (ap (λ l. get_or l 0 0) is)
-
-pub look_is_no_sheet : codes "look" ≡ codes "sheet" → ⊥
-look_is_no_sheet is = look_from_sheet (ap (λ l. get_or l 0 0) is)
-
--- no command is meant, if its name is neither `table` nor `sheet` nor `look`, and no task is meant
-pub no_task_with : (said : List ℕ × List Row) → said.0 ≢ codes "table" → said.0 ≢ codes "sheet"
-    → said.0 ≢ codes "look"
-    → ((machine sheet : List ℕ) (task : Task) → IsTaskWith said machine sheet task → ⊥)
-    → (command : NamedCommand) → IsCommandOf said command → ⊥
-no_task_with said table sheet look none (commands.OnMachine machine its_sheet task) of = none machine its_sheet task of
-no_task_with said table sheet look none (commands.Table its_sheet form) of = table of.name
-no_task_with said table sheet look none (commands.Sheet its_table options) of = sheet of.name
-no_task_with said table sheet look none (commands.Look names files) of = look of.name
-no_task_with said table sheet look none (commands.EmptySheet model days) of = sheet of.name
-
--- the command `table` without a sheet is no command
-pub no_table : (rows : List Row) → first_of (codes "SHEET") rows ≡ None → (command : NamedCommand)
-    → IsCommandOf (codes "table", rows) command → ⊥
-no_table rows none (commands.OnMachine machine sheet task) of = table_is_no_task task of.task.name
-no_table rows none (commands.Table sheet form) of = let wrong : None ≡ Some sheet = sym none ∙ of.sheet in cc
-no_table rows none (commands.Sheet table options) of = sheet_is_no_table (sym of.name)
-no_table rows none (commands.Look names files) of = look_is_no_table (sym of.name)
-no_table rows none (commands.EmptySheet model days) of = sheet_is_no_table (sym of.name)
+no_message : (name : List ℕ) (kind : MessageKind) → name ≢ codes "send" → name ≢ codes "receive"
+    → name ≡ message_name kind → ⊥
+no_message name kinds.Order send receive is = send is
+no_message name kinds.Form send receive is = receive is
 
 module _ (rows : List Row) where
+  other_name : (name : List ℕ) (command : NamedCommand)
+      → nat_eq (get_or name 2 0) (get_or (name_of command) 2 0) ≡ false → IsCommandOf (name, rows) command → ⊥
+  other_name name command differ of = apart 2 name (name_of command) differ (name_said (name, rows) command of)
+
+  other_task : (name : List ℕ) (machine sheet : List ℕ) (task : Task)
+      → nat_eq (get_or name 2 0) (get_or (codes "page") 2 0) ≡ false
+      → nat_eq (get_or name 2 0) (get_or (codes "list") 2 0) ≡ false
+      → IsCommandOf (name, rows) (commands.OnMachine machine sheet task) → ⊥
+  other_task name machine sheet (tasks.Page days language) page list of = apart 2 name _ page of.task.name
+  other_task name machine sheet (tasks.List day) page list of = apart 2 name _ list of.task.name
+
+  -- what the command of each name is
+  pub only_message : (kind : MessageKind) (command : NamedCommand) → IsCommandOf (message_name kind, rows) command
+      → (machine sheet message : List ℕ) × (task : MessageTask)
+      × IsMessageOf (message_name kind, rows) machine sheet message task × (task.kind ≡ kind)
+  only_message kind (commands.Message machine sheet message task) of =
+      (machine, sheet, message, task, of, same_kind task.kind kind (sym of.name))
+  only_message kinds.Order (commands.OnMachine machine sheet task) of =
+      absurd (other_task (codes "send") machine sheet task refl refl of)
+  only_message kinds.Form (commands.OnMachine machine sheet task) of =
+      absurd (other_task (codes "receive") machine sheet task refl refl of)
+  only_message kinds.Order other of = absurd (other_name (codes "send") other refl of)
+  only_message kinds.Form other of = absurd (other_name (codes "receive") other refl of)
+
+  pub only_table : (command : NamedCommand) → IsCommandOf (codes "table", rows) command
+      → (sheet : List ℕ) × (form : TableForm) × (language : Option Language)
+      × IsTableOf (codes "table", rows) sheet form language
+  only_table (commands.Table sheet form language) of = (sheet, form, language, of)
+  only_table (commands.OnMachine machine sheet task) of =
+      absurd (other_task (codes "table") machine sheet task refl refl of)
+  only_table (commands.Message machine sheet message task) of =
+      absurd (message_apart task.kind (codes "table") refl refl (sym of.name))
+  only_table other of = absurd (other_name (codes "table") other refl of)
+
+  pub only_look : (command : NamedCommand) → IsCommandOf (codes "look", rows) command
+      → (names files : UpToThree (List ℕ)) × IsLookOf (codes "look", rows) names files
+  only_look (commands.Look names files) of = (names, files, of)
+  only_look (commands.OnMachine machine sheet task) of =
+      absurd (other_task (codes "look") machine sheet task refl refl of)
+  only_look (commands.Message machine sheet message task) of =
+      absurd (message_apart task.kind (codes "look") refl refl (sym of.name))
+  only_look other of = absurd (other_name (codes "look") other refl of)
+
+  -- the words mean a sheet of a table, or a sheet to fill in
+  abbrev pub SheetSaid : Type 0
+  SheetSaid = ((table : List ℕ) × (options : OptionTexts) × IsSheetOf (codes "sheet", rows) table options)
+      ⊎ ((model : Model) × (days : ℕ) × IsEmptySheetOf (codes "sheet", rows) model days)
+
+  only_sheet : (command : NamedCommand) → IsCommandOf (codes "sheet", rows) command → SheetSaid
+  only_sheet (commands.Sheet table options) of = inl (table, options, of)
+  only_sheet (commands.EmptySheet model days) of = inr (model, days, of)
+  only_sheet (commands.OnMachine machine sheet task) of =
+      absurd (other_task (codes "sheet") machine sheet task refl refl of)
+  only_sheet (commands.Message machine sheet message task) of =
+      absurd (message_apart task.kind (codes "sheet") refl refl (sym of.name))
+  only_sheet other of = absurd (other_name (codes "sheet") other refl of)
+
+  without_table : first_of (codes "TABLE") rows ≡ None → SheetSaid → ⊥
+  without_table none (inl (table, options, is)) = missing rows (codes "TABLE") table none is.table
+  without_table none (inr (model, days, is)) = missing rows (codes "TABLE") is.days_word none is.table
+
   -- the command `sheet` without a table, or a number of days in its place, is no command
   pub no_sheet : first_of (codes "TABLE") rows ≡ None → (command : NamedCommand)
       → IsCommandOf (codes "sheet", rows) command → ⊥
-  no_sheet none (commands.OnMachine machine sheet task) of = sheet_is_no_task task of.task.name
-  no_sheet none (commands.Table sheet form) of = sheet_is_no_table of.name
-  no_sheet none (commands.Sheet table options) of = let wrong : None ≡ Some table = sym none ∙ of.table in cc
-  no_sheet none (commands.Look names files) of = look_is_no_sheet (sym of.name)
-  no_sheet none (commands.EmptySheet model days) of =
-      let wrong : None ≡ Some of.days_word = sym none ∙ of.table in cc
-
-  -- the command `look` without a file is no command
-  pub no_look : first_of (codes "FILE") rows ≡ None → (command : NamedCommand)
-      → IsCommandOf (codes "look", rows) command → ⊥
-  no_look none (commands.OnMachine machine sheet task) of = look_is_no_task task of.task.name
-  no_look none (commands.Table sheet form) of = look_is_no_table of.name
-  no_look none (commands.Sheet table options) of = look_is_no_sheet of.name
-  no_look none (commands.Look names files) of = let wrong : None ≡ Some names.first = sym none ∙ of.first in cc
-  no_look none (commands.EmptySheet model days) of = look_is_no_sheet of.name
+  no_sheet none command of = without_table none (only_sheet command of)
 
   module _ (model_word days_word : List ℕ) (empty : first_of (codes "empty") rows ≡ Some model_word)
       (table : first_of (codes "TABLE") rows ≡ Some days_word) where
+    without_month : ((month : Model × ℕ) → IsMonthNamed model_word days_word month.0 month.1 → ⊥) → SheetSaid → ⊥
+    without_month none (inl (its_table, options, is)) = missing rows (codes "empty") model_word is.filled empty
+    without_month none (inr (model, days, is)) =
+        let model_same = same_Some is.model_word model_word (sym is.empty ∙ empty) in
+        let days_same = same_Some is.days_word days_word (sym is.table ∙ table) in
+        none (model, days) (subst (λ w. IsMonthNamed model_word w model days) days_same
+        (subst (λ w. IsMonthNamed w is.days_word model days) model_same is.month))
+
     -- words that aren't a model and a number of days are no command
     pub no_month : ((month : Model × ℕ) → IsMonthNamed model_word days_word month.0 month.1 → ⊥)
         → (command : NamedCommand) → IsCommandOf (codes "sheet", rows) command → ⊥
-    no_month none (commands.OnMachine machine sheet task) of = sheet_is_no_task task of.task.name
-    no_month none (commands.Table sheet form) of = sheet_is_no_table of.name
-    no_month none (commands.Sheet its_table options) of =
-        let wrong : None ≡ Some model_word = sym of.filled ∙ empty in cc
-    no_month none (commands.Look names files) of = look_is_no_sheet (sym of.name)
-    no_month none (commands.EmptySheet model days) of =
-        let model_same = same_Some of.model_word model_word (sym of.empty ∙ empty) in
-        let days_same = same_Some of.days_word days_word (sym of.table ∙ table) in
-        none (model, days) (subst (λ w. IsMonthNamed model_word w model days) days_same
-        (subst (λ w. IsMonthNamed w of.days_word model days) model_same of.month))
+    no_month none command of = without_month none (only_sheet command of)
+
+    with_others : are_blank (option_texts rows) ≡ false → SheetSaid → ⊥
+    with_others other (inl (its_table, options, is)) = missing rows (codes "empty") model_word is.filled empty
+    with_others other (inr (model, days, is)) = let wrong : true ≡ false = sym is.alone ∙ other in cc
 
     -- an empty sheet with other options is no command
     pub not_alone : are_blank (option_texts rows) ≡ false → (command : NamedCommand)
         → IsCommandOf (codes "sheet", rows) command → ⊥
-    not_alone other (commands.OnMachine machine sheet task) of = sheet_is_no_task task of.task.name
-    not_alone other (commands.Table sheet form) of = sheet_is_no_table of.name
-    not_alone other (commands.Sheet its_table options) of =
-        let wrong : None ≡ Some model_word = sym of.filled ∙ empty in cc
-    not_alone other (commands.Look names files) of = look_is_no_sheet (sym of.name)
-    not_alone other (commands.EmptySheet model days) of = let wrong : true ≡ false = sym of.alone ∙ other in cc
+    not_alone other command of = with_others other (only_sheet command of)
+
+-- no command is meant, if its name is none of these, and no task is meant
+pub no_task_with : (said : List ℕ × List Row) → said.0 ≢ codes "table" → said.0 ≢ codes "sheet"
+    → said.0 ≢ codes "look" → said.0 ≢ codes "send" → said.0 ≢ codes "receive"
+    → ((machine sheet : List ℕ) (task : Task) → IsTaskWith said machine sheet task → ⊥)
+    → (command : NamedCommand) → IsCommandOf said command → ⊥
+no_task_with said table sheet look send receive none (commands.OnMachine machine its_sheet task) of =
+    none machine its_sheet task of
+no_task_with said table sheet look send receive none (commands.Message machine its_sheet message task) of =
+    no_message said.0 task.kind send receive of.name
+no_task_with said table sheet look send receive none (commands.Table its_sheet form language) of = table of.name
+no_task_with said table sheet look send receive none (commands.Sheet its_table options) of = sheet of.name
+no_task_with said table sheet look send receive none (commands.Look names files) of = look of.name
+no_task_with said table sheet look send receive none (commands.EmptySheet model days) of = sheet of.name
+
+-- a task of `page` has its days and its language
+pub only_page : (rows : List Row) (task : Task) → IsTaskOf (codes "page", rows) task
+    → (days : Option (List ℕ)) × (language : Option Language) × HasDays rows days × HasLanguage rows language
+only_page rows (tasks.Page days language) of = (days, language, of.arguments.0, of.arguments.1)
+only_page rows (tasks.List day) of = absurd (apart 0 (codes "page") (codes "list") refl of.name)
+
+pub only_list : (rows : List Row) (task : Task) → IsTaskOf (codes "list", rows) task
+    → (day : ℕ) × HasDay rows day
+only_list rows (tasks.Page days language) of = absurd (apart 0 (codes "list") (codes "page") refl of.name)
+only_list rows (tasks.List day) of = (day, of.arguments)
+
+-- a word that names no days gives none
+pub other_days_word : (rows : List Row) (word : List ℕ) → first_of (codes "DAYS") rows ≡ Some word
+    → ((days : List ℕ) → AreDays word days → ⊥) → (days : Option (List ℕ)) → HasDays rows days → ⊥
+other_days_word rows word is none None has = let wrong : Some word ≡ None = sym is ∙ has in cc
+other_days_word rows word is none (Some days) has =
+    let same = same_Some word has.0 (sym is ∙ has.1) in
+    none days (subst (λ w. AreDays w days) (sym same) has.2)
+
+-- a word that is no language's code gives none
+pub other_language : (rows : List Row) (word : List ℕ) → first_of (codes "in") rows ≡ Some word
+    → ((language : Language) → language_code language ≢ word) → (language : Option Language) → HasLanguage rows language
+    → ⊥
+other_language rows word is none None has = let wrong : Some word ≡ None = sym is ∙ has in cc
+other_language rows word is none (Some language) has = none language (same_Some _ _ (sym has ∙ is))
 
 -- the text of an option, as clap's getter reads it
 pub read_text : (found : Found) (id : List ℕ) (word : Option (Bor (List ℕ))) (otherwise : Bor (List ℕ))

@@ -67,6 +67,9 @@ lacks_no_device : (model : Model) (month : List (Option Day)) (number : ℕ) (fa
 lacks_no_device model month number NoSuchDay lacks = refl
 lacks_no_device model month number OtherModel lacks = refl
 lacks_no_device model month number (File fault) lacks = absurd lacks
+lacks_no_device model month number (faults.Message fault) lacks = absurd lacks
+lacks_no_device model month number faults.TooManyParts lacks = absurd lacks
+lacks_no_device model month number faults.LettersMissing lacks = absurd lacks
 lacks_no_device model month number faults.FaultyTable lacks = absurd lacks
 lacks_no_device model month number faults.FaultyFile lacks = absurd lacks
 lacks_no_device model month number faults.Device lacks = absurd lacks

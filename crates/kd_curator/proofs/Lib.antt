@@ -15,6 +15,8 @@ pub mod OneCommand
 pub mod Passing
 pub mod Ranked
 pub mod Runs
+pub mod ReceiveAnswers
+pub mod SendAnswers
 pub mod SheetAnswers
 pub mod TableAnswers
 pub mod Writings

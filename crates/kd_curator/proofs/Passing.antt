@@ -16,7 +16,7 @@ use Rattle.kd_curator.specs.Program.{CarriesOut, DoesCommand, DoesTask, IsTold, 
 use Rattle.kd_curator.specs.Program.{AnswersAfter, IsFlushed, is_whole}
 use Rattle.kd_curator.specs.Program.{Carried, FileUnread, Shown, OtherWords, NoMemory, is_stopped_by_device, is_usage}
 use Rattle.kd_curator.specs.Looks.{Looks, named_texts}
-use Rattle.kd_curator.specs.Refusals.{comes_after_writing, is_faulty_file, refused_device, refused_whole}
+use Rattle.kd_curator.specs.Refusals.{comes_after_writing, is_after_all, refused_device, refused_whole}
 use Rattle.kd_curator.specs.declared.fault.PageFault.{PageFault}
 use Rattle.kd_curator.specs.declared.fault.PageFault.TheVariants as faults
 use Rattle.kd_look.specs.Look.{IsLookAnswer, NamedText}
@@ -35,7 +35,15 @@ use Rattle.kd_curator.specs.CommandLine.{ReadCommand}
 use Rattle.kd_curator.specs.declared.command.Command.TheVariants as commands
 use Rattle.kd_curator.specs.declared.fault.PageFault.TheVariants.{File}
 use Rattle.kd_curator.specs.RunList.{WritesList, NoList, Settings}
+use Rattle.std.specs.Prelude.{unwrap_or}
+use Rattle.kd_curator.specs.Program.{WritesMessage}
 use Rattle.kd_curator.specs.RunPage.{WritesPages, NoDays, NoPage, Pages}
+use Rattle.kd_curator.specs.RunReceive.{WritesReceivePage}
+use Rattle.kd_curator.specs.RunReceive as receives
+use Rattle.kd_curator.specs.RunSend.{WritesSendPage}
+use Rattle.kd_curator.specs.RunSend as sends
+use Rattle.kd_curator.specs.declared.command.MessageKind.{MessageKind}
+use Rattle.kd_curator.specs.declared.command.MessageKind.TheVariants as kinds
 use Rattle.kd_curator.specs.declared.command.Task.{Task}
 use Rattle.kd_curator.specs.declared.command.Task.TheVariants as tasks
 use Rattle.kd_curator.specs.declared.fault.Refused.{Refused}
@@ -99,8 +107,8 @@ module _ (one other : Port) (before : one.had ≡ other.had) (after : Keeps one.
 
   task_kept : (l : Language) (task : Task) (machine sheet : List ℕ) (told : Result (Unit {0}) Refused)
       → DoesTask l task machine sheet one told → DoesTask l task machine sheet other told
-  task_kept l (tasks.Page days) machine sheet told does =
-      on_sheet_kept machine sheet _ _ told (λ m month. pages_kept l month m _ told) does
+  task_kept l (tasks.Page days chosen) machine sheet told does =
+      on_sheet_kept machine sheet _ _ told (λ m month. pages_kept (unwrap_or chosen l) month m _ told) does
   task_kept l (tasks.List day) machine sheet told does =
       on_sheet_kept machine sheet _ _ told (λ m month. list_kept month m day told) does
 
@@ -138,10 +146,39 @@ module _ (one other : Port) (before : one.had ≡ other.had) (after : Keeps one.
   look_kept files told looks =
       record { told = looks.told; looks = report_kept files looks.told looks.looks; answers = looks.answers }
 
+  send_kept : (l : Language) (month : List (Option Day)) (m : Parts) (number : ℕ) (order : List ℕ)
+      (told : Result (Unit {0}) Refused) → WritesSendPage l month m number order one told
+      → WritesSendPage l month m number order other told
+  send_kept l month m number order told (sends.NoDay none is) = sends.NoDay none is
+  send_kept l month m number order told (sends.NoPage s found fault why is) = sends.NoPage s found fault why is
+  send_kept l month m number order told (sends.Page s found texts are form page ready is shown writes) =
+      sends.Page s found texts are form page ready is shown (text_kept _ _ told writes)
+
+  receive_kept : (l : Language) (month : List (Option Day)) (m : Parts) (number : ℕ) (form : List ℕ)
+      (told : Result (Unit {0}) Refused) → WritesReceivePage l month m number form one told
+      → WritesReceivePage l month m number form other told
+  receive_kept l month m number form told (receives.NoDay none is) = receives.NoDay none is
+  receive_kept l month m number form told (receives.OffKey s found fault why is) = receives.OffKey s found fault why is
+  receive_kept l month m number form told (receives.NotRead s found ready fault why is) =
+      receives.NotRead s found ready fault why is
+  receive_kept l month m number form told (receives.Page s found texts parts read writes is) =
+      receives.Page s found texts parts read (appends_kept _ writes) is
+  receive_kept l month m number form told (receives.Cut s found texts parts read front is) =
+      receives.Cut s found texts parts read (front.0, front.1, appends_kept _ front.2) is
+
+  message_kept : (kind : MessageKind) (l : Language) (month : List (Option Day)) (m : Parts) (number : ℕ)
+      (message : List ℕ) (told : Result (Unit {0}) Refused) → WritesMessage kind l month m number message one told
+      → WritesMessage kind l month m number message other told
+  message_kept kinds.Order l month m number order told writes = send_kept l month m number order told writes
+  message_kept kinds.Form l month m number form told writes = receive_kept l month m number form told writes
+
   command_kept : (l : Language) (command : ReadCommand) (told : Result (Unit {0}) Refused) → DoesCommand l command one told
       → DoesCommand l command other told
   command_kept l (commands.OnMachine machine sheet task) told does = task_kept l task machine sheet told does
-  command_kept l (commands.Table sheet form) told does = tables_kept l form sheet told does
+  command_kept l (commands.Message machine sheet message task) told does =
+      on_sheet_kept machine sheet _ _ told
+      (λ m month. message_kept task.kind (unwrap_or task.language l) month m task.day message told) does
+  command_kept l (commands.Table sheet form chosen) told does = tables_kept (unwrap_or chosen l) form sheet told does
   command_kept l (commands.Sheet table options) told does = sheet_kept options table told does
   command_kept l (commands.Look names files) told does = look_kept (named_texts names files) told does
   command_kept l (commands.EmptySheet model days) told does = text_kept refused_device _ told does
@@ -218,8 +255,9 @@ pub failed_on : (left : List ℕ) (done answer : Result (Unit {0}) Stop) (before
 failed_on left done answer before between after ends failed same passed =
     failed_by left done answer before between after failed (is_whole done) refl ends same passed
 
-whole_fault : (fault : PageFault) → is_faulty_file fault ≡ true → not (comes_after_writing fault) ≡ true → ⊥
+whole_fault : (fault : PageFault) → is_after_all fault ≡ true → not (comes_after_writing fault) ≡ true → ⊥
 whole_fault faults.FaultyFile whole early = cc
+whole_fault faults.LettersMissing whole early = cc
 whole_fault _ whole early = cc
 
 -- an answer that says all that was written isn't one from before writing

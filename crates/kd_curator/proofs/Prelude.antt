@@ -13,7 +13,7 @@ pub use Rattle.clap.specs.declared.builder.arg.Arg.{Arg}
 pub use Rattle.clap.specs.declared.error.{Error.Error, kind.ErrorKind.ErrorKind}
 pub use Rattle.clap.specs.declared.error.kind.ErrorKind.TheVariants.{OutOfMemory}
 pub use Rattle.kd_state.specs.SheetDay.{IsDayNumber}
-pub use Rattle.kd_curator.specs.CommandLine.{AsksForHelp, HasNoCommand, HasTaskDays, IsCommandLineOf, IsCommandOf}
+pub use Rattle.kd_curator.specs.CommandLine.{AsksForHelp, HasDay, HasDays, HasLanguage, HasNoCommand, IsCommandLineOf, IsCommandOf}
 pub use Rattle.kd_curator.specs.CommandLine.{IsMadeOf, IsMeant, IsNoCommandLine, IsTaskOf, IsToldAs, NamedCommand}
 pub use Rattle.kd_curator.specs.CommandLine.{is_help}
 pub use Rattle.kd_curator.specs.CommandLine.{unborrowed_command}

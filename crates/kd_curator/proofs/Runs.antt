@@ -76,31 +76,13 @@ left_alone had failed = record { same = refl; failed = refl }
 pub notes_so : (words : List (List ℕ)) (errors : Port) (command : NamedCommand) (read : ReadCommand)
     → IsCommandLineOf words command → AreAlike command read → HasTold read errors → HasNotes words errors
 notes_so words errors (commands.OnMachine a b c) (commands.OnMachine d e f) says alike told = NoNotes told
-notes_so words errors (commands.Table a b) (commands.Table c d) says alike told = NoNotes told
+notes_so words errors (commands.Message a b c d) (commands.Message e f g h) says alike told = NoNotes told
+notes_so words errors (commands.Table a b c) (commands.Table d e f) says alike told = NoNotes told
 notes_so words errors (commands.EmptySheet a b) (commands.EmptySheet c d) says alike told = NoNotes told
 notes_so words errors (commands.Sheet table options) (commands.Sheet bytes same) says alike told =
     TableNotes table options says told
 notes_so words errors (commands.Look a b) (commands.Look c d) says alike told = NoNotes told
-notes_so words errors (commands.OnMachine a b c) (commands.Table d e) says alike told = absurd alike
-notes_so words errors (commands.OnMachine a b c) (commands.Sheet d e) says alike told = absurd alike
-notes_so words errors (commands.OnMachine a b c) (commands.Look d e) says alike told = absurd alike
-notes_so words errors (commands.OnMachine a b c) (commands.EmptySheet d e) says alike told = absurd alike
-notes_so words errors (commands.Table a b) (commands.OnMachine c d e) says alike told = absurd alike
-notes_so words errors (commands.Table a b) (commands.Sheet c d) says alike told = absurd alike
-notes_so words errors (commands.Table a b) (commands.Look c d) says alike told = absurd alike
-notes_so words errors (commands.Table a b) (commands.EmptySheet c d) says alike told = absurd alike
-notes_so words errors (commands.Sheet a b) (commands.OnMachine c d e) says alike told = absurd alike
-notes_so words errors (commands.Sheet a b) (commands.Table c d) says alike told = absurd alike
-notes_so words errors (commands.Sheet a b) (commands.Look c d) says alike told = absurd alike
-notes_so words errors (commands.Sheet a b) (commands.EmptySheet c d) says alike told = absurd alike
-notes_so words errors (commands.Look a b) (commands.OnMachine c d e) says alike told = absurd alike
-notes_so words errors (commands.Look a b) (commands.Table c d) says alike told = absurd alike
-notes_so words errors (commands.Look a b) (commands.Sheet c d) says alike told = absurd alike
-notes_so words errors (commands.Look a b) (commands.EmptySheet c d) says alike told = absurd alike
-notes_so words errors (commands.EmptySheet a b) (commands.OnMachine c d e) says alike told = absurd alike
-notes_so words errors (commands.EmptySheet a b) (commands.Table c d) says alike told = absurd alike
-notes_so words errors (commands.EmptySheet a b) (commands.Sheet c d) says alike told = absurd alike
-notes_so words errors (commands.EmptySheet a b) (commands.Look c d) says alike told = absurd alike
+notes_so words errors _ _ says alike told = absurd alike
 
 -- the number of days that the words ask for is that of a month
 meant_month : (said : Option (List ℕ × List Row)) (model : Model) (days : ℕ)
@@ -114,10 +96,8 @@ months_so words (commands.EmptySheet model days) (commands.EmptySheet same many)
     let here = meant_month (subcommand_of curator_grammar words) model days says.said in
     subst (λ d. d ≤ 31) alike.1 here
 months_so words command (commands.OnMachine d e f) says alike = tt
-months_so words command (commands.Table d e) says alike = tt
+months_so words command (commands.Message d e f g) says alike = tt
+months_so words command (commands.Table d e f) says alike = tt
 months_so words command (commands.Sheet d e) says alike = tt
 months_so words command (commands.Look d e) says alike = tt
-months_so words (commands.Look a b) (commands.EmptySheet d e) says alike = absurd alike
-months_so words (commands.OnMachine a b c) (commands.EmptySheet d e) says alike = absurd alike
-months_so words (commands.Table a b) (commands.EmptySheet d e) says alike = absurd alike
-months_so words (commands.Sheet a b) (commands.EmptySheet d e) says alike = absurd alike
+months_so words _ (commands.EmptySheet d e) says alike = absurd alike

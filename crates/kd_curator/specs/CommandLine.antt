@@ -1,8 +1,9 @@
--- The grammar of the command line: `page`, `list`, `table`, `sheet` and `look`, with their arguments and with help.
+-- The grammar of the command line: `page`, `list`, `table`, `sheet`, `look`, `send` and `receive`, with their arguments
+-- and with help.
 -- Code: `grammar` builds the grammar by calls of the library `clap`.
 -- Test: refuses_other_words
-use Rattle.std.specs.Prelude.{codes, decimal, ◌≡◌, ◌≢◌, ℕ, Bool, true, false, List, [], ◌∷◌, Option, Some, None}
-use Rattle.std.specs.Prelude.{◌&&◌, ◌==◌, IsSomeAnd, IsTrue, length, unwrap_or}
+use Rattle.std.specs.Prelude.{codes, decimal, ◌≡◌, ◌≢◌, ℕ, Bool, true, false, List, [], ◌∷◌, ◌++◌, Option, Some, None}
+use Rattle.std.specs.Prelude.{◌&&◌, ◌==◌, IsSomeAnd, IsTrue, length, option_map, unwrap_or}
 use Rattle.std.specs.Borrow.{Bor}
 use Rattle.clap.specs.declared.builder.command.Command.{Command as Grammar, out-Command}
 use Rattle.clap.specs.declared.error.kind.ErrorKind.{ErrorKind}
@@ -11,6 +12,8 @@ use Rattle.clap.specs.Words.{App, app_of, IsAmong, Row, Rule, Shape, first_of, f
 use Rattle.clap.specs.Simple.{new_shape}
 use Rattle.kd_state.specs.SheetDay.{IsDayNumber}
 use Rattle.kd_curator.specs.Days.{AreDays}
+use Rattle.kd_curator.specs.Locale.{language_code}
+use Rattle.kd_pictures.specs.declared.language.Language.{Language}
 use Rattle.clap.specs.declared.builder.action.ArgAction.TheVariants.{SetTrue}
 use Rattle.kd_tables.specs.Tables.{model_text}
 use Rattle.kd_tables.specs.declared.model.Model.{Model}
@@ -21,6 +24,9 @@ use Rattle.kd_key_table.specs.declared.table_file.TableForm.{TableForm}
 use Rattle.kd_key_table.specs.declared.table_file.TableForm.TheVariants as forms
 use Rattle.kd_curator.specs.declared.command.Command.{Command}
 use Rattle.kd_curator.specs.declared.command.Command.TheVariants as commands
+use Rattle.kd_curator.specs.declared.command.MessageKind.{MessageKind}
+use Rattle.kd_curator.specs.declared.command.MessageKind.TheVariants as kinds
+use Rattle.kd_curator.specs.declared.command.MessageTask.{MessageTask}
 use Rattle.kd_curator.specs.declared.command.NoCommand.{NoCommand}
 use Rattle.kd_curator.specs.declared.command.NoCommand.TheVariants.{Asked, Usage, NoMemory}
 use Rattle.kd_curator.specs.declared.command.Task.{Task}
@@ -35,8 +41,20 @@ command_shape name last = record (new_shape name) {
   rules = needed (codes "MACHINE") ∷ needed (codes "SHEET") ∷ last ∷ [];
 }
 
+-- an option with a value
+abbrev pub option_rule : List ℕ → Rule
+option_rule name = record (new_rule name) { long = Some name; value_names = 1 }
+
+-- the option `--in`, for the language
+abbrev pub language_option : Rule
+language_option = option_rule (codes "in")
+
+-- a command with one more argument
+abbrev pub with_rule : Shape → Rule → Shape
+with_rule shape rule = record shape { rules = shape.rules ++ rule ∷ [] }
+
 abbrev pub page_shape : Shape
-page_shape = command_shape (codes "page") (new_rule (codes "DAYS"))
+page_shape = with_rule (command_shape (codes "page") (new_rule (codes "DAYS"))) language_option
 
 abbrev pub list_shape : Shape
 list_shape = command_shape (codes "list") (needed (codes "DAY"))
@@ -46,11 +64,7 @@ abbrev pub csv_flag : Rule
 csv_flag = record (new_rule (codes "csv")) { long = Some (codes "csv"); action = Some SetTrue }
 
 abbrev pub table_shape : Shape
-table_shape = record (new_shape (codes "table")) { rules = csv_flag ∷ needed (codes "SHEET") ∷ [] }
-
--- an option with a value
-abbrev pub option_rule : List ℕ → Rule
-option_rule name = record (new_rule name) { long = Some name; value_names = 1 }
+table_shape = record (new_shape (codes "table")) { rules = csv_flag ∷ needed (codes "SHEET") ∷ language_option ∷ [] }
 
 abbrev pub sheet_shape : Shape
 sheet_shape = record (new_shape (codes "sheet")) {
@@ -63,17 +77,33 @@ look_shape = record (new_shape (codes "look")) {
   rules = needed (codes "FILE") ∷ new_rule (codes "FILE2") ∷ new_rule (codes "FILE3") ∷ [];
 }
 
--- the grammar of the program: its five commands
-unfoldable pub curator_grammar : App
-curator_grammar = record {
+abbrev pub message_shape : List ℕ → Rule → Shape
+message_shape name message =
+    with_rule (with_rule (command_shape name (needed (codes "DAY"))) message) language_option
+
+abbrev pub send_shape : Shape
+send_shape = message_shape (codes "send") (needed (codes "ORDER"))
+
+abbrev pub receive_shape : Shape
+receive_shape = message_shape (codes "receive") (needed (codes "FORM"))
+
+-- the program without its commands
+abbrev pub program_alone : App
+program_alone = record {
   top = record (new_shape (codes "curator")) {
     disable_help_subcommand = true;
     has_version = true;
     subcommand_required = true;
     arg_required_else_help = true;
-    is_leaf = false;
   };
-  subs = page_shape ∷ list_shape ∷ table_shape ∷ sheet_shape ∷ look_shape ∷ [];
+  subs = [];
+}
+
+-- the grammar of the program, with its commands
+unfoldable pub curator_grammar : App
+curator_grammar = record {
+  top = record program_alone.top { is_leaf = false };
+  subs = page_shape ∷ list_shape ∷ send_shape ∷ receive_shape ∷ table_shape ∷ sheet_shape ∷ look_shape ∷ [];
 }
 
 -- ---- Which command a command line means.
@@ -87,7 +117,9 @@ NamedCommand = Command (List ℕ) (List ℕ)
 -- the command, with its borrowed texts replaced by the texts themselves
 abbrev pub unborrowed_command : Command (Bor (List ℕ)) (Bor (List ℕ)) → NamedCommand
 unborrowed_command (commands.OnMachine machine sheet task) = commands.OnMachine machine.now sheet.now task
-unborrowed_command (commands.Table sheet form) = commands.Table sheet.now form
+unborrowed_command (commands.Message machine sheet message task) =
+    commands.Message machine.now sheet.now message.now task
+unborrowed_command (commands.Table sheet form language) = commands.Table sheet.now form language
 unborrowed_command (commands.Sheet table options) = commands.Sheet table.now (texts_of options)
 unborrowed_command (commands.Look names files) = commands.Look (unborrowed_three names) (unborrowed_three files)
 unborrowed_command (commands.EmptySheet model days) = commands.EmptySheet model days
@@ -96,21 +128,33 @@ unborrowed_command (commands.EmptySheet model days) = commands.EmptySheet model 
 abbrev pub ReadCommand : Type 0
 ReadCommand = Command (List ℕ) (List ℕ)
 
+-- The argument DAYS, which `page` may lack, names these days.
+abbrev pub HasDays : List Row → Option (List ℕ) → Type 0
+HasDays rows None = first_of (codes "DAYS") rows ≡ None
+HasDays rows (Some days) =
+    (word : List ℕ) × (first_of (codes "DAYS") rows ≡ Some word) × AreDays word days
+
+-- The argument DAY is this day's number.
+abbrev pub HasDay : List Row → ℕ → Type 0
+HasDay rows day = (first_of (codes "DAY") rows ≡ Some (decimal day)) × IsDayNumber day
+
+-- The option `--in` has this language's code. `None`: it isn't used.
+abbrev pub HasLanguage : List Row → Option Language → Type 0
+HasLanguage rows language = first_of (codes "in") rows ≡ option_map language_code language
+
 abbrev pub task_name : Task → List ℕ
-task_name (tasks.Page days) = codes "page"
+task_name (tasks.Page days language) = codes "page"
 task_name (tasks.List day) = codes "list"
 
--- The arguments in `rows` give the task's days: DAYS, which `page` may lack, or DAY.
-abbrev pub HasTaskDays : List Row → Task → Type 0
-HasTaskDays rows (tasks.Page None) = first_of (codes "DAYS") rows ≡ None
-HasTaskDays rows (tasks.Page (Some days)) =
-    (word : List ℕ) × (first_of (codes "DAYS") rows ≡ Some word) × AreDays word days
-HasTaskDays rows (tasks.List day) = (first_of (codes "DAY") rows ≡ Some (decimal day)) × IsDayNumber day
+-- The arguments in `rows` are those of the task.
+abbrev pub HasArguments : List Row → Task → Type 0
+HasArguments rows (tasks.Page days language) = HasDays rows days × HasLanguage rows language
+HasArguments rows (tasks.List day) = HasDay rows day
 
 -- `said` is a command's name and the values of its arguments. They mean the task `task`.
 pub record IsTaskOf (said : List ℕ × List Row) (task : Task) : Type 0 where
   pub name : said.0 ≡ task_name task
-  pub days : HasTaskDays said.1 task
+  pub arguments : HasArguments said.1 task
 
 -- `said` is a command's name and the values of its arguments. They mean the task `task`, with these files.
 pub record IsTaskWith (said : List ℕ × List Row) (machine_file key_sheet : List ℕ) (its_task : Task) : Type 0 where
@@ -123,11 +167,32 @@ abbrev pub HasForm : List Row → TableForm → Type 0
 HasForm rows forms.Csv = first_of (codes "csv") rows ≡ Some (codes "true")
 HasForm rows forms.Page = first_of (codes "csv") rows ≢ Some (codes "true")
 
--- They mean the command `table`, with this file and this form.
-pub record IsTableOf (said : List ℕ × List Row) (key_sheet : List ℕ) (its_form : TableForm) : Type 0 where
+-- the name of the command for a message, and that of the argument for its file
+abbrev pub message_name : MessageKind → List ℕ
+message_name kinds.Order = codes "send"
+message_name kinds.Form = codes "receive"
+
+abbrev pub message_argument : MessageKind → List ℕ
+message_argument kinds.Order = codes "ORDER"
+message_argument kinds.Form = codes "FORM"
+
+-- They mean the command `send` or `receive`, with these files and this task.
+pub record IsMessageOf (said : List ℕ × List Row) (machine_file key_sheet its_message : List ℕ) (its_task : MessageTask)
+    : Type 0 where
+  pub name : said.0 ≡ message_name its_task.kind
+  pub machine : first_of (codes "MACHINE") said.1 ≡ Some machine_file
+  pub sheet : first_of (codes "SHEET") said.1 ≡ Some key_sheet
+  pub message : first_of (message_argument its_task.kind) said.1 ≡ Some its_message
+  pub day : HasDay said.1 its_task.day
+  pub language : HasLanguage said.1 its_task.language
+
+-- They mean the command `table`, with this file, this form and this language.
+pub record IsTableOf (said : List ℕ × List Row) (key_sheet : List ℕ) (its_form : TableForm)
+    (its_language : Option Language) : Type 0 where
   pub name : said.0 ≡ codes "table"
   pub sheet : first_of (codes "SHEET") said.1 ≡ Some key_sheet
   pub form : HasForm said.1 its_form
+  pub language : HasLanguage said.1 its_language
 
 -- the text of an option; an empty text if it isn't used
 abbrev pub option_text : List ℕ → List Row → List ℕ
@@ -180,7 +245,8 @@ pub record IsLookOf (said : List ℕ × List Row) (names files : UpToThree (List
 -- They mean the command `command`.
 abbrev pub IsCommandOf : List ℕ × List Row → NamedCommand → Type 0
 IsCommandOf said (commands.OnMachine machine sheet task) = IsTaskWith said machine sheet task
-IsCommandOf said (commands.Table sheet form) = IsTableOf said sheet form
+IsCommandOf said (commands.Message machine sheet message task) = IsMessageOf said machine sheet message task
+IsCommandOf said (commands.Table sheet form language) = IsTableOf said sheet form language
 IsCommandOf said (commands.Sheet table options) = IsSheetOf said table options
 IsCommandOf said (commands.Look names files) = IsLookOf said names files
 IsCommandOf said (commands.EmptySheet model days) = IsEmptySheetOf said model days
@@ -229,6 +295,12 @@ pub record IsMadeOf (grammar : Grammar) (shape : Shape) : Type 0 where
   pub made : app_of grammar ≡ record { top = shape; subs = [] }
   pub local : (out-Command grammar).has_globals ≡ false
 
+-- The arguments in `rows` are those of a task of this kind.
+pub record IsMessageTask (rows : List Row) (kind : MessageKind) (task : MessageTask) : Type 0 where
+  pub same : task.kind ≡ kind
+  pub day : HasDay rows task.day
+  pub language : HasLanguage rows task.language
+
 -- clap's error of this kind gives this reason.
 abbrev pub IsToldAs : ErrorKind → NoCommand → Type 0
 IsToldAs kind (Asked text) = IsTrue (is_help kind)
@@ -243,7 +315,8 @@ IsFormNamed word forms.Page = word ≢ codes "true"
 -- the command, with the borrowed texts of its options replaced by the texts themselves
 abbrev pub with_texts : Command (List ℕ) (Bor (List ℕ)) → ReadCommand
 with_texts (commands.OnMachine machine sheet task) = commands.OnMachine machine sheet task
-with_texts (commands.Table sheet form) = commands.Table sheet form
+with_texts (commands.Message machine sheet message task) = commands.Message machine sheet message task
+with_texts (commands.Table sheet form language) = commands.Table sheet form language
 with_texts (commands.Sheet table options) = commands.Sheet table (texts_of options)
 with_texts (commands.Look names files) = commands.Look (unborrowed_three names) files
 with_texts (commands.EmptySheet model days) = commands.EmptySheet model days

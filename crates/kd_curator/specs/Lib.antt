@@ -12,6 +12,8 @@ pub mod Program
 pub mod Refusals
 pub mod RunList
 pub mod RunPage
+pub mod RunReceive
+pub mod RunSend
 pub mod Sheets
 pub mod Looks
 pub mod Tables

@@ -8,3 +8,8 @@ use Rattle.kd_pictures.specs.declared.language.Language.TheVariants.{English, Ge
 -- the language of a locale, such as `de_DE.UTF-8`: German if it begins with `de`, otherwise English
 unfoldable pub language_of : List ℕ → Language
 language_of locale = if starts_with nat_eq locale (codes "de") then German else English
+
+-- the code of a language, as the option `--in` has it
+abbrev pub language_code : Language → List ℕ
+language_code English = codes "en"
+language_code German = codes "de"

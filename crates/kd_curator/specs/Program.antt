@@ -2,7 +2,7 @@
 -- Code: `run_words` parses the words, reads the files, and carries the command out.
 -- Test: carries_each_command_out
 use Rattle.std.specs.Prelude.{◌≡◌, ◌⊎◌, ◌≤◌, ◌||◌, not, ℕ, Bool, true, false, List, [], ◌∷◌, length, Option, Some, None, IfSome}
-use Rattle.std.specs.Prelude.{Result, Ok, Err, IsTrue}
+use Rattle.std.specs.Prelude.{Result, Ok, Err, IsTrue, unwrap_or}
 use Rattle.std.specs.Borrow.{Bor}
 use Rattle.std.specs.Io.KnownBytes.{append_known}
 use Rattle.std.specs.Result.{result_map_both}
@@ -26,10 +26,17 @@ use Rattle.kd_curator.specs.MachineAndSheet.{IsAnswerOnSheet}
 use Rattle.kd_curator.specs.Looks.{Looks, named_texts}
 use Rattle.kd_curator.specs.UpToThree.{AreAsMany, list_of_three}
 use Rattle.kd_curator.specs.declared.up_to_three.UpToThree.{UpToThree}
-use Rattle.kd_curator.specs.Refusals.{comes_after_writing, is_device_fault, is_faulty_file, refused_device}
+use Rattle.kd_curator.specs.Refusals.{comes_after_writing, is_after_all, is_device_fault, refused_device}
 use Rattle.kd_pictures.specs.declared.language.Language.{Language}
 use Rattle.kd_curator.specs.RunList.{WritesList}
 use Rattle.kd_curator.specs.RunPage.{WritesPages, wanted_days}
+use Rattle.kd_curator.specs.RunReceive.{WritesReceivePage}
+use Rattle.kd_curator.specs.RunSend.{WritesSendPage}
+use Rattle.kd_state.specs.SheetDay.{Day}
+use Rattle.kd_state.specs.declared.machine.parts.Parts.{Parts}
+use Rattle.kd_curator.specs.declared.command.MessageKind.{MessageKind}
+use Rattle.kd_curator.specs.declared.command.MessageKind.TheVariants as kinds
+use Rattle.kd_curator.specs.declared.command.MessageTask.{MessageTask}
 use Rattle.kd_curator.specs.Sheets.{MakesSheet}
 use Rattle.kd_curator.specs.Tables.{WritesTables}
 use Rattle.kd_curator.specs.declared.command.Command.{Command}
@@ -61,8 +68,11 @@ abbrev pub known_command : (List ℕ → Option (List ℕ)) → NamedCommand →
 known_command held (commands.OnMachine machine sheet task) =
     with_file (content_of (held machine)) (λ bytes. with_file (content_of (held sheet))
     (λ more. Ok (commands.OnMachine bytes more task)))
-known_command held (commands.Table sheet form) =
-    with_file (content_of (held sheet)) (λ bytes. Ok (commands.Table bytes form))
+known_command held (commands.Message machine sheet message task) =
+    with_file (content_of (held machine)) (λ bytes. with_file (content_of (held sheet))
+    (λ more. with_file (content_of (held message)) (λ text. Ok (commands.Message bytes more text task))))
+known_command held (commands.Table sheet form language) =
+    with_file (content_of (held sheet)) (λ bytes. Ok (commands.Table bytes form language))
 known_command held (commands.Sheet table options) =
     with_file (content_of (held table)) (λ bytes. Ok (commands.Sheet bytes options))
 known_command held (commands.Look names files) =
@@ -72,7 +82,8 @@ known_command held (commands.EmptySheet model days) = Ok (commands.EmptySheet mo
 -- Both commands are the same, but for the names of files in the first, and the bytes of files in the second.
 abbrev pub AreAlike : NamedCommand → ReadCommand → Type 0
 AreAlike (commands.OnMachine machine sheet task) (commands.OnMachine bytes more same) = task ≡ same
-AreAlike (commands.Table sheet form) (commands.Table bytes same) = form ≡ same
+AreAlike (commands.Message machine sheet message task) (commands.Message bytes more text same) = task ≡ same
+AreAlike (commands.Table sheet form language) (commands.Table bytes same also) = (form ≡ same) × (language ≡ also)
 AreAlike (commands.Sheet table options) (commands.Sheet bytes same) = options ≡ same
 AreAlike (commands.Look names files) (commands.Look same contents) = (names ≡ same) × AreAsMany files contents
 AreAlike (commands.EmptySheet model days) (commands.EmptySheet same many) = (model ≡ same) × (days ≡ many)
@@ -81,22 +92,37 @@ AreAlike _ _ = ⊥
 -- the names of a command's files, in the order in which they are read
 abbrev pub names_of : NamedCommand → List (List ℕ)
 names_of (commands.OnMachine machine sheet task) = machine ∷ sheet ∷ []
-names_of (commands.Table sheet form) = sheet ∷ []
+names_of (commands.Message machine sheet message task) = machine ∷ sheet ∷ message ∷ []
+names_of (commands.Table sheet form language) = sheet ∷ []
 names_of (commands.Sheet table options) = table ∷ []
 names_of (commands.Look names files) = list_of_three files
 names_of (commands.EmptySheet model days) = []
 
--- What a task writes, with words in language `l`, from the bytes of a machine file and of a key sheet.
+-- What a task writes from the bytes of a machine file and of a key sheet. Its words are in language `l`, unless the task
+-- has another.
 abbrev pub DoesTask : Language → Task → List ℕ → List ℕ → Port → Result (Unit {0}) Refused → Type 0
-DoesTask l (tasks.Page days) machine sheet sink answer = IsAnswerOnSheet machine sheet
-    (λ m month. WritesPages l month m (wanted_days days (model_of m) month) sink answer) answer
+DoesTask l (tasks.Page days chosen) machine sheet sink answer = IsAnswerOnSheet machine sheet
+    (λ m month. WritesPages (unwrap_or chosen l) month m (wanted_days days (model_of m) month) sink answer) answer
 DoesTask l (tasks.List day) machine sheet sink answer = IsAnswerOnSheet machine sheet
     (λ m month. WritesList month m day sink answer) answer
 
--- What a command writes, with words in language `l`, from the bytes of its files.
+-- the page of a message of this kind
+abbrev pub WritesMessage : MessageKind → Language → List (Option Day) → Parts → ℕ → List ℕ → Port
+    → Result (Unit {0}) Refused → Type 0
+WritesMessage kinds.Order l month m number order sink answer = WritesSendPage l month m number order sink answer
+WritesMessage kinds.Form l month m number form sink answer = WritesReceivePage l month m number form sink answer
+
+-- What a task writes from the bytes of a machine file, a key sheet and a message, likewise.
+abbrev pub WorksMessage : Language → MessageTask → List ℕ → List ℕ → List ℕ → Port → Result (Unit {0}) Refused → Type 0
+WorksMessage l task machine sheet message sink answer = IsAnswerOnSheet machine sheet
+    (λ m month. WritesMessage task.kind (unwrap_or task.language l) month m task.day message sink answer) answer
+
+-- What a command writes from the bytes of its files. Its words are in language `l`, unless the command has another.
 abbrev pub DoesCommand : Language → ReadCommand → Port → Result (Unit {0}) Refused → Type 0
 DoesCommand l (commands.OnMachine machine sheet task) sink answer = DoesTask l task machine sheet sink answer
-DoesCommand l (commands.Table sheet form) sink answer = WritesTables l form sheet sink answer
+DoesCommand l (commands.Message machine sheet message task) sink answer =
+    WorksMessage l task machine sheet message sink answer
+DoesCommand l (commands.Table sheet form chosen) sink answer = WritesTables (unwrap_or chosen l) form sheet sink answer
 DoesCommand l (commands.Sheet table options) sink answer = MakesSheet options table sink answer
 DoesCommand l (commands.Look names files) sink answer = Looks (named_texts names files) sink answer
 DoesCommand l (commands.EmptySheet model days) sink answer =
@@ -109,10 +135,11 @@ pub record IsLeftAlone (p : Port) : Type 0 where
 
 -- ---- The program's answer.
 
--- whether everything was written that the answer says: after success, and if files that were looked at have faults
+-- whether everything was written that the answer says: after success, if files that were looked at have faults, and if
+-- letters of a form are missing
 abbrev pub is_whole : Result (Unit {0}) Stop → Bool
 is_whole (Ok done) = true
-is_whole (Err (stops.Refused refused)) = is_faulty_file refused.fault
+is_whole (Err (stops.Refused refused)) = is_after_all refused.fault
 is_whole (Err _) = false
 
 -- The answer after a flush that left the bytes `left` is `first`, and there are none; or `Device`, and there are some.
@@ -231,7 +258,8 @@ read_with_texts read = result_map_both with_texts (λ fault. fault) read
 abbrev pub HasMonth : ReadCommand → Type 0
 HasMonth (commands.EmptySheet model days) = days ≤ 31
 HasMonth (commands.OnMachine machine sheet task) = Unit {0}
-HasMonth (commands.Table sheet form) = Unit {0}
+HasMonth (commands.Message machine sheet message task) = Unit {0}
+HasMonth (commands.Table sheet form language) = Unit {0}
 HasMonth (commands.Sheet table options) = Unit {0}
 HasMonth (commands.Look names files) = Unit {0}
 
@@ -240,6 +268,7 @@ HasMonth (commands.Look names files) = Unit {0}
 abbrev pub HasTold : ReadCommand → Port → Type 0
 HasTold (commands.Sheet table options) errors = Tells errors
 HasTold (commands.OnMachine machine sheet task) errors = IsLeftAlone errors
-HasTold (commands.Table sheet form) errors = IsLeftAlone errors
+HasTold (commands.Message machine sheet message task) errors = IsLeftAlone errors
+HasTold (commands.Table sheet form language) errors = IsLeftAlone errors
 HasTold (commands.Look names files) errors = IsLeftAlone errors
 HasTold (commands.EmptySheet model days) errors = IsLeftAlone errors

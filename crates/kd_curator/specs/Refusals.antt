@@ -5,6 +5,11 @@ use Rattle.kd_tables.specs.declared.refusal.Refusal.TheVariants as refusals
 use Rattle.kd_tables.specs.Refusals.{refusal_name}
 use Rattle.kd_sheet.specs.FaultText.{sheet_fault_text}
 use Rattle.kd_sheet.specs.declared.fault.SheetFault.TheVariants.{NoMemory}
+use Rattle.kd_form.specs.FaultText.{form_fault_text}
+use Rattle.kd_message.specs.declared.receiving.ReceivePageFault.{ReceivePageFault}
+use Rattle.kd_message.specs.declared.receiving.ReceivePageFault.TheVariants as receives
+use Rattle.kd_message.specs.declared.sending.SendPageFault.{SendPageFault}
+use Rattle.kd_message.specs.declared.sending.SendPageFault.TheVariants as sends
 use Rattle.kd_table.specs.declared.fault.SpreadsheetFault.{SpreadsheetFault}
 use Rattle.kd_table.specs.declared.fault.SpreadsheetFault.TheVariants as spreadsheets
 use Rattle.kd_curator.specs.declared.fault.PageFault.{PageFault}
@@ -19,8 +24,11 @@ abbrev pub page_fault_text : PageFault → List ℕ
 page_fault_text (faults.File fault) = sheet_fault_text fault
 page_fault_text faults.NoSuchDay = refusal_name refusals.NoSuchDay
 page_fault_text faults.OtherModel = refusal_name refusals.OtherModel
+page_fault_text (faults.Message fault) = form_fault_text fault
 page_fault_text faults.FaultyTable = codes "because the table has faults"
 page_fault_text faults.FaultyFile = codes "because a file has faults"
+page_fault_text faults.TooManyParts = codes "because the form has more than 255 parts"
+page_fault_text faults.LettersMissing = codes "in part: letters or parts of the form are missing"
 page_fault_text faults.Device = refusal_name refusals.Device
 
 -- a refusal that is of no day, or of the only one
@@ -31,15 +39,18 @@ abbrev pub is_device_fault : PageFault → Bool
 is_device_fault faults.Device = true
 is_device_fault _ = false
 
--- whether a refusal for this fault comes after something was written: a write failed, or a report on files is written
+-- whether a refusal for this fault comes after something was written: a write failed, or all was written
 abbrev pub comes_after_writing : PageFault → Bool
 comes_after_writing faults.Device = true
 comes_after_writing faults.FaultyFile = true
+comes_after_writing faults.LettersMissing = true
 comes_after_writing _ = false
 
-abbrev pub is_faulty_file : PageFault → Bool
-is_faulty_file faults.FaultyFile = true
-is_faulty_file _ = false
+-- whether a refusal for this fault comes after all was written: a report on files, or the page of a form
+abbrev pub is_after_all : PageFault → Bool
+is_after_all faults.FaultyFile = true
+is_after_all faults.LettersMissing = true
+is_after_all _ = false
 
 abbrev pub refused_device : Refused
 refused_device = refused_whole faults.Device
@@ -53,6 +64,17 @@ is_device (Err refused) = is_device_fault refused.fault
 abbrev pub refused_table : TableFault → Refused
 refused_table (tables.Sheet fault) = refused_whole (faults.File fault)
 refused_table tables.Device = refused_device
+
+-- why no page for sending is written, as a refusal
+abbrev pub refused_send : SendPageFault → Refused
+refused_send (sends.Order fault) = refused_whole (faults.Message fault)
+refused_send sends.Device = refused_device
+
+-- why no page of a form is written, as a refusal
+abbrev pub refused_receive : ReceivePageFault → Refused
+refused_receive receives.NoMemory = refused_whole (faults.File NoMemory)
+refused_receive receives.TooManyParts = refused_whole faults.TooManyParts
+refused_receive receives.Device = refused_device
 
 -- why no key sheet is made of a table, as a refusal
 abbrev pub refused_spreadsheet : SpreadsheetFault → Refused

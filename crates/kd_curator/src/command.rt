@@ -1,21 +1,26 @@
 //! The commands, and the parser of the command line.
-ghost use Rattle.std.specs.Prelude.{◌≡◌, ◌≢◌, ℕ, codes, false, map, IfErr, IfOk, IfSome};
-ghost use Rattle.clap.specs.Words.{app_of, found_of, kind_of, rows_of, rule_of, subcommand_rows_of};
+ghost use Rattle.std.specs.Prelude.{◌≡◌, ◌≢◌, ℕ, List, Option, codes, false, map, IfErr, IfOk, IfSome, IsErr};
+ghost use Rattle.clap.specs.Words.{Shape, app_of, found_of, kind_of, rows_of, rule_of, subcommand_rows_of};
 ghost use Rattle.kd_curator.specs.CommandLine.{IsMadeOf, curator_grammar, command_shape, list_shape, page_shape};
 ghost use Rattle.kd_curator.specs.CommandLine.{HasForm, IsFormNamed, csv_flag, table_shape};
 ghost use Rattle.kd_curator.specs.CommandLine.{are_blank, option_rule, option_text, option_texts, sheet_shape, IsMonthNamed};
-ghost use Rattle.kd_curator.specs.CommandLine.{look_shape};
+ghost use Rattle.kd_curator.specs.CommandLine.{IsMessageTask, language_option, look_shape, message_shape};
+ghost use Rattle.kd_curator.specs.CommandLine.{program_alone, receive_shape, send_shape, with_rule};
+ghost use Rattle.clap.specs.Simple.{with_subcommand};
+ghost use Rattle.kd_curator.specs.declared.command.MessageTask.{MessageTask};
 ghost use Rattle.kd_table.specs.Options.{texts_of};
 ghost use Rattle.kd_curator.specs.CommandLine.{unborrowed_command, needed, task_name};
-ghost use Rattle.kd_curator.specs.CommandLine.{HasTaskDays, IsCommandLineOf, IsCommandOf, IsMeant, IsTaskOf};
+ghost use Rattle.kd_curator.specs.CommandLine.{HasDay, HasDays, HasLanguage, IsCommandLineOf, IsCommandOf, IsMeant, IsTaskOf};
 ghost use Rattle.kd_curator.specs.CommandLine.{NamedCommand};
 ghost use Rattle.kd_curator.specs.CommandLine.{HasNoCommand, IsToldAs};
 
 use crate::days::{Days, days_of_word};
+use crate::locale::language_of_code;
 use crate::up_to_three::UpToThree;
 use clap::error::ErrorKind;
 use clap::{Arg, ArgAction, ArgMatches, Command as Grammar, Error};
 use kd_key_table::TableForm;
+use kd_page::Language;
 use kd_state::day_of_text;
 use kd_table::TableOptions;
 use kd_tables::Model;
@@ -28,6 +33,12 @@ const VERSION: &str = "1.0";
 /// The text of the error for `sheet --empty` with other words than a model and a number of days.
 const NO_MONTH: &str =
     "--empty needs Enigma I, M3, M4 or M-209, then a number of days from 1 to 31, and no other option";
+
+/// The text of the error for an argument that isn't a day.
+const NO_DAY: &str = "the day is a number from 1 to 31";
+
+/// The text of the error for an option `--in` with another language.
+const NO_LANGUAGE: &str = "--in takes de or en";
 
 /// The text of the error for an argument that names no days.
 const NO_DAYS: &str = "days are numbers from 1 to 31, each once, such as 2, 1-31 or 1,4,2";
@@ -44,12 +55,25 @@ pub enum Command<F, T> {
         /// What is written.
         task: Task,
     },
+    /// Writes how a message is worked by hand.
+    Message {
+        /// The machine file.
+        machine: F,
+        /// The key sheet.
+        sheet: F,
+        /// The order or the form.
+        message: F,
+        /// What is written.
+        task: MessageTask,
+    },
     /// Writes a key sheet as printed tables.
     Table {
         /// The key sheet.
         sheet: F,
         /// The form in which it is written.
         form: TableForm,
+        /// The language of the tables, if the words say it.
+        language: Option<Language>,
     },
     /// Makes a key sheet of a spreadsheet's table.
     Sheet {
@@ -76,10 +100,34 @@ pub enum Command<F, T> {
 /// What is written of a machine and of days.
 #[derive(Drop)]
 pub enum Task {
-    /// The pages of these days; without days, of all days that the sheet has for the machine's model.
-    Page(Option<Days>),
+    /// Pages of days.
+    Page {
+        /// The days; `None` means all days that the sheet has for the machine's model.
+        days: Option<Days>,
+        /// The language of the pages, if the words say it.
+        language: Option<Language>,
+    },
     /// The settings of this day's page, as a list that `desk apply` carries out.
     List(u8),
+}
+
+/// What is written of a message.
+#[derive(Clone, Copy)]
+pub struct MessageTask {
+    pub kind: MessageKind,
+    /// The day of the sheet.
+    pub day: u8,
+    /// The language of the page, if the words say it.
+    pub language: Option<Language>,
+}
+
+/// Which message a page is of.
+#[derive(Clone, Copy, Debug, PartialEq, Eq)]
+pub enum MessageKind {
+    /// An order, which is sent.
+    Order,
+    /// A form, which is received.
+    Form,
 }
 
 /// A command with the names of its files, before any file is read.
@@ -120,11 +168,14 @@ pub fn parse_words<'a, S: AsStr>(
 fn why_not(matches: &ArgMatches<'_>) -> &'static str {
     match matches.subcommand() {
         Some(("sheet", _)) => NO_MONTH,
+        Some(("list", _)) => NO_DAY,
+        Some((_, words)) if language_asked(words).is_err() => NO_LANGUAGE,
+        Some(("send" | "receive", _)) => NO_DAY,
         _ => NO_DAYS,
     }
 }
 
-/// Why there is no command, if clap takes the words, but a word doesn't name days, or a model.
+/// Why there is no command, if clap takes the words, but a word doesn't name days, a model or a language.
 fn no_days(alloc: Global, grammar: &mut Grammar<'_>, why: &str) -> NoCommand
     ensures { IsToldAs ErrorKind.InvalidValue result }
 {
@@ -159,7 +210,7 @@ impl From<AllocError> for NoCommand {
     }
 }
 
-/// The command that `matches` mean; `None` if its days aren't days.
+/// The command that `matches` mean; `None` if an argument has a wrong value.
 fn meant_command<'a>(matches: &ArgMatches<'a>) -> Option<NamedCommand<'a>>
     ensures said { IfSome result (λ command.
         IsMeant (subcommand_rows_of matches.now) (unborrowed_command command)) }
@@ -170,7 +221,7 @@ fn meant_command<'a>(matches: &ArgMatches<'a>) -> Option<NamedCommand<'a>>
     command_of(name, words)
 }
 
-/// The command named `name`, with the arguments in `words`; `None` if its days aren't days.
+/// The command named `name`, with the arguments in `words`; `None` if one has a wrong value.
 fn command_of<'a>(name: &str, words: &ArgMatches<'a>) -> Option<NamedCommand<'a>>
     ensures said { IfSome result (λ command.
         IsCommandOf (name.now, rows_of (found_of words.now)) (unborrowed_command command)) }
@@ -181,11 +232,66 @@ fn command_of<'a>(name: &str, words: &ArgMatches<'a>) -> Option<NamedCommand<'a>
         "table" => table_of(words),
         "sheet" => sheet_of(words),
         "look" => look_of(words),
+        "send" => send_of(words),
+        "receive" => receive_of(words),
         _ => task_with_files(name, words),
     }
 }
 
-/// The command `table`, with the key sheet in `words`.
+/// The command `send`, with the arguments in `words`; `None` if one has a wrong value.
+fn send_of<'a>(words: &ArgMatches<'a>) -> Option<NamedCommand<'a>>
+    ensures said { IfSome result (λ command.
+        IsCommandOf (codes "send", rows_of (found_of words.now)) (unborrowed_command command)) }
+    ensures none { result ≡ None → (command : NamedCommand)
+        → ¬ (IsCommandOf (codes "send", rows_of (found_of words.now)) command) }
+{
+    let machine = words.get_str("MACHINE")?;
+    let sheet = words.get_str("SHEET")?;
+    let message = words.get_str("ORDER")?;
+    let task = message_task(words, MessageKind::Order)?;
+    Some(Command::Message {
+        machine,
+        sheet,
+        message,
+        task,
+    })
+}
+
+/// The command `receive`, with the arguments in `words`; `None` if one has a wrong value.
+fn receive_of<'a>(words: &ArgMatches<'a>) -> Option<NamedCommand<'a>>
+    ensures said { IfSome result (λ command.
+        IsCommandOf (codes "receive", rows_of (found_of words.now)) (unborrowed_command command)) }
+    ensures none { result ≡ None → (command : NamedCommand)
+        → ¬ (IsCommandOf (codes "receive", rows_of (found_of words.now)) command) }
+{
+    let machine = words.get_str("MACHINE")?;
+    let sheet = words.get_str("SHEET")?;
+    let message = words.get_str("FORM")?;
+    let task = message_task(words, MessageKind::Form)?;
+    Some(Command::Message {
+        machine,
+        sheet,
+        message,
+        task,
+    })
+}
+
+/// What is written of a message of this kind; `None` if an argument has a wrong value.
+fn message_task(words: &ArgMatches<'_>, kind: MessageKind) -> Option<MessageTask>
+    ensures said { IfSome result (IsMessageTask (rows_of (found_of words.now)) kind) }
+    ensures none { result ≡ None → (task : MessageTask)
+        → ¬ (IsMessageTask (rows_of (found_of words.now)) kind task) }
+{
+    let day = day_asked(words)?;
+    let language = language_asked(words).ok()?;
+    Some(MessageTask {
+        kind,
+        day,
+        language,
+    })
+}
+
+/// The command `table`, with the key sheet in `words`; `None` if an argument has a wrong value.
 fn table_of<'a>(words: &ArgMatches<'a>) -> Option<NamedCommand<'a>>
     ensures said { IfSome result (λ command.
         IsCommandOf (codes "table", rows_of (found_of words.now)) (unborrowed_command command)) }
@@ -194,7 +300,12 @@ fn table_of<'a>(words: &ArgMatches<'a>) -> Option<NamedCommand<'a>>
 {
     let sheet = words.get_str("SHEET")?;
     let form = form_of(words);
-    Some(Command::Table { sheet, form })
+    let language = language_asked(words).ok()?;
+    Some(Command::Table {
+        sheet,
+        form,
+        language,
+    })
 }
 
 /// The form of tables for which the arguments in `words` ask.
@@ -297,11 +408,13 @@ fn month_named(model: &str, days: &str) -> Option<(Model, u8)>
     Some((model, days))
 }
 
-/// The command of a task, named `name`, with the arguments in `words`; `None` if its days aren't days.
+/// The command of a task, named `name`, with the arguments in `words`; `None` if one has a wrong value.
 fn task_with_files<'a>(name: &str, words: &ArgMatches<'a>) -> Option<NamedCommand<'a>>
     requires table { name.now ≢ codes "table" }
     requires sheet { name.now ≢ codes "sheet" }
     requires look { name.now ≢ codes "look" }
+    requires send { name.now ≢ codes "send" }
+    requires receive { name.now ≢ codes "receive" }
     ensures said { IfSome result (λ command.
         IsCommandOf (name.now, rows_of (found_of words.now)) (unborrowed_command command)) }
     ensures none { result ≡ None → (command : NamedCommand)
@@ -330,49 +443,125 @@ fn task_of(name: &str, words: &ArgMatches<'_>) -> Option<Task>
     }
 }
 
-/// The task `page`, with the days in the argument DAYS.
+/// The task `page`, with the days in the argument DAYS; `None` if an argument has a wrong value.
 fn page_of(words: &ArgMatches<'_>) -> Option<Task>
     ensures said { IfSome result (IsTaskOf (codes "page", rows_of (found_of words.now))) }
     ensures none { result ≡ None → (task : Task)
         → ¬ (IsTaskOf (codes "page", rows_of (found_of words.now)) task) }
 {
-    let Some(word) = words.get_str("DAYS") else {
-        return Some(Task::Page(None));
-    };
-    let days = days_of_word(word)?;
-    Some(Task::Page(Some(days)))
+    let days = days_asked(words).ok()?;
+    let language = language_asked(words).ok()?;
+    Some(Task::Page { days, language })
 }
 
-/// The task `list`, with the day in the argument DAY.
+/// The task `list`, with the day in the argument DAY; `None` if it isn't a day.
 fn list_of(words: &ArgMatches<'_>) -> Option<Task>
     ensures said { IfSome result (IsTaskOf (codes "list", rows_of (found_of words.now))) }
     ensures none { result ≡ None → (task : Task)
         → ¬ (IsTaskOf (codes "list", rows_of (found_of words.now)) task) }
 {
-    let day = day_of_text(words.get_str("DAY")?.as_bytes())?;
+    let day = day_asked(words)?;
     Some(Task::List(day))
+}
+
+/// An argument has a value that it can't have.
+#[derive(Clone, Copy)]
+struct WrongValue;
+
+/// The days in the argument DAYS, if it is there.
+fn days_asked(words: &ArgMatches<'_>) -> Result<Option<Days>, WrongValue>
+    ensures said { IfOk result (HasDays (rows_of (found_of words.now))) }
+    ensures none { IsErr result → (days : Option (List ℕ))
+        → ¬ (HasDays (rows_of (found_of words.now)) days) }
+{
+    let Some(word) = words.get_str("DAYS") else {
+        return Ok(None);
+    };
+    match days_of_word(word) {
+        Some(days) => Ok(Some(days)),
+        None => Err(WrongValue),
+    }
+}
+
+/// The day in the argument DAY; `None` if it isn't there, or isn't a day.
+fn day_asked(words: &ArgMatches<'_>) -> Option<u8>
+    ensures said { IfSome result (HasDay (rows_of (found_of words.now))) }
+    ensures none { result ≡ None → (day : ℕ) → ¬ (HasDay (rows_of (found_of words.now)) day) }
+{
+    let word = words.get_str("DAY")?;
+    let day = day_of_text(word.as_bytes())?;
+    Some(day)
+}
+
+/// The language in the option `--in`, if it is used.
+fn language_asked(words: &ArgMatches<'_>) -> Result<Option<Language>, WrongValue>
+    ensures said { IfOk result (HasLanguage (rows_of (found_of words.now))) }
+    ensures none { IsErr result → (language : Option Language)
+        → ¬ (HasLanguage (rows_of (found_of words.now)) language) }
+{
+    let Some(code) = words.get_str("in") else {
+        return Ok(None);
+    };
+    match language_of_code(code) {
+        Some(language) => Ok(Some(language)),
+        None => Err(WrongValue),
+    }
 }
 
 /// The grammar of the command line.
 fn grammar<'a>(alloc: Global) -> Result<Grammar<'a>, AllocError>
     ensures { IfOk result (λ grammar. app_of grammar ≡ curator_grammar) }
 {
-    let page = page_grammar(alloc)?;
-    let list = list_grammar(alloc)?;
-    let table = table_grammar(alloc)?;
-    let sheet = sheet_grammar(alloc)?;
+    let days = with_days(alloc, program_grammar(alloc))?;
+    let messages = with_messages(alloc, days)?;
+    let sheets = with_sheets(alloc, messages)?;
     let look = look_grammar(alloc)?;
+    sheets.subcommand(look)
+}
+
+/// The grammar of the program without its commands.
+fn program_grammar<'a>(alloc: Global) -> Grammar<'a>
+    ensures { app_of result ≡ program_alone }
+{
     Grammar::new(alloc, "curator")
         .about("Writes pages to hang beside a cipher machine: what to set for a day, with pictures")
         .version(VERSION)
         .disable_help_subcommand(true)
         .subcommand_required(true)
         .arg_required_else_help(true)
-        .subcommand(page)?
-        .subcommand(list)?
-        .subcommand(table)?
-        .subcommand(sheet)?
-        .subcommand(look)
+}
+
+/// The program's `grammar` with the commands `page` and `list`.
+fn with_days<'a>(alloc: Global, grammar: Grammar<'a>) -> Result<Grammar<'a>, AllocError>
+    ensures { IfOk result (λ made. app_of made
+        ≡ with_subcommand (with_subcommand (app_of grammar.entry) page_shape) list_shape) }
+{
+    let page = page_grammar(alloc)?;
+    let list = list_grammar(alloc)?;
+    let first = grammar.subcommand(page)?;
+    first.subcommand(list)
+}
+
+/// The program's `grammar` with the commands `send` and `receive`.
+fn with_messages<'a>(alloc: Global, grammar: Grammar<'a>) -> Result<Grammar<'a>, AllocError>
+    ensures { IfOk result (λ made. app_of made
+        ≡ with_subcommand (with_subcommand (app_of grammar.entry) send_shape) receive_shape) }
+{
+    let send = send_grammar(alloc)?;
+    let receive = receive_grammar(alloc)?;
+    let first = grammar.subcommand(send)?;
+    first.subcommand(receive)
+}
+
+/// The program's `grammar` with the commands `table` and `sheet`.
+fn with_sheets<'a>(alloc: Global, grammar: Grammar<'a>) -> Result<Grammar<'a>, AllocError>
+    ensures { IfOk result (λ made. app_of made
+        ≡ with_subcommand (with_subcommand (app_of grammar.entry) table_shape) sheet_shape) }
+{
+    let table = table_grammar(alloc)?;
+    let sheet = sheet_grammar(alloc)?;
+    let first = grammar.subcommand(table)?;
+    first.subcommand(sheet)
 }
 
 /// The grammar of `page`.
@@ -382,12 +571,13 @@ fn page_grammar<'a>(alloc: Global) -> Result<Grammar<'a>, AllocError>
     let days = Arg::new(alloc, "DAYS").help(
         "The days, such as 2, 1-31 or 1,4,2; without it, all days for the machine's model",
     );
-    command_grammar(
+    let grammar = command_grammar(
         alloc,
         "page",
         "Writes an HTML page of each day, from the machine as the day before left it",
         days,
-    )
+    )?;
+    with_language(alloc, grammar)
 }
 
 /// The grammar of `list`.
@@ -406,10 +596,64 @@ fn list_grammar<'a>(alloc: Global) -> Result<Grammar<'a>, AllocError>
 fn table_grammar<'a>(alloc: Global) -> Result<Grammar<'a>, AllocError>
     ensures { IfOk result (λ grammar. IsMadeOf grammar table_shape) }
 {
-    Grammar::new(alloc, "table")
+    let grammar = Grammar::new(alloc, "table")
         .about("Writes a key sheet as an HTML page of tables to print, like the sheets of the time")
         .arg(csv_flag(alloc))?
-        .arg(needed(alloc, "SHEET", "The key sheet"))
+        .arg(needed(alloc, "SHEET", "The key sheet"))?;
+    with_language(alloc, grammar)
+}
+
+/// The grammar of `send`.
+fn send_grammar<'a>(alloc: Global) -> Result<Grammar<'a>, AllocError>
+    ensures { IfOk result (λ grammar. IsMadeOf grammar send_shape) }
+{
+    message_grammar(
+        alloc,
+        "send",
+        "Writes an HTML page that says, row by row, how to encipher an order by hand",
+        needed(alloc, "ORDER", "The order, as desk send takes it"),
+    )
+}
+
+/// The grammar of `receive`.
+fn receive_grammar<'a>(alloc: Global) -> Result<Grammar<'a>, AllocError>
+    ensures { IfOk result (λ grammar. IsMadeOf grammar receive_shape) }
+{
+    message_grammar(
+        alloc,
+        "receive",
+        "Writes an HTML page that says, row by row, how to decipher a form by hand, and its text",
+        needed(alloc, "FORM", "The form, with ? for each lost letter"),
+    )
+}
+
+/// The grammar of a command with a machine file, a key sheet, a day and `message`.
+fn message_grammar<'a>(
+    alloc: Global,
+    name: &'a str,
+    about: &'a str,
+    message: Arg<'a>,
+) -> Result<Grammar<'a>, AllocError>
+    requires { message.global ≡ false }
+    ensures { IfOk result (λ grammar.
+        IsMadeOf grammar (message_shape name.entry.now (rule_of message.entry))) }
+{
+    let day = needed(alloc, "DAY", "The day, from 1 to 31");
+    let grammar = command_grammar(alloc, name, about, day)?.arg(message)?;
+    with_language(alloc, grammar)
+}
+
+/// The command `grammar` with the option `--in`.
+fn with_language<'a>(alloc: Global, grammar: Grammar<'a>) -> Result<Grammar<'a>, AllocError>
+    ensures { (shape : Shape) → IsMadeOf grammar.entry shape
+        → IfOk result (λ made. IsMadeOf made (with_rule shape language_option)) }
+{
+    grammar.arg(option(
+        alloc,
+        "in",
+        "LANGUAGE",
+        "The language of the words, de or en; without it, that of the environment's LANG",
+    ))
 }
 
 /// The grammar of `sheet`.

@@ -2,8 +2,10 @@
 ghost use Rattle.std.specs.Prelude.{◌≡◌, ◌≤◌, length};
 ghost use Rattle.kd_curator.specs.Refusals.{page_fault_text};
 
+use kd_form::FormFault;
 use kd_key_table::TableFault;
 use kd_look::LookFault;
+use kd_message::{ReceivePageFault, SendPageFault};
 use kd_sheet::SheetFault;
 use kd_table::SpreadsheetFault;
 use kd_tables::{Device, Refusal, Text};
@@ -17,10 +19,16 @@ pub enum PageFault {
     NoSuchDay,
     /// The machine and the sheet's day are of different models.
     OtherModel,
+    /// The machine isn't on the day's key, or the message has this fault.
+    Message(FormFault),
     /// A spreadsheet's table has faults, which are told in words.
     FaultyTable,
     /// A file that was looked at has faults, which are told in words.
     FaultyFile,
+    /// A form would have more than 255 parts.
+    TooManyParts,
+    /// Letters or parts of a form are missing. The page is written all the same.
+    LettersMissing,
     /// A write failed.
     Device,
 }
@@ -36,8 +44,13 @@ impl PageFault {
             PageFault::File(fault) => fault.text(),
             PageFault::NoSuchDay => Refusal::NoSuchDay.text(),
             PageFault::OtherModel => Refusal::OtherModel.text(),
+            PageFault::Message(fault) => fault.text(),
             PageFault::FaultyTable => worded_text("because the table has faults"),
             PageFault::FaultyFile => worded_text("because a file has faults"),
+            PageFault::TooManyParts => worded_text("because the form has more than 255 parts"),
+            PageFault::LettersMissing => {
+                worded_text("in part: letters or parts of the form are missing")
+            }
             PageFault::Device => Refusal::Device.text(),
         }
     }
@@ -146,6 +159,35 @@ impl From<LookFault> for Refused {
         match fault {
             LookFault::Device => Refused::from(PageFault::Device),
             LookFault::NoMemory => Refused::from(SheetFault::NoMemory),
+        }
+    }
+}
+
+impl From<SendPageFault> for Refused {
+    ghost use Rattle.std.specs.Prelude.{◌≡◌};
+    ghost use Rattle.kd_curator.specs.Refusals.{refused_send};
+
+    ghost from_gives = { λ fault refused. refused ≡ refused_send fault };
+
+    fn from(fault: SendPageFault) -> Refused {
+        match fault {
+            SendPageFault::Order(fault) => Refused::from(PageFault::Message(fault)),
+            SendPageFault::Device => Refused::from(PageFault::Device),
+        }
+    }
+}
+
+impl From<ReceivePageFault> for Refused {
+    ghost use Rattle.std.specs.Prelude.{◌≡◌};
+    ghost use Rattle.kd_curator.specs.Refusals.{refused_receive};
+
+    ghost from_gives = { λ fault refused. refused ≡ refused_receive fault };
+
+    fn from(fault: ReceivePageFault) -> Refused {
+        match fault {
+            ReceivePageFault::NoMemory => Refused::from(SheetFault::NoMemory),
+            ReceivePageFault::TooManyParts => Refused::from(PageFault::TooManyParts),
+            ReceivePageFault::Device => Refused::from(PageFault::Device),
         }
     }
 }

@@ -1,6 +1,6 @@
 //! The language that a computer is set to.
-ghost use Rattle.std.specs.Prelude.{◌≡◌};
-ghost use Rattle.kd_curator.specs.Locale.{language_of};
+ghost use Rattle.std.specs.Prelude.{◌≡◌, ◌≢◌, IfSome};
+ghost use Rattle.kd_curator.specs.Locale.{language_code, language_of};
 
 use kd_page::Language;
 
@@ -13,5 +13,17 @@ pub fn language_of(locale: &str) -> Language
         Language::German
     } else {
         Language::English
+    }
+}
+
+/// The language with this code: `en` for English, `de` for German; `None` for another code.
+pub fn language_of_code(code: &str) -> Option<Language>
+    ensures said { IfSome result (λ language. language_code language ≡ code.now) }
+    ensures none { result ≡ None → (language : Language) → language_code language ≢ code.now }
+{
+    match code {
+        "en" => Some(Language::English),
+        "de" => Some(Language::German),
+        _ => None,
     }
 }

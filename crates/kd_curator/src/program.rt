@@ -9,21 +9,25 @@ ghost use Rattle.kd_host.specs.Writing.{WritesText};
 ghost use Rattle.kd_curator.specs.CommandLine.{unborrowed_command, with_texts};
 ghost use Rattle.kd_table.specs.Options.{texts_of};
 ghost use Rattle.kd_curator.specs.Ending.{stop_after};
-ghost use Rattle.kd_curator.specs.declared.command.Command.TheVariants.{Look, OnMachine, Sheet, Table};
+ghost use Rattle.kd_curator.specs.declared.command.Command.TheVariants.{Look, Message, OnMachine, Sheet, Table};
 ghost use Rattle.kd_curator.specs.Program.{AreAlike, CarriesOut, DoesCommand, DoesTask, HasEnded, IsRun};
 ghost use Rattle.kd_curator.specs.Program.{port_with_untaken, known_command};
 ghost use Rattle.kd_curator.specs.Program.{HasMonth, HasNotes, HasTold, names_of, read_with_texts};
 ghost use Rattle.kd_curator.specs.Program.{IsAnswerAfterFlush, is_stopped_before_writing, is_stopped_by_device};
-ghost use Rattle.kd_curator.specs.Program.{is_whole, known_other};
+ghost use Rattle.kd_curator.specs.Program.{WorksMessage, is_whole, known_other};
 ghost use Rattle.kd_curator.specs.Refusals.{has_written, is_device, refused_device};
 ghost use Rattle.kd_curator.specs.UpToThree.{list_of_option, list_of_three, unborrowed_three};
 
 use crate::buffered_sink::BufferedSink;
-use crate::command::{Command, NamedCommand, NoCommand, Task, parse_words};
+use crate::command::{
+    Command, MessageKind, MessageTask, NamedCommand, NoCommand, Task, parse_words,
+};
 use crate::fault::{PageFault, Refused};
 use crate::looks::look_at_files;
 use crate::run_list::run_list;
 use crate::run_page::run_page;
+use crate::run_receive::run_receive;
+use crate::run_send::run_send;
 use crate::sheets::{make_sheet, write_empty_sheet};
 use crate::stop::{Stop, end_program};
 use crate::tables::write_tables;
@@ -36,7 +40,8 @@ use kd_tables::{Failed, Sink, put_all};
 use std::alloc::Global;
 use std::convert::AsStr;
 
-/// Carries out the command line `words`, which begins with the program's own name. Pages and tables are in `language`.
+/// Carries out the command line `words`, which begins with the program's own name. Pages and tables are in `language`,
+/// unless the words ask for another one.
 ///
 /// Returns the exit status and the sink. The status is 0 for success, 2 for other words than a command's, and 1 for a
 /// refusal. With status 1 or 2, a text that says why is written to `errors`; the command `sheet` tells there a table's
@@ -129,7 +134,17 @@ fn read_files<'n, F: Files<'n>>(
             sheet,
             task,
         } => read_task_files(alloc, machine, sheet, task, files),
-        Command::Table { sheet, form } => read_table_file(alloc, sheet, form, files),
+        Command::Message {
+            machine,
+            sheet,
+            message,
+            task,
+        } => read_message(alloc, machine, sheet, message, task, files),
+        Command::Table {
+            sheet,
+            form,
+            language,
+        } => read_table_file(alloc, sheet, form, language, files),
         Command::Sheet { table, options } => read_spreadsheet(alloc, table, options, files),
         Command::Look {
             names,
@@ -164,22 +179,56 @@ fn read_task_files<'n, F: Files<'n>>(
     })
 }
 
+/// Reads a machine file, a key sheet and a message, for `task`.
+fn read_message<'n, F: Files<'n>>(
+    alloc: Global,
+    machine: &'n str,
+    sheet: &'n str,
+    message: &'n str,
+    task: MessageTask,
+    files: &mut F,
+) -> Result<Command<Content, &'n str>, FileFault>
+    requires { F.asked files.old ≡ [] }
+    ensures read { IfSome (F.known files.old) (λ held. AgreesOrNoMemory FileFault.NoMemory
+        (known_command held (Message machine.now sheet.now message.now task))
+        (read_with_texts result)) }
+    ensures alike { IfOk result (λ read.
+        AreAlike (Message machine.now sheet.now message.now task) (with_texts read)) }
+    ensures asked { AreAskedFor (names_of (Message machine.now sheet.now message.now task))
+        (F.asked files.old) (F.asked files.new) (is_ok result) }
+{
+    let machine = files.read_content(alloc, machine)?;
+    let sheet = files.read_content(alloc, sheet)?;
+    let message = files.read_content(alloc, message)?;
+    Ok(Command::Message {
+        machine,
+        sheet,
+        message,
+        task,
+    })
+}
+
 /// Reads a key sheet, for the command `table`.
 fn read_table_file<'n, F: Files<'n>>(
     alloc: Global,
     sheet: &'n str,
     form: TableForm,
+    language: Option<Language>,
     files: &mut F,
 ) -> Result<Command<Content, &'n str>, FileFault>
     requires { F.asked files.old ≡ [] }
     ensures read { IfSome (F.known files.old) (λ held. AgreesOrNoMemory FileFault.NoMemory
-        (known_command held (Table sheet.now form)) (read_with_texts result)) }
-    ensures alike { IfOk result (λ read. AreAlike (Table sheet.now form) (with_texts read)) }
-    ensures asked { AreAskedFor (names_of (Table sheet.now form))
+        (known_command held (Table sheet.now form language)) (read_with_texts result)) }
+    ensures alike { IfOk result (λ read. AreAlike (Table sheet.now form language) (with_texts read)) }
+    ensures asked { AreAskedFor (names_of (Table sheet.now form language))
         (F.asked files.old) (F.asked files.new) (is_ok result) }
 {
     let sheet = files.read_content(alloc, sheet)?;
-    Ok(Command::Table { sheet, form })
+    Ok(Command::Table {
+        sheet,
+        form,
+        language,
+    })
 }
 
 /// Reads a spreadsheet's table, for the command `sheet`.
@@ -279,9 +328,27 @@ fn carry_out<W: Sink, E: Sink>(
             sheet.as_slice(),
             sink,
         ),
-        Command::Table { sheet, form } => write_tables(
+        Command::Message {
+            machine,
+            sheet,
+            message,
+            task,
+        } => work_message(
             alloc,
             language,
+            task,
+            machine.as_slice(),
+            sheet.as_slice(),
+            message.as_slice(),
+            sink,
+        ),
+        Command::Table {
+            sheet,
+            form,
+            language: chosen,
+        } => write_tables(
+            alloc,
+            chosen.unwrap_or(language),
             form,
             sheet.as_slice(),
             sink,
@@ -309,8 +376,37 @@ fn do_task<W: Sink>(
     ensures failed { W.has_failed sink.new ≡ (W.has_failed sink.old || is_device result) }
 {
     match task {
-        Task::Page(days) => run_page(alloc, language, machine, sheet, days, sink),
+        Task::Page {
+            days,
+            language: chosen,
+        } => {
+            let language = chosen.unwrap_or(language);
+            run_page(alloc, language, machine, sheet, days, sink)
+        }
         Task::List(day) => run_list(alloc, machine, sheet, day, sink),
+    }
+}
+
+/// Does `task` with the machine in the file `machine`, the key sheet `sheet`, and `message`.
+fn work_message<W: Sink>(
+    alloc: Global,
+    language: Language,
+    task: MessageTask,
+    machine: &[u8],
+    sheet: &[u8],
+    message: &[u8],
+    sink: &mut W,
+) -> Result<(), Refused>
+    ensures does { WorksMessage language task machine.now sheet.now message.now
+        (port W.taken W.has_failed sink.old sink.new) result }
+    ensures untouched { IsErr result → has_written result ≡ false → sink.new ≡ sink.old }
+    ensures failed { W.has_failed sink.new ≡ (W.has_failed sink.old || is_device result) }
+{
+    let language = task.language.unwrap_or(language);
+    let day = task.day;
+    match task.kind {
+        MessageKind::Order => run_send(alloc, language, machine, sheet, day, message, sink),
+        MessageKind::Form => run_receive(alloc, language, machine, sheet, day, message, sink),
     }
 }
 
@@ -350,7 +446,12 @@ fn is_whole(done: &Result<(), Stop>) -> bool
 {
     match done {
         Ok(()) => true,
-        Err(Stop::Refused(refused)) => matches!(refused.fault, PageFault::FaultyFile),
+        Err(Stop::Refused(refused)) => {
+            matches!(
+                refused.fault,
+                PageFault::FaultyFile | PageFault::LettersMissing
+            )
+        }
         Err(_) => false,
     }
 }

@@ -1,7 +1,7 @@
 //! Tests of the whole program, on files in memory.
 ghost use Rattle.std.specs.Prelude.{◌≡◌, []};
 
-use crate::samples::{DAY_2, DAYS, ENIGMA, M209};
+use crate::samples::{DAY_2, DAYS, ENIGMA, FORM, LOST_FORM, M209, ORDER, SENDING_DAY};
 use kd_curator::Language::English;
 use kd_curator::run_curator;
 use kd_host::{Files, MemoryFiles};
@@ -31,15 +31,24 @@ pub fn run<'n, F: Files<'n>>(alloc: Global, words: &'n [&'n str], files: &mut F,
 }
 
 /// The files that the command lines name: each name, and its text.
-static HELD: [(&str, &str); 4] = [("m", ENIGMA), ("s", DAYS), ("c", M209), ("bad", "x =")];
+static HELD: [(&str, &str); 8] = [
+    ("m", ENIGMA),
+    ("s", DAYS),
+    ("c", M209),
+    ("bad", "x ="),
+    ("k", SENDING_DAY),
+    ("o", ORDER),
+    ("f", FORM),
+    ("l", LOST_FORM),
+];
 
 /// The files in `HELD`.
-fn files() -> [(&'static str, &'static [u8]); 4] {
+fn files() -> [(&'static str, &'static [u8]); 8] {
     HELD.map(|(name, text)| (name, text.as_bytes()))
 }
 
 /// A command line, the line on standard error, and the exit status.
-static STOPPED: [(&[&str], &str); 17] = [
+static STOPPED: [(&[&str], &str); 30] = [
     (
         &["curator", "list", "m", "s", "4"],
         "refused 39 NoSuchDay\n",
@@ -85,6 +94,58 @@ static STOPPED: [(&[&str], &str); 17] = [
     (&["curator", "page", "bad", "none"], "refused 6 Device\n"),
     (&["curator", "list", "none", "s", "1"], "refused 6 Device\n"),
     (&["curator", "list", "m", "none", "1"], "refused 6 Device\n"),
+    (
+        &["curator", "send", "bad", "bad", "1", "o"],
+        "refused 18 NotToml\n",
+    ),
+    (
+        &["curator", "send", "m", "bad", "1", "o"],
+        "refused 18 NotToml\n",
+    ),
+    (
+        &["curator", "send", "m", "k", "2", "o"],
+        "refused 39 NoSuchDay\n",
+    ),
+    (
+        &["curator", "send", "c", "k", "1", "o"],
+        "refused 27 NotOnKey\n",
+    ),
+    (
+        &["curator", "send", "m", "s", "2", "o"],
+        "refused 27 NotOnKey\n",
+    ),
+    (
+        &["curator", "send", "m", "k", "1", "bad"],
+        "refused 28 BadByte 1\n",
+    ),
+    (
+        &["curator", "send", "none", "k", "1", "o"],
+        "refused 6 Device\n",
+    ),
+    (
+        &["curator", "send", "m", "none", "1", "o"],
+        "refused 6 Device\n",
+    ),
+    (
+        &["curator", "send", "bad", "k", "1", "none"],
+        "refused 6 Device\n",
+    ),
+    (
+        &["curator", "receive", "m", "bad", "1", "f"],
+        "refused 18 NotToml\n",
+    ),
+    (
+        &["curator", "receive", "m", "k", "2", "f"],
+        "refused 39 NoSuchDay\n",
+    ),
+    (
+        &["curator", "receive", "c", "k", "1", "f"],
+        "refused 27 NotOnKey\n",
+    ),
+    (
+        &["curator", "receive", "m", "k", "1", "none"],
+        "refused 6 Device\n",
+    ),
     (&["curator", "table", "bad"], "refused 18 NotToml\n"),
     (&["curator", "table", "none"], "refused 6 Device\n"),
 ];
@@ -102,7 +163,53 @@ fn says_why_it_refuses(rt: HostRuntime) {
 }
 
 /// A command line that writes a page, and texts of the page, from its top.
-static PAGES: [(&[&str], &[&str]); 5] = [
+static PAGES: [(&[&str], &[&str]); 10] = [
+    (
+        &["curator", "send", "m", "k", "1", "o"],
+        &[
+            "<html lang=en>",
+            "<title>Enigma I, day 1: send</title>",
+            "<div class=groups>",
+            "QXABC",
+            "BDZGO",
+            "</main>\n",
+        ],
+    ),
+    (
+        &["curator", "send", "--in", "de", "m", "k", "1", "o"],
+        &[
+            "<html lang=de>",
+            "<title>Enigma I, Tag 1: Verschlüsseln</title>",
+            "QXABC",
+            "BDZGO",
+            "</main>\n",
+        ],
+    ),
+    (
+        &["curator", "receive", "m", "k", "1", "f"],
+        &[
+            "<html lang=en>",
+            "<title>Enigma I, day 1: receive</title>",
+            "AAAAA",
+            "</main>\n",
+        ],
+    ),
+    (
+        &["curator", "receive", "m", "k", "1", "f", "--in", "de"],
+        &[
+            "<html lang=de>",
+            "<title>Enigma I, Tag 1: Entschlüsseln</title>",
+            "</main>\n",
+        ],
+    ),
+    (
+        &["curator", "page", "m", "s", "--in=de", "2"],
+        &[
+            "<html lang=de>",
+            "<title>Enigma I, Tag 2</title>",
+            "</main>\n",
+        ],
+    ),
     (
         &["curator", "table", "--csv", "s"],
         &[
@@ -192,6 +299,19 @@ fn each_page_starts_where_the_page_before_it_ends(rt: HostRuntime) {
         let text = str::from_utf8(ran.sink.taken()).unwrap_or("");
         assert!(rt; has_in_turn(text, *parts));
     }
+}
+
+#[test]
+fn writes_the_page_of_a_form_with_lost_letters(rt: HostRuntime) {
+    let files = files();
+    let mut files = MemoryFiles::new(&files);
+    let words = &["curator", "receive", "m", "k", "1", "l"];
+    let ran = run(rt.alloc(), words, &mut files, 32768);
+    assert_eq!(rt; ran.status, 1);
+    let told = "refused in part: letters or parts of the form are missing\n";
+    assert_eq!(rt; ran.errors.taken(), told.as_bytes());
+    let text = str::from_utf8(ran.sink.taken()).unwrap_or("");
+    assert!(rt; has_in_turn(text, &["receive</title>", "AA?AA", "</main>\n"]));
 }
 
 #[test]

@@ -9,6 +9,35 @@ rings = \"AAAAA\"
 letters = \"AAAAA\"
 ";
 
+/// A day for which `ENIGMA` is set, with groups.
+pub const SENDING_DAY: &str = "[[day]]
+day = 1
+model = \"Enigma I\"
+reflector = \"B\"
+wheels = [\"I\", \"II\", \"III\"]
+rings = \"AAA\"
+window = \"AAA\"
+plugs = []
+groups = [\"ABC\", \"DEF\", \"GHI\", \"JKL\"]
+";
+
+/// An order for that day: five times A, from the windows AAA, at which the lamps are BDZGO. So the message key AAA is sent
+/// as BDZ.
+pub const ORDER: &str = "PART AAA AAA QX ABC
+TEXT
+AAAAA
+";
+
+/// The form of that order.
+pub const FORM: &str = "PART 1/1 10 AAA BDZ
+QXABC BDZGO
+";
+
+/// The form with a letter of its text lost.
+pub const LOST_FORM: &str = "PART 1/1 10 AAA BDZ
+QXABC BD?GO
+";
+
 /// Days of an Enigma I, and a day of an M3.
 pub const DAYS: &str = "[[day]]
 day = 1

@@ -1,7 +1,6 @@
 -- Notes that are told one after another.
-use Rattle.std.proofs.Common.{◌≡◌, ◌||◌, ◌++◌, ℕ, Bool, true, false, List, [], take, Option, Result, Ok, Err, IsTrue, is_err, arith, subst, sym}
+use Rattle.std.proofs.Common.{◌≡◌, ◌||◌, ◌++◌, ℕ, Bool, List, [], take, Option, Result, Ok, Err, is_err, arith}
 use Rattle.std.proofs.KnownBytes.{Appends-nil, Appends-trans}
-use Rattle.kd_tables.specs.Ports.{Port}
 use Rattle.kd_tables.specs.Writing.{Writes}
 use Rattle.kd_table.specs.Notes.{Tells}
 

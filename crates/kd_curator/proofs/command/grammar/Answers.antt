@@ -1,35 +1,26 @@
-use Rattle.kd_curator.proofs.Prelude.{true, ap, codes, ◌≡◌, ◌∙◌, App, app_of, new_app, app_of_fields}
-use Rattle.kd_curator.proofs.Grammars.{ok_also, one_command_more}
-unfoldable use Rattle.kd_curator.specs.CommandLine.{curator_grammar}
+use Rattle.kd_curator.proofs.Prelude.{◌≡◌, ◌∙◌, App, ap, app_of}
 use Rattle.clap.specs.Built.{AddsSubcommand}
+use Rattle.clap.specs.Simple.{with_subcommand}
+use Rattle.kd_curator.specs.CommandLine.{list_shape, page_shape, receive_shape, send_shape, sheet_shape, table_shape}
+unfoldable use Rattle.kd_curator.specs.CommandLine.{curator_grammar}
+use Rattle.kd_curator.proofs.Grammars.{ok_also, one_command_more}
 use Rattle.kd_curator.proofs.command.grammar.Goals as goal
 
-abbrev with_version : App → App
-with_version a = record a { top = record a.top { has_version = true } }
+abbrev with_days : App → App
+with_days app = with_subcommand (with_subcommand app page_shape) list_shape
 
-abbrev without_help_command : App → App
-without_help_command a = record a { top = record a.top { disable_help_subcommand = true } }
+abbrev with_messages : App → App
+with_messages app = with_subcommand (with_subcommand app send_shape) receive_shape
 
-abbrev with_needed_command : App → App
-with_needed_command a = record a { top = record a.top { subcommand_required = true } }
-
-abbrev with_help_for_none : App → App
-with_help_for_none a = record a { top = record a.top { arg_required_else_help = true } }
+abbrev with_sheets : App → App
+with_sheets app = with_subcommand (with_subcommand app table_shape) sheet_shape
 
 pub returns : goal.returns
 unfolding curator_grammar
 returns c =
-    let top : app_of c.arg_required_else_help.result
-    ≡ with_help_for_none (with_needed_command (without_help_command (with_version (new_app (codes "curator"))))) =
-    ap app_of_fields c.arg_required_else_help.ensures
-    ∙ ap with_help_for_none (ap app_of_fields c.subcommand_required.ensures
-    ∙ ap with_needed_command (ap app_of_fields c.disable_help_subcommand.ensures
-    ∙ ap without_help_command (ap app_of_fields c.version.ensures
-    ∙ ap with_version (ap app_of_fields c.about.ensures ∙ c.new.ensures.app)))) in
-    let first = one_command_more top c.in_ok-page.ensures c.in_ok-subcommand.ensures in
-    let second = one_command_more first c.in_ok-list.ensures c.in_ok-subcommand-2.ensures in
-    let third = one_command_more second c.in_ok-table.ensures c.in_ok-subcommand-3.ensures in
-    let fourth = one_command_more third c.in_ok-sheet.ensures c.in_ok-subcommand-4.ensures in
-    ok_also c.subcommand-5.result (AddsSubcommand c.in_ok-subcommand-4.field-0 c.in_ok-look.look)
+    let days = c.in_ok-days.ensures ∙ ap with_days c.program_grammar.ensures in
+    let messages = c.in_ok-messages.ensures ∙ ap with_messages days in
+    let sheets = c.in_ok-sheets.ensures ∙ ap with_sheets messages in
+    ok_also c.subcommand.result (AddsSubcommand c.in_ok-sheets.sheets c.in_ok-look.look)
     (λ made. app_of made ≡ curator_grammar)
-    (λ made adds. one_command_more {new = made} fourth c.in_ok-look.ensures adds) c.subcommand-5.ensures
+    (λ made adds. one_command_more {new = made} sheets c.in_ok-look.ensures adds) c.subcommand.ensures

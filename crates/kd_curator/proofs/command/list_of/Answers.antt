@@ -1,21 +1,10 @@
-use Rattle.kd_curator.proofs.{Prelude.{arith, Some, ap, codes, found_of, rules, refl, sym, ◌∙◌}}
-use Rattle.kd_curator.proofs.CommandLines.{read_none, read_some, other_word}
+use Rattle.kd_curator.proofs.Prelude.{refl}
+use Rattle.kd_curator.proofs.CommandLines.{only_list}
 use Rattle.kd_curator.proofs.command.list_of.Goals as goal
 
-pub returns-in_err-get_str-clause-none : goal.returns-in_err-get_str-clause-none
-returns-in_err-get_str-clause-none c = grind (arith, read_none)
-
 pub returns-in_err-day-clause-none : goal.returns-in_err-day-clause-none
-returns-in_err-day-clause-none c = grind (arith, other_word, c.day_of_text.ensures)
+returns-in_err-day-clause-none c =
+    λ _ task of. let is = only_list _ task of in c.in_err-day.ensures.none refl is.0 is.1
 
 pub returns-clause-said : goal.returns-clause-said
-returns-clause-said c =
-    let found = found_of c.args.words.now in
-    record {
-      name = refl;
-      days = (
-        read_some found (codes "DAY") c.get_str.result c.in_ok-get_str.field-0 c.get_str.ensures (search rules)
-            ∙ ap Some (sym (c.in_ok-day.ensures.0 ∙ c.as_bytes.ensures.value)),
-        c.in_ok-day.ensures.1,
-      );
-    }
+returns-clause-said c = record { name = refl; arguments = c.in_ok-day.ensures.said }

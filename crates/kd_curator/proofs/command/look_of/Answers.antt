@@ -1,11 +1,12 @@
-use Rattle.kd_curator.proofs.Prelude.{codes, found_of, refl, rules}
-use Rattle.kd_curator.proofs.CommandLines.{no_look, read_maybe, read_none, read_some}
+use Rattle.kd_curator.proofs.Prelude.{codes, found_of, refl, rows_of, rules}
+use Rattle.kd_curator.proofs.CommandLines.{missing, only_look, read_maybe, read_none, read_some}
 use Rattle.kd_curator.proofs.command.look_of.Goals as goal
 
 pub returns-in_err-first-clause-none : goal.returns-in_err-first-clause-none
 returns-in_err-first-clause-none c =
     let found = found_of c.args.words.now in
-    λ _. no_look _ (read_none found (codes "FILE") c.get_str.result c.get_str.ensures c.in_err-first.was)
+    let none = read_none found (codes "FILE") c.get_str.result c.get_str.ensures c.in_err-first.was in
+    λ _ command of. let is = only_look _ command of in missing (rows_of found) (codes "FILE") is.0.first none is.2.first
 
 pub returns-clause-said : goal.returns-clause-said
 returns-clause-said c =

@@ -1,22 +1,14 @@
-use Rattle.kd_curator.proofs.Prelude.{codes, found_of, refl, rules}
-use Rattle.kd_curator.proofs.CommandLines.{other_page, read_none, read_some}
+use Rattle.kd_curator.proofs.Prelude.{refl, rules}
+use Rattle.kd_curator.proofs.CommandLines.{only_page}
 use Rattle.kd_curator.proofs.command.page_of.Goals as goal
-
-pub returns-in_default-clause-said : goal.returns-in_default-clause-said
-returns-in_default-clause-said c =
-    let found = found_of c.args.words.now in
-    record { name = refl; days = read_none found (codes "DAYS") c.get_str.result c.get_str.ensures c.in_default.is }
 
 pub returns-in_err-days-clause-none : goal.returns-in_err-days-clause-none
 returns-in_err-days-clause-none c =
-    let found = found_of c.args.words.now in
-    let word =
-    read_some found (codes "DAYS") c.get_str.result c.in-Some.word c.get_str.ensures (search rules) in
-    λ _. other_page _ c.in-Some.word.now word c.in_err-days.ensures
+    λ _ task of. let is = only_page _ task of in c.days_asked.ensures.none (search rules) is.0 is.2
+
+pub returns-in_err-language-clause-none : goal.returns-in_err-language-clause-none
+returns-in_err-language-clause-none c =
+    λ _ task of. let is = only_page _ task of in c.language_asked.ensures.none (search rules) is.1 is.3
 
 pub returns-clause-said : goal.returns-clause-said
-returns-clause-said c =
-    let found = found_of c.args.words.now in
-    let word =
-    read_some found (codes "DAYS") c.get_str.result c.in-Some.word c.get_str.ensures (search rules) in
-    record { name = refl; days = (_, word, c.in_ok-days.ensures) }
+returns-clause-said c = record { name = refl; arguments = (search rules) }

@@ -1,4 +1,4 @@
-use Rattle.std.proofs.Common.{◌≡◌, ◌∙◌, ◌<◌, sym, true, length, arith}
+use Rattle.std.proofs.Common.{◌≡◌, ◌<◌, true, length, arith}
 use Rattle.std.proofs.lemmas.Grind.{common_steps}
 use Rattle.kd_table.specs.Rows.{is_well_quoted}
 use Rattle.kd_table.specs.Options.{texts_of}

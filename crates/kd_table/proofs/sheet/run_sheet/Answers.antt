@@ -1,4 +1,4 @@
-use Rattle.std.proofs.Common.{◌≡◌, ◌∙◌, Err, ap}
+use Rattle.std.proofs.Common.{◌∙◌, Err, ap}
 use Rattle.kd_table.specs.Options.{texts_of}
 use Rattle.kd_table.proofs.TableAnswers.{read_back, same_fault, still_refused}
 use Rattle.kd_table.proofs.sheet.run_sheet.Goals as goal

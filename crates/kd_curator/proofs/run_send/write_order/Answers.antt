@@ -1,0 +1,22 @@
+use Rattle.std.proofs.Common.{Err, Ok, ap, refl, rules, ◌||◌, ◌∙◌}
+use Rattle.kd_curator.proofs.SendAnswers.{device_told, page_told, untouched_told}
+use Rattle.kd_curator.proofs.run_send.write_order.Goals as goal
+
+pub returns-in-Ok-clause-page : goal.returns-in-Ok-clause-page
+returns-in-Ok-clause-page g c =
+    let (texts, are, answers) = c.in-Ok.ensures.page in
+    page_told _ _ _ _ _ _ _ (search rules) texts are (Ok tt) answers
+
+pub returns-in-Err-clause-page : goal.returns-in-Err-clause-page
+returns-in-Err-clause-page g c =
+    let (texts, are, answers) = c.in-Err.ensures.page in
+    rw c.from-in-Err.ensures (page_told _ _ _ _ _ _ _ (search rules) texts are (Err c.in-Err.fault) answers)
+
+pub returns-in-Err-clause-untouched : goal.returns-in-Err-clause-untouched
+returns-in-Err-clause-untouched g c =
+    rw c.from-in-Err.ensures (λ err other. untouched_told c.in-Err.fault (c.in-Err.ensures.untouched refl) other)
+
+pub returns-in-Err-clause-failed : goal.returns-in-Err-clause-failed
+returns-in-Err-clause-failed g c =
+    rw c.from-in-Err.ensures
+    (c.in-Err.ensures.failed ∙ ap (λ b. g.W.Sink.has_failed c.args.sink.now || b) (device_told c.in-Err.fault))

@@ -1,0 +1,53 @@
+-- What `run_receive` writes, and when it refuses.
+use Rattle.std.specs.Prelude.{◌≡◌, ◌⊎◌, ◌≤◌, ℕ, List, None, Option, Some, Result, Ok, Err, length}
+use Rattle.std.specs.Io.KnownBytes.{Appends}
+use Rattle.kd_tables.specs.Ports.{Port}
+use Rattle.kd_tables.specs.Writing.{TakesPrefix}
+use Rattle.kd_state.specs.declared.machine.parts.Parts.{Parts}
+use Rattle.kd_state.specs.SheetDay.{Day}
+use Rattle.kd_sheet.specs.Sheet.{day_of}
+use Rattle.kd_form.specs.OnTheKey.{IsKeyFault, IsReadyOnKey}
+use Rattle.kd_form.specs.declared.fault.FormFault.{FormFault}
+use Rattle.kd_lost.specs.DamagedForm.{AreReadOf, IsFormFault, damaged_parts_of}
+use Rattle.kd_lost.specs.declared.form.DamagedFormFault.{DamagedFormFault}
+use Rattle.kd_lost.specs.declared.part.DamagedPart.{DamagedPart}
+use Rattle.kd_pictures.specs.declared.language.Language.{Language}
+use Rattle.kd_message.specs.ReceivePage.{page_fault, receive_text}
+use Rattle.kd_message.specs.ShownParts.{IsWhole}
+use Rattle.kd_message.specs.Texts.{AreTexts}
+use Rattle.kd_message.specs.declared.texts.MessageTexts.{MessageTexts}
+use Rattle.kd_curator.specs.Refusals.{refused_device, refused_receive, refused_whole}
+use Rattle.kd_curator.specs.declared.fault.PageFault.TheVariants.{LettersMissing, Message, NoSuchDay}
+use Rattle.kd_curator.specs.declared.fault.Refused.{Refused}
+
+-- What the form's parts are read as on this day, and the texts in language `l`.
+pub record IsFormRead (l : Language) (m : Parts) (s : Day) (form : List ℕ) (texts : MessageTexts)
+    (parts : List DamagedPart) : Type 0 where
+  pub ready : IsReadyOnKey m s
+  pub in_language : AreTexts l texts
+  pub read : AreReadOf s (damaged_parts_of form) parts
+  pub few : length (damaged_parts_of form) ≤ 255
+
+-- The answer once the page of these parts is written: success, if no letter and no part is missing.
+abbrev pub IsReceivedAs : List DamagedPart → Result (Unit {0}) Refused → Type 0
+IsReceivedAs parts answer =
+    (IsWhole parts × (answer ≡ Ok tt)) ⊎ (¬ (IsWhole parts) × (answer ≡ Err (refused_whole LettersMissing)))
+
+-- `NoDay`: the sheet has no such day. `OffKey`: the machine isn't ready, or not on the day's key. `NotRead`: the form has
+-- too many parts, or memory ran out. `Page`: the page of the form's parts was written. `Cut`: only a prefix of it was,
+-- since the device failed.
+pub data WritesReceivePage (l : Language) (month : List (Option Day)) (m : Parts) (number : ℕ) (form : List ℕ)
+    (sink : Port) (answer : Result (Unit {0}) Refused) : Type 0 where
+  NoDay : day_of month number ≡ None → answer ≡ Err (refused_whole NoSuchDay)
+      → WritesReceivePage l month m number form sink answer
+  OffKey : (s : Day) → day_of month number ≡ Some s → (fault : FormFault) → IsKeyFault m s fault
+      → answer ≡ Err (refused_whole (Message fault)) → WritesReceivePage l month m number form sink answer
+  NotRead : (s : Day) → day_of month number ≡ Some s → IsReadyOnKey m s → (fault : DamagedFormFault)
+      → IsFormFault (damaged_parts_of form) fault → answer ≡ Err (refused_receive (page_fault fault))
+      → WritesReceivePage l month m number form sink answer
+  Page : (s : Day) → day_of month number ≡ Some s → (texts : MessageTexts) (parts : List DamagedPart)
+      → IsFormRead l m s form texts parts → Appends sink.had sink.has (receive_text texts s parts)
+      → IsReceivedAs parts answer → WritesReceivePage l month m number form sink answer
+  Cut : (s : Day) → day_of month number ≡ Some s → (texts : MessageTexts) (parts : List DamagedPart)
+      → IsFormRead l m s form texts parts → TakesPrefix sink.had sink.has (receive_text texts s parts)
+      → answer ≡ Err refused_device → WritesReceivePage l month m number form sink answer

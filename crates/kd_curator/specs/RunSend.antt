@@ -1,0 +1,29 @@
+-- What `run_send` writes, and when it refuses.
+use Rattle.std.specs.Prelude.{◌≡◌, ℕ, List, None, Option, Some, Result, Err}
+use Rattle.kd_tables.specs.Ports.{Port}
+use Rattle.kd_state.specs.declared.machine.parts.Parts.{Parts}
+use Rattle.kd_state.specs.SheetDay.{Day}
+use Rattle.kd_sheet.specs.Sheet.{day_of}
+use Rattle.kd_host.specs.Writing.{WritesText}
+use Rattle.kd_form.specs.OnTheKey.{IsReadyOnKey}
+use Rattle.kd_form.specs.Sending.{IsFormOf}
+use Rattle.kd_form.specs.declared.fault.FormFault.{FormFault}
+use Rattle.kd_pictures.specs.declared.language.Language.{Language}
+use Rattle.kd_message.specs.SendPage.{IsSendPage, IsSendRefusal}
+use Rattle.kd_message.specs.Texts.{AreTexts}
+use Rattle.kd_message.specs.declared.texts.MessageTexts.{MessageTexts}
+use Rattle.kd_curator.specs.Refusals.{refused_device, refused_whole}
+use Rattle.kd_curator.specs.declared.fault.PageFault.TheVariants.{Message, NoSuchDay}
+use Rattle.kd_curator.specs.declared.fault.Refused.{Refused}
+
+-- The sheet has no such day. Or the order is refused on this day, as `send` refuses it. Or its page was written in
+-- language `l`, or a prefix of the page if the device failed.
+pub data WritesSendPage (l : Language) (month : List (Option Day)) (m : Parts) (number : ℕ) (order : List ℕ)
+    (sink : Port) (answer : Result (Unit {0}) Refused) : Type 0 where
+  NoDay : day_of month number ≡ None → answer ≡ Err (refused_whole NoSuchDay)
+      → WritesSendPage l month m number order sink answer
+  NoPage : (s : Day) → day_of month number ≡ Some s → (fault : FormFault) → IsSendRefusal m s order fault
+      → answer ≡ Err (refused_whole (Message fault)) → WritesSendPage l month m number order sink answer
+  Page : (s : Day) → day_of month number ≡ Some s → (texts : MessageTexts) → AreTexts l texts → (form page : List ℕ)
+      → IsReadyOnKey m s → IsFormOf s order form → IsSendPage texts s order form page
+      → WritesText refused_device page sink answer → WritesSendPage l month m number order sink answer

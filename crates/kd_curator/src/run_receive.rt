@@ -1,0 +1,85 @@
+//! The command `receive`: writes an HTML page that says how a form is deciphered by hand, and its text.
+ghost use Rattle.std.specs.Prelude.{◌≡◌, ◌||◌, false, IsErr, MatchResult};
+ghost use Rattle.kd_form.specs.OnTheKey.{IsKeyFault, IsReadyOnKey};
+ghost use Rattle.kd_tables.specs.Ports.{port};
+ghost use Rattle.kd_curator.specs.MachineAndSheet.{IsAnswerOnSheet};
+ghost use Rattle.kd_curator.specs.Refusals.{has_written, is_device};
+ghost use Rattle.kd_curator.specs.RunReceive.{WritesReceivePage};
+
+use crate::fault::{PageFault, Refused};
+use crate::machine_and_sheet::read_both;
+use kd_form::FormFault;
+use kd_message::write_receive_page;
+use kd_page::Language;
+use kd_sheet::Sheet;
+use kd_state::{Machine, SheetDay};
+use kd_tables::Sink;
+use std::alloc::Global;
+
+/// Writes the page for receiving `form` on the machine in the file `machine`, which must be on the key of day `number` of
+/// the sheet `sheet`.
+///
+/// Faults are tested in this order: faults of the machine file, faults of the sheet, `NoSuchDay`, `NotReady`, `NotOnKey`,
+/// and `TooManyParts`. For all of these faults, nothing is written. For `Device`, only a prefix of the page is written. For
+/// `LettersMissing`, the page is written.
+pub fn run_receive<W: Sink>(
+    alloc: Global,
+    language: Language,
+    machine: &[u8],
+    sheet: &[u8],
+    number: u8,
+    form: &[u8],
+    sink: &mut W,
+) -> Result<(), Refused>
+    ensures page { IsAnswerOnSheet machine.now sheet.now
+        (λ m month. WritesReceivePage language month m number form.now
+        (port W.taken W.has_failed sink.old sink.new) result) result }
+    ensures untouched { IsErr result → has_written result ≡ false → sink.new ≡ sink.old }
+    ensures failed { W.has_failed sink.new ≡ (W.has_failed sink.old || is_device result) }
+{
+    let (machine, sheet) = read_both(alloc, machine, sheet)?;
+    write_form(alloc, language, &machine, &sheet, number, form, sink)
+}
+
+/// Does what `run_receive` does, for a machine and a sheet that are already read.
+fn write_form<W: Sink>(
+    alloc: Global,
+    language: Language,
+    machine: &Machine,
+    sheet: &Sheet,
+    number: u8,
+    form: &[u8],
+    sink: &mut W,
+) -> Result<(), Refused>
+    ensures page { WritesReceivePage language sheet.now machine.now number form.now
+        (port W.taken W.has_failed sink.old sink.new) result }
+    ensures untouched { IsErr result → has_written result ≡ false → sink.new ≡ sink.old }
+    ensures failed { W.has_failed sink.new ≡ (W.has_failed sink.old || is_device result) }
+{
+    let Some(day) = sheet.day(number) else {
+        return Err(Refused::from(PageFault::NoSuchDay));
+    };
+    if let Err(fault) = check_key(machine, day) {
+        return Err(Refused::from(PageFault::Message(fault)));
+    }
+    match write_receive_page(alloc, language, day, form, sink) {
+        Ok(true) => Ok(()),
+        Ok(false) => Err(Refused::from(PageFault::LettersMissing)),
+        Err(fault) => Err(Refused::from(fault)),
+    }
+}
+
+/// Refuses a machine that isn't ready, or isn't on the day's key.
+fn check_key(machine: &Machine, day: &SheetDay) -> Result<(), FormFault>
+    ensures { MatchResult result
+        (λ _. IsReadyOnKey machine.now day.now)
+        (IsKeyFault machine.now day.now) }
+{
+    if !machine.is_ready() {
+        return Err(FormFault::NotReady);
+    }
+    if !machine.on_key(day) {
+        return Err(FormFault::NotOnKey);
+    }
+    Ok(())
+}
