@@ -37,7 +37,7 @@ success = Ok tt
 -- machine file, from `file` and this card.
 pub record AreWritten (file sheet : List ℕ) (number : ℕ) (papers : CardAndFile) : Type 0 where
   pub printed : IsAnswerOnDay file sheet number
-      (λ m s. Prints (IsChosenCard m s) m s number (sink_with papers.card) success) success
+      (λ m s. Prints (IsChosenCard m s number) m s number (sink_with papers.card) success) success
   pub applied : IfOk (machine_of file)
       (λ m. Applies m papers.card (sink_with papers.file) success ⊎ LacksMemory success)
 
