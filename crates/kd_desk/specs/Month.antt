@@ -49,8 +49,8 @@ AreWrittenInTurn file sheet (number ∷ numbers) (papers ∷ more) =
 AreWrittenInTurn file sheet numbers papers = ⊥
 
 -- The card's settings lead from the machine of `file` to the machine of the next file. The machine of the next file is
--- set as day `number` says, shows the day's letters, and enciphers as the day asks. Spare cables stay free, and the
--- card's prices prove that no fewer settings lead to the day.
+-- set as day `number` says, shows the day's letters, and enciphers as the day asks. Spare cables stay free. No fewer
+-- settings lead to the day, and some valid prices prove this; that the card has these prices isn't said.
 pub record SetTheMachine (file sheet : List ℕ) (number : ℕ) (papers : CardAndFile) : Type 0 where
   pub m : Parts
   pub s : Day
