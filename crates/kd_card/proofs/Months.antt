@@ -67,7 +67,7 @@ module _ (place target : SheetWheel → ℕ) (ys : List ℕ) where
 abbrev Priced : Type 0
 Priced = Option (ℕ × ℕ) × ℤ
 
-zip-seconds : {A B : Type 0} (us : List A) (zs : List (A × B)) → AllZip (λ u z. u ≡ z.0) us zs
+pub zip-seconds : {A B : Type 0} (us : List A) (zs : List (A × B)) → AllZip (λ u z. u ≡ z.0) us zs
     → zip us (map (λ z. z.1) zs) ≡ zs
 zip-seconds [] [] h = refl
 zip-seconds (u ∷ us) (z ∷ zs) h = grind (arith, zip-seconds us zs h.1)

@@ -1,11 +1,12 @@
 -- The text of a card: lines that end with LF. In each line, one space stands between two words.
-use Rattle.kd_card.specs.Kinds.{kind_words, cable_format, pair_format, bar_format, row_format}
+use Rattle.kd_card.specs.Kinds.{kind_line, letters_text}
 use Rattle.kd_card.specs.declared.prices.PriceParts.TheVariants.{Cables, Bars, CableKinds, BarKinds}
 use Rattle.kd_card.specs.{declared.prices.Version.Version}
 use Rattle.kd_card.specs.{declared.prices.Version.TheVariants.{ByNumber, ByKind}, declared.prices.PriceParts.PriceParts}
 use Rattle.kd_card.specs.{Prices.{version_of, price_sum, ArePrices}}
 use Rattle.kd_state.specs.{Line.{setting_words, IsSettingInRange}, declared.setting.Setting.Setting, LineWords.line_of}
-use Rattle.kd_state.specs.SheetDay.{IsDayNumber}
+use Rattle.kd_state.specs.{Costs.column_letters, Machine.cable_letters, SheetDay.IsDayNumber}
+use Rattle.kd_tables.specs.Places.{standing_text, reading_text}
 use Rattle.std.specs.Prelude.{codes, decimal, ◌≡◌, ℕ, ◌≤◌, List, [], ◌∷◌, ◌++◌, length, map, All}
 use Rattle.std.specs.{Fmt.signed_decimal, List.flat_map}
 
@@ -22,8 +23,12 @@ lines_text lines = flat_map (λ words. line_of words ++ 10 ∷ []) lines
 abbrev pub price_lines : PriceParts → List (List (List ℕ))
 price_lines (Cables row col) = (codes "CABLES" ∷ map signed_decimal row) ∷ (codes "PAIRS" ∷ map signed_decimal col) ∷ []
 price_lines (Bars row col) = (codes "BARS" ∷ map signed_decimal row) ∷ (codes "ROWS" ∷ map signed_decimal col) ∷ []
-price_lines (CableKinds row col) = map (kind_words cable_format) row.items ++ map (kind_words pair_format) col.items
-price_lines (BarKinds row col) = map (kind_words bar_format) row.items ++ map (kind_words row_format) col.items
+price_lines (CableKinds row col) =
+    map (λ k. kind_line (codes "CABLE") (letters_text (cable_letters k.ends)) k.count k.price) row.items
+    ++ map (λ k. kind_line (codes "PAIR") (letters_text (column_letters k.pair)) k.count k.price) col.items
+price_lines (BarKinds row col) =
+    map (λ k. kind_line (codes "BAR") (standing_text k.standing) k.count k.price) row.items
+    ++ map (λ k. kind_line (codes "ROW") (reading_text k.reading) k.count k.price) col.items
 
 -- the text of a card: first line, settings, number of settings, prices, and sum of prices
 abbrev pub card_text : ℕ → List Setting → PriceParts → List ℕ

@@ -17,6 +17,10 @@ abbrev pub letters_text : List ℕ → List ℕ
 letters_text [] = codes "-"
 letters_text (letter ∷ letters) = tables.letters_text (letter ∷ letters)
 
+-- the words of a kind's line, such as `CABLE AB 1 -2`: the first word, the key's text, the count and the price
+abbrev pub kind_line : List ℕ → List ℕ → ℕ → ℤ → List (List ℕ)
+kind_line word key count price = word ∷ key ∷ decimal count ∷ signed_decimal price ∷ []
+
 -- The ends have two letters in alphabetical order, or only the first end has a letter, or neither end has one.
 abbrev pub AreEnds : Option ℕ → Option ℕ → Type 0
 AreEnds None None = Unit {0}
@@ -131,10 +135,6 @@ pub record IsGroup {K X : Type 0} (format : KindFormat K X) (number : ℕ) (kind
   pub in_order : AreKinds format None kinds
   pub count : total_count format kinds ≡ number
 
--- each kind's price, repeated as often as the kind's count says
-abbrev pub prices_of_kinds : {K X : Type 0} → KindFormat K X → List K → List ℤ
-prices_of_kinds format kinds = flat_map (λ k. replicate (format.kind k).count (format.kind k).price) kinds
-
 -- each kind's key together with the kind's price, repeated as often as the kind's count says
 abbrev pub expansion : {X : Type 0} → List (KindOf X) → List (X × ℤ)
 expansion kinds = flat_map (λ kind. replicate kind.count (kind.key, kind.price)) kinds
@@ -148,18 +148,22 @@ pub record AreKindsOf {K X : Type 0} (format : KindFormat K X) (keys : List X) (
 
 -- ---- lines
 
--- the words of a kind's line, such as `CABLE AB 1 -2`: the first word, the key's text, the count and the price
+-- the words of a kind's line
 abbrev pub kind_words : {K X : Type 0} → KindFormat K X → K → List (List ℕ)
-kind_words format k = format.word ∷ format.text (format.kind k).key ∷ decimal (format.kind k).count
-    ∷ signed_decimal (format.kind k).price ∷ []
+kind_words format k =
+    kind_line format.word (format.text (format.kind k).key) (format.kind k).count (format.kind k).price
 
 -- the lines of the kinds, each with LF at its end
 abbrev pub kinds_text : {K X : Type 0} → KindFormat K X → List K → List ℕ
 kinds_text format kinds = flat_map (λ kind. line_of (kind_words format kind) ++ 10 ∷ []) kinds
 
--- ---- Reading the words of a kind's line. No public contract cites this definition.
+-- ---- Reading the words of a kind's line, and listing prices. No public contract cites these definitions.
 
 -- The kind is valid, and `words` are the words of its line.
 pub record HasKindWords {K X : Type 0} (format : KindFormat K X) (words : List (List ℕ)) (kind : K) : Type 0 where
   pub good : IsKind format kind
   pub written : kind_words format kind ≡ words
+
+-- each kind's price, repeated as often as the kind's count says
+abbrev pub prices_of_kinds : {K X : Type 0} → KindFormat K X → List K → List ℤ
+prices_of_kinds format kinds = flat_map (λ k. replicate (format.kind k).count (format.kind k).price) kinds

@@ -1,7 +1,8 @@
 -- What the laws on cards promise.
 use Rattle.kd_card.specs.Proving.{AreSettingsNeeded, AreModelPrices, ProvesByNumber, Proves, IsShortest, LeadsToTheDay}
-use Rattle.kd_card.specs.Proving.{priced_count}
-use Rattle.kd_card.specs.{Prices.{PricesFit, price_sum, ArePrices, ArePricesTight}, declared.fault.CardFault.CardFault}
+use Rattle.kd_card.specs.Proving.{priced_count, ShowShortest}
+use Rattle.kd_card.specs.declared.prices.Version.TheVariants.{ByKind}
+use Rattle.kd_card.specs.{Prices.{PricesFit, price_sum, version_of, ArePrices, ArePricesTight}, declared.fault.CardFault.CardFault}
 use Rattle.kd_card.specs.{CardFault.{IsCardAnswer, IsCardFault}, declared.prices.PriceParts.PriceParts, CardText.IsCard}
 use Rattle.kd_card.specs.Loose.{loose_lines}
 use Rattle.kd_state.specs.{SheetDay.{Day, IsLegalDay, day_model}, declared.machine.parts.Parts.Parts}
@@ -47,6 +48,18 @@ ProvingCardsAreShortest =
     (machine : Parts) (day : Day) (settings : List Setting) (prices : PriceParts) → IsMachine machine → IsLegalDay day
     → ArePrices prices → Proves machine day settings prices
     → IsShortest machine day settings
+
+-- If prices by kind show that no list that reaches the day is shorter than `settings`, then none is.
+abbrev pub ShownListsAreShortest : Type 0
+ShownListsAreShortest =
+    (machine : Parts) (day : Day) (settings : List Setting) (prices : PriceParts) → IsMachine machine → IsLegalDay day
+    → ShowShortest machine day settings prices → IsShortest machine day settings
+
+-- The prices of a card by kind that proves itself show that no list that reaches the day is shorter.
+abbrev pub ProvingPricesShow : Type 0
+ProvingPricesShow =
+    (machine : Parts) (day : Day) (settings : List Setting) (prices : PriceParts) → version_of prices ≡ ByKind
+    → Proves machine day settings prices → ShowShortest machine day settings prices
 
 -- If a card with prices by number proves itself, none of its prices can be raised alone. Each row and each column of
 -- the table of costs has a cell where the prices of row and column add up to the cost.

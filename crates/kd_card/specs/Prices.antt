@@ -2,12 +2,12 @@
 -- each cable, and a column for each pair or empty column. The table of a Converter has a row for each bar, and a column
 -- for each row of the sheet. Rows and columns are counted from 0. With prices *by number*, each row and each column has
 -- its own price. With prices *by kind*, equal rows share one price, and so do equal columns.
-use Rattle.kd_card.specs.Kinds.{cable_format, pair_format, bar_format, row_format, prices_of_kinds, IsGroup}
+use Rattle.kd_card.specs.Kinds.{cable_format, pair_format, bar_format, row_format, IsGroup}
 use Rattle.kd_card.specs.declared.prices.PriceParts.TheVariants.{Cables, Bars, CableKinds, BarKinds}
 use Rattle.kd_card.specs.{declared.prices.Version.TheVariants.{ByNumber, ByKind}, declared.prices.PriceParts.PriceParts}
 use Rattle.kd_card.specs.declared.prices.Version.{Version}
 use Rattle.std.specs.Prelude.{◌≡◌, ℕ, ◌<◌, ◌≤◌, List, [], ◌++◌, length, All, fold, slice_index, slice_index_or, ℤ}
-use Rattle.std.specs.Prelude.{pos, unsigned_abs, ◌+ℤ◌, ◌≤ℤ◌}
+use Rattle.std.specs.Prelude.{pos, unsigned_abs, ◌+ℤ◌, ◌≤ℤ◌, flat_map, replicate}
 
 -- whether there is a price for each cable and each column (or each bar and each row), or for each kind of them
 abbrev pub version_of : PriceParts → Version
@@ -15,19 +15,20 @@ version_of (CableKinds row col) = ByKind
 version_of (BarKinds row col) = ByKind
 version_of _ = ByNumber
 
--- a price for each row of the table of costs: by number in the table's order, by kind one kind after another
+-- a price for each row of the table of costs: by number in the table's order; by kind one kind after another, each
+-- price as often as the kind's count says
 abbrev pub row_prices : PriceParts → List ℤ
 row_prices (Cables row col) = row
 row_prices (Bars row col) = row
-row_prices (CableKinds row col) = prices_of_kinds cable_format row.items
-row_prices (BarKinds row col) = prices_of_kinds bar_format row.items
+row_prices (CableKinds row col) = flat_map (λ k. replicate k.count k.price) row.items
+row_prices (BarKinds row col) = flat_map (λ k. replicate k.count k.price) row.items
 
--- a price for each column of the table of costs: by number in the table's order, by kind one kind after another
+-- a price for each column of the table of costs, in the same order
 abbrev pub column_prices : PriceParts → List ℤ
 column_prices (Cables row col) = col
 column_prices (Bars row col) = col
-column_prices (CableKinds row col) = prices_of_kinds pair_format col.items
-column_prices (BarKinds row col) = prices_of_kinds row_format col.items
+column_prices (CableKinds row col) = flat_map (λ k. replicate k.count k.price) col.items
+column_prices (BarKinds row col) = flat_map (λ k. replicate k.count k.price) col.items
 
 -- the number of rows of the table of costs, which is also its number of columns
 abbrev pub table_size : PriceParts → ℕ

@@ -2,6 +2,7 @@
 ghost use Rattle.kd_card.specs.Laws.{TextsDetermineCards, NoCardBeginsAnother, ReadingGivesCards, CardsHaveNoFault};
 ghost use Rattle.kd_card.specs.Laws.{OneCardFault, LooseThingsAreCounted, AsFewAreNeeded, FittingPricesBoundLists};
 ghost use Rattle.kd_card.specs.Laws.{ProvingCardsAreAsLong, ProvingCardsAreShortest, ProvingPricesAreTight};
+ghost use Rattle.kd_card.specs.Laws.{ProvingPricesShow, ShownListsAreShortest};
 ghost use Rattle.kd_card.specs.Months.{CardsAreFewestInAll};
 
 /// Different cards have different texts, and no card's text is a proper prefix of another's.
@@ -52,6 +53,18 @@ pub fn proving_cards_are_as_long()
 /// No list that reaches the day has fewer settings than a card that proves itself.
 pub fn proving_cards_are_shortest()
     ensures { ProvingCardsAreShortest }
+{}
+
+/// If prices by kind show that no list of settings that reaches the day is shorter, then none is.
+///
+/// They show it if they fit, and there are as many settings as loose things plus the sum of the prices.
+pub fn shown_lists_are_shortest()
+    ensures { ShownListsAreShortest }
+{}
+
+/// If a card with prices by kind proves itself, its prices show that no list that reaches the day is shorter.
+pub fn proving_prices_show()
+    ensures { ProvingPricesShow }
 {}
 
 /// If a card with prices by number proves itself, no single price can be raised: the prices would no longer fit.

@@ -23,12 +23,14 @@ use Rattle.{kd_state.proofs.Carrying.{leads_unique, lists_keep_machines}}
 use Rattle.kd_sheet.specs.{Laws.WrittenFilesAreReadBack, MachineText.machine_text, declared.fault.SheetFault.SheetFault}
 use Rattle.{kd_sheet.specs.{Sheet.{HasDayOf, day_of}, SheetFile.sheet_of}, std.proofs.Common.All}
 use Rattle.std.proofs.lemmas.List.Elements.{All-cons, All-nil, All-tail}
+use Rattle.kd_card.specs.CardText.{card_text}
 use Rattle.kd_card.specs.declared.card.Card as declared
 
 -- ---- cards and files that are written set the machine
 
-card_printed : (m : Parts) (s : Day) (number : ℕ) (sink : Port) → Prints (IsChosenCard m s) m s number sink success
-    → WritesCard (IsChosenCard m s) number sink success
+card_printed : (m : Parts) (s : Day) (number : ℕ) (sink : Port)
+    → Prints (IsChosenCard m s number) m s number sink success
+    → WritesCard (IsChosenCard m s number) number sink success
 card_printed m s number sink prints = grind (arith)
 
 record IsCarried (m : Parts) (bytes : List ℕ) (sink : Port) : Type 0 where
@@ -64,16 +66,17 @@ SetTheMachine-written file sheet number papers are =
     let on = found_on file sheet number _ are.printed in
     let m = on.0.0 in
     let card = card_printed m on.0.1 number (sink_with papers.card) on.2 in
-    let shortest = card.promise.shortest in
+    let chosen = card.promise in
+    let shortest = chosen.shortest in
     let applies : Applies m papers.card (sink_with papers.file) success ⊎ LacksMemory success =
     subst (λ (r : Result Parts SheetFault).
     IfOk r (λ m. Applies m papers.card (sink_with papers.file) success ⊎ LacksMemory success))
     (in_files file sheet number m on.0.1 on.1).0 are.applied in
     let next = IsCarried-applied m papers.card (sink_with papers.file)
     (Applies-no_memory m papers.card (sink_with papers.file) applies) in
-    let text : papers.card ≡ card.text = card.written.written.whole in
+    let text : papers.card ≡ card_text number card.settings card.prices = card.written.written.whole in
     let says = subst (λ bytes. AreSettings bytes card.settings) (sym text)
-    (settings_of card.text number card.settings card.prices card.card) in
+    (settings_of _ number card.settings card.prices chosen.card) in
     let one = one_list papers.card next.settings card.settings next.of_card says in
     let same = leads_unique m next.n shortest.leaves.0 card.settings (subst (λ xs. Leads m xs next.n) one next.leads)
     shortest.leaves.1 in
@@ -85,13 +88,13 @@ SetTheMachine-written file sheet number papers are =
       settings = card.settings;
       of_card = says;
       shortest = shortest.shortest;
-      spares = card.promise.spares;
+      spares = chosen.spares;
       n = shortest.leaves.0;
       proved = record {
         reaches = record { leads = shortest.leaves.1; reads = shortest.leaves.2.reads };
         prices = card.prices;
-        are_prices = card.card.are_prices;
-        proves = shortest.proves;
+        are_prices = chosen.card.are_prices;
+        proves = chosen.proves;
       };
       of_next = ap machine_of written ∙ next.back ∙ ap Ok same;
       sheets = shortest.leaves.2;

@@ -5,7 +5,8 @@ use Rattle.kd_desk.specs.RunCard.{Card, Different, IsChosenCard, IsShortestCard,
 use Rattle.kd_plan.specs.Planned.{IsProvedPlannedCard}
 use Rattle.{kd_host.specs.Writing.WritesText, kd_desk.specs.declared.fault.DeskFault.TheVariants.Device}
 use Rattle.kd_state.proofs.{Keys.{equally_set, reading_cipher, reading_ready}}
-use Rattle.kd_state.proofs.{Carrying.lists_keep_machines}
+use Rattle.{kd_card.proofs.Showing.proving_prices_show, kd_state.proofs.Carrying.lists_keep_machines}
+use Rattle.kd_card.specs.Proving.{Proves}
 use Rattle.kd_card.specs.declared.card.Card as declared
 use Rattle.kd_desk.specs.Headline as headline
 
@@ -26,37 +27,36 @@ module _ (m : Parts) (s : Day) (is_machine : IsMachine m) (legal : IsLegalDay s)
 
     pub printed : (text : List ℕ) (day : ℕ) (sink : Port) (answer : Result (Unit {0}) DeskFault) → day ≡ day_number s
         → IsCard text day card.settings.items card.prices → WritesText Device text sink answer
-        → Prints (IsChosenCard m s) m s (day_number s) sink answer
+        → Prints (IsChosenCard m s (day_number s)) m s (day_number s) sink answer
     printed text day sink answer number is_card takes =
         let dated = subst (λ d. IsCard text d card.settings.items card.prices) number is_card in
+        let proves : Proves m s card.settings.items card.prices =
+        record { numbered = planned.prices; expands = kinds.expands; proves = same.proves } in
         Card (record {
           settings = card.settings.items;
           prices = card.prices;
           promise = record {
             shortest = record {
-              version = kinds.version;
-              proves = record { numbered = planned.prices; expands = kinds.expands; proves = same.proves };
-              shortest = same.shortest;
               leaves = leaves text card.settings.items planned.prices card.prices same dated;
+              shortest = same.shortest;
+              shown = proving_prices_show m s card.settings.items card.prices kinds.version proves;
               deciphers = decipher;
             };
+            card = subst (λ bytes. IsCard bytes (day_number s) card.settings.items card.prices) dated.text dated;
+            proves = proves;
             planned = same.planned;
             spares = same.spares;
           };
-          text = text;
-          card = dated;
-          written = takes;
+          written = subst (λ bytes. WritesText Device bytes sink answer) dated.text takes;
         })
 
 -- a card that the planner chooses is a shortest card
 pub shortest_printed : (m : Parts) (s : Day) (day : ℕ) (sink : Port) (answer : Result (Unit {0}) DeskFault)
-    → Prints (IsChosenCard m s) m s day sink answer → Prints (IsShortestCard m s) m s day sink answer
+    → Prints (IsChosenCard m s day) m s day sink answer → Prints (IsShortestCard m s) m s day sink answer
 shortest_printed m s day sink answer (Different models told) = Different models told
 shortest_printed m s day sink answer (Card c) = Card (record {
   settings = c.settings;
   prices = c.prices;
   promise = c.promise.shortest;
-  text = c.text;
-  card = c.card;
   written = c.written;
 })

@@ -37,7 +37,7 @@ success = Ok tt
 -- machine file, from `file` and this card.
 pub record AreWritten (file sheet : List ℕ) (number : ℕ) (papers : CardAndFile) : Type 0 where
   pub printed : IsAnswerOnDay file sheet number
-      (λ m s. Prints (IsChosenCard m s) m s number (sink_with papers.card) success) success
+      (λ m s. Prints (IsChosenCard m s number) m s number (sink_with papers.card) success) success
   pub applied : IfOk (machine_of file)
       (λ m. Applies m papers.card (sink_with papers.file) success ⊎ LacksMemory success)
 
@@ -49,8 +49,8 @@ AreWrittenInTurn file sheet (number ∷ numbers) (papers ∷ more) =
 AreWrittenInTurn file sheet numbers papers = ⊥
 
 -- The card's settings lead from the machine of `file` to the machine of the next file. The machine of the next file is
--- set as day `number` says, shows the day's letters, and enciphers as the day asks. Spare cables stay free, and the
--- card's prices prove that no fewer settings lead to the day.
+-- set as day `number` says, shows the day's letters, and enciphers as the day asks. Spare cables stay free. No fewer
+-- settings lead to the day, and some valid prices prove this; that the card has these prices isn't said.
 pub record SetTheMachine (file sheet : List ℕ) (number : ℕ) (papers : CardAndFile) : Type 0 where
   pub m : Parts
   pub s : Day

@@ -81,7 +81,7 @@ pub record AppliesTo (machine list : List ℕ) (sink : Port) (answer : Result (U
 
 -- What a task does with a machine and a day. An order or a form is a port that is read.
 abbrev pub DoesTask : Task (List ℕ) Port → ℕ → Port → Result (Unit {0}) DeskFault → Parts → Day → Type 0
-DoesTask tasks.Card number sink answer m s = Prints (IsChosenCard m s) m s number sink answer
+DoesTask tasks.Card number sink answer m s = Prints (IsChosenCard m s number) m s number sink answer
 DoesTask (tasks.Check card) number sink answer m s = Checks m s number card sink answer
 DoesTask (tasks.Message Send order) number sink answer m s = Sends m s order sink answer
 DoesTask (tasks.Message Receive form) number sink answer m s = Receives m s form sink answer

@@ -8,10 +8,8 @@ use Rattle.kd_state.specs.declared.setting.Setting.{Setting}
 use Rattle.kd_state.specs.Machine.{model_of}
 use Rattle.kd_state.specs.SheetDay.{Day, day_model}
 use Rattle.kd_card.specs.declared.prices.PriceParts.{PriceParts}
-use Rattle.kd_card.specs.declared.prices.Version.TheVariants.{ByKind}
-use Rattle.kd_card.specs.CardText.{IsCard}
-use Rattle.kd_card.specs.Prices.{version_of}
-use Rattle.kd_card.specs.Proving.{Proves, IsShortest}
+use Rattle.kd_card.specs.CardText.{IsCard, card_text}
+use Rattle.kd_card.specs.Proving.{Proves, ShowShortest, IsShortest}
 use Rattle.kd_plan.specs.Planned.{IsPlannedCard}
 use Rattle.kd_plan.specs.Spares.{SparesStayFree}
 use Rattle.kd_desk.specs.declared.fault.DeskFault.{DeskFault}
@@ -20,13 +18,12 @@ use Rattle.kd_desk.specs.Headline.{LeavesTheSheetsMachine, EquallySetDecipherOn}
 use Rattle.kd_tables.specs.Ports.{Port}
 use Rattle.kd_host.specs.Writing.{WritesText}
 
--- A shortest card: its settings lead the machine to the day's machine. Its prices, one for each kind, prove that no
--- list is shorter. Machines that are equally set for the day decipher each other's texts.
+-- A shortest card: its settings lead the machine to the day's machine. No list that reaches the day is shorter, and the
+-- prices, one for each kind, show it. Machines that are equally set for the day decipher each other's texts.
 pub record IsShortestCard (machine : Parts) (day : Day) (settings : List Setting) (prices : PriceParts) : Type 0 where
-  pub version : version_of prices ≡ ByKind
-  pub proves : Proves machine day settings prices
-  pub shortest : IsShortest machine day settings
   pub leaves : LeavesTheSheetsMachine machine day settings
+  pub shortest : IsShortest machine day settings
+  pub shown : ShowShortest machine day settings prices
   pub deciphers : EquallySetDecipherOn day
 
 -- A card of which `Promise` holds was written for day `number`, or a prefix of its text if the device failed.
@@ -35,9 +32,7 @@ pub record WritesCard (Promise : List Setting → PriceParts → Type 0) (number
   pub settings : List Setting
   pub prices : PriceParts
   pub promise : Promise settings prices
-  pub text : List ℕ
-  pub card : IsCard text number settings prices
-  pub written : WritesText Device text sink answer
+  pub written : WritesText Device (card_text number settings prices) sink answer
 
 -- The machine and the day are of different models, or a card was written of which `Promise` holds.
 pub data Prints (Promise : List Setting → PriceParts → Type 0) (machine : Parts) (day : Day) (number : ℕ) (sink : Port)
@@ -48,9 +43,12 @@ pub data Prints (Promise : List Setting → PriceParts → Type 0) (machine : Pa
 
 -- ---- Which shortest card it is.
 
--- A shortest card, as the planner chooses it: its lines are those of a cheapest assignment, in the planner's order, and
--- spare cables stay free.
-pub record IsChosenCard (machine : Parts) (day : Day) (settings : List Setting) (prices : PriceParts) : Type 0 where
+-- A shortest card for day `number`, as the planner chooses it. Its values are valid, and it proves itself. Its lines
+-- are those of a cheapest assignment, in the planner's order, and spare cables stay free.
+pub record IsChosenCard (machine : Parts) (day : Day) (number : ℕ) (settings : List Setting) (prices : PriceParts)
+    : Type 0 where
   pub shortest : IsShortestCard machine day settings prices
-  pub planned : IsPlannedCard machine day settings shortest.proves.numbered
+  pub card : IsCard (card_text number settings prices) number settings prices
+  pub proves : Proves machine day settings prices
+  pub planned : IsPlannedCard machine day settings proves.numbered
   pub spares : SparesStayFree machine day settings

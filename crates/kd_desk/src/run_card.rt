@@ -30,9 +30,11 @@ pub fn run_card<W: Sink>(
     number: u8,
     sink: &mut W,
 ) -> Result<(), DeskFault>
-    ensures card { IsAnswerOnDay machine.now sheet.now number (λ m s. Prints (IsShortestCard m s) m s number
+    ensures card { IsAnswerOnDay machine.now sheet.now number (λ m s.
+        Prints (IsShortestCard m s) m s number
         (port W.taken W.has_failed sink.old sink.new) result) result }
-    ensures chosen { IsAnswerOnDay machine.now sheet.now number (λ m s. Prints (IsChosenCard m s) m s number
+    ensures chosen { IsAnswerOnDay machine.now sheet.now number (λ m s.
+        Prints (IsChosenCard m s number) m s number
         (port W.taken W.has_failed sink.old sink.new) result) result }
     ensures untouched { IsErr result → result ≢ Err Device → sink.new ≡ sink.old }
     ensures failed { W.has_failed sink.new ≡ (W.has_failed sink.old || is_device result) }
@@ -43,9 +45,11 @@ pub fn run_card<W: Sink>(
 
 /// Does what `run_card` does, for a machine and a day that are already read. Allocates nothing.
 pub fn print_card<W: Sink>(machine: &Machine, day: &SheetDay, sink: &mut W) -> Result<(), DeskFault>
-    ensures prints { Prints (IsShortestCard machine.now day.now) machine.now day.now (day_number day.now)
+    ensures prints { Prints (IsShortestCard machine.now day.now)
+        machine.now day.now (day_number day.now)
         (port W.taken W.has_failed sink.old sink.new) result }
-    ensures chosen { Prints (IsChosenCard machine.now day.now) machine.now day.now (day_number day.now)
+    ensures chosen { Prints (IsChosenCard machine.now day.now (day_number day.now))
+        machine.now day.now (day_number day.now)
         (port W.taken W.has_failed sink.old sink.new) result }
     ensures untouched { IsErr result → result ≢ Err Device → sink.new ≡ sink.old }
     ensures failed { W.has_failed sink.new ≡ (W.has_failed sink.old || is_device result) }

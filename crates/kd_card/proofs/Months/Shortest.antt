@@ -188,29 +188,39 @@ module _ {A B : Type 0} (a : A) (b : B) (cost : A → B → ℕ) (rows : List A)
 pub no_rotors : (model : Model) (reflector : Reflector) → model ≡ M209 → Contains (reflectors_of model) reflector → ⊥
 no_rotors model reflector e h = grind (arith, common_steps)
 
-AreBounds-prices : (m n : Parts) (s : Day) (prices : PriceParts) (settings : List Setting) → IsMachine m → IsLegalDay s
-    → ArePrices prices → AreModelPrices m prices → PricesFit (cost_table m s) prices → Leads m settings n → ReadsAs n s
+-- There is a price for each row and each column of the table of costs.
+abbrev pub HasCounts : PriceParts → Type 0
+HasCounts prices = (length (row_prices prices) ≡ table_size prices) × (length (column_prices prices) ≡ table_size prices)
+
+HasCounts-prices : (m : Parts) (prices : PriceParts) → ArePrices prices → AreModelPrices m prices → HasCounts prices
+HasCounts-prices (Rotor m) (Cables row column) are kind = (are.0.count, are.1.count)
+HasCounts-prices (Pin m) (Bars row column) are kind = (are.0.count, are.1.count)
+HasCounts-prices m prices are kind = absurd kind
+
+pub AreBounds-prices : (m n : Parts) (s : Day) (prices : PriceParts) (settings : List Setting) → IsMachine m → IsLegalDay s
+    → HasCounts prices → AreModelPrices m prices → PricesFit (cost_table m s) prices → Leads m settings n → ReadsAs n s
     → AreBounds (cost_table m s) prices (loose_count m s) (length settings)
 AreBounds-prices (Rotor m) (Rotor n) (OfRotors s) (Cables row column) settings machine legal are kind fits leads reads =
-    let pairing = cables_paired n.cables s.pairs column legal.pairs.few are.1.count reads.key.cables in
+    let pairing = cables_paired n.cables s.pairs column legal.pairs.few are.1 reads.key.cables in
     let same = sym (model_of-list (Rotor m) (Rotor n) settings leads) ∙ reads.key.model in
     let falling = list_lowers pairing.beside [] (OfRotors s) legal (Rotor m) (Rotor n) settings same leads in
     bounded (None, None) None cable_cost m.cables (columns_of s.pairs) (Cables row column) _ _
-    machine.legal.cables.count (thirteen_columns s.pairs legal.pairs.few) are.0.count are.1.count fits pairing.beside
+    machine.legal.cables.count (thirteen_columns s.pairs legal.pairs.few) are.0 are.1 fits pairing.beside
     pairing.order (omega (arith, falling, pairing.free, nothing_loose (Rotor n) (OfRotors s) reads))
 AreBounds-prices (Pin m) (Pin n) (OfPins s) (Bars row column) settings machine legal are kind fits leads reads =
     let stand = list_keeps (Pin m) (Pin n) settings leads machine.legal.apart in
-    let pairing = bars_paired n.bars s.rows column stand (legal.count ∙ sym are.1.count) reads.key.1 in
+    let pairing = bars_paired n.bars s.rows column stand (legal.count ∙ sym are.1) reads.key.1 in
     let falling = list_lowers [] pairing.beside (OfPins s) legal (Pin m) (Pin n) settings refl leads in
     bounded (One, One) (0, 0) bar_cost m.bars s.rows (Bars row column) _ _ machine.legal.bars legal.count
-    are.0.count are.1.count fits pairing.beside pairing.order
+    are.0 are.1 fits pairing.beside pairing.order
     (omega (arith, falling, pairing.free, nothing_loose (Pin n) (OfPins s) reads))
 AreBounds-prices m n s prices settings machine legal are kind fits leads reads =
     grind (arith, common_steps, no_rotors, model_of-list)
 
 pub fitting_prices_bound_lists : FittingPricesBoundLists
 fitting_prices_bound_lists m s prices settings machine legal are kind fits reached =
-    (AreBounds-prices m reached.0 s prices settings machine legal are kind fits reached.1 reached.2).bound
+    let counts = HasCounts-prices m prices are kind in
+    (AreBounds-prices m reached.0 s prices settings machine legal counts kind fits reached.1 reached.2).bound
 
 -- A needed setting lowers the number of loose things by one, unless it is priced. So a list of needed settings
 -- (`needed_all`) lowers it by the number of its settings that aren't priced.
@@ -288,5 +298,6 @@ proving_cards_are_shortest m s settings prices machine legal are_prices h others
 
 pub proving_prices_are_tight : ProvingPricesAreTight
 proving_prices_are_tight m s settings prices machine legal are h =
-    (AreBounds-prices m h.leads.0 s prices settings machine legal are h.kind h.fits h.leads.1 h.leads.2).tight
+    let counts = HasCounts-prices m prices are h.kind in
+    (AreBounds-prices m h.leads.0 s prices settings machine legal counts h.kind h.fits h.leads.1 h.leads.2).tight
     (proving_cards_are_as_long m s settings prices h)
