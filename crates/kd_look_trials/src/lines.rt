@@ -6,7 +6,7 @@ use std::test::Fail;
 
 /// What is written on `files`.
 pub fn lines_on_files(alloc: Global, files: &[NamedFile<'_>]) -> Result<String, Fail> {
-    let mut sink = MemorySink::<16384>::new(16384);
+    let mut sink = MemorySink::<65536>::new(65536);
     let _ = look_at(alloc, files, &mut sink);
     let lines = std::str::from_utf8(sink.taken()).unwrap_or("no text");
     Ok(String::from_str(alloc, lines)?)
