@@ -106,13 +106,14 @@ DoesTask l (tasks.Page days chosen) machine sheet sink answer = IsAnswerOnSheet 
 DoesTask l (tasks.List day) machine sheet sink answer = IsAnswerOnSheet machine sheet
     (λ m month. WritesList month m day sink answer) answer
 
--- the page of a message of this kind
+-- What is written for a message of this kind, and answered.
 abbrev pub WritesMessage : MessageKind → Language → List (Option Day) → Parts → ℕ → List ℕ → Port
     → Result (Unit {0}) Refused → Type 0
 WritesMessage kinds.Order l month m number order sink answer = WritesSendPage l month m number order sink answer
 WritesMessage kinds.Form l month m number form sink answer = WritesReceivePage l month m number form sink answer
 
--- What a task writes from the bytes of a machine file, a key sheet and a message, likewise.
+-- What a task writes from the bytes of a machine file, a key sheet and a message. Its words are in language `l`, unless
+-- the task has another.
 abbrev pub WorksMessage : Language → MessageTask → List ℕ → List ℕ → List ℕ → Port → Result (Unit {0}) Refused → Type 0
 WorksMessage l task machine sheet message sink answer = IsAnswerOnSheet machine sheet
     (λ m month. WritesMessage task.kind (unwrap_or task.language l) month m task.day message sink answer) answer

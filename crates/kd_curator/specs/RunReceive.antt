@@ -20,7 +20,7 @@ use Rattle.kd_curator.specs.Refusals.{refused_device, refused_receive, refused_w
 use Rattle.kd_curator.specs.declared.fault.PageFault.TheVariants.{LettersMissing, Message, NoSuchDay}
 use Rattle.kd_curator.specs.declared.fault.Refused.{Refused}
 
--- What the form's parts are read as on this day, and the texts in language `l`.
+-- The machine is ready and on the day's key; `parts` is what is read of the form; `texts` are those of language `l`.
 pub record IsFormRead (l : Language) (m : Parts) (s : Day) (form : List ℕ) (texts : MessageTexts)
     (parts : List DamagedPart) : Type 0 where
   pub ready : IsReadyOnKey m s
@@ -28,7 +28,8 @@ pub record IsFormRead (l : Language) (m : Parts) (s : Day) (form : List ℕ) (te
   pub read : AreReadOf s (damaged_parts_of form) parts
   pub few : length (damaged_parts_of form) ≤ 255
 
--- The answer once the page of these parts is written: success, if no letter and no part is missing.
+-- The answer once the page of these parts is written: success, if no letter of a part that is shown, and no part, is
+-- missing.
 abbrev pub IsReceivedAs : List DamagedPart → Result (Unit {0}) Refused → Type 0
 IsReceivedAs parts answer =
     (IsWhole parts × (answer ≡ Ok tt)) ⊎ (¬ (IsWhole parts) × (answer ≡ Err (refused_whole LettersMissing)))

@@ -10,7 +10,7 @@ use kd_sheet::SheetFault;
 use kd_table::SpreadsheetFault;
 use kd_tables::{Device, Refusal, Text};
 
-/// Why a command doesn't write what it is asked for.
+/// Why a command is refused, wholly or in part.
 #[derive(Clone, Copy, Debug, PartialEq, Eq)]
 pub enum PageFault {
     /// The machine file or the key sheet has this fault, or memory ran out.
@@ -19,7 +19,7 @@ pub enum PageFault {
     NoSuchDay,
     /// The machine and the sheet's day are of different models.
     OtherModel,
-    /// The machine isn't on the day's key, or the message has this fault.
+    /// The machine isn't ready or not on the day's key, the message has this fault, or memory ran out for it.
     Message(FormFault),
     /// A spreadsheet's table has faults, which are told in words.
     FaultyTable,

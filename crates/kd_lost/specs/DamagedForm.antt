@@ -1,5 +1,5 @@
--- How a damaged form is cut into parts, and what is read of all of them. A part begins at each line with a digit: no
--- other line than a heading has one, and a damaged heading still has some of its digits.
+-- How a damaged form is cut into parts, and what is read of all of them. The first part begins the form, and another each
+-- later line with a digit: only headings have digits, and a damaged heading still has some of them.
 -- Code: the form is cut part by part.
 -- Test: damaged_forms_are_read
 use Rattle.std.specs.Prelude.{◌≡◌, ℕ, ◌<◌, ◌==◌, ◌&&◌, ◌||◌, nat_le, Bool, false, if◌then◌else◌, List, [], ◌∷◌}

@@ -15,13 +15,14 @@ const MOST_PARTS: usize = 255;
 pub enum DamagedFormFault {
     /// There was no memory for what is read of the parts.
     NoMemory,
-    /// More than 255 lines have digits, so the form would have more than 255 parts.
+    /// The form would have more than 255 parts.
     TooManyParts,
 }
 
 /// Reads each part of `form` by itself, without the letters that were lost.
 ///
-/// A part begins at each line with a digit. For a form that `receive` reads, these are its parts.
+/// The first part begins the form, and another each later line with a digit. For a form that `receive` reads, these are
+/// its parts.
 pub fn read_damaged_form(
     alloc: Global,
     day: &SheetDay,

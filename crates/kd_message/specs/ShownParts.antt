@@ -62,6 +62,6 @@ IsReadWhole part =
 abbrev pub IsNumberWhole : List DamagedPart → ℕ → Type 0
 IsNumberWhole parts number = MatchOption (shown_under parts number) (total_of parts < number) IsReadWhole
 
--- Each part is read, no letter of a body is lost, and no part is missing.
+-- Each part that is shown is read without lost letters, and none is missing.
 abbrev pub IsWhole : List DamagedPart → Type 0
 IsWhole parts = All (IsNumberWhole parts) (range_with_len 1 (last_of parts))

@@ -39,7 +39,7 @@ use std::alloc::Global;
 /// Why the page of an order isn't written.
 #[derive(Clone, Copy, Debug, PartialEq, Eq)]
 pub enum SendPageFault {
-    /// The machine isn't on the day's key, or the order has this fault. `send` returns it, too.
+    /// `send` returns this fault, too: of the machine, of the order, or for want of memory.
     Order(FormFault),
     /// A write to the sink failed.
     Device,

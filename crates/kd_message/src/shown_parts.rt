@@ -93,7 +93,7 @@ fn shown_from(parts: &[DamagedPart], place: u16, number: u16) -> Option<&Damaged
     }
 }
 
-/// Whether each part is read, no letter of a body is lost, and no part is missing.
+/// Whether each part that is shown is read without lost letters, and none is missing.
 pub(crate) fn is_whole(parts: &[DamagedPart]) -> bool
     requires { length parts.now ≤ 255 }
     ensures { IsTrue result ↔ IsWhole parts.now }

@@ -30,7 +30,7 @@ static RECEIVED_IN_GERMAN: [Received; 2] = [
     ((M209_DAY, 7, M209_LOST_FORM), false, M209_LOST_GERMAN),
 ];
 
-/// A form of which a part isn't read, and what the sheet with the text says of the part.
+/// A form with a part that isn't read, and words of its page that say why.
 type Unread = (Form, &'static str);
 
 static UNREAD: [Unread; 11] = [
