@@ -28,7 +28,7 @@ page_fault_text (faults.Message fault) = form_fault_text fault
 page_fault_text faults.FaultyTable = codes "because the table has faults"
 page_fault_text faults.FaultyFile = codes "because a file has faults"
 page_fault_text faults.TooManyParts = codes "because the form has more than 255 parts"
-page_fault_text faults.LettersMissing = codes "in part: letters or parts of the form are missing"
+page_fault_text faults.LettersMissing = codes "in part: letters or parts of the text are missing"
 page_fault_text faults.Device = refusal_name refusals.Device
 
 -- a refusal that is of no day, or of the only one

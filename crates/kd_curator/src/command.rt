@@ -1,24 +1,19 @@
 //! The commands, and the parser of the command line.
-ghost use Rattle.std.specs.Prelude.{◌≡◌, ◌≢◌, ℕ, List, Option, codes, false, map, IfErr, IfOk, IfSome, IsErr};
-ghost use Rattle.clap.specs.Words.{Shape, app_of, found_of, kind_of, rows_of, rule_of, subcommand_rows_of};
-ghost use Rattle.kd_curator.specs.CommandLine.{IsMadeOf, curator_grammar, command_shape, list_shape, page_shape};
-ghost use Rattle.kd_curator.specs.CommandLine.{HasForm, IsFormNamed, csv_flag, table_shape};
-ghost use Rattle.kd_curator.specs.CommandLine.{are_blank, option_rule, option_text, option_texts, sheet_shape, IsMonthNamed};
-ghost use Rattle.kd_curator.specs.CommandLine.{IsMessageTask, language_option, look_shape, message_shape};
-ghost use Rattle.kd_curator.specs.CommandLine.{program_alone, receive_shape, send_shape, with_rule};
-ghost use Rattle.clap.specs.Simple.{with_subcommand};
-ghost use Rattle.kd_curator.specs.declared.command.MessageTask.{MessageTask};
+ghost use Rattle.std.specs.Prelude.{◌≡◌, ◌≢◌, ℕ, List, Option, None, codes, map, IfErr, IfOk, IfSome, IsErr};
+ghost use Rattle.clap.specs.Words.{found_of, kind_of, rows_of, subcommand_rows_of};
 ghost use Rattle.kd_table.specs.Options.{texts_of};
-ghost use Rattle.kd_curator.specs.CommandLine.{unborrowed_command, needed, task_name};
-ghost use Rattle.kd_curator.specs.CommandLine.{HasDay, HasDays, HasLanguage, IsCommandLineOf, IsCommandOf, IsMeant, IsTaskOf};
-ghost use Rattle.kd_curator.specs.CommandLine.{NamedCommand};
-ghost use Rattle.kd_curator.specs.CommandLine.{HasNoCommand, IsToldAs};
+ghost use Rattle.kd_curator.specs.CommandLine.{HasDay, HasDays, HasForm, HasLanguage, HasNoCommand, IsCommandLineOf};
+ghost use Rattle.kd_curator.specs.CommandLine.{IsCommandOf, IsFormNamed, IsMeant, IsMessageTask, IsMonthNamed, IsTaskOf};
+ghost use Rattle.kd_curator.specs.CommandLine.{IsToldAs, NamedCommand, are_blank, message_argument, message_name};
+ghost use Rattle.kd_curator.specs.CommandLine.{option_text, option_texts, unborrowed_command};
+ghost use Rattle.kd_curator.specs.declared.command.MessageTask.{MessageTask};
 
 use crate::days::{Days, days_of_word};
+use crate::grammar::grammar;
 use crate::locale::language_of_code;
 use crate::up_to_three::UpToThree;
 use clap::error::ErrorKind;
-use clap::{Arg, ArgAction, ArgMatches, Command as Grammar, Error};
+use clap::{ArgMatches, Command as Grammar, Error};
 use kd_key_table::TableForm;
 use kd_page::Language;
 use kd_state::day_of_text;
@@ -26,9 +21,6 @@ use kd_table::TableOptions;
 use kd_tables::Model;
 use std::alloc::{AllocError, Global};
 use std::convert::AsStr;
-
-/// The version that `--version` shows.
-const VERSION: &str = "1.0";
 
 /// The text of the error for `sheet --empty` with other words than a model and a number of days.
 const NO_MONTH: &str =
@@ -232,23 +224,23 @@ fn command_of<'a>(name: &str, words: &ArgMatches<'a>) -> Option<NamedCommand<'a>
         "table" => table_of(words),
         "sheet" => sheet_of(words),
         "look" => look_of(words),
-        "send" => send_of(words),
-        "receive" => receive_of(words),
+        "send" => message_of(words, MessageKind::Order),
+        "receive" => message_of(words, MessageKind::Form),
         _ => task_with_files(name, words),
     }
 }
 
-/// The command `send`, with the arguments in `words`; `None` if one has a wrong value.
-fn send_of<'a>(words: &ArgMatches<'a>) -> Option<NamedCommand<'a>>
+/// The command for a message of this kind, with the arguments in `words`; `None` if one has a wrong value.
+fn message_of<'a>(words: &ArgMatches<'a>, kind: MessageKind) -> Option<NamedCommand<'a>>
     ensures said { IfSome result (λ command.
-        IsCommandOf (codes "send", rows_of (found_of words.now)) (unborrowed_command command)) }
+        IsCommandOf (message_name kind, rows_of (found_of words.now)) (unborrowed_command command)) }
     ensures none { result ≡ None → (command : NamedCommand)
-        → ¬ (IsCommandOf (codes "send", rows_of (found_of words.now)) command) }
+        → ¬ (IsCommandOf (message_name kind, rows_of (found_of words.now)) command) }
 {
     let machine = words.get_str("MACHINE")?;
     let sheet = words.get_str("SHEET")?;
-    let message = words.get_str("ORDER")?;
-    let task = message_task(words, MessageKind::Order)?;
+    let message = words.get_str(message_argument(kind))?;
+    let task = message_task(words, kind)?;
     Some(Command::Message {
         machine,
         sheet,
@@ -257,23 +249,14 @@ fn send_of<'a>(words: &ArgMatches<'a>) -> Option<NamedCommand<'a>>
     })
 }
 
-/// The command `receive`, with the arguments in `words`; `None` if one has a wrong value.
-fn receive_of<'a>(words: &ArgMatches<'a>) -> Option<NamedCommand<'a>>
-    ensures said { IfSome result (λ command.
-        IsCommandOf (codes "receive", rows_of (found_of words.now)) (unborrowed_command command)) }
-    ensures none { result ≡ None → (command : NamedCommand)
-        → ¬ (IsCommandOf (codes "receive", rows_of (found_of words.now)) command) }
+/// The name of the argument for a message's file.
+fn message_argument(kind: MessageKind) -> &'static str
+    ensures { result.now ≡ message_argument kind }
 {
-    let machine = words.get_str("MACHINE")?;
-    let sheet = words.get_str("SHEET")?;
-    let message = words.get_str("FORM")?;
-    let task = message_task(words, MessageKind::Form)?;
-    Some(Command::Message {
-        machine,
-        sheet,
-        message,
-        task,
-    })
+    match kind {
+        MessageKind::Order => "ORDER",
+        MessageKind::Form => "FORM",
+    }
 }
 
 /// What is written of a message of this kind; `None` if an argument has a wrong value.
@@ -506,250 +489,4 @@ fn language_asked(words: &ArgMatches<'_>) -> Result<Option<Language>, WrongValue
         Some(language) => Ok(Some(language)),
         None => Err(WrongValue),
     }
-}
-
-/// The grammar of the command line.
-fn grammar<'a>(alloc: Global) -> Result<Grammar<'a>, AllocError>
-    ensures { IfOk result (λ grammar. app_of grammar ≡ curator_grammar) }
-{
-    let days = with_days(alloc, program_grammar(alloc))?;
-    let messages = with_messages(alloc, days)?;
-    let sheets = with_sheets(alloc, messages)?;
-    let look = look_grammar(alloc)?;
-    sheets.subcommand(look)
-}
-
-/// The grammar of the program without its commands.
-fn program_grammar<'a>(alloc: Global) -> Grammar<'a>
-    ensures { app_of result ≡ program_alone }
-{
-    Grammar::new(alloc, "curator")
-        .about("Writes pages to hang beside a cipher machine: what to set for a day, with pictures")
-        .version(VERSION)
-        .disable_help_subcommand(true)
-        .subcommand_required(true)
-        .arg_required_else_help(true)
-}
-
-/// The program's `grammar` with the commands `page` and `list`.
-fn with_days<'a>(alloc: Global, grammar: Grammar<'a>) -> Result<Grammar<'a>, AllocError>
-    ensures { IfOk result (λ made. app_of made
-        ≡ with_subcommand (with_subcommand (app_of grammar.entry) page_shape) list_shape) }
-{
-    let page = page_grammar(alloc)?;
-    let list = list_grammar(alloc)?;
-    let first = grammar.subcommand(page)?;
-    first.subcommand(list)
-}
-
-/// The program's `grammar` with the commands `send` and `receive`.
-fn with_messages<'a>(alloc: Global, grammar: Grammar<'a>) -> Result<Grammar<'a>, AllocError>
-    ensures { IfOk result (λ made. app_of made
-        ≡ with_subcommand (with_subcommand (app_of grammar.entry) send_shape) receive_shape) }
-{
-    let send = send_grammar(alloc)?;
-    let receive = receive_grammar(alloc)?;
-    let first = grammar.subcommand(send)?;
-    first.subcommand(receive)
-}
-
-/// The program's `grammar` with the commands `table` and `sheet`.
-fn with_sheets<'a>(alloc: Global, grammar: Grammar<'a>) -> Result<Grammar<'a>, AllocError>
-    ensures { IfOk result (λ made. app_of made
-        ≡ with_subcommand (with_subcommand (app_of grammar.entry) table_shape) sheet_shape) }
-{
-    let table = table_grammar(alloc)?;
-    let sheet = sheet_grammar(alloc)?;
-    let first = grammar.subcommand(table)?;
-    first.subcommand(sheet)
-}
-
-/// The grammar of `page`.
-fn page_grammar<'a>(alloc: Global) -> Result<Grammar<'a>, AllocError>
-    ensures { IfOk result (λ grammar. IsMadeOf grammar page_shape) }
-{
-    let days = Arg::new(alloc, "DAYS").help(
-        "The days, such as 2, 1-31 or 1,4,2; without it, all days for the machine's model",
-    );
-    let grammar = command_grammar(
-        alloc,
-        "page",
-        "Writes an HTML page of each day, from the machine as the day before left it",
-        days,
-    )?;
-    with_language(alloc, grammar)
-}
-
-/// The grammar of `list`.
-fn list_grammar<'a>(alloc: Global) -> Result<Grammar<'a>, AllocError>
-    ensures { IfOk result (λ grammar. IsMadeOf grammar list_shape) }
-{
-    command_grammar(
-        alloc,
-        "list",
-        "Writes the settings of a day's page, as a list that desk apply carries out",
-        needed(alloc, "DAY", "The day, from 1 to 31"),
-    )
-}
-
-/// The grammar of `table`.
-fn table_grammar<'a>(alloc: Global) -> Result<Grammar<'a>, AllocError>
-    ensures { IfOk result (λ grammar. IsMadeOf grammar table_shape) }
-{
-    let grammar = Grammar::new(alloc, "table")
-        .about("Writes a key sheet as an HTML page of tables to print, like the sheets of the time")
-        .arg(csv_flag(alloc))?
-        .arg(needed(alloc, "SHEET", "The key sheet"))?;
-    with_language(alloc, grammar)
-}
-
-/// The grammar of `send`.
-fn send_grammar<'a>(alloc: Global) -> Result<Grammar<'a>, AllocError>
-    ensures { IfOk result (λ grammar. IsMadeOf grammar send_shape) }
-{
-    message_grammar(
-        alloc,
-        "send",
-        "Writes an HTML page that says, row by row, how to encipher an order by hand",
-        needed(alloc, "ORDER", "The order, as desk send takes it"),
-    )
-}
-
-/// The grammar of `receive`.
-fn receive_grammar<'a>(alloc: Global) -> Result<Grammar<'a>, AllocError>
-    ensures { IfOk result (λ grammar. IsMadeOf grammar receive_shape) }
-{
-    message_grammar(
-        alloc,
-        "receive",
-        "Writes an HTML page that says, row by row, how to decipher a form by hand, and its text",
-        needed(alloc, "FORM", "The form, with ? for each lost letter"),
-    )
-}
-
-/// The grammar of a command with a machine file, a key sheet, a day and `message`.
-fn message_grammar<'a>(
-    alloc: Global,
-    name: &'a str,
-    about: &'a str,
-    message: Arg<'a>,
-) -> Result<Grammar<'a>, AllocError>
-    requires { message.global ≡ false }
-    ensures { IfOk result (λ grammar.
-        IsMadeOf grammar (message_shape name.entry.now (rule_of message.entry))) }
-{
-    let day = needed(alloc, "DAY", "The day, from 1 to 31");
-    let grammar = command_grammar(alloc, name, about, day)?.arg(message)?;
-    with_language(alloc, grammar)
-}
-
-/// The command `grammar` with the option `--in`.
-fn with_language<'a>(alloc: Global, grammar: Grammar<'a>) -> Result<Grammar<'a>, AllocError>
-    ensures { (shape : Shape) → IsMadeOf grammar.entry shape
-        → IfOk result (λ made. IsMadeOf made (with_rule shape language_option)) }
-{
-    grammar.arg(option(
-        alloc,
-        "in",
-        "LANGUAGE",
-        "The language of the words, de or en; without it, that of the environment's LANG",
-    ))
-}
-
-/// The grammar of `sheet`.
-fn sheet_grammar<'a>(alloc: Global) -> Result<Grammar<'a>, AllocError>
-    ensures { IfOk result (λ grammar. IsMadeOf grammar sheet_shape) }
-{
-    Grammar::new(alloc, "sheet")
-        .about(
-            "Makes a key sheet of a table that a spreadsheet saved as CSV, or an empty key sheet",
-        )
-        .arg(option(
-            alloc,
-            "model",
-            "MODEL",
-            "The model, for a table that has no column model",
-        ))?
-        .arg(option(
-            alloc,
-            "reflector",
-            "REFLECTOR",
-            "The reflector, for days that lack it",
-        ))?
-        .arg(option(
-            alloc,
-            "window",
-            "LETTERS",
-            "The letters in the windows, for days that lack them",
-        ))?
-        .arg(option(
-            alloc,
-            "empty",
-            "MODEL",
-            "Writes a sheet of this model to fill in; then TABLE is the number of its days",
-        ))?
-        .arg(needed(
-            alloc,
-            "TABLE",
-            "The table: CSV, or values separated by semicolons or tabs",
-        ))
-}
-
-/// The grammar of `look`.
-fn look_grammar<'a>(alloc: Global) -> Result<Grammar<'a>, AllocError>
-    ensures { IfOk result (λ grammar. IsMadeOf grammar look_shape) }
-{
-    Grammar::new(alloc, "look")
-        .about("Says in words what machine files and key sheets say, or what is wrong with them")
-        .arg(needed(alloc, "FILE", "A machine file or a key sheet"))?
-        .arg(Arg::new(alloc, "FILE2").help("Another file"))?
-        .arg(Arg::new(alloc, "FILE3").help("Another file"))
-}
-
-/// An option with a value, which help calls `value`.
-fn option<'a>(alloc: Global, name: &'a str, value: &'a str, help: &'a str) -> Arg<'a>
-    ensures rule { rule_of result ≡ option_rule name.entry.now }
-    ensures local { result.global ≡ false }
-{
-    Arg::new(alloc, name)
-        .long(name)
-        .value_name(value)
-        .help(help)
-}
-
-/// The option `--csv`, which has no value.
-fn csv_flag<'a>(alloc: Global) -> Arg<'a>
-    ensures rule { rule_of result ≡ csv_flag }
-    ensures local { result.global ≡ false }
-{
-    Arg::new(alloc, "csv")
-        .long("csv")
-        .action(ArgAction::SetTrue)
-        .help("Writes a table for a spreadsheet instead, in the form CSV")
-}
-
-/// The grammar of a command with a machine file, a key sheet and `last`.
-fn command_grammar<'a>(
-    alloc: Global,
-    name: &'a str,
-    about: &'a str,
-    last: Arg<'a>,
-) -> Result<Grammar<'a>, AllocError>
-    requires { last.global ≡ false }
-    ensures { IfOk result (λ grammar.
-        IsMadeOf grammar (command_shape name.entry.now (rule_of last.entry))) }
-{
-    Grammar::new(alloc, name)
-        .about(about)
-        .arg(needed(alloc, "MACHINE", "The machine file"))?
-        .arg(needed(alloc, "SHEET", "The key sheet"))?
-        .arg(last)
-}
-
-/// An argument that each command line must have.
-fn needed<'a>(alloc: Global, name: &'a str, help: &'a str) -> Arg<'a>
-    ensures rule { rule_of result ≡ needed name.entry.now }
-    ensures local { result.global ≡ false }
-{
-    Arg::new(alloc, name).required(true).help(help)
 }

@@ -49,7 +49,7 @@ impl PageFault {
             PageFault::FaultyFile => worded_text("because a file has faults"),
             PageFault::TooManyParts => worded_text("because the form has more than 255 parts"),
             PageFault::LettersMissing => {
-                worded_text("in part: letters or parts of the form are missing")
+                worded_text("in part: letters or parts of the text are missing")
             }
             PageFault::Device => Refusal::Device.text(),
         }

@@ -7,6 +7,7 @@ mod command;
 mod day_plan;
 mod days;
 mod fault;
+mod grammar;
 mod hand_list;
 pub mod laws;
 mod locale;

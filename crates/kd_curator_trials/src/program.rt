@@ -308,7 +308,7 @@ fn writes_the_page_of_a_form_with_lost_letters(rt: HostRuntime) {
     let words = &["curator", "receive", "m", "k", "1", "l"];
     let ran = run(rt.alloc(), words, &mut files, 32768);
     assert_eq!(rt; ran.status, 1);
-    let told = "refused in part: letters or parts of the form are missing\n";
+    let told = "refused in part: letters or parts of the text are missing\n";
     assert_eq!(rt; ran.errors.taken(), told.as_bytes());
     let text = str::from_utf8(ran.sink.taken()).unwrap_or("");
     assert!(rt; has_in_turn(text, &["receive</title>", "AA?AA", "</main>\n"]));

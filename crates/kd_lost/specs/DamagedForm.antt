@@ -3,7 +3,7 @@
 -- Code: the form is cut part by part.
 -- Test: damaged_forms_are_read
 use Rattle.std.specs.Prelude.{◌≡◌, ℕ, ◌<◌, ◌==◌, ◌&&◌, ◌||◌, nat_le, Bool, false, if◌then◌else◌, List, [], ◌∷◌}
-use Rattle.std.specs.Prelude.{length, Any, IfOk, Option, None, Some, Result, Ok, Err}
+use Rattle.std.specs.Prelude.{length, IfOk, Option, None, Some, Result, Ok, Err}
 use Rattle.std.specs.List.{flat_map}
 use Rattle.kd_form.specs.FormText.{plaintext_byte}
 use Rattle.kd_lost.specs.declared.damage.PartDamage.{PartDamage}
@@ -11,9 +11,7 @@ use Rattle.kd_lost.specs.declared.damaged_text.DamagedText.{DamagedText}
 use Rattle.kd_state.specs.SheetDay.{Day}
 use Rattle.kd_lost.specs.declared.form.DamagedFormFault.{DamagedFormFault}
 use Rattle.kd_lost.specs.declared.form.DamagedFormFault.TheVariants as faults
-use Rattle.kd_lost.specs.declared.order.OrderNote.{OrderNote}
-use Rattle.kd_lost.specs.declared.order.OrderNote.TheVariants as notes
-use Rattle.kd_lost.specs.declared.part.{DamagedPart.{DamagedPart}, PartNumbers.{PartNumbers}}
+use Rattle.kd_lost.specs.declared.part.DamagedPart.{DamagedPart}
 use Rattle.kd_lost.specs.DamagedPart.{AreNumbersRead, IsDamagedTextAnswer, IsPartShown, body_of, first_line}
 use Rattle.kd_lost.specs.Lost.{received_letters}
 
@@ -75,22 +73,3 @@ shown_byte for_space (Some letter) = plaintext_byte for_space letter
 pub data IsFormFault (parts : List (List ℕ)) (fault : DamagedFormFault) : Type 0 where
   TooMany : 255 < length parts → fault ≡ faults.TooManyParts → IsFormFault parts fault
   NoMemory : fault ≡ faults.NoMemory → IsFormFault parts fault
-
--- ---- The order of the parts.
-
--- The part has the number `number`.
-abbrev pub HasNumber : ℕ → DamagedPart → Type 0
-HasNumber number part = (given : PartNumbers) × (part.numbers ≡ Some given) × (given.part ≡ number)
-
--- The part has a number above `number`.
-abbrev pub HasNumberAbove : ℕ → DamagedPart → Type 0
-HasNumberAbove number part = (given : PartNumbers) × (part.numbers ≡ Some given) × (number < given.part)
-
--- The place of part `number` behind the parts `before`: it stood before, or it comes after a part with a higher number,
--- or neither.
-pub data IsOrderNote (before : List DamagedPart) (number : ℕ) (note : OrderNote) : Type 0 where
-  Again : Any (HasNumber number) before → note ≡ notes.Again → IsOrderNote before number note
-  Late : ¬ (Any (HasNumber number) before) → Any (HasNumberAbove number) before → note ≡ notes.Late
-      → IsOrderNote before number note
-  InOrder : ¬ (Any (HasNumber number) before) → ¬ (Any (HasNumberAbove number) before) → note ≡ notes.InOrder
-      → IsOrderNote before number note

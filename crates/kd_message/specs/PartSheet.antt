@@ -74,6 +74,7 @@ text_rows sheet s name start body =
 abbrev pub warnings_text : MessageTexts → SheetTexts → Warnings → List ℕ
 warnings_text texts sheet warnings =
     text_if warnings.copies_lost texts.copies_lost.now ++ text_if warnings.wrong_day sheet.wrong_day.now
+    ++ text_if warnings.not_tested sheet.not_tested.now
 
 -- the step of the text
 unfoldable pub text_step : MessageTexts → SheetTexts → Day → PartName → Warnings → Work → List ℕ

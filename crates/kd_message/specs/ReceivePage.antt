@@ -25,12 +25,12 @@ use Rattle.kd_message.specs.declared.receiving.Section.{Section}
 use Rattle.kd_message.specs.declared.receiving.Section.TheVariants as sections
 use Rattle.kd_message.specs.declared.texts.MessageTexts.{MessageTexts}
 use Rattle.kd_message.specs.declared.texts.SheetTexts.{SheetTexts}
-use Rattle.kd_message.specs.PartSheet.{part_sheet}
+use Rattle.kd_message.specs.PartSheet.{part_sheet, text_if}
 use Rattle.kd_message.specs.PartWork.{AreShowable, received_work}
 use Rattle.kd_message.specs.SendPage.{list_head, part_name, title_text}
-use Rattle.kd_message.specs.ShownParts.{IsWhole, last_of, shown_under, total_of}
-use Rattle.kd_message.specs.TextSheet.{damage_text, missing_text, read_text, text_note, text_part_head, text_sheet_head}
-use Rattle.kd_message.specs.TextSheet.{warnings_of}
+use Rattle.kd_message.specs.ShownParts.{IsWhole, is_any_read, last_of, shown_under, total_of}
+use Rattle.kd_message.specs.TextSheet.{damage_text, missing_text, order_text, read_text, text_note, text_part_head}
+use Rattle.kd_message.specs.TextSheet.{text_sheet_head, warnings_of}
 
 abbrev pub receive_texts : MessageTexts → Model → SheetTexts
 receive_texts texts model = if is_converter model then texts.pin_receive else texts.rotor_receive
@@ -95,8 +95,9 @@ unfoldable pub receive_text : MessageTexts → Day → List DamagedPart → List
 receive_text texts s parts =
     title_text texts texts.title_to_receive.now s ++ list_head texts (last_of parts)
     ++ section_text sections.Listed texts s parts ++ texts.list_end_with_text.now
-    ++ section_text sections.Worked texts s parts ++ text_sheet_head texts s
-    ++ section_text sections.Texts texts s parts ++ text_note texts (day_model s) ++ ARTICLE_END.now ++ FOOT.now
+    ++ section_text sections.Worked texts s parts ++ text_sheet_head texts s ++ order_text texts parts
+    ++ section_text sections.Texts texts s parts ++ text_if (is_any_read parts) (text_note texts (day_model s))
+    ++ ARTICLE_END.now ++ FOOT.now
 
 -- ---- What `write_receive_page` answers.
 

@@ -1,6 +1,6 @@
 -- Under which numbers the parts of a received form are shown, and whether all of the form was read.
 use Rattle.std.specs.Prelude.{◌≡◌, ◌≢◌, ℕ, ◌+◌, ◌<◌, ◌==◌, if◌then◌else◌, max, List, [], ◌∷◌, All, Option, None, Some}
-use Rattle.std.specs.Prelude.{MatchOption, Ok}
+use Rattle.std.specs.Prelude.{MatchOption, Ok, is_ok, nat_lt, ◌&&◌, ◌||◌, Bool, true, false}
 use Rattle.std.specs.List.{range_with_len}
 use Rattle.kd_lost.specs.declared.damaged_text.DamagedText.{DamagedText}
 use Rattle.kd_lost.specs.declared.part.{DamagedPart.{DamagedPart}, PartNumbers.{PartNumbers}}
@@ -25,6 +25,20 @@ total_or total (part ∷ parts) = total_or (parts_or total part.numbers) parts
 -- how many parts the form has; one, if all headings are damaged
 abbrev pub total_of : List DamagedPart → ℕ
 total_of parts = total_or 1 parts
+
+-- the numbers of parts that stand from `place` on
+abbrev pub numbers_from : ℕ → List DamagedPart → List ℕ
+numbers_from place [] = []
+numbers_from place (part ∷ parts) = number_of place part.numbers ∷ numbers_from (place + 1) parts
+
+-- the numbers of a form's parts, in the order in which they came
+abbrev pub numbers_of : List DamagedPart → List ℕ
+numbers_of parts = numbers_from 1 parts
+
+-- whether each number is greater than the one before it, and the first than `before`
+abbrev pub are_rising : ℕ → List ℕ → Bool
+are_rising before [] = true
+are_rising before (number ∷ numbers) = nat_lt before number && are_rising number numbers
 
 -- the greatest number of parts that stand from `place` on, and at least `least`
 abbrev pub greatest_number : ℕ → ℕ → List DamagedPart → ℕ
@@ -53,15 +67,20 @@ shown_under parts number = shown_from 1 number parts
 
 -- ---- Whether all of the form was read.
 
--- The part is read, and no letter of its body is lost.
+-- whether one of the parts is read
+abbrev pub is_any_read : List DamagedPart → Bool
+is_any_read [] = false
+is_any_read (part ∷ parts) = is_ok part.text || is_any_read parts
+
+-- The part is read, and no letter of its text is lost.
 abbrev pub IsReadWhole : DamagedPart → Type 0
 IsReadWhole part =
-    (shown : DamagedText) × (part.text ≡ Ok shown) × All (λ got. got ≢ None) shown.received.items
+    (shown : DamagedText) × (part.text ≡ Ok shown) × All (λ got. got ≢ None) shown.letters.items
 
 -- The part that is shown under the number is read whole. If there is no such part, the form doesn't have this number.
 abbrev pub IsNumberWhole : List DamagedPart → ℕ → Type 0
 IsNumberWhole parts number = MatchOption (shown_under parts number) (total_of parts < number) IsReadWhole
 
--- Each part that is shown is read without lost letters, and none is missing.
+-- Each part that is shown is read, no letter of its text is lost, and no part is missing.
 abbrev pub IsWhole : List DamagedPart → Type 0
 IsWhole parts = All (IsNumberWhole parts) (range_with_len 1 (last_of parts))

@@ -1,5 +1,6 @@
 -- The sheet with the text of a received form, and what to ask the other station for.
-use Rattle.std.specs.Prelude.{decimal, ℕ, ◌+◌, ◌-◌, ◌/◌, ◌==◌, ◌||◌, Bool, true, false, is_none, if◌then◌else◌}
+use Rattle.std.specs.Prelude.{decimal, ℕ, ◌+◌, ◌-◌, ◌/◌, ◌==◌, nat_le, ◌&&◌, ◌||◌, not, Bool, true, false, is_none}
+use Rattle.std.specs.Prelude.{if◌then◌else◌}
 use Rattle.std.specs.Prelude.{List, [], ◌∷◌, ◌++◌, map, Option, Some, None}
 use Rattle.kd_tables.specs.declared.model.Model.{Model}
 use Rattle.kd_tables.specs.declared.model.Model.TheVariants.{EnigmaI, M3, M4, M209}
@@ -22,6 +23,7 @@ use Rattle.kd_message.specs.declared.texts.MessageTexts.{MessageTexts}
 use Rattle.kd_message.specs.declared.texts.SheetTexts.{SheetTexts}
 use Rattle.kd_message.specs.PartSheet.{warnings_text}
 use Rattle.kd_message.specs.Rows.{pieces}
+use Rattle.kd_message.specs.ShownParts.{are_rising, numbers_of}
 
 -- the head of the sheet
 abbrev pub text_sheet_head : MessageTexts → Day → List ℕ
@@ -31,6 +33,17 @@ text_sheet_head texts s = filled texts.text.now (model_name (day_model s) ∷ de
 abbrev pub text_part_head : MessageTexts → PartName → List ℕ
 text_part_head texts name = filled texts.text_part.now (
     decimal name.part ∷ decimal name.parts ∷ model_name name.model ∷ decimal name.day ∷ [])
+
+-- the numbers, with commas between them; the first after `first`
+abbrev pub numbers_after : List ℕ → List ℕ → List ℕ
+numbers_after first [] = []
+numbers_after first (number ∷ numbers) = first ++ decimal number ++ numbers_after COMMA.now numbers
+
+-- the order in which the parts came, if it isn't that of their numbers
+unfoldable pub order_text : MessageTexts → List DamagedPart → List ℕ
+order_text texts parts =
+    if are_rising 0 (numbers_of parts) then []
+    else texts.order.now ++ numbers_after [] (numbers_of parts) ++ texts.order_end.now
 
 -- ---- What to ask the other station for.
 
@@ -58,6 +71,16 @@ lost_groups texts first number (group ∷ groups) =
 abbrev pub first_text_group : Model → ℕ
 first_text_group model = if is_converter model then 3 else 2
 
+-- where the key letter with this number stands among the indicators: the chosen letter, number 0, stands twice
+abbrev pub indicator_place : ℕ → ℕ
+indicator_place number = if number == 0 then 1 else number + 2
+
+-- the group with this key letter among the first two, and the one among the last two, of a body with this many letters
+unfoldable pub key_letter_groups : MessageTexts → ℕ → ℕ → List ℕ
+key_letter_groups texts came number =
+    let group = if nat_le (indicator_place number) 5 then 1 else 2 in
+    group_words texts [] group ++ group_words texts COMMA.now (came / 5 - 2 + group)
+
 -- the groups with the indicators, of a body with this many letters: the first two and the last two
 unfoldable pub indicator_groups : MessageTexts → ℕ → List ℕ
 indicator_groups texts came =
@@ -76,12 +99,19 @@ is_wrong_day tests.Right = false
 is_wrong_day tests.Wrong = true
 is_wrong_day tests.NotTested = false
 
+-- whether letters by which the day is known are lost; on a Converter, a list letter in both copies
+abbrev pub is_not_tested : GroupTest → Bool
+is_not_tested tests.Right = false
+is_not_tested tests.Wrong = false
+is_not_tested tests.NotTested = true
+
 -- what a part that is read warns of
 abbrev pub warnings_of : DamagedText → Warnings
 warnings_of shown = record {
   letters_lost = has_lost shown.received.items;
-  copies_lost = is_copy_lost shown.copies;
+  copies_lost = is_copy_lost shown.copies && not (is_not_tested shown.group);
   wrong_day = is_wrong_day shown.group;
+  not_tested = is_not_tested shown.group;
 }
 
 -- letters that may be broken anywhere or, on a Converter, words
@@ -108,10 +138,6 @@ abbrev pub heading_count : Option PartNumbers → ℕ
 heading_count (Some numbers) = numbers.letters
 heading_count None = 0
 
--- where the key letter with this number stands among the indicators: the chosen letter, number 0, stands twice
-abbrev pub indicator_place : ℕ → ℕ
-indicator_place number = if number == 0 then 1 else number + 2
-
 -- the counts of the heading and of the letters that came
 unfoldable pub counts_text : MessageTexts → ℕ → ℕ → List ℕ
 counts_text texts counted came =
@@ -132,12 +158,13 @@ reason_text texts part damages.NoInternalKey = texts.no_internal_key.now
 
 -- what to ask for if a part isn't read
 abbrev pub asked_words : MessageTexts → DamagedPart → PartDamage → List ℕ
-asked_words texts part damages.HeadingDamaged = texts.its_heading.now
+asked_words texts part damages.HeadingDamaged =
+    if part.came == 0 then texts.all_of_it.now else texts.its_heading.now
 asked_words texts part damages.HeadingKeyLost = texts.its_heading.now
 asked_words texts part damages.BadByte = texts.all_of_it.now
 asked_words texts part damages.CountWrong = texts.all_of_it.now
-asked_words texts part (damages.CopiesDiffer number) = indicator_groups texts part.came
-asked_words texts part (damages.KeyLetterLost number) = indicator_groups texts part.came
+asked_words texts part (damages.CopiesDiffer number) = key_letter_groups texts part.came number
+asked_words texts part (damages.KeyLetterLost number) = key_letter_groups texts part.came number
 asked_words texts part damages.KeyNotOnWheel = indicator_groups texts part.came
 asked_words texts part damages.NoInternalKey = indicator_groups texts part.came
 

@@ -17,6 +17,7 @@ pub record AreRotorSendTexts (l : Language) (sheet : SheetTexts) : Type 0 where
   pub next_step : sheet.next_step.now ≡ text_in l constants.ROTOR_SEND_NEXT_STEP
   pub lost_letter : sheet.lost_letter.now ≡ text_in l constants.ROTOR_LOST_LETTER
   pub wrong_day : sheet.wrong_day.now ≡ text_in l constants.ROTOR_WRONG_DAY
+  pub not_tested : sheet.not_tested.now ≡ text_in l constants.ROTOR_NOT_TESTED
   pub note : sheet.note.now ≡ text_in l constants.ROTOR_NOTE
 
 -- `sheet` has the texts of the sheet of a part that is sent on a Converter, in language `l`.
@@ -30,6 +31,7 @@ pub record ArePinSendTexts (l : Language) (sheet : SheetTexts) : Type 0 where
   pub next_step : sheet.next_step.now ≡ text_in l constants.PIN_SEND_NEXT_STEP
   pub lost_letter : sheet.lost_letter.now ≡ text_in l constants.PIN_LOST_LETTER
   pub wrong_day : sheet.wrong_day.now ≡ text_in l constants.PIN_WRONG_DAY
+  pub not_tested : sheet.not_tested.now ≡ text_in l constants.PIN_NOT_TESTED
   pub note : sheet.note.now ≡ text_in l constants.PIN_SEND_NOTE
 
 -- `sheet` has the texts of the sheet of a part that is received on a rotor machine, in language `l`.
@@ -43,6 +45,7 @@ pub record AreRotorReceiveTexts (l : Language) (sheet : SheetTexts) : Type 0 whe
   pub next_step : sheet.next_step.now ≡ text_in l constants.ROTOR_RECEIVE_NEXT_STEP
   pub lost_letter : sheet.lost_letter.now ≡ text_in l constants.ROTOR_LOST_LETTER
   pub wrong_day : sheet.wrong_day.now ≡ text_in l constants.ROTOR_WRONG_DAY
+  pub not_tested : sheet.not_tested.now ≡ text_in l constants.ROTOR_NOT_TESTED
   pub note : sheet.note.now ≡ text_in l constants.ROTOR_NOTE
 
 -- `sheet` has the texts of the sheet of a part that is received on a Converter, in language `l`.
@@ -56,6 +59,7 @@ pub record ArePinReceiveTexts (l : Language) (sheet : SheetTexts) : Type 0 where
   pub next_step : sheet.next_step.now ≡ text_in l constants.PIN_RECEIVE_NEXT_STEP
   pub lost_letter : sheet.lost_letter.now ≡ text_in l constants.PIN_LOST_LETTER
   pub wrong_day : sheet.wrong_day.now ≡ text_in l constants.PIN_WRONG_DAY
+  pub not_tested : sheet.not_tested.now ≡ text_in l constants.PIN_NOT_TESTED
   pub note : sheet.note.now ≡ text_in l constants.PIN_RECEIVE_NOTE
 
 -- `texts` are all texts, in language `l`.
@@ -76,6 +80,8 @@ pub record AreTexts (l : Language) (texts : MessageTexts) : Type 0 where
   pub text : texts.text.now ≡ text_in l constants.TEXT_SHEET
   pub text_part : texts.text_part.now ≡ text_in l constants.TEXT_PART
   pub text_part_end : texts.text_part_end.now ≡ text_in l constants.TEXT_PART_END
+  pub order : texts.order.now ≡ text_in l constants.ORDER
+  pub order_end : texts.order_end.now ≡ text_in l constants.ORDER_END
   pub unread : texts.unread.now ≡ text_in l constants.UNREAD
   pub reason_end : texts.reason_end.now ≡ text_in l constants.REASON_END
   pub ask : texts.ask.now ≡ text_in l constants.ASK

@@ -74,6 +74,8 @@ pub(crate) struct Warnings {
     pub(crate) copies_lost: bool,
     /// The group, or the list letters, aren't the day's.
     pub(crate) wrong_day: bool,
+    /// A letter of the group, or a list letter in both copies, is lost.
+    pub(crate) not_tested: bool,
 }
 
 /// Writes the warnings on the copies of the indicators, and on the day.
@@ -88,6 +90,7 @@ pub(crate) fn draw_warnings<W: Sink>(
 {
     draw_if(sink, warnings.copies_lost, texts.copies_lost);
     draw_if(sink, warnings.wrong_day, sheet.wrong_day);
+    draw_if(sink, warnings.not_tested, sheet.not_tested);
 }
 
 fn draw_head<W: Sink>(sink: &mut W, sheet: &SheetTexts, name: PartName)

@@ -12,13 +12,13 @@ ghost use Rattle.kd_message.specs.declared.texts.MessageTexts.{MessageTexts};
 
 use crate::filling::fill;
 use crate::markup::ARTICLE_END;
-use crate::part_sheet::{PartName, draw_part_sheet};
+use crate::part_sheet::{PartName, draw_if, draw_part_sheet};
 use crate::received_work::received_work;
 use crate::sending::{draw_title, list_head, part_name};
-use crate::shown_parts::{is_whole, last_of, shown_under, total_of};
+use crate::shown_parts::{is_any_read, is_whole, last_of, shown_under, total_of};
 use crate::text_sheet::{
-    draw_damage, draw_missing, draw_read_text, draw_text_part_head, draw_text_sheet_head,
-    text_note, warnings_of,
+    draw_damage, draw_missing, draw_order, draw_read_text, draw_text_part_head,
+    draw_text_sheet_head, text_note, warnings_of,
 };
 use crate::texts::{MessageTexts, SheetTexts, message_texts};
 use kd_lost::{DamagedFormFault, DamagedPart, DamagedText, PartDamage, read_damaged_form};
@@ -104,8 +104,9 @@ fn draw_page<W: Sink>(sink: &mut W, texts: &MessageTexts, day: &SheetDay, parts:
     draw(sink, texts.list_end_with_text);
     draw_section(sink, Section::Worked, texts, day, parts);
     draw_text_sheet_head(sink, texts, day);
+    draw_order(sink, texts, parts);
     draw_section(sink, Section::Texts, texts, day, parts);
-    draw(sink, text_note(texts, day.model()));
+    draw_if(sink, is_any_read(parts), text_note(texts, day.model()));
     draw(sink, ARTICLE_END);
     draw(sink, FOOT);
 }

@@ -1,14 +1,15 @@
 //! Under which numbers the parts of a received form are shown, and whether all of the form was read.
 ghost use Rattle.std.specs.Prelude.{◌≡◌, ◌≢◌, ◌↔◌, ◌≤◌, ◌+◌, All, IsTrue, MatchOption, None, Some, length};
 ghost use Rattle.std.specs.List.{range_with_len};
-ghost use Rattle.kd_message.specs.ShownParts.{IsNumberWhole, IsReadWhole, IsWhole, greatest_number, last_of, number_of};
-ghost use Rattle.kd_message.specs.ShownParts.{shown_from, shown_under, total_of, total_or};
+ghost use Rattle.kd_message.specs.ShownParts.{IsNumberWhole, IsReadWhole, IsWhole, are_rising, greatest_number};
+ghost use Rattle.kd_message.specs.ShownParts.{is_any_read, last_of, number_of, numbers_from, shown_from, shown_under};
+ghost use Rattle.kd_message.specs.ShownParts.{total_of, total_or};
 
 use kd_lost::{DamagedPart, PartNumbers};
 use kd_tables::Letter;
 
 /// The number under which the part at `place` is shown: that in its heading or, if it is damaged, the part's place.
-fn number_of(place: u16, numbers: &Option<PartNumbers>) -> u16
+pub(crate) fn number_of(place: u16, numbers: &Option<PartNumbers>) -> u16
     requires { place ≤ 255 }
     ensures value { result ≡ number_of place numbers.now }
     ensures few { result ≤ 255 }
@@ -35,6 +36,20 @@ fn total_or(total: u8, parts: &[DamagedPart]) -> u8
             None => total_or(total, rest),
         },
         [] => total,
+    }
+}
+
+/// Whether the parts, which stand from `place` on, came in the order of their numbers, and the first has one above `before`.
+pub(crate) fn are_rising(before: u16, place: u16, parts: &[DamagedPart]) -> bool
+    requires { place + length parts.now ≤ 256 }
+    ensures { result ≡ are_rising before (numbers_from place parts.now) }
+{
+    match parts {
+        [part, rest @ ..] => {
+            let number = number_of(place, &part.numbers);
+            before < number && are_rising(number, place + 1, rest)
+        }
+        [] => true,
     }
 }
 
@@ -93,7 +108,17 @@ fn shown_from(parts: &[DamagedPart], place: u16, number: u16) -> Option<&Damaged
     }
 }
 
-/// Whether each part that is shown is read without lost letters, and none is missing.
+/// Whether one of the parts is read.
+pub(crate) fn is_any_read(parts: &[DamagedPart]) -> bool
+    ensures { result ≡ is_any_read parts.now }
+{
+    match parts {
+        [part, rest @ ..] => part.text.is_ok() || is_any_read(rest),
+        [] => false,
+    }
+}
+
+/// Whether each part that is shown is read, no letter of its text is lost, and no part is missing.
 pub(crate) fn is_whole(parts: &[DamagedPart]) -> bool
     requires { length parts.now ≤ 255 }
     ensures { IsTrue result ↔ IsWhole parts.now }
@@ -128,7 +153,7 @@ fn is_read_whole(part: &DamagedPart) -> bool
     ensures { IsTrue result ↔ IsReadWhole part.now }
 {
     match &part.text {
-        Ok(shown) => are_received(shown.received.as_slice()),
+        Ok(shown) => are_received(shown.letters.as_slice()),
         Err(_) => false,
     }
 }

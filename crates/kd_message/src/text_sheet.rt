@@ -4,15 +4,17 @@ ghost use Rattle.kd_pictures.specs.Drawing.{Draws};
 ghost use Rattle.kd_form.specs.Sending.{space_letter};
 ghost use Rattle.kd_lost.specs.DamagedForm.{shown_byte};
 ghost use Rattle.kd_message.specs.Rows.{pieces};
+ghost use Rattle.kd_message.specs.ShownParts.{numbers_from};
 ghost use Rattle.kd_message.specs.TextSheet.{ask_for_lost, ask_text, asked_words, counts_text, damage_text};
 ghost use Rattle.kd_message.specs.TextSheet.{first_text_group, group_words, has_lost, heading_count, indicator_groups};
-ghost use Rattle.kd_message.specs.TextSheet.{indicator_place, is_copy_lost, is_wrong_day, lost_groups, missing_text};
-ghost use Rattle.kd_message.specs.TextSheet.{read_text, reason_text, text_begin, text_note, text_part_head};
-ghost use Rattle.kd_message.specs.TextSheet.{text_sheet_head, warnings_of};
+ghost use Rattle.kd_message.specs.TextSheet.{indicator_place, is_copy_lost, is_not_tested, is_wrong_day, key_letter_groups};
+ghost use Rattle.kd_message.specs.TextSheet.{lost_groups, missing_text, numbers_after, order_text, read_text, reason_text};
+ghost use Rattle.kd_message.specs.TextSheet.{text_begin, text_note, text_part_head, text_sheet_head, warnings_of};
 
 use crate::filling::fill;
 use crate::markup::{COMMA, LOST_LETTER, SPACE, TEXT_END, TEXT_LETTERS, TEXT_WORDS};
 use crate::part_sheet::{PartName, Warnings, draw_warnings};
+use crate::shown_parts::{are_rising, number_of};
 use crate::texts::{MessageTexts, SheetTexts};
 use itoa::Buffer;
 use kd_form::text_bytes::space_letter;
@@ -35,6 +37,33 @@ pub(crate) fn draw_text_sheet_head<W: Sink>(sink: &mut W, texts: &MessageTexts, 
             Value::Number(u16::from(day.day())),
         ],
     );
+}
+
+/// Writes the order in which the parts came, if it isn't that of their numbers.
+pub(crate) fn draw_order<W: Sink>(sink: &mut W, texts: &MessageTexts, parts: &[DamagedPart])
+    requires { length parts.now ≤ 255 }
+    ensures { Draws W.taken W.has_failed sink.old sink.new (order_text texts.now parts.now) }
+{
+    if are_rising(0, 1, parts) {
+        draw(sink, "");
+    } else {
+        draw(sink, texts.order);
+        draw_numbers(sink, "", 1, parts);
+        draw(sink, texts.order_end);
+    }
+}
+
+/// Writes the numbers of `parts`, which stand from `place` on, the first after `first`.
+fn draw_numbers<W: Sink>(sink: &mut W, first: &str, place: u16, parts: &[DamagedPart])
+    requires { place + length parts.now ≤ 256 }
+    ensures { Draws W.taken W.has_failed sink.old sink.new
+        (numbers_after first.now (numbers_from place parts.now)) }
+{
+    if let [part, rest @ ..] = parts {
+        draw(sink, first);
+        draw_count(sink, usize::from(number_of(place, &part.numbers)));
+        draw_numbers(sink, COMMA, place + 1, rest);
+    }
 }
 
 /// Writes the head of a part of the text.
@@ -111,8 +140,9 @@ pub(crate) fn warnings_of(shown: &DamagedText) -> Warnings
 {
     Warnings {
         letters_lost: has_lost(shown.received.as_slice()),
-        copies_lost: is_copy_lost(&shown.copies),
+        copies_lost: is_copy_lost(&shown.copies) && !is_not_tested(shown.group),
         wrong_day: is_wrong_day(shown.group),
+        not_tested: is_not_tested(shown.group),
     }
 }
 
@@ -132,6 +162,16 @@ fn is_wrong_day(group: GroupTest) -> bool
     match group {
         GroupTest::Wrong => true,
         GroupTest::Right | GroupTest::NotTested => false,
+    }
+}
+
+/// Whether letters by which the day is known are lost.
+fn is_not_tested(group: GroupTest) -> bool
+    ensures { result ≡ is_not_tested group }
+{
+    match group {
+        GroupTest::NotTested => true,
+        GroupTest::Right | GroupTest::Wrong => false,
     }
 }
 
@@ -341,13 +381,28 @@ fn draw_asked<W: Sink>(sink: &mut W, texts: &MessageTexts, part: &DamagedPart, d
         (asked_words texts.now part.now damage) }
 {
     match damage {
-        PartDamage::HeadingDamaged | PartDamage::HeadingKeyLost => draw(sink, texts.its_heading),
-        PartDamage::BadByte | PartDamage::CountWrong => draw(sink, texts.all_of_it),
-        PartDamage::CopiesDiffer(_)
-        | PartDamage::KeyLetterLost(_)
-        | PartDamage::KeyNotOnWheel
-        | PartDamage::NoInternalKey => draw_indicator_groups(sink, texts, part.came),
+        PartDamage::HeadingDamaged if part.came > 0 => draw(sink, texts.its_heading),
+        PartDamage::HeadingKeyLost => draw(sink, texts.its_heading),
+        PartDamage::HeadingDamaged | PartDamage::BadByte | PartDamage::CountWrong => {
+            draw(sink, texts.all_of_it)
+        }
+        PartDamage::CopiesDiffer(number) | PartDamage::KeyLetterLost(number) => {
+            draw_key_letter_groups(sink, texts, part.came, number)
+        }
+        PartDamage::KeyNotOnWheel | PartDamage::NoInternalKey => {
+            draw_indicator_groups(sink, texts, part.came)
+        }
     }
+}
+
+/// Writes the two groups with a key letter, of a body with this many letters.
+fn draw_key_letter_groups<W: Sink>(sink: &mut W, texts: &MessageTexts, came: usize, number: u8)
+    ensures { Draws W.taken W.has_failed sink.old sink.new
+        (key_letter_groups texts.now came number) }
+{
+    let group = if indicator_place(number) <= 5 { 1 } else { 2 };
+    draw_group_words(sink, texts, "", group);
+    draw_group_words(sink, texts, COMMA, (came / 5).saturating_sub(2) + group);
 }
 
 /// Writes the groups with the indicators, of a body with this many letters: the first two and the last two.

@@ -36,6 +36,9 @@ pub struct MessageTexts {
     pub text: &'static str,
     pub text_part: &'static str,
     pub text_part_end: &'static str,
+    /// The order in which the parts came: what stands before their numbers, and after them.
+    pub order: &'static str,
+    pub order_end: &'static str,
     /// A part that isn't read: what stands before the reason, and after it.
     pub unread: &'static str,
     pub reason_end: &'static str,
@@ -115,8 +118,9 @@ pub struct SheetTexts {
     pub next_step: &'static str,
     /// What to do at a lost letter.
     pub lost_letter: &'static str,
-    /// A warning: the form may be of another day.
+    /// Two warnings: the form may be of another day; letters by which the day is known are lost.
     pub wrong_day: &'static str,
+    pub not_tested: &'static str,
     /// The end of the sheet, which says how spaces and signs are meant.
     pub note: &'static str,
 }
@@ -142,6 +146,8 @@ pub fn message_texts(language: Language) -> MessageTexts
         text: language.text(TEXT_SHEET),
         text_part: language.text(TEXT_PART),
         text_part_end: language.text(TEXT_PART_END),
+        order: language.text(ORDER),
+        order_end: language.text(ORDER_END),
         unread: language.text(UNREAD),
         reason_end: language.text(REASON_END),
         ask: language.text(ASK),
@@ -200,6 +206,7 @@ fn rotor_send(language: Language) -> SheetTexts
         next_step: language.text(ROTOR_SEND_NEXT_STEP),
         lost_letter: language.text(ROTOR_LOST_LETTER),
         wrong_day: language.text(ROTOR_WRONG_DAY),
+        not_tested: language.text(ROTOR_NOT_TESTED),
         note: language.text(ROTOR_NOTE),
     }
 }
@@ -218,6 +225,7 @@ fn pin_send(language: Language) -> SheetTexts
         next_step: language.text(PIN_SEND_NEXT_STEP),
         lost_letter: language.text(PIN_LOST_LETTER),
         wrong_day: language.text(PIN_WRONG_DAY),
+        not_tested: language.text(PIN_NOT_TESTED),
         note: language.text(PIN_SEND_NOTE),
     }
 }
@@ -236,6 +244,7 @@ fn rotor_receive(language: Language) -> SheetTexts
         next_step: language.text(ROTOR_RECEIVE_NEXT_STEP),
         lost_letter: language.text(ROTOR_LOST_LETTER),
         wrong_day: language.text(ROTOR_WRONG_DAY),
+        not_tested: language.text(ROTOR_NOT_TESTED),
         note: language.text(ROTOR_NOTE),
     }
 }
@@ -254,6 +263,7 @@ fn pin_receive(language: Language) -> SheetTexts
         next_step: language.text(PIN_RECEIVE_NEXT_STEP),
         lost_letter: language.text(PIN_LOST_LETTER),
         wrong_day: language.text(PIN_WRONG_DAY),
+        not_tested: language.text(PIN_NOT_TESTED),
         note: language.text(PIN_RECEIVE_NOTE),
     }
 }
@@ -327,6 +337,11 @@ pub const ROTOR_WRONG_DAY: Text = (
     "<p>Buchstabe 3 bis 5 sind keine Kenngruppe des Tages. Ist der Spruch von diesem Tag?</p>\n",
 );
 
+pub const ROTOR_NOT_TESTED: Text = (
+    "<p>The day isn\u{2019}t tested: a letter of the group is lost.</p>\n",
+    "<p>Der Tag ist nicht geprüft: In der Kenngruppe fehlt ein Buchstabe.</p>\n",
+);
+
 pub const ROTOR_NOTE: Text = (
     "<p class=note>Spaces aren\u{2019}t sent. X often stands for a stop, Q for CH. The last group may be short.</p>\n</section>\n</article>\n",
     "<p class=note>Zwischenräume werden nicht gesendet. X steht oft für einen Punkt, Q für CH. Die letzte Gruppe kann kürzer sein.</p>\n</section>\n</article>\n",
@@ -338,8 +353,8 @@ pub const PIN_SEND_HEAD: Text = (
 );
 
 pub const PIN_SEND_LEGEND: Text = (
-    "</p>\n<p>Above the line: enter. On it: write what the machine prints. Below: what it has to be. Where nothing stands above, copy.<br>A row ends with the letters so far and the wheels. If they differ, set the wheels as before the row, and begin it again.",
-    "</p>\n<p>Über der Linie: eingeben. Auf die Linie: schreiben, was die Maschine druckt. Darunter: wie es lauten muss. Wo darüber nichts steht: abschreiben.<br>Am Ende der Zeile: Buchstaben bis hier, und Räder. Weichen sie ab, die Räder wie vor der Zeile einstellen und die Zeile wiederholen.",
+    "</p>\n<p>Above the line: enter. On it: write what the machine prints. Below: what it has to be. Where nothing stands above, copy.<br>A row ends with the letters so far, those of the indicators too, and the wheels. If they differ, set the wheels as before the row, and begin it again.",
+    "</p>\n<p>Über der Linie: eingeben. Auf die Linie: schreiben, was die Maschine druckt. Darunter: wie es lauten muss. Wo darüber nichts steht: abschreiben.<br>Am Ende der Zeile: Buchstaben bis hier, die Kennbuchstaben mitgezählt, und Räder. Weichen sie ab, die Räder wie vor der Zeile einstellen und die Zeile wiederholen.",
 );
 
 pub const PIN_SEND_KEY_STEP: Text = (
@@ -377,6 +392,11 @@ pub const PIN_WRONG_DAY: Text = (
     "<p>Die Listenbuchstaben sind nicht die des Tages. Ist der Spruch von diesem Tag?</p>\n",
 );
 
+pub const PIN_NOT_TESTED: Text = (
+    "<p>The day isn\u{2019}t tested: a list letter is lost both times.</p>\n",
+    "<p>Der Tag ist nicht geprüft: Ein Listenbuchstabe fehlt beide Male.</p>\n",
+);
+
 pub const PIN_SEND_NOTE: Text = (
     "<p class=note>Each space is sent as Z. X at the end fills the last group.</p>\n</section>\n</article>\n",
     "<p class=note>Jeder Zwischenraum wird als Z gesendet. X am Ende füllt die letzte Gruppe.</p>\n</section>\n</article>\n",
@@ -400,8 +420,8 @@ pub const ROTOR_RECEIVE_HEAD: Text = (
 );
 
 pub const ROTOR_RECEIVE_LEGEND: Text = (
-    "</p>\n<p>Above the line: press. On it: write the lamp\u{2019}s letter. Below: what it has to be. Skip small letters above.<br>A row ends with the letters so far and the windows. If they differ, set the windows as before the row, and begin it again.",
-    "</p>\n<p>Über der Linie: tasten. Auf die Linie: den Buchstaben der Lampe schreiben. Darunter: wie er lauten muss. Kleine Buchstaben darüber auslassen.<br>Am Ende der Zeile: Buchstaben bis hier, und Fenster. Weichen sie ab, die Fenster wie vor der Zeile einstellen und die Zeile wiederholen.",
+    "</p>\n<p>Above the line: press. On it: write the lamp\u{2019}s letter. Below: what it has to be. Skip letters in small print above.<br>A row ends with the letters so far and the windows. If they differ, set the windows as before the row, and begin it again.",
+    "</p>\n<p>Über der Linie: tasten. Auf die Linie: den Buchstaben der Lampe schreiben. Darunter: wie er lauten muss. Kleingedruckte Buchstaben darüber auslassen.<br>Am Ende der Zeile: Buchstaben bis hier, und Fenster. Weichen sie ab, die Fenster wie vor der Zeile einstellen und die Zeile wiederholen.",
 );
 
 pub const ROTOR_RECEIVE_KEY_STEP: Text = (
@@ -432,8 +452,8 @@ pub const PIN_RECEIVE_HEAD: Text = (
 );
 
 pub const PIN_RECEIVE_LEGEND: Text = (
-    "</p>\n<p>Above the line: enter. On it: write what the machine prints. Below: what it has to be. Skip small letters above.<br>A row ends with the letters so far and the wheels. If they differ, set the wheels as before the row, and begin it again.",
-    "</p>\n<p>Über der Linie: eingeben. Auf die Linie: schreiben, was die Maschine druckt. Darunter: wie es lauten muss. Kleine Buchstaben darüber auslassen.<br>Am Ende der Zeile: Buchstaben bis hier, und Räder. Weichen sie ab, die Räder wie vor der Zeile einstellen und die Zeile wiederholen.",
+    "</p>\n<p>Above the line: enter. On it: write what the machine prints. Below: what it has to be. Skip letters in small print above.<br>A row ends with the letters so far, those of the indicators too, and the wheels. If they differ, set the wheels as before the row, and begin it again.",
+    "</p>\n<p>Über der Linie: eingeben. Auf die Linie: schreiben, was die Maschine druckt. Darunter: wie es lauten muss. Kleingedruckte Buchstaben darüber auslassen.<br>Am Ende der Zeile: Buchstaben bis hier, die Kennbuchstaben mitgezählt, und Räder. Weichen sie ab, die Räder wie vor der Zeile einstellen und die Zeile wiederholen.",
 );
 
 pub const PIN_RECEIVE_KEY_STEP: Text = (
@@ -477,6 +497,16 @@ pub const TEXT_PART: Text = (
 );
 
 pub const TEXT_PART_END: Text = ("</section>\n", "</section>\n");
+
+pub const ORDER: Text = (
+    "<p>The parts came in this order: ",
+    "<p>Die Teile kamen in dieser Reihenfolge: ",
+);
+
+pub const ORDER_END: Text = (
+    ". If a part came again, the last one is shown.</p>\n",
+    ". Kam ein Teil mehrmals, ist der letzte gezeigt.</p>\n",
+);
 
 pub const UNREAD: Text = (
     "<p class=reason><b>Not read.</b> ",

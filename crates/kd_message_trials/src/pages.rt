@@ -251,7 +251,7 @@ pub const M209_SEND: &str = "<body>
 <h1>Converter M-209, day 7: send <small>part 1 of 1</small></h1>
 <p class=fields><span>Machine</span><span>Date</span><span>Done by</span></p>
 <p>Pins and lugs have to be the day\u{2019}s. List: <b>LK</b>.</p>
-<p>Above the line: enter. On it: write what the machine prints. Below: what it has to be. Where nothing stands above, copy.<br>A row ends with the letters so far and the wheels. If they differ, set the wheels as before the row, and begin it again.</p>
+<p>Above the line: enter. On it: write what the machine prints. Below: what it has to be. Where nothing stands above, copy.<br>A row ends with the letters so far, those of the indicators too, and the wheels. If they differ, set the wheels as before the row, and begin it again.</p>
 </header>
 <section>
 <h2>1 Internal key<span>Converter M-209, day 7: send, part 1 of 1</span></h2>
@@ -342,7 +342,7 @@ pub const M209_LONG_SEND: &str = "<body>
 <h1>Converter M-209, day 7: send <small>part 1 of 2</small></h1>
 <p class=fields><span>Machine</span><span>Date</span><span>Done by</span></p>
 <p>Pins and lugs have to be the day\u{2019}s. List: <b>LK</b>.</p>
-<p>Above the line: enter. On it: write what the machine prints. Below: what it has to be. Where nothing stands above, copy.<br>A row ends with the letters so far and the wheels. If they differ, set the wheels as before the row, and begin it again.</p>
+<p>Above the line: enter. On it: write what the machine prints. Below: what it has to be. Where nothing stands above, copy.<br>A row ends with the letters so far, those of the indicators too, and the wheels. If they differ, set the wheels as before the row, and begin it again.</p>
 </header>
 <section>
 <h2>1 Internal key<span>Converter M-209, day 7: send, part 1 of 2</span></h2>
@@ -431,7 +431,7 @@ pub const M209_LONG_SEND: &str = "<body>
 <h1>Converter M-209, day 7: send <small>part 2 of 2</small></h1>
 <p class=fields><span>Machine</span><span>Date</span><span>Done by</span></p>
 <p>Pins and lugs have to be the day\u{2019}s. List: <b>LK</b>.</p>
-<p>Above the line: enter. On it: write what the machine prints. Below: what it has to be. Where nothing stands above, copy.<br>A row ends with the letters so far and the wheels. If they differ, set the wheels as before the row, and begin it again.</p>
+<p>Above the line: enter. On it: write what the machine prints. Below: what it has to be. Where nothing stands above, copy.<br>A row ends with the letters so far, those of the indicators too, and the wheels. If they differ, set the wheels as before the row, and begin it again.</p>
 </header>
 <section>
 <h2>1 Internal key<span>Converter M-209, day 7: send, part 2 of 2</span></h2>
@@ -638,7 +638,7 @@ pub const M209_GERMAN: &str = "<body>
 <h1>Converter M-209, Tag 7: Verschl\u{fc}sseln <small>Teil 1 von 1</small></h1>
 <p class=fields><span>Maschine</span><span>Datum</span><span>Ausgef\u{fc}hrt von</span></p>
 <p>Stifte und Reiter m\u{fc}ssen auf dem Tagesschl\u{fc}ssel stehen. Liste: <b>LK</b>.</p>
-<p>\u{dc}ber der Linie: eingeben. Auf die Linie: schreiben, was die Maschine druckt. Darunter: wie es lauten muss. Wo dar\u{fc}ber nichts steht: abschreiben.<br>Am Ende der Zeile: Buchstaben bis hier, und R\u{e4}der. Weichen sie ab, die R\u{e4}der wie vor der Zeile einstellen und die Zeile wiederholen.</p>
+<p>\u{dc}ber der Linie: eingeben. Auf die Linie: schreiben, was die Maschine druckt. Darunter: wie es lauten muss. Wo dar\u{fc}ber nichts steht: abschreiben.<br>Am Ende der Zeile: Buchstaben bis hier, die Kennbuchstaben mitgezählt, und R\u{e4}der. Weichen sie ab, die R\u{e4}der wie vor der Zeile einstellen und die Zeile wiederholen.</p>
 </header>
 <section>
 <h2>1 Innerer Schl\u{fc}ssel<span>Converter M-209, Tag 7: Verschl\u{fc}sseln, Teil 1 von 1</span></h2>
@@ -730,7 +730,7 @@ pub const LOST_RECEIVE: &str = "<body>
 <h1>Enigma I, day 4: receive <small>part 1 of 3</small></h1>
 <p class=fields><span>Machine</span><span>Date</span><span>Done by</span></p>
 <p>The machine has to be on the key of the day. Reflector: <b>B</b>. Wheels: <b>II\u{a0}IV\u{a0}V</b>. Rings: <b>B\u{a0}02, U\u{a0}21, L\u{a0}12</b>. Cables: <b>AV BS CG DL FU HZ IN KM OW RX</b>.</p>
-<p>Above the line: press. On it: write the lamp\u{2019}s letter. Below: what it has to be. Skip small letters above.<br>A row ends with the letters so far and the windows. If they differ, set the windows as before the row, and begin it again.<br>? is a lost letter: press any key for it, and write ?.</p>
+<p>Above the line: press. On it: write the lamp\u{2019}s letter. Below: what it has to be. Skip letters in small print above.<br>A row ends with the letters so far and the windows. If they differ, set the windows as before the row, and begin it again.<br>? is a lost letter: press any key for it, and write ?.</p>
 </header>
 <section>
 <h2>1 Message key<span>Enigma I, day 4: receive, part 1 of 3</span></h2>
@@ -772,6 +772,7 @@ pub const LOST_RECEIVE: &str = "<body>
 <text class=\"bold\" x=\"256\" y=\"51\" font-size=\"20\">01</text>
 </svg>
 </figure>
+<p>The day isn\u{2019}t tested: a letter of the group is lost.</p>
 <div class=row><div class=groups><span><b><small>RFU?Z</small></b></span><span><b>EDPUD</b><small>AUFKL</small></span><span><b>NR?YS</b><small>XA?TE</small></span><span><b>ZRCXN</b><small>ILUNG</small></span><span><b>U???O</b><small>X???X</small></span><span><b>MRMBO</b><small>KURTI</small></span><span><b>FKTBZ</b><small>NOWAX</small></span><span><b>REZKM</b><small>KURTI</small></span><span><b>LXLVE</b><small>NOWAX</small></span><span><b>FGUEY</b><small>NORDW</small></span></div>
 <label><input type=checkbox><b>50</b><br>B\u{a0}\u{a0}M\u{a0}\u{a0}T<br>02 13 20</label></div>
 <div class=row><div class=groups><span><b>SIOZV</b><small>ESTLX</small></span><span><b>EQMIK</b><small>SEBEZ</small></span><span><b>UBPMM</b><small>XSEBE</small></span><span><b>YLKLT</b><small>ZXUAF</small></span><span><b>TDEIS</b><small>FLIEG</small></span><span><b>MDICA</b><small>ERSTR</small></span><span><b>GYKUA</b><small>ASZER</small></span><span><b>CTCDO</b><small>IQTUN</small></span><span><b>MOHWX</b><small>GXDUB</small></span><span><b>MUUIA</b><small>ROWKI</small></span></div>
@@ -788,7 +789,7 @@ pub const LOST_RECEIVE: &str = "<body>
 <h1>Enigma I, day 4: receive <small>part 3 of 3</small></h1>
 <p class=fields><span>Machine</span><span>Date</span><span>Done by</span></p>
 <p>The machine has to be on the key of the day. Reflector: <b>B</b>. Wheels: <b>II\u{a0}IV\u{a0}V</b>. Rings: <b>B\u{a0}02, U\u{a0}21, L\u{a0}12</b>. Cables: <b>AV BS CG DL FU HZ IN KM OW RX</b>.</p>
-<p>Above the line: press. On it: write the lamp\u{2019}s letter. Below: what it has to be. Skip small letters above.<br>A row ends with the letters so far and the windows. If they differ, set the windows as before the row, and begin it again.</p>
+<p>Above the line: press. On it: write the lamp\u{2019}s letter. Below: what it has to be. Skip letters in small print above.<br>A row ends with the letters so far and the windows. If they differ, set the windows as before the row, and begin it again.</p>
 </header>
 <section>
 <h2>1 Message key<span>Enigma I, day 4: receive, part 3 of 3</span></h2>
@@ -845,6 +846,7 @@ pub const LOST_RECEIVE: &str = "<body>
 <section>
 <h2>Part 1 of 3<span>Enigma I, day 4: text</span></h2>
 <p class=\"text letters\">AUFKLXA?TEILUNGX???XKURTINOWAXKURTINOWAXNORDWESTLXSEBEZXSEBEZXUAFFLIEGERSTRASZERIQTUNGXDUBROWKIXDUBROW?IXOPOTSCHKAXOPOTSCHKAXUMXEINSAQTDREINULLXUHRANGETRETENXANGRIFFXINFXRGTX</p>
+<p>The day isn\u{2019}t tested: a letter of the group is lost.</p>
 <label><input type=checkbox> ask for part 1 again: <b>group 3, group 5, group 22</b></label>
 </section>
 <section>
@@ -875,7 +877,7 @@ pub const M209_LOST_RECEIVE: &str = "<body>
 <h1>Converter M-209, day 7: receive <small>part 1 of 1</small></h1>
 <p class=fields><span>Machine</span><span>Date</span><span>Done by</span></p>
 <p>Pins and lugs have to be the day\u{2019}s. List: <b>LK</b>.</p>
-<p>Above the line: enter. On it: write what the machine prints. Below: what it has to be. Skip small letters above.<br>A row ends with the letters so far and the wheels. If they differ, set the wheels as before the row, and begin it again.<br>? is a lost letter: enter any letter for it, and write ?.</p>
+<p>Above the line: enter. On it: write what the machine prints. Below: what it has to be. Skip letters in small print above.<br>A row ends with the letters so far, those of the indicators too, and the wheels. If they differ, set the wheels as before the row, and begin it again.<br>? is a lost letter: enter any letter for it, and write ?.</p>
 </header>
 <section>
 <h2>1 Internal key<span>Converter M-209, day 7: receive, part 1 of 1</span></h2>
@@ -968,7 +970,7 @@ pub const M4_RECEIVE: &str = "<body>
 <h1>Enigma M4, day 6: receive <small>part 1 of 1</small></h1>
 <p class=fields><span>Machine</span><span>Date</span><span>Done by</span></p>
 <p>The machine has to be on the key of the day. Reflector: <b>b</b>. Wheels: <b>Beta\u{a0}II\u{a0}IV\u{a0}I</b>. Rings: <b>A\u{a0}01, A\u{a0}01, A\u{a0}01, V\u{a0}22</b>. Cables: <b>AT BL DF GJ HM NW OP QY RZ VX</b>.</p>
-<p>Above the line: press. On it: write the lamp\u{2019}s letter. Below: what it has to be. Skip small letters above.<br>A row ends with the letters so far and the windows. If they differ, set the windows as before the row, and begin it again.</p>
+<p>Above the line: press. On it: write the lamp\u{2019}s letter. Below: what it has to be. Skip letters in small print above.<br>A row ends with the letters so far and the windows. If they differ, set the windows as before the row, and begin it again.</p>
 </header>
 <section>
 <h2>1 Message key<span>Enigma M4, day 6: receive, part 1 of 1</span></h2>
@@ -1061,7 +1063,7 @@ pub const LOST_GERMAN: &str = "<body>
 <h1>Enigma I, Tag 4: Entschlüsseln <small>Teil 1 von 3</small></h1>
 <p class=fields><span>Maschine</span><span>Datum</span><span>Ausgeführt von</span></p>
 <p>Die Maschine muss auf dem Tagesschlüssel stehen. Umkehrwalze: <b>B</b>. Walzenlage: <b>II IV V</b>. Ringstellung: <b>B 02, U 21, L 12</b>. Steckerverbindungen: <b>AV BS CG DL FU HZ IN KM OW RX</b>.</p>
-<p>Über der Linie: tasten. Auf die Linie: den Buchstaben der Lampe schreiben. Darunter: wie er lauten muss. Kleine Buchstaben darüber auslassen.<br>Am Ende der Zeile: Buchstaben bis hier, und Fenster. Weichen sie ab, die Fenster wie vor der Zeile einstellen und die Zeile wiederholen.<br>? ist ein verlorener Buchstabe: dafür eine beliebige Taste drücken und ? schreiben.</p>
+<p>Über der Linie: tasten. Auf die Linie: den Buchstaben der Lampe schreiben. Darunter: wie er lauten muss. Kleingedruckte Buchstaben darüber auslassen.<br>Am Ende der Zeile: Buchstaben bis hier, und Fenster. Weichen sie ab, die Fenster wie vor der Zeile einstellen und die Zeile wiederholen.<br>? ist ein verlorener Buchstabe: dafür eine beliebige Taste drücken und ? schreiben.</p>
 </header>
 <section>
 <h2>1 Spruchschlüssel<span>Enigma I, Tag 4: Entschlüsseln, Teil 1 von 3</span></h2>
@@ -1103,6 +1105,7 @@ pub const LOST_GERMAN: &str = "<body>
 <text class=\"bold\" x=\"256\" y=\"51\" font-size=\"20\">01</text>
 </svg>
 </figure>
+<p>Der Tag ist nicht geprüft: In der Kenngruppe fehlt ein Buchstabe.</p>
 <div class=row><div class=groups><span><b><small>RFU?Z</small></b></span><span><b>EDPUD</b><small>AUFKL</small></span><span><b>NR?YS</b><small>XA?TE</small></span><span><b>ZRCXN</b><small>ILUNG</small></span><span><b>U???O</b><small>X???X</small></span><span><b>MRMBO</b><small>KURTI</small></span><span><b>FKTBZ</b><small>NOWAX</small></span><span><b>REZKM</b><small>KURTI</small></span><span><b>LXLVE</b><small>NOWAX</small></span><span><b>FGUEY</b><small>NORDW</small></span></div>
 <label><input type=checkbox><b>50</b><br>B  M  T<br>02 13 20</label></div>
 <div class=row><div class=groups><span><b>SIOZV</b><small>ESTLX</small></span><span><b>EQMIK</b><small>SEBEZ</small></span><span><b>UBPMM</b><small>XSEBE</small></span><span><b>YLKLT</b><small>ZXUAF</small></span><span><b>TDEIS</b><small>FLIEG</small></span><span><b>MDICA</b><small>ERSTR</small></span><span><b>GYKUA</b><small>ASZER</small></span><span><b>CTCDO</b><small>IQTUN</small></span><span><b>MOHWX</b><small>GXDUB</small></span><span><b>MUUIA</b><small>ROWKI</small></span></div>
@@ -1119,7 +1122,7 @@ pub const LOST_GERMAN: &str = "<body>
 <h1>Enigma I, Tag 4: Entschlüsseln <small>Teil 3 von 3</small></h1>
 <p class=fields><span>Maschine</span><span>Datum</span><span>Ausgeführt von</span></p>
 <p>Die Maschine muss auf dem Tagesschlüssel stehen. Umkehrwalze: <b>B</b>. Walzenlage: <b>II IV V</b>. Ringstellung: <b>B 02, U 21, L 12</b>. Steckerverbindungen: <b>AV BS CG DL FU HZ IN KM OW RX</b>.</p>
-<p>Über der Linie: tasten. Auf die Linie: den Buchstaben der Lampe schreiben. Darunter: wie er lauten muss. Kleine Buchstaben darüber auslassen.<br>Am Ende der Zeile: Buchstaben bis hier, und Fenster. Weichen sie ab, die Fenster wie vor der Zeile einstellen und die Zeile wiederholen.</p>
+<p>Über der Linie: tasten. Auf die Linie: den Buchstaben der Lampe schreiben. Darunter: wie er lauten muss. Kleingedruckte Buchstaben darüber auslassen.<br>Am Ende der Zeile: Buchstaben bis hier, und Fenster. Weichen sie ab, die Fenster wie vor der Zeile einstellen und die Zeile wiederholen.</p>
 </header>
 <section>
 <h2>1 Spruchschlüssel<span>Enigma I, Tag 4: Entschlüsseln, Teil 3 von 3</span></h2>
@@ -1176,6 +1179,7 @@ pub const LOST_GERMAN: &str = "<body>
 <section>
 <h2>Teil 1 von 3<span>Enigma I, Tag 4: Klartext</span></h2>
 <p class=\"text letters\">AUFKLXA?TEILUNGX???XKURTINOWAXKURTINOWAXNORDWESTLXSEBEZXSEBEZXUAFFLIEGERSTRASZERIQTUNGXDUBROWKIXDUBROW?IXOPOTSCHKAXOPOTSCHKAXUMXEINSAQTDREINULLXUHRANGETRETENXANGRIFFXINFXRGTX</p>
+<p>Der Tag ist nicht geprüft: In der Kenngruppe fehlt ein Buchstabe.</p>
 <label><input type=checkbox> von Teil 1 wiederholen lassen: <b>Gruppe 3, Gruppe 5, Gruppe 22</b></label>
 </section>
 <section>
@@ -1206,7 +1210,7 @@ pub const M209_LOST_GERMAN: &str = "<body>
 <h1>Converter M-209, Tag 7: Entschlüsseln <small>Teil 1 von 1</small></h1>
 <p class=fields><span>Maschine</span><span>Datum</span><span>Ausgeführt von</span></p>
 <p>Stifte und Reiter müssen auf dem Tagesschlüssel stehen. Liste: <b>LK</b>.</p>
-<p>Über der Linie: eingeben. Auf die Linie: schreiben, was die Maschine druckt. Darunter: wie es lauten muss. Kleine Buchstaben darüber auslassen.<br>Am Ende der Zeile: Buchstaben bis hier, und Räder. Weichen sie ab, die Räder wie vor der Zeile einstellen und die Zeile wiederholen.<br>? ist ein verlorener Buchstabe: dafür einen beliebigen eingeben und ? schreiben.</p>
+<p>Über der Linie: eingeben. Auf die Linie: schreiben, was die Maschine druckt. Darunter: wie es lauten muss. Kleingedruckte Buchstaben darüber auslassen.<br>Am Ende der Zeile: Buchstaben bis hier, die Kennbuchstaben mitgezählt, und Räder. Weichen sie ab, die Räder wie vor der Zeile einstellen und die Zeile wiederholen.<br>? ist ein verlorener Buchstabe: dafür einen beliebigen eingeben und ? schreiben.</p>
 </header>
 <section>
 <h2>1 Innerer Schlüssel<span>Converter M-209, Tag 7: Entschlüsseln, Teil 1 von 1</span></h2>

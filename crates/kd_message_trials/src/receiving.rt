@@ -18,11 +18,10 @@ type Form = (&'static str, u8, &'static str);
 /// A form, whether all of it is read, and its page after the style sheet.
 type Received = (Form, bool, &'static str);
 
-static RECEIVED: [Received; 4] = [
+static RECEIVED: [Received; 3] = [
     ((ENIGMA_DAY, 4, LOST_FORM), false, LOST_RECEIVE),
     ((M209_DAY, 7, M209_LOST_FORM), false, M209_LOST_RECEIVE),
     ((M4_DAY, 6, M4_FORM), true, M4_RECEIVE),
-    ((M4_DAY, 6, M4_FORM_AGAIN), true, M4_RECEIVE),
 ];
 
 static RECEIVED_IN_GERMAN: [Received; 2] = [
@@ -31,9 +30,11 @@ static RECEIVED_IN_GERMAN: [Received; 2] = [
 ];
 
 /// A form with a part that isn't read, and words of its page that say why.
-type Unread = (Form, &'static str);
-
-static UNREAD: [Unread; 11] = [
+static UNREAD: [(Form, &str); 12] = [
+    (
+        (ENIGMA_DAY, 4, ""),
+        "<b>Not read.</b> The heading is damaged.</p>\n<label><input type=checkbox> ask for part 1 again: <b>all of it</b></label>\n</section>\n</article>\n",
+    ),
     (
         (ENIGMA_DAY, 4, "P?RT 1/1 10 WXC KCH\nRFUGZ EDPUD\n"),
         "<h2>Part 1 of 1<span>Enigma I, day 4: text</span></h2>\n<p class=reason><b>Not read.</b> The heading is damaged.</p>\n<label><input type=checkbox> ask for part 1 again: <b>its heading</b></label>\n</section>\n",
@@ -68,7 +69,7 @@ static UNREAD: [Unread; 11] = [
             7,
             "PART 1/1 45\nKKBCD EFGLK DHLMM DWUVX COFDH UGFTL NTXFK KKXCD EFGLK\n",
         ),
-        "<h2>Part 1 of 1<span>Converter M-209, day 7: text</span></h2>\n<p class=reason><b>Not read.</b> The indicators differ at letter 3.</p>\n<label><input type=checkbox> ask for part 1 again: <b>group 1, group 2, group 8, group 9</b></label>\n</section>\n",
+        "<h2>Part 1 of 1<span>Converter M-209, day 7: text</span></h2>\n<p class=reason><b>Not read.</b> The indicators differ at letter 3.</p>\n<label><input type=checkbox> ask for part 1 again: <b>group 1, group 8</b></label>\n</section>\n",
     ),
     (
         (
@@ -76,7 +77,7 @@ static UNREAD: [Unread; 11] = [
             7,
             "PART 1/1 45\nK?BCD EFGLK DHLMM DWUVX COFDH UGFTL NTXFK KXBCD EFGLK\n",
         ),
-        "<h2>Part 1 of 1<span>Converter M-209, day 7: text</span></h2>\n<p class=reason><b>Not read.</b> The indicators differ at letter 1.</p>\n<label><input type=checkbox> ask for part 1 again: <b>group 1, group 2, group 8, group 9</b></label>\n</section>\n",
+        "<h2>Part 1 of 1<span>Converter M-209, day 7: text</span></h2>\n<p class=reason><b>Not read.</b> The indicators differ at letter 1.</p>\n<label><input type=checkbox> ask for part 1 again: <b>group 1, group 8</b></label>\n</section>\n",
     ),
     (
         (
@@ -84,7 +85,7 @@ static UNREAD: [Unread; 11] = [
             7,
             "PART 1/1 45\nKKBCD ?FGLK DHLMM DWUVX COFDH UGFTL NTXFK KKBCD ?FGLK\n",
         ),
-        "<h2>Part 1 of 1<span>Converter M-209, day 7: text</span></h2>\n<p class=reason><b>Not read.</b> Letter 6 of the indicators is lost both times.</p>\n<label><input type=checkbox> ask for part 1 again: <b>group 1, group 2, group 8, group 9</b></label>\n</section>\n",
+        "<h2>Part 1 of 1<span>Converter M-209, day 7: text</span></h2>\n<p class=reason><b>Not read.</b> Letter 6 of the indicators is lost both times.</p>\n<label><input type=checkbox> ask for part 1 again: <b>group 2, group 9</b></label>\n</section>\n",
     ),
     (
         (
@@ -97,6 +98,38 @@ static UNREAD: [Unread; 11] = [
     (
         (IDLE_DAY, 1, "PART 1/1 25\nAAABC DEFQV SVOOL AAABC DEFQV\n"),
         "<h2>Part 1 of 1<span>Converter M-209, day 1: text</span></h2>\n<p class=reason><b>Not read.</b> The indicators give no internal key.</p>\n<label><input type=checkbox> ask for part 1 again: <b>group 1, group 2, group 4, group 5</b></label>\n</section>\n",
+    ),
+];
+
+/// A form of which all of the text is read, and words of its page.
+static READ: [(Form, &str); 5] = [
+    (
+        (M4_DAY, 6, M4_FORM_AGAIN),
+        "</header>\n<p>The parts came in this order: 1, 1. If a part came again, the last one is shown.</p>\n<section>\n",
+    ),
+    (
+        (
+            ENIGMA_DAY,
+            4,
+            "PART 2/2 10 WXC KCH\nRFUGZ EDPUD\nPART 1/2 10 WXC KCH\nRFUGZ EDPUD\n",
+        ),
+        "</header>\n<p>The parts came in this order: 2, 1. If a part came again, the last one is shown.</p>\n<section>\n",
+    ),
+    (
+        (ENIGMA_DAY, 4, "PART 1/1 10 WXC KCH\n?FUGZ EDPUD\n"),
+        "<p class=\"text letters\">AUFKL</p>\n</section>\n",
+    ),
+    (
+        (ENIGMA_DAY, 4, "PART 1/1 10 WXC KCH\nRF-GZ EDPUD\n"),
+        "<p class=\"text letters\">AUFKL</p>\n<p>The day isn\u{2019}t tested: a letter of the group is lost.</p>\n</section>\n",
+    ),
+    (
+        (
+            M209_DAY,
+            7,
+            "PART 1/1 45\nKKBCD EFGL? DHLMM DWUVX COFDH UGFTL NTXFK KKB?D EFGL-\n",
+        ),
+        "</p>\n<p>The day isn\u{2019}t tested: a list letter is lost both times.</p>\n</section>\n",
     ),
 ];
 
@@ -134,12 +167,12 @@ fn is_received(rt: &impl Abort, alloc: Global, language: Language, received: &Re
     assert!(rt; answer == Ok(received.1));
 }
 
-/// Checks that the form's page says why a part isn't read.
-fn is_unread(rt: &impl Abort, alloc: Global, unread: &Unread) {
-    let (answer, sink) = written(rt, alloc, Language::English, &unread.0, 65536);
+/// Checks that the form's page has the words, and whether all of the text is read.
+fn is_shown(rt: &impl Abort, alloc: Global, form: &Form, is_whole: bool, words: &str) {
+    let (answer, sink) = written(rt, alloc, Language::English, form, 65536);
     let shown = std::str::from_utf8(sink.taken()).unwrap_or("?");
-    assert!(rt; shown.contains(unread.1), "{shown}");
-    assert!(rt; answer == Ok(false));
+    assert!(rt; shown.contains(words), "{shown}");
+    assert!(rt; answer == Ok(is_whole));
 }
 
 #[test]
@@ -154,8 +187,15 @@ fn forms_become_pages(rt: HostRuntime) {
 
 #[test]
 fn pages_say_why_parts_are_not_read(rt: HostRuntime) {
-    for unread in &UNREAD {
-        is_unread(&rt, rt.alloc(), unread);
+    for (form, words) in &UNREAD {
+        is_shown(&rt, rt.alloc(), form, false, words);
+    }
+}
+
+#[test]
+fn pages_say_how_parts_came(rt: HostRuntime) {
+    for (form, words) in &READ {
+        is_shown(&rt, rt.alloc(), form, true, words);
     }
 }
 

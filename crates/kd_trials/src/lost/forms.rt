@@ -3,59 +3,59 @@ use super::places::is_text;
 use crate::form::samples::TWO_PARTS;
 use crate::machines::{PLAIN, keyed};
 use kd_form::receive;
-use kd_lost::{DamagedFormFault, OrderNote, PartDamage, has_part, order_note, read_damaged_form};
+use kd_lost::{DamagedFormFault, PartDamage, read_damaged_form};
 use std::test::Fail;
 
-/// A part of a form: its number, `None` if its heading is damaged; where it stands; the letters of its text that are
-/// lost, or why it isn't read. The text of each part is `AAAAA`.
-type Due = (Option<u8>, OrderNote, Result<&'static [usize], PartDamage>);
+/// A part of a form: its number, `None` if its heading is damaged; the letters of its text that are lost, or why it isn't
+/// read. The text of each part is `AAAAA`.
+type Due = (Option<u8>, Result<&'static [usize], PartDamage>);
 
 static FORMS: [(&str, &[Due]); 7] = [
     (
         TWO_PARTS,
         &[
-            (Some(1), OrderNote::InOrder, Ok(&[])),
-            (Some(2), OrderNote::InOrder, Ok(&[])),
+            (Some(1), Ok(&[])),
+            (Some(2), Ok(&[])),
         ],
     ),
     (
         "PART 1/2 10 AAA BDZ\nQXUGZ B?ZGO\nPART 2/2 10 AAA BDZ\nQXUGZ BDZG-\n",
         &[
-            (Some(1), OrderNote::InOrder, Ok(&[1])),
-            (Some(2), OrderNote::InOrder, Ok(&[4])),
+            (Some(1), Ok(&[1])),
+            (Some(2), Ok(&[4])),
         ],
     ),
     (
         "P?RT 1/2 10 AAA BDZ\nQXUGZ BDZGO\nPART 2/2 10 AAA BDZ\nQXUGZ BDZGO\n",
         &[
-            (None, OrderNote::InOrder, Err(PartDamage::HeadingDamaged)),
-            (Some(2), OrderNote::InOrder, Ok(&[])),
+            (None, Err(PartDamage::HeadingDamaged)),
+            (Some(2), Ok(&[])),
         ],
     ),
     (
         "PART 1/2 10 AAA BDZ\nQXUGZ BDZGO\nPA?T 2/? 10 AAA BDZ\nQXUGZ BDZGO\n",
         &[
-            (Some(1), OrderNote::InOrder, Ok(&[])),
-            (None, OrderNote::InOrder, Err(PartDamage::HeadingDamaged)),
+            (Some(1), Ok(&[])),
+            (None, Err(PartDamage::HeadingDamaged)),
         ],
     ),
     (
         "PART 2/2 10 AAA BDZ\nQXUGZ BDZGO\nPART 1/2 10 AAA B-Z\nQXUGZ BDZGO\n",
         &[
-            (Some(2), OrderNote::InOrder, Ok(&[])),
-            (Some(1), OrderNote::Late, Err(PartDamage::HeadingKeyLost)),
+            (Some(2), Ok(&[])),
+            (Some(1), Err(PartDamage::HeadingKeyLost)),
         ],
     ),
     (
         "PART 1/3 10 AAA BDZ\nQXUGZ BDZGO\nPART 1/3 10 AAA BDZ\nQXUGZ BDZG\n",
         &[
-            (Some(1), OrderNote::InOrder, Ok(&[])),
-            (Some(1), OrderNote::Again, Err(PartDamage::CountWrong)),
+            (Some(1), Ok(&[])),
+            (Some(1), Err(PartDamage::CountWrong)),
         ],
     ),
     (
         "",
-        &[(None, OrderNote::InOrder, Err(PartDamage::HeadingDamaged))],
+        &[(None, Err(PartDamage::HeadingDamaged))],
     ),
 ];
 
@@ -67,21 +67,15 @@ fn damaged_forms_are_read(rt: HostRuntime) -> Result<(), Fail> {
             .ok()
             .ok_or("memory")?;
         assert_eq!(&rt; parts.len(), due.len());
-        for (index, (number, note, text)) in due.iter().enumerate() {
+        for (index, (number, text)) in due.iter().enumerate() {
             assert!(&rt; index < parts.len());
             let read = &parts[index];
             assert!(&rt; read.numbers.as_ref().map(|numbers| numbers.part) == *number);
-            if let Some(number) = number {
-                let before = &parts.as_slice()[..index];
-                assert!(&rt; order_note(before, *number) == *note);
-                assert!(&rt; has_part(parts.as_slice(), *number));
-            }
             match text {
                 Ok(lost) => is_text(&rt, read, b"AAAAA", lost),
                 Err(damage) => assert!(&rt; read.text.as_ref().err() == Some(damage)),
             }
         }
-        assert!(&rt; !has_part(parts.as_slice(), 3));
     }
     Ok(())
 }
