@@ -39,6 +39,7 @@ use Rattle.kd_page.specs.Spots.{cell_of, is_at, row_of, row_spot, step_rank, ste
 use Rattle.kd_page.proofs.PageOrders.{pin_boxes_are, rotor_boxes_are}
 use Rattle.kd_curator.specs.declared.stages.Stage.{Stage}
 use Rattle.kd_curator.specs.declared.stages.Stage.TheVariants.{Rings as First, Parts as Between, Windows as Last}
+use Rattle.kd_curator.specs.DayPlan.{IsPageOrder}
 use Rattle.kd_curator.specs.HandOrder.{in_hand_order, is_at_stage, is_same_stage, stage_of}
 use Rattle.kd_curator.proofs.PlannedPieces.{all_flat, all_lines, all_unless, in_moves, lug_moves, out_moves}
 use Rattle.kd_curator.proofs.PlannedPieces.{pin_lines, pulls, puts, ring_line, seat_line, turn_line, wheel_turn_line}
@@ -425,10 +426,8 @@ module _ (m : RotorParts) (s : RotorDay) (to : List ℕ) (legal : IsMachine (Rot
       ≡ seats ++ (reflector ++ (rings ++ (turns ++ (outs ++ ins)))) = simp append_assoc in
       ap in_hand_order joined ∙ six_by_hand seats reflector rings turns outs ins rotor_pieces
 
-  rotor_hand_boxes : page_boxes m.model (in_hand_order (planned_lines (Rotor m) (OfRotors s) to))
-      ≡ in_hand_order (planned_lines (Rotor m) (OfRotors s) to)
-  rotor_hand_boxes =
-      rw (rotor_hand, not_converter m.model m.reflector legal.legal.reflector) (rotor_boxes_are _ rotor_order)
+  rotor_hand_order : IsRotorOrder (in_hand_order (planned_lines (Rotor m) (OfRotors s) to))
+  rotor_hand_order = subst IsRotorOrder (sym rotor_hand) rotor_order
 
 module _ (m : PinParts) (s : PinDay) (to : List ℕ) (legal : IsMachine (Pin m)) where
   abbrev bars : List ((Place × Place) × (ℕ × ℕ))
@@ -471,14 +470,21 @@ module _ (m : PinParts) (s : PinDay) (to : List ℕ) (legal : IsMachine (Pin m))
       (λ n z. all_are row_of n _ (wheel_turn_line (is_row n) n z (λ l. same_row n))) 1 7 (zip m.letters s.window)
       few_letters)
 
-  pin_hand_boxes : page_boxes M209 (in_hand_order (planned_lines (Pin m) (OfPins s) to))
-      ≡ in_hand_order (planned_lines (Pin m) (OfPins s) to)
-  pin_hand_boxes = rw (three_by_hand pins wheel_turns lugs pin_pieces) (pin_boxes_are _ pin_order)
+  pin_hand_order : IsPinOrder (in_hand_order (planned_lines (Pin m) (OfPins s) to))
+  pin_hand_order = subst IsPinOrder (sym (three_by_hand pins wheel_turns lugs pin_pieces)) pin_order
 
 -- A planned list in an order for the hand is in the order of the page.
-pub hand_boxes : (m : Parts) (s : Day) (to : List ℕ) → IsMachine m → IsLegalDay s → model_of m ≡ day_model s
-    → page_boxes (model_of m) (in_hand_order (planned_lines m s to)) ≡ in_hand_order (planned_lines m s to)
-hand_boxes (Rotor m) (OfRotors s) to legal day same = rotor_hand_boxes m s to legal day
-hand_boxes (Pin m) (OfPins s) to legal day same = pin_hand_boxes m s to legal
-hand_boxes (Rotor m) (OfPins s) to legal day same = absurd (no_rotors m.model m.reflector same legal.legal.reflector)
-hand_boxes (Pin m) (OfRotors s) to legal day same = refl
+pub page_order : (m : Parts) (s : Day) (to : List ℕ) → IsMachine m → IsLegalDay s → model_of m ≡ day_model s
+    → IsPageOrder m (in_hand_order (planned_lines m s to))
+page_order (Rotor m) (OfRotors s) to legal day same = rotor_hand_order m s to legal day
+page_order (Pin m) (OfPins s) to legal day same = pin_hand_order m s to legal
+page_order (Rotor m) (OfPins s) to legal day same = absurd (no_rotors m.model m.reflector same legal.legal.reflector)
+page_order (Pin m) (OfRotors s) to legal day same =
+    record { steps = tt; pins = tt; cells = λ wheel. tt; lugs = tt; turns = tt }
+
+-- The boxes of settings in the order of the page, read from the top, are these settings.
+pub page_has_boxes : (m : Parts) → IsMachine m → (settings : List Setting) → IsPageOrder m settings
+    → page_boxes (model_of m) settings ≡ settings
+page_has_boxes (Rotor m) legal settings order =
+    rw (not_converter m.model m.reflector legal.legal.reflector) (rotor_boxes_are settings order)
+page_has_boxes (Pin m) legal settings order = pin_boxes_are settings order
