@@ -57,7 +57,7 @@ send_texts texts model = if is_converter model then texts.pin_send else texts.ro
 
 -- a part that is sent has no warnings
 abbrev pub no_warnings : Warnings
-no_warnings = record { letters_lost = false; copies_lost = false; wrong_day = false }
+no_warnings = record { letters_lost = false; copies_lost = false; wrong_day = false; not_tested = false }
 
 -- the sheet of a part that is sent
 abbrev pub send_sheet : MessageTexts → Day → PartName → Work → List ℕ

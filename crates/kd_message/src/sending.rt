@@ -223,6 +223,7 @@ const NO_WARNINGS: Warnings = Warnings {
     letters_lost: false,
     copies_lost: false,
     wrong_day: false,
+    not_tested: false,
 };
 
 fn send_texts(texts: &MessageTexts, model: Model) -> &SheetTexts
