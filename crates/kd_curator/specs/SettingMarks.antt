@@ -1,4 +1,4 @@
--- For each setting of a day's list, the page has a mark: the setting changes something.
+-- Each setting of a day's list has a mark.
 use Rattle.std.specs.Prelude.{◌≡◌, ◌≢◌, ℕ, true, false, All, Option, Some, option_map}
 use Rattle.kd_tables.specs.declared.lug.Lug.{Lug}
 use Rattle.kd_tables.specs.declared.lug.Lug.TheVariants.{Left, Right}
