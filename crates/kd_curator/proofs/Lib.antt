@@ -2,10 +2,13 @@ pub mod Answers
 pub mod Chains
 pub mod CommandLines
 pub mod DayPlans
+pub mod DayMarks
 pub mod DaysNamed
 pub mod Drawn
+pub mod EachSetting
 pub mod Grammars
 pub mod HandOrders
+pub mod PinMarks
 pub mod PlannedBoxes
 pub mod PlannedOrder
 pub mod PlannedPieces
@@ -14,6 +17,7 @@ pub mod LookFiles
 pub mod OneCommand
 pub mod Passing
 pub mod Ranked
+pub mod RotorMarks
 pub mod Runs
 pub mod ReceiveAnswers
 pub mod SendAnswers

@@ -80,7 +80,7 @@ pin_turns_last m s to =
     (λ n z. wheel_turn_line no_seat n z (λ l. refl))))
     (all_lines no_seat bar_moves 1 bars (λ n z. lug_moves no_seat n z (λ lug place. refl))))
 
-planned_turns_last : (m : Parts) (s : Day) (to : List ℕ) → seats_before_turning (planned_lines m s to) ≡ true
+pub planned_turns_last : (m : Parts) (s : Day) (to : List ℕ) → seats_before_turning (planned_lines m s to) ≡ true
 planned_turns_last (Rotor m) (OfRotors s) to = rotor_turns_last m s to
 planned_turns_last (Pin m) (OfPins s) to = pin_turns_last m s to
 planned_turns_last (Rotor m) (OfPins s) to = refl

@@ -14,6 +14,7 @@ pub mod RunList
 pub mod RunPage
 pub mod RunReceive
 pub mod RunSend
+pub mod SettingMarks
 pub mod Sheets
 pub mod Looks
 pub mod Tables

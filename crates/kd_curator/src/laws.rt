@@ -1,6 +1,7 @@
-//! Laws on the order for the hand, and on command lines.
+//! Laws on the order for the hand, on a day's list, and on command lines.
 ghost use Rattle.kd_curator.specs.CommandLine.{CommandLinesMeanOneCommand};
 ghost use Rattle.kd_curator.specs.HandOrder.{HandOrderIsPermutation, HandOrderLeads};
+ghost use Rattle.kd_curator.specs.SettingMarks.{DaySettingsHaveMarks};
 
 /// A list in an order for the hand has the same settings.
 ///
@@ -8,6 +9,11 @@ ghost use Rattle.kd_curator.specs.HandOrder.{HandOrderIsPermutation, HandOrderLe
 pub fn hand_order_leads_alike()
     ensures same { HandOrderIsPermutation }
     ensures leads { HandOrderLeads }
+{}
+
+/// Each setting of a day's list changes something, and a page marks what changes.
+pub fn settings_have_marks()
+    ensures { DaySettingsHaveMarks }
 {}
 
 /// A command line means at most one command.
