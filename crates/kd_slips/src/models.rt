@@ -57,23 +57,32 @@ fn refuse_case<T>(alloc: Global, fault: SheetFault, name: &str, right: &str) -> 
 
 /// The model with this name, if capital and small letters don't count.
 fn near_model(name: &str) -> Option<Model> {
-    let models = [Model::EnigmaI, Model::M3, Model::M4, Model::M209];
-    models
-        .iter()
-        .copied()
-        .find(|model| model.text().as_str().eq_ignore_ascii_case(name))
+    for model in [Model::EnigmaI, Model::M3, Model::M4, Model::M209] {
+        if model.text().as_str().eq_ignore_ascii_case(name) {
+            return Some(model);
+        }
+    }
+    None
 }
 
 /// The model's reflector with this name, if capital and small letters don't count.
 fn near_reflector(model: Model, name: &str) -> Option<Reflector> {
-    let mut reflectors = model.reflectors().iter().copied();
-    reflectors.find(|reflector| reflector.text().as_str().eq_ignore_ascii_case(name))
+    for reflector in model.reflectors() {
+        if reflector.text().as_str().eq_ignore_ascii_case(name) {
+            return Some(*reflector);
+        }
+    }
+    None
 }
 
 /// The wheel with this name, if capital and small letters don't count.
 fn near_wheel(name: &str) -> Option<Wheel> {
-    let mut wheels = Model::M4.wheels().iter().copied();
-    wheels.find(|wheel| wheel.text().as_str().eq_ignore_ascii_case(name))
+    for wheel in Model::M4.wheels() {
+        if wheel.text().as_str().eq_ignore_ascii_case(name) {
+            return Some(*wheel);
+        }
+    }
+    None
 }
 
 /// Refuses a text that names no model.
@@ -103,10 +112,10 @@ pub fn model_at(alloc: Global, table: &Table) -> Result<Model, Slip> {
 
 /// Whether one of the model's reflectors has this name.
 fn has_reflector(model: Model, name: &str) -> bool {
-    model
-        .reflectors()
-        .iter()
-        .any(|reflector| reflector.text().as_str() == name)
+    match Reflector::from_text(name.as_bytes()) {
+        Some(reflector) => model.reflectors().contains(&reflector),
+        None => false,
+    }
 }
 
 /// Refuses the text at the key `reflector`, unless it names one of the model's reflectors.

@@ -138,11 +138,12 @@ pub fn check_at_most(
 
 /// Whether `text` is short, and has only characters that can be printed.
 fn can_be_shown(text: &str) -> bool {
+    for byte in text.as_bytes() {
+        if *byte < 32 || *byte == 127 {
+            return false;
+        }
+    }
     text.len() <= SHOWN
-        && text
-            .as_bytes()
-            .iter()
-            .all(|byte| *byte >= 32 && *byte != 127)
 }
 
 /// `text` in backticks; of a long text, or one with control characters, only the length.
