@@ -39,11 +39,14 @@ abbrev pub numbers_after : List ℕ → List ℕ → List ℕ
 numbers_after first [] = []
 numbers_after first (number ∷ numbers) = first ++ decimal number ++ numbers_after COMMA.now numbers
 
+-- that the parts came in the order of these numbers
+unfoldable pub order_words : MessageTexts → List ℕ → List ℕ
+order_words texts numbers = texts.order.now ++ numbers_after [] numbers ++ texts.order_end.now
+
 -- the order in which the parts came, if it isn't that of their numbers
-unfoldable pub order_text : MessageTexts → List DamagedPart → List ℕ
+abbrev pub order_text : MessageTexts → List DamagedPart → List ℕ
 order_text texts parts =
-    if are_rising 0 (numbers_of parts) then []
-    else texts.order.now ++ numbers_after [] (numbers_of parts) ++ texts.order_end.now
+    if are_rising 0 (numbers_of parts) then [] else order_words texts (numbers_of parts)
 
 -- ---- What to ask the other station for.
 

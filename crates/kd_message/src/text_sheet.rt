@@ -4,12 +4,13 @@ ghost use Rattle.kd_pictures.specs.Drawing.{Draws};
 ghost use Rattle.kd_form.specs.Sending.{space_letter};
 ghost use Rattle.kd_lost.specs.DamagedForm.{shown_byte};
 ghost use Rattle.kd_message.specs.Rows.{pieces};
-ghost use Rattle.kd_message.specs.ShownParts.{numbers_from};
+ghost use Rattle.kd_message.specs.ShownParts.{numbers_from, numbers_of};
 ghost use Rattle.kd_message.specs.TextSheet.{ask_for_lost, ask_text, asked_words, counts_text, damage_text};
 ghost use Rattle.kd_message.specs.TextSheet.{first_text_group, group_words, has_lost, heading_count, indicator_groups};
 ghost use Rattle.kd_message.specs.TextSheet.{indicator_place, is_copy_lost, is_not_tested, is_wrong_day, key_letter_groups};
-ghost use Rattle.kd_message.specs.TextSheet.{lost_groups, missing_text, numbers_after, order_text, read_text, reason_text};
-ghost use Rattle.kd_message.specs.TextSheet.{text_begin, text_note, text_part_head, text_sheet_head, warnings_of};
+ghost use Rattle.kd_message.specs.TextSheet.{lost_groups, missing_text, numbers_after, order_text, order_words, read_text};
+ghost use Rattle.kd_message.specs.TextSheet.{reason_text, text_begin, text_note, text_part_head, text_sheet_head};
+ghost use Rattle.kd_message.specs.TextSheet.{warnings_of};
 
 use crate::filling::fill;
 use crate::markup::{COMMA, LOST_LETTER, SPACE, TEXT_END, TEXT_LETTERS, TEXT_WORDS};
@@ -47,10 +48,19 @@ pub(crate) fn draw_order<W: Sink>(sink: &mut W, texts: &MessageTexts, parts: &[D
     if are_rising(0, 1, parts) {
         draw(sink, "");
     } else {
-        draw(sink, texts.order);
-        draw_numbers(sink, "", 1, parts);
-        draw(sink, texts.order_end);
+        draw_order_words(sink, texts, parts);
     }
+}
+
+/// Writes that the parts came in the order of their numbers here.
+fn draw_order_words<W: Sink>(sink: &mut W, texts: &MessageTexts, parts: &[DamagedPart])
+    requires { length parts.now ≤ 255 }
+    ensures { Draws W.taken W.has_failed sink.old sink.new
+        (order_words texts.now (numbers_of parts.now)) }
+{
+    draw(sink, texts.order);
+    draw_numbers(sink, "", 1, parts);
+    draw(sink, texts.order_end);
 }
 
 /// Writes the numbers of `parts`, which stand from `place` on, the first after `first`.
