@@ -18,7 +18,7 @@ use Rattle.kd_plan.specs.Moves.{planned_lines}
 use Rattle.kd_plan.specs.Planned.{IsPlannedCard}
 use Rattle.kd_plan.proofs.Planning.{IsPermutation-assigned, all_within, planned_lines_lead}
 use Rattle.kd_curator.specs.HandOrder.{in_hand_order}
-use Rattle.kd_curator.specs.SettingMarks.{DaySettingsHaveMarks, HasMark}
+use Rattle.kd_curator.specs.SettingChanges.{DaySettingsChangeThings, Changes}
 use Rattle.kd_curator.proofs.HandOrders.{hand_order_leads}
 use Rattle.kd_curator.proofs.PinMarks.{pin_marked}
 use Rattle.kd_curator.proofs.PlannedOrder.{planned_turns_last}
@@ -27,7 +27,7 @@ use Rattle.kd_curator.proofs.RotorMarks.{rotor_marked}
 -- The settings of a planned card have marks.
 planned_marked : (m n : Parts) (s : Day) (settings : List Setting) (prices : PriceParts) → IsMachine m → IsLegalDay s
     → (card : IsPlannedCard m s settings prices) → Leads m (planned_lines m s card.to) n → ReadsAs n s
-    → All (HasMark m n) (planned_lines m s card.to)
+    → All (Changes m n) (planned_lines m s card.to)
 planned_marked (Rotor m) (Rotor n) (OfRotors s) settings prices machine legal card leads reads =
     let count : length card.to ≡ 13 = card.all_rows ∙ length-map m.cables _ ∙ machine.legal.cables.count in
     let many = count ∙ sym (thirteen_columns s.pairs legal.pairs.few) in
@@ -46,7 +46,7 @@ planned_marked (Rotor m) (Pin n) (OfRotors s) settings prices machine legal card
 planned_marked (Pin m) (Rotor n) (OfPins s) settings prices machine legal card leads reads = absurd reads.key
 
 -- In an order for the hand, the planned settings lead to the same machine. So they have the same marks.
-pub day_settings_have_marks : DaySettingsHaveMarks
+pub day_settings_have_marks : DaySettingsChangeThings
 day_settings_have_marks m n s plan machine legal day =
     let planned = day.by_hand.of_planner.planned in
     let lines = planned_lines m s planned.to in
@@ -57,6 +57,6 @@ day_settings_have_marks m n s plan machine legal day =
     let one = leads_unique m led.0 n (in_hand_order lines) by_hand leads in
     let order : IsPermutation lines plan.settings.items =
     subst (λ xs. IsPermutation xs plan.settings.items) planned.lines day.by_hand.same in
-    All-permutation (HasMark m n) lines plan.settings.items order
+    All-permutation (Changes m n) lines plan.settings.items order
     (planned_marked m n s day.by_hand.planned day.by_hand.prices machine legal planned
     (subst (λ p. Leads m lines p) one led.1) day.sheets.reads)

@@ -30,7 +30,7 @@ use Rattle.kd_plan.specs.Moves.{planned_lines}
 unfoldable use Rattle.kd_plan.specs.Moves.{bar_moves}
 use Rattle.kd_plan.proofs.Planning.FewCables.Sparing.Moving.{BarRow, are_movable, lugs_lead, to_stand, with_bars}
 use Rattle.kd_plan.proofs.Planning.FewCables.Sparing.Moving.Cables.{bars_with_rows}
-use Rattle.kd_curator.specs.SettingMarks.{HasMark}
+use Rattle.kd_curator.specs.SettingChanges.{Changes}
 use Rattle.kd_curator.proofs.EachSetting.{All-either_order, All-flat_map, All-lines, All-unless, slice_get-zip}
 
 -- ---- pins and window letters: machine `n` has them as the day says
@@ -52,7 +52,7 @@ pin_there pins k j letter list effective lists letters is =
 
 module _ (m n : PinParts) (s : PinDay) (reads : ReadsAs (Pin n) (OfPins s)) where
   abbrev P : Setting → Type 0
-  P = HasMark (Pin m) (Pin n)
+  P = Changes (Pin m) (Pin n)
 
   pins_marked : All P (lines_from wheel_pin_lines 1 (zip (pins_of m.pins) (pins_of s.pins)))
   pins_marked = All-lines P wheel_pin_lines (zip (pins_of m.pins) (pins_of s.pins)) (λ k z at.
@@ -79,7 +79,7 @@ module _ (m n : PinParts) (s : PinDay) (reads : ReadsAs (Pin n) (OfPins s)) wher
 
 module _ (m a : PinParts) (zs : List BarRow) (begins : map (λ (z : BarRow). z.0) zs ≡ m.bars) where
   abbrev Q : Setting → Type 0
-  Q = HasMark (Pin m) (with_bars a (map to_stand zs))
+  Q = Changes (Pin m) (with_bars a (map to_stand zs))
 
   lugs_marked : All Q (lines_from bar_moves 1 zs)
   unfolding bar_moves
@@ -119,9 +119,9 @@ module _ (m : PinParts) (s : PinDay) (machine : IsMachine (Pin m)) (legal : IsLe
       (lugs_lead before zs begins (are_movable m s machine legal to count within order))
 
   pub pin_marked : (n : PinParts) → Leads (Pin m) (planned_lines (Pin m) (OfPins s) to) (Pin n)
-      → ReadsAs (Pin n) (OfPins s) → All (HasMark (Pin m) (Pin n)) (planned_lines (Pin m) (OfPins s) to)
+      → ReadsAs (Pin n) (OfPins s) → All (Changes (Pin m) (Pin n)) (planned_lines (Pin m) (OfPins s) to)
   pin_marked n leads reads =
       let one = leads_unique (Pin m) (with_bars before (map to_stand zs)) (Pin n)
       (planned_lines (Pin m) (OfPins s) to) all_led.leads leads in
-      All-append (HasMark (Pin m) (Pin n)) _ _ (loose_marked m n s reads)
-      (subst (λ p. All (HasMark (Pin m) p) (lines_from bar_moves 1 zs)) one (lugs_marked m before zs begins))
+      All-append (Changes (Pin m) (Pin n)) _ _ (loose_marked m n s reads)
+      (subst (λ p. All (Changes (Pin m) p) (lines_from bar_moves 1 zs)) one (lugs_marked m before zs begins))

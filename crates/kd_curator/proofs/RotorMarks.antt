@@ -34,7 +34,7 @@ use Rattle.kd_plan.proofs.Planning.FewCables.Sparing.Moving.Cables.{is_put, once
 use Rattle.kd_sheet.proofs.ReadBack.Described.KeyValues.{find-contains}
 use Rattle.kd_sheet.proofs.ReadBack.Described.KeyValues.Steps.{All-slice_get}
 use Rattle.kd_pictures.specs.Board.{has_plug}
-use Rattle.kd_curator.specs.SettingMarks.{HasMark}
+use Rattle.kd_curator.specs.SettingChanges.{Changes}
 use Rattle.kd_curator.proofs.EachSetting.{All-flat_map, All-letters_outside, All-lines, All-option, All-unless}
 use Rattle.kd_curator.proofs.EachSetting.{slice_get-zip}
 use Rattle.kd_curator.proofs.PlannedPieces.{pulls, puts}
@@ -47,7 +47,7 @@ not_letter letter item other same = absurd (grind (arith, same, other))
 
 module _ (m n : RotorParts) (s : RotorDay) (reads : ReadsAs (Rotor n) (OfRotors s)) where
   abbrev P : Setting → Type 0
-  P = HasMark (Rotor m) (Rotor n)
+  P = Changes (Rotor m) (Rotor n)
 
   slot_is : (k : ℕ) (w : SheetWheel) → slice_get s.wheels k ≡ Some w → slice_get n.slots k ≡ Some (Some w.wheel)
   slot_is k w at =
@@ -104,7 +104,7 @@ module _ (m a : RotorParts) (zs : List CableColumn) (begins : map (λ (z : Cable
   n = with_cables a (map once_put zs)
 
   abbrev Q : Setting → Type 0
-  Q = HasMark (Rotor m) n
+  Q = Changes (Rotor m) n
 
   before : (k letter : ℕ) (z : CableColumn) → slice_get zs k ≡ Some z
       → has_plug (Rotor m) (suc k) letter ≡ has_letter (cable_letters z.0) letter
@@ -162,12 +162,12 @@ module _ (m : RotorParts) (s : RotorDay) (machine : IsMachine (Rotor m)) (legal 
       (all_put (turned_all m s machine legal same) zs pluggable (wanted_once m s machine legal same to count order))
 
   pub rotor_marked : (n : RotorParts) → Leads (Rotor m) (planned_lines (Rotor m) (OfRotors s) to) (Rotor n)
-      → ReadsAs (Rotor n) (OfRotors s) → All (HasMark (Rotor m) (Rotor n)) (planned_lines (Rotor m) (OfRotors s) to)
+      → ReadsAs (Rotor n) (OfRotors s) → All (Changes (Rotor m) (Rotor n)) (planned_lines (Rotor m) (OfRotors s) to)
   rotor_marked n leads reads =
-      let P = HasMark (Rotor m) (Rotor n) in
+      let P = Changes (Rotor m) (Rotor n) in
       let one = leads_unique (Rotor m) last (Rotor n) (planned_lines (Rotor m) (OfRotors s) to) all_led.leads leads in
       All-append P _ _ (All-append P _ _ (loose_marked m n s reads)
-      (subst (λ p. All (HasMark (Rotor m) p) (lines_from pulls 1 zs)) one
+      (subst (λ p. All (Changes (Rotor m) p) (lines_from pulls 1 zs)) one
       (outs_marked m (turned_all m s machine legal same) zs begins pluggable)))
-      (subst (λ p. All (HasMark (Rotor m) p) (lines_from puts 1 zs)) one
+      (subst (λ p. All (Changes (Rotor m) p) (lines_from puts 1 zs)) one
       (ins_marked m (turned_all m s machine legal same) zs begins pluggable))

@@ -14,7 +14,7 @@ pub mod RunList
 pub mod RunPage
 pub mod RunReceive
 pub mod RunSend
-pub mod SettingMarks
+pub mod SettingChanges
 pub mod Sheets
 pub mod Looks
 pub mod Tables

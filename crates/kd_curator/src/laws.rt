@@ -1,7 +1,7 @@
 //! Laws on the order for the hand, on a day's list, and on command lines.
 ghost use Rattle.kd_curator.specs.CommandLine.{CommandLinesMeanOneCommand};
 ghost use Rattle.kd_curator.specs.HandOrder.{HandOrderIsPermutation, HandOrderLeads};
-ghost use Rattle.kd_curator.specs.SettingMarks.{DaySettingsHaveMarks};
+ghost use Rattle.kd_curator.specs.SettingChanges.{DaySettingsChangeThings};
 
 /// A list in an order for the hand has the same settings.
 ///
@@ -11,9 +11,9 @@ pub fn hand_order_leads_alike()
     ensures leads { HandOrderLeads }
 {}
 
-/// Each setting of a day's list changes something, and a page marks what changes.
-pub fn settings_have_marks()
-    ensures { DaySettingsHaveMarks }
+/// Each setting of a day's list changes what it sets.
+pub fn settings_change_things()
+    ensures { DaySettingsChangeThings }
 {}
 
 /// A command line means at most one command.

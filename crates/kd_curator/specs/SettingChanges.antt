@@ -1,4 +1,4 @@
--- Each setting of a day's list has a mark.
+-- Each setting of a day's list changes what it sets.
 use Rattle.std.specs.Prelude.{◌≡◌, ◌≢◌, ℕ, true, false, All, Option, Some, option_map}
 use Rattle.kd_tables.specs.declared.lug.Lug.{Lug}
 use Rattle.kd_tables.specs.declared.lug.Lug.TheVariants.{Left, Right}
@@ -35,21 +35,21 @@ WindowTurns (Rotor m) n number letter =
 WindowTurns (Pin m) n number letter =
     Becomes (machine_pin_letter (Pin m) number) (machine_pin_letter n number) (Some letter)
 
--- What the setting sets differs between machine `m`, before a list, and machine `n`, after the list. A page marks what
--- differs between the two machines.
-abbrev pub HasMark : Parts → Parts → Setting → Type 0
-HasMark m n (RingTo wheel letter) = Becomes (machine_ring m wheel) (machine_ring n wheel) (Some letter)
-HasMark m n (SeatReflector reflector) = Becomes (machine_reflector m) (machine_reflector n) (Some reflector)
-HasMark m n (Seat slot wheel) = Becomes (is_seated m slot wheel) (is_seated n slot wheel) true
-HasMark m n (Pull cable letter) = Becomes (has_plug m cable letter) (has_plug n cable letter) false
-HasMark m n (Put cable letter) = Becomes (has_plug m cable letter) (has_plug n cable letter) true
-HasMark m n (PinTo wheel letter effective) =
+-- What the setting sets differs between machine `m`, before a list, and machine `n`, after the list. A page marks this
+-- thing, unless it is a Converter's letter.
+abbrev pub Changes : Parts → Parts → Setting → Type 0
+Changes m n (RingTo wheel letter) = Becomes (machine_ring m wheel) (machine_ring n wheel) (Some letter)
+Changes m n (SeatReflector reflector) = Becomes (machine_reflector m) (machine_reflector n) (Some reflector)
+Changes m n (Seat slot wheel) = Becomes (is_seated m slot wheel) (is_seated n slot wheel) true
+Changes m n (Pull cable letter) = Becomes (has_plug m cable letter) (has_plug n cable letter) false
+Changes m n (Put cable letter) = Becomes (has_plug m cable letter) (has_plug n cable letter) true
+Changes m n (PinTo wheel letter effective) =
     Becomes (machine_pin m wheel letter) (machine_pin n wheel letter) (Some effective)
-HasMark m n (LugTo bar lug place) = Becomes (lug_at m bar lug) (lug_at n bar lug) (Some place)
-HasMark m n (Turn number letter) = WindowTurns m n number letter
+Changes m n (LugTo bar lug place) = Becomes (lug_at m bar lug) (lug_at n bar lug) (Some place)
+Changes m n (Turn number letter) = WindowTurns m n number letter
 
--- Each setting of a day's list has a mark. Of a list that turns a wheel twice, this would be false.
-abbrev pub DaySettingsHaveMarks : Type 0
-DaySettingsHaveMarks =
+-- Each setting of a day's list changes what it sets. Of a list that turns a wheel twice, this would be false.
+abbrev pub DaySettingsChangeThings : Type 0
+DaySettingsChangeThings =
     (m n : Parts) (s : Day) (plan : DayPlan) → IsMachine m → IsLegalDay s → IsDayPlan m s plan n
-    → All (HasMark m n) plan.settings.items
+    → All (Changes m n) plan.settings.items
