@@ -32,13 +32,13 @@ head_text sheet name = filled sheet.head.now (decimal name.part ∷ name_values 
 -- reflector, wheels, rings and cables of the day
 unfoldable pub rotor_key_text : MessageTexts → RotorDay → List ℕ
 rotor_key_text texts s =
-    filled texts.reflector.now (reflector_text s.reflector ∷ []) ++ wheels_after [] s.wheels ++ texts.rings.now
-    ++ rings_after [] s.wheels ++ texts.cables.now ++ cables_text texts.no_cables.now s.pairs ++ texts.key_end.now
+    filled texts.day_key.reflector.now (reflector_text s.reflector ∷ []) ++ wheels_after [] s.wheels ++ texts.day_key.rings.now
+    ++ rings_after [] s.wheels ++ texts.day_key.cables.now ++ cables_text texts.day_key.no_cables.now s.pairs ++ texts.day_key.key_end.now
 
 -- the key of the day that the machine has to be on
 abbrev pub day_key_text : MessageTexts → Day → List ℕ
 day_key_text texts (OfRotors s) = rotor_key_text texts s
-day_key_text texts (OfPins s) = filled texts.list.now (map letter_text s.list)
+day_key_text texts (OfPins s) = filled texts.day_key.list.now (map letter_text s.list)
 
 -- the step in which nothing was pressed yet
 abbrev pub beginning : Progress

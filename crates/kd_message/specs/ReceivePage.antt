@@ -39,12 +39,12 @@ receive_texts texts model = if is_converter model then texts.pin_receive else te
 
 -- a part that isn't read, in the list of the sheets
 abbrev pub listed_unread : MessageTexts → PartName → List ℕ
-listed_unread texts name = filled texts.listed_unread.now (decimal name.part ∷ decimal name.parts ∷ [])
+listed_unread texts name = filled texts.sheets.listed_unread.now (decimal name.part ∷ decimal name.parts ∷ [])
 
 -- a part in the list of the sheets
 abbrev pub listed_text : MessageTexts → PartName → Result DamagedText PartDamage → List ℕ
 listed_text texts name (Ok shown) =
-    filled texts.listed_part.now (decimal name.part ∷ decimal name.part ∷ decimal name.parts ∷ [])
+    filled texts.sheets.listed_part.now (decimal name.part ∷ decimal name.part ∷ decimal name.parts ∷ [])
 listed_text texts name (Err damage) = listed_unread texts name
 
 -- the sheet on which a part is worked, if it is read
@@ -64,13 +64,13 @@ abbrev pub part_in : Section → MessageTexts → Day → PartName → DamagedPa
 part_in sections.Listed texts s name part = listed_text texts name part.text
 part_in sections.Worked texts s name part = worked_text texts s name part.text
 part_in sections.Texts texts s name part =
-    text_part_head texts name ++ text_or_damage texts s name part part.text ++ texts.text_part_end.now
+    text_part_head texts name ++ text_or_damage texts s name part part.text ++ texts.plaintext.text_part_end.now
 
 -- what a section has for a part that didn't come
 abbrev pub missing_in : Section → MessageTexts → PartName → List ℕ
 missing_in sections.Listed texts name = listed_unread texts name
 missing_in sections.Worked texts name = []
-missing_in sections.Texts texts name = text_part_head texts name ++ missing_text texts name ++ texts.text_part_end.now
+missing_in sections.Texts texts name = text_part_head texts name ++ missing_text texts name ++ texts.plaintext.text_part_end.now
 
 -- what a section has for the part that is shown under a number, if there is one. `total`: how many parts the form has.
 abbrev pub shown_in : Section → MessageTexts → Day → ℕ → ℕ → Option DamagedPart → List ℕ
@@ -93,8 +93,8 @@ section_text section texts s parts =
 -- what to ask the other station for.
 unfoldable pub receive_text : MessageTexts → Day → List DamagedPart → List ℕ
 receive_text texts s parts =
-    title_text texts texts.title_to_receive.now s ++ list_head texts (last_of parts)
-    ++ section_text sections.Listed texts s parts ++ texts.list_end_with_text.now
+    title_text texts texts.sheets.title_to_receive.now s ++ list_head texts (last_of parts)
+    ++ section_text sections.Listed texts s parts ++ texts.sheets.list_end_with_text.now
     ++ section_text sections.Worked texts s parts ++ text_sheet_head texts s ++ order_text texts parts
     ++ section_text sections.Texts texts s parts ++ text_if (is_any_read parts) (text_note texts (day_model s))
     ++ ARTICLE_END.now ++ FOOT.now

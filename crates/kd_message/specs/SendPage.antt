@@ -34,20 +34,20 @@ use Rattle.kd_message.specs.Rows.{pieces}
 -- the head of the file, with the title that the template `title` gives
 unfoldable pub title_text : MessageTexts → List ℕ → Day → List ℕ
 title_text texts title s =
-    texts.head.now ++ filled title (model_name (day_model s) ∷ decimal (day_number s) ∷ [])
+    texts.sheets.head.now ++ filled title (model_name (day_model s) ∷ decimal (day_number s) ∷ [])
     ++ page_texts.STYLE.now ++ page_texts.MORE_STYLE.now ++ page_texts.BODY.now
 
 -- a part in the list of the sheets
 abbrev pub listed_text : MessageTexts → ℕ → ℕ → List ℕ
-listed_text texts parts part = filled texts.listed_part.now (decimal part ∷ decimal part ∷ decimal parts ∷ [])
+listed_text texts parts part = filled texts.sheets.listed_part.now (decimal part ∷ decimal part ∷ decimal parts ∷ [])
 
 abbrev pub list_head : MessageTexts → ℕ → List ℕ
-list_head texts parts = if parts == 1 then texts.list_of_one.now else texts.list_of_several.now
+list_head texts parts = if parts == 1 then texts.sheets.list_of_one.now else texts.sheets.list_of_several.now
 
 -- the list of the sheets: the parts, and the form
 unfoldable pub list_text : MessageTexts → ℕ → List ℕ
 list_text texts parts =
-    list_head texts parts ++ flat_map (listed_text texts parts) (range_with_len 1 parts) ++ texts.list_end_with_form.now
+    list_head texts parts ++ flat_map (listed_text texts parts) (range_with_len 1 parts) ++ texts.sheets.list_end_with_form.now
 
 abbrev pub part_name : Day → ℕ → ℕ → PartName
 part_name s part parts = record { model = day_model s; day = day_number s; part = part; parts = parts }
@@ -76,7 +76,7 @@ form_parts texts s made = flat_map (form_part texts (day_model s) (day_number s)
 -- the file: a sheet on which each part is worked, and the form
 unfoldable pub send_text : MessageTexts → Day → ℕ → List Work → List Part → List ℕ
 send_text texts s parts works made =
-    title_text texts texts.title_to_send.now s ++ list_text texts parts ++ part_sheets texts s 1 parts works ++ form_head texts s
+    title_text texts texts.sheets.title_to_send.now s ++ list_text texts parts ++ part_sheets texts s 1 parts works ++ form_head texts s
     ++ form_parts texts s made ++ ARTICLE_END.now ++ page_texts.FOOT.now
 
 -- ---- What is worked for an order, and its form.

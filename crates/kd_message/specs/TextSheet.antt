@@ -27,11 +27,11 @@ use Rattle.kd_message.specs.ShownParts.{are_rising, numbers_of}
 
 -- the head of the sheet
 abbrev pub text_sheet_head : MessageTexts → Day → List ℕ
-text_sheet_head texts s = filled texts.text.now (model_name (day_model s) ∷ decimal (day_number s) ∷ [])
+text_sheet_head texts s = filled texts.plaintext.text.now (model_name (day_model s) ∷ decimal (day_number s) ∷ [])
 
 -- the head of a part: its number, the number of parts, the model, and the day
 abbrev pub text_part_head : MessageTexts → PartName → List ℕ
-text_part_head texts name = filled texts.text_part.now (
+text_part_head texts name = filled texts.plaintext.text_part.now (
     decimal name.part ∷ decimal name.parts ∷ model_name name.model ∷ decimal name.day ∷ [])
 
 -- the numbers, with commas between them; the first after `first`
@@ -41,7 +41,7 @@ numbers_after first (number ∷ numbers) = first ++ decimal number ++ numbers_af
 
 -- that the parts came in the order of these numbers
 unfoldable pub order_words : MessageTexts → List ℕ → List ℕ
-order_words texts numbers = texts.order.now ++ numbers_after [] numbers ++ texts.order_end.now
+order_words texts numbers = texts.plaintext.order.now ++ numbers_after [] numbers ++ texts.plaintext.order_end.now
 
 -- the order in which the parts came, if it isn't that of their numbers
 abbrev pub order_text : MessageTexts → List DamagedPart → List ℕ
@@ -52,11 +52,11 @@ order_text texts parts =
 
 -- a box, with what is to be asked for of this part
 unfoldable pub ask_text : MessageTexts → ℕ → List ℕ → List ℕ
-ask_text texts part words = filled texts.ask.now (decimal part ∷ []) ++ words ++ texts.ask_end.now
+ask_text texts part words = filled texts.asking.ask.now (decimal part ∷ []) ++ words ++ texts.asking.ask_end.now
 
 -- a group, after `first`
 abbrev pub group_words : MessageTexts → List ℕ → ℕ → List ℕ
-group_words texts first number = first ++ texts.group.now ++ decimal number
+group_words texts first number = first ++ texts.asking.group.now ++ decimal number
 
 -- whether a letter is lost
 abbrev pub has_lost : List (Option ℕ) → Bool
@@ -144,28 +144,28 @@ heading_count None = 0
 -- the counts of the heading and of the letters that came
 unfoldable pub counts_text : MessageTexts → ℕ → ℕ → List ℕ
 counts_text texts counted came =
-    texts.count_wrong.now ++ decimal counted ++ texts.count_came.now ++ decimal came ++ texts.count_end.now
+    texts.reasons.count_wrong.now ++ decimal counted ++ texts.reasons.count_came.now ++ decimal came ++ texts.reasons.count_end.now
 
 -- why a part isn't read
 abbrev pub reason_text : MessageTexts → DamagedPart → PartDamage → List ℕ
-reason_text texts part damages.HeadingDamaged = texts.heading_damaged.now
-reason_text texts part damages.HeadingKeyLost = texts.heading_key_lost.now
-reason_text texts part damages.BadByte = texts.bad_byte.now
+reason_text texts part damages.HeadingDamaged = texts.reasons.heading_damaged.now
+reason_text texts part damages.HeadingKeyLost = texts.reasons.heading_key_lost.now
+reason_text texts part damages.BadByte = texts.reasons.bad_byte.now
 reason_text texts part damages.CountWrong = counts_text texts (heading_count part.numbers) part.came
 reason_text texts part (damages.CopiesDiffer number) =
-    filled texts.copies_differ.now (decimal (indicator_place number) ∷ [])
+    filled texts.reasons.copies_differ.now (decimal (indicator_place number) ∷ [])
 reason_text texts part (damages.KeyLetterLost number) =
-    filled texts.key_letter_lost.now (decimal (indicator_place number) ∷ [])
-reason_text texts part damages.KeyNotOnWheel = texts.key_not_on_wheel.now
-reason_text texts part damages.NoInternalKey = texts.no_internal_key.now
+    filled texts.reasons.key_letter_lost.now (decimal (indicator_place number) ∷ [])
+reason_text texts part damages.KeyNotOnWheel = texts.reasons.key_not_on_wheel.now
+reason_text texts part damages.NoInternalKey = texts.reasons.no_internal_key.now
 
 -- what to ask for if a part isn't read
 abbrev pub asked_words : MessageTexts → DamagedPart → PartDamage → List ℕ
 asked_words texts part damages.HeadingDamaged =
-    if part.came == 0 then texts.all_of_it.now else texts.its_heading.now
-asked_words texts part damages.HeadingKeyLost = texts.its_heading.now
-asked_words texts part damages.BadByte = texts.all_of_it.now
-asked_words texts part damages.CountWrong = texts.all_of_it.now
+    if part.came == 0 then texts.asking.all_of_it.now else texts.asking.its_heading.now
+asked_words texts part damages.HeadingKeyLost = texts.asking.its_heading.now
+asked_words texts part damages.BadByte = texts.asking.all_of_it.now
+asked_words texts part damages.CountWrong = texts.asking.all_of_it.now
 asked_words texts part (damages.CopiesDiffer number) = key_letter_groups texts part.came number
 asked_words texts part (damages.KeyLetterLost number) = key_letter_groups texts part.came number
 asked_words texts part damages.KeyNotOnWheel = indicator_groups texts part.came
@@ -174,7 +174,7 @@ asked_words texts part damages.NoInternalKey = indicator_groups texts part.came
 -- that a part isn't read, why, and what to ask for
 unfoldable pub unread_text : MessageTexts → PartName → List ℕ → List ℕ → List ℕ
 unread_text texts name reason words =
-    texts.unread.now ++ reason ++ texts.reason_end.now ++ ask_text texts name.part words
+    texts.reasons.unread.now ++ reason ++ texts.reasons.reason_end.now ++ ask_text texts name.part words
 
 -- a part that isn't read
 abbrev pub damage_text : MessageTexts → PartName → DamagedPart → PartDamage → List ℕ
@@ -183,11 +183,11 @@ damage_text texts name part damage =
 
 -- a part that didn't come
 abbrev pub missing_text : MessageTexts → PartName → List ℕ
-missing_text texts name = unread_text texts name texts.did_not_come.now texts.all_of_it.now
+missing_text texts name = unread_text texts name texts.reasons.did_not_come.now texts.asking.all_of_it.now
 
 -- how spaces and signs of the text are meant
 abbrev pub text_note : MessageTexts → Model → List ℕ
-text_note texts EnigmaI = texts.enigma_text_note.now
-text_note texts M3 = texts.enigma_text_note.now
-text_note texts M4 = texts.naval_text_note.now
-text_note texts M209 = texts.converter_text_note.now
+text_note texts EnigmaI = texts.plaintext.enigma_text_note.now
+text_note texts M3 = texts.plaintext.enigma_text_note.now
+text_note texts M4 = texts.plaintext.naval_text_note.now
+text_note texts M209 = texts.plaintext.converter_text_note.now

@@ -19,10 +19,10 @@ words_after is_converter first number (letter ∷ letters) =
 -- a window, with its number and its letter; on a rotor machine also the letter's number
 abbrev pub window_item : MessageTexts → Bool → ℕ → ℕ → List ℕ
 window_item texts is_converter number letter =
-    if is_converter then filled texts.wheel.now (
+    if is_converter then filled texts.pictures.wheel.now (
     decimal (2 + 60 * (number - 1) + 20) ∷ decimal number ∷ decimal (2 + 60 * (number - 1))
     ∷ decimal (2 + 60 * (number - 1) + 20) ∷ letter_text letter ∷ [])
-    else filled texts.window.now (
+    else filled texts.pictures.window.now (
     decimal (2 + 96 * (number - 1)) ∷ decimal number ∷ decimal (2 + 96 * (number - 1))
     ∷ decimal (2 + 96 * (number - 1) + 20) ∷ letter_text letter
     ∷ decimal (2 + 96 * (number - 1) + 62) ∷ ordinal_text letter ∷ [])
@@ -35,7 +35,7 @@ window_items texts is_converter number (letter ∷ letters) =
 
 -- the beginning of the picture's title
 abbrev pub windows_title : MessageTexts → Bool → List ℕ
-windows_title texts is_converter = if is_converter then texts.wheels.now else texts.windows.now
+windows_title texts is_converter = if is_converter then texts.pictures.wheels.now else texts.pictures.windows.now
 
 -- the picture
 unfoldable pub windows_text : MessageTexts → Bool → List ℕ → List ℕ

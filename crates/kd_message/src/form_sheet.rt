@@ -23,7 +23,7 @@ pub(crate) fn draw_form_head<W: Sink>(sink: &mut W, texts: &MessageTexts, day: &
 {
     fill(
         sink,
-        texts.form,
+        texts.radio.form,
         &[
             Value::Model(day.model()),
             Value::Number(u16::from(day.day())),
@@ -46,7 +46,7 @@ pub(crate) fn draw_form_part<W: Sink>(
 {
     draw_part_head(sink, texts, name, letters.len());
     draw_indicator(sink, texts, indicator);
-    draw(sink, texts.form_groups);
+    draw(sink, texts.radio.form_groups);
     draw_form_groups(sink, letters);
     draw(sink, part_note(texts, indicator));
 }
@@ -58,7 +58,7 @@ fn draw_part_head<W: Sink>(sink: &mut W, texts: &MessageTexts, name: PartName, l
 {
     fill(
         sink,
-        texts.form_part,
+        texts.radio.form_part,
         &[
             Value::Number(u16::from(name.part)),
             Value::Number(u16::from(name.parts)),
@@ -86,11 +86,11 @@ fn draw_keys<W: Sink>(sink: &mut W, texts: &MessageTexts, indicator: &Indicator)
     ensures { Draws W.taken W.has_failed sink.old sink.new
         (keys_text texts.now indicator.now) }
 {
-    draw(sink, texts.form_ground);
+    draw(sink, texts.radio.form_ground);
     draw_letters(sink, indicator.ground_setting.as_slice());
-    draw(sink, texts.form_key);
+    draw(sink, texts.radio.form_key);
     draw_letters(sink, indicator.enciphered_key.as_slice());
-    draw(sink, texts.form_key_end);
+    draw(sink, texts.radio.form_key_end);
 }
 
 /// Writes letters in groups of five.
@@ -128,7 +128,7 @@ fn part_note(texts: &MessageTexts, indicator: &Option<Indicator>) -> &'static st
     ensures { result.now ≡ part_note texts.now indicator.now }
 {
     match indicator {
-        Some(_) => texts.form_rotor_note,
-        None => texts.form_pin_note,
+        Some(_) => texts.radio.form_rotor_note,
+        None => texts.radio.form_pin_note,
     }
 }

@@ -120,7 +120,7 @@ fn draw_day_key<W: Sink>(sink: &mut W, texts: &MessageTexts, entry: &Entry)
             let [one, other] = entry.list;
             fill(
                 sink,
-                texts.list,
+                texts.day_key.list,
                 &[Value::Letter(one), Value::Letter(other)],
             );
         }
@@ -133,13 +133,17 @@ fn draw_rotor_key<W: Sink>(sink: &mut W, texts: &MessageTexts, entry: &RotorEntr
         (rotor_key_text texts.now (rotor_values entry.now)) }
 {
     let wheels = entry.wheels.as_slice();
-    fill(sink, texts.reflector, &[Value::Reflector(entry.reflector)]);
+    fill(
+        sink,
+        texts.day_key.reflector,
+        &[Value::Reflector(entry.reflector)],
+    );
     draw_wheels(sink, "", wheels);
-    draw(sink, texts.rings);
+    draw(sink, texts.day_key.rings);
     draw_rings(sink, "", wheels);
-    draw(sink, texts.cables);
-    draw_cables(sink, texts.no_cables, entry.pairs.as_slice());
-    draw(sink, texts.key_end);
+    draw(sink, texts.day_key.cables);
+    draw_cables(sink, texts.day_key.no_cables, entry.pairs.as_slice());
+    draw(sink, texts.day_key.key_end);
 }
 
 /// Writes the step of the key.

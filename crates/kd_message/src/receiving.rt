@@ -98,10 +98,10 @@ fn draw_page<W: Sink>(sink: &mut W, texts: &MessageTexts, day: &SheetDay, parts:
     ensures { Draws W.taken W.has_failed sink.old sink.new
         (receive_text texts.now day.now parts.now) }
 {
-    draw_title(sink, texts, texts.title_to_receive, day);
+    draw_title(sink, texts, texts.sheets.title_to_receive, day);
     draw(sink, list_head(texts, last_of(parts)));
     draw_section(sink, Section::Listed, texts, day, parts);
-    draw(sink, texts.list_end_with_text);
+    draw(sink, texts.sheets.list_end_with_text);
     draw_section(sink, Section::Worked, texts, day, parts);
     draw_text_sheet_head(sink, texts, day);
     draw_order(sink, texts, parts);
@@ -204,7 +204,7 @@ fn draw_listed<W: Sink>(
     match text {
         Ok(_) => fill(
             sink,
-            texts.listed_part,
+            texts.sheets.listed_part,
             &[
                 Value::Number(u16::from(name.part)),
                 Value::Number(u16::from(name.part)),
@@ -221,7 +221,7 @@ fn draw_listed_unread<W: Sink>(sink: &mut W, texts: &MessageTexts, name: PartNam
 {
     fill(
         sink,
-        texts.listed_unread,
+        texts.sheets.listed_unread,
         &[
             Value::Number(u16::from(name.part)),
             Value::Number(u16::from(name.parts)),
@@ -278,7 +278,7 @@ fn draw_part_text<W: Sink>(
 {
     draw_text_part_head(sink, texts, name);
     draw_text_or_damage(sink, texts, day, name, part);
-    draw(sink, texts.text_part_end);
+    draw(sink, texts.plaintext.text_part_end);
 }
 
 fn draw_text_or_damage<W: Sink>(
@@ -335,5 +335,5 @@ fn draw_missing_text<W: Sink>(sink: &mut W, texts: &MessageTexts, name: PartName
 {
     draw_text_part_head(sink, texts, name);
     draw_missing(sink, texts, name);
-    draw(sink, texts.text_part_end);
+    draw(sink, texts.plaintext.text_part_end);
 }

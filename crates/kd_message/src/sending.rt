@@ -112,7 +112,7 @@ fn draw_file<W: Sink>(
         (send_text texts.now day.now (length keys.now) works made) }
 {
     let parts = keys.len() as u8;
-    draw_title(sink, texts, texts.title_to_send, day);
+    draw_title(sink, texts, texts.sheets.title_to_send, day);
     draw_list(sink, texts, parts);
     draw_part_sheets(sink, texts, day, 1, parts, keys, text);
     draw_form_head(sink, texts, day);
@@ -126,7 +126,7 @@ pub(crate) fn draw_title<W: Sink>(sink: &mut W, texts: &MessageTexts, title: &st
     ensures { Draws W.taken W.has_failed sink.old sink.new
         (title_text texts.now title.now day.now) }
 {
-    draw(sink, texts.head);
+    draw(sink, texts.sheets.head);
     fill(
         sink,
         title,
@@ -147,7 +147,7 @@ fn draw_list<W: Sink>(sink: &mut W, texts: &MessageTexts, parts: u8)
 {
     draw(sink, list_head(texts, u16::from(parts)));
     draw_listed(sink, texts, 1, parts, parts);
-    draw(sink, texts.list_end_with_form);
+    draw(sink, texts.sheets.list_end_with_form);
 }
 
 /// The head of the list of the sheets, for this many parts.
@@ -155,9 +155,9 @@ pub(crate) fn list_head(texts: &MessageTexts, parts: u16) -> &'static str
     ensures { result.now ≡ list_head texts.now parts }
 {
     if parts == 1 {
-        texts.list_of_one
+        texts.sheets.list_of_one
     } else {
-        texts.list_of_several
+        texts.sheets.list_of_several
     }
 }
 
@@ -178,7 +178,7 @@ fn draw_listed_part<W: Sink>(sink: &mut W, texts: &MessageTexts, part: u8, parts
 {
     fill(
         sink,
-        texts.listed_part,
+        texts.sheets.listed_part,
         &[
             Value::Number(u16::from(part)),
             Value::Number(u16::from(part)),

@@ -32,7 +32,7 @@ pub(crate) fn draw_text_sheet_head<W: Sink>(sink: &mut W, texts: &MessageTexts, 
 {
     fill(
         sink,
-        texts.text,
+        texts.plaintext.text,
         &[
             Value::Model(day.model()),
             Value::Number(u16::from(day.day())),
@@ -58,9 +58,9 @@ fn draw_order_words<W: Sink>(sink: &mut W, texts: &MessageTexts, parts: &[Damage
     ensures { Draws W.taken W.has_failed sink.old sink.new
         (order_words texts.now (numbers_of parts.now)) }
 {
-    draw(sink, texts.order);
+    draw(sink, texts.plaintext.order);
     draw_numbers(sink, "", 1, parts);
-    draw(sink, texts.order_end);
+    draw(sink, texts.plaintext.order_end);
 }
 
 /// Writes the numbers of `parts`, which stand from `place` on, the first after `first`.
@@ -82,7 +82,7 @@ pub(crate) fn draw_text_part_head<W: Sink>(sink: &mut W, texts: &MessageTexts, n
 {
     fill(
         sink,
-        texts.text_part,
+        texts.plaintext.text_part,
         &[
             Value::Number(u16::from(name.part)),
             Value::Number(u16::from(name.parts)),
@@ -224,9 +224,13 @@ fn draw_ask_groups<W: Sink>(
         (ask_text texts.now name.part
         (lost_groups texts.now [] (first_text_group name.model) (pieces 5 letters.now))) }
 {
-    fill(sink, texts.ask, &[Value::Number(u16::from(name.part))]);
+    fill(
+        sink,
+        texts.asking.ask,
+        &[Value::Number(u16::from(name.part))],
+    );
     draw_lost_groups(sink, texts, "", first_text_group(name.model), letters);
-    draw(sink, texts.ask_end);
+    draw(sink, texts.asking.ask_end);
 }
 
 /// The number of the group with which the text begins.
@@ -276,7 +280,7 @@ fn draw_group_words<W: Sink>(sink: &mut W, texts: &MessageTexts, first: &str, nu
         (group_words texts.now first.now number) }
 {
     draw(sink, first);
-    draw(sink, texts.group);
+    draw(sink, texts.asking.group);
     draw_count(sink, number);
 }
 
@@ -290,10 +294,10 @@ fn draw_count<W: Sink>(sink: &mut W, number: usize)
 pub(crate) fn draw_missing<W: Sink>(sink: &mut W, texts: &MessageTexts, name: PartName)
     ensures { Draws W.taken W.has_failed sink.old sink.new (missing_text texts.now name) }
 {
-    draw(sink, texts.unread);
-    draw(sink, texts.did_not_come);
-    draw(sink, texts.reason_end);
-    draw_ask(sink, texts, name, texts.all_of_it);
+    draw(sink, texts.reasons.unread);
+    draw(sink, texts.reasons.did_not_come);
+    draw(sink, texts.reasons.reason_end);
+    draw_ask(sink, texts, name, texts.asking.all_of_it);
 }
 
 /// Writes the box for `words`.
@@ -301,9 +305,13 @@ fn draw_ask<W: Sink>(sink: &mut W, texts: &MessageTexts, name: PartName, words: 
     ensures { Draws W.taken W.has_failed sink.old sink.new
         (ask_text texts.now name.part words.now) }
 {
-    fill(sink, texts.ask, &[Value::Number(u16::from(name.part))]);
+    fill(
+        sink,
+        texts.asking.ask,
+        &[Value::Number(u16::from(name.part))],
+    );
     draw(sink, words);
-    draw(sink, texts.ask_end);
+    draw(sink, texts.asking.ask_end);
 }
 
 /// Writes why a part isn't read, and what to ask for.
@@ -317,12 +325,16 @@ pub(crate) fn draw_damage<W: Sink>(
     ensures { Draws W.taken W.has_failed sink.old sink.new
         (damage_text texts.now name part.now damage) }
 {
-    draw(sink, texts.unread);
+    draw(sink, texts.reasons.unread);
     draw_reason(sink, texts, part, damage);
-    draw(sink, texts.reason_end);
-    fill(sink, texts.ask, &[Value::Number(u16::from(name.part))]);
+    draw(sink, texts.reasons.reason_end);
+    fill(
+        sink,
+        texts.asking.ask,
+        &[Value::Number(u16::from(name.part))],
+    );
     draw_asked(sink, texts, part, damage);
-    draw(sink, texts.ask_end);
+    draw(sink, texts.asking.ask_end);
 }
 
 /// Writes why a part isn't read.
@@ -331,24 +343,24 @@ fn draw_reason<W: Sink>(sink: &mut W, texts: &MessageTexts, part: &DamagedPart, 
         (reason_text texts.now part.now damage) }
 {
     match damage {
-        PartDamage::HeadingDamaged => draw(sink, texts.heading_damaged),
-        PartDamage::HeadingKeyLost => draw(sink, texts.heading_key_lost),
-        PartDamage::BadByte => draw(sink, texts.bad_byte),
+        PartDamage::HeadingDamaged => draw(sink, texts.reasons.heading_damaged),
+        PartDamage::HeadingKeyLost => draw(sink, texts.reasons.heading_key_lost),
+        PartDamage::BadByte => draw(sink, texts.reasons.bad_byte),
         PartDamage::CountWrong => {
             draw_counts(sink, texts, heading_count(&part.numbers), part.came)
         }
         PartDamage::CopiesDiffer(number) => fill(
             sink,
-            texts.copies_differ,
+            texts.reasons.copies_differ,
             &[Value::Number(indicator_place(number))],
         ),
         PartDamage::KeyLetterLost(number) => fill(
             sink,
-            texts.key_letter_lost,
+            texts.reasons.key_letter_lost,
             &[Value::Number(indicator_place(number))],
         ),
-        PartDamage::KeyNotOnWheel => draw(sink, texts.key_not_on_wheel),
-        PartDamage::NoInternalKey => draw(sink, texts.no_internal_key),
+        PartDamage::KeyNotOnWheel => draw(sink, texts.reasons.key_not_on_wheel),
+        PartDamage::NoInternalKey => draw(sink, texts.reasons.no_internal_key),
     }
 }
 
@@ -357,11 +369,11 @@ fn draw_counts<W: Sink>(sink: &mut W, texts: &MessageTexts, counted: usize, came
     ensures { Draws W.taken W.has_failed sink.old sink.new
         (counts_text texts.now counted came) }
 {
-    draw(sink, texts.count_wrong);
+    draw(sink, texts.reasons.count_wrong);
     draw_count(sink, counted);
-    draw(sink, texts.count_came);
+    draw(sink, texts.reasons.count_came);
     draw_count(sink, came);
-    draw(sink, texts.count_end);
+    draw(sink, texts.reasons.count_end);
 }
 
 /// How many letters the body has, by the heading.
@@ -391,10 +403,10 @@ fn draw_asked<W: Sink>(sink: &mut W, texts: &MessageTexts, part: &DamagedPart, d
         (asked_words texts.now part.now damage) }
 {
     match damage {
-        PartDamage::HeadingDamaged if part.came > 0 => draw(sink, texts.its_heading),
-        PartDamage::HeadingKeyLost => draw(sink, texts.its_heading),
+        PartDamage::HeadingDamaged if part.came > 0 => draw(sink, texts.asking.its_heading),
+        PartDamage::HeadingKeyLost => draw(sink, texts.asking.its_heading),
         PartDamage::HeadingDamaged | PartDamage::BadByte | PartDamage::CountWrong => {
-            draw(sink, texts.all_of_it)
+            draw(sink, texts.asking.all_of_it)
         }
         PartDamage::CopiesDiffer(number) | PartDamage::KeyLetterLost(number) => {
             draw_key_letter_groups(sink, texts, part.came, number)
@@ -432,8 +444,8 @@ pub(crate) fn text_note(texts: &MessageTexts, model: Model) -> &'static str
     ensures { result.now ≡ text_note texts.now model }
 {
     match model {
-        Model::EnigmaI | Model::M3 => texts.enigma_text_note,
-        Model::M4 => texts.naval_text_note,
-        Model::M209 => texts.converter_text_note,
+        Model::EnigmaI | Model::M3 => texts.plaintext.enigma_text_note,
+        Model::M4 => texts.plaintext.naval_text_note,
+        Model::M209 => texts.plaintext.converter_text_note,
     }
 }

@@ -1,7 +1,8 @@
 //! The fixed texts of a message's pages, each in English and in German. In a template, each sign `~` stands for a value.
 
-ghost use Rattle.kd_message.specs.Texts.{AreTexts, ArePinReceiveTexts, ArePinSendTexts, AreRotorReceiveTexts};
-ghost use Rattle.kd_message.specs.Texts.{AreRotorSendTexts};
+ghost use Rattle.kd_message.specs.Texts.{AreAskingTexts, AreDayKeyTexts, ArePictureTexts, ArePinReceiveTexts};
+ghost use Rattle.kd_message.specs.Texts.{ArePinSendTexts, ArePlaintextTexts, AreRadioTexts, AreReasonTexts};
+ghost use Rattle.kd_message.specs.Texts.{AreRotorReceiveTexts, AreRotorSendTexts, AreSheetListTexts, AreTexts};
 
 use kd_pictures::Language;
 use kd_pictures::texts::Text;
@@ -9,6 +10,35 @@ use kd_pictures::texts::Text;
 /// The texts in one language.
 #[derive(Drop)]
 pub struct MessageTexts {
+    /// The head of the file, and the list of the sheets.
+    pub sheets: SheetListTexts,
+    /// The sheet with the text.
+    pub plaintext: PlaintextTexts,
+    /// What to ask the other station for.
+    pub asking: AskingTexts,
+    /// Why a part isn't read.
+    pub reasons: ReasonTexts,
+    /// The key of the day that the machine has to be on.
+    pub day_key: DayKeyTexts,
+    /// The pictures of windows and wheels.
+    pub pictures: PictureTexts,
+    /// The sheet with the form for the radio.
+    pub radio: RadioTexts,
+    /// The sheet of a part that is sent: on a rotor machine, and on a Converter.
+    pub rotor_send: SheetTexts,
+    pub pin_send: SheetTexts,
+    /// The sheet of a part that is received: on a rotor machine, and on a Converter.
+    pub rotor_receive: SheetTexts,
+    pub pin_receive: SheetTexts,
+    /// The end of a part's sheet on the M4, in place of `note`.
+    pub naval_note: &'static str,
+    /// A warning: one copy of a Converter's indicators has letters that the other one lost.
+    pub copies_lost: &'static str,
+}
+
+/// The texts of the head of a file, and of the list of its sheets.
+#[derive(Drop)]
+pub struct SheetListTexts {
     /// The head of the file, before its title.
     pub head: &'static str,
     /// The title of a page for sending: the model, and the day.
@@ -20,18 +50,17 @@ pub struct MessageTexts {
     pub listed_part: &'static str,
     /// The end of the list of the sheets, with the form.
     pub list_end_with_form: &'static str,
-    /// The sheet of a part that is sent: on a rotor machine, and on a Converter.
-    pub rotor_send: SheetTexts,
-    pub pin_send: SheetTexts,
     /// The title of a page for receiving: the model, and the day.
     pub title_to_receive: &'static str,
     /// A part that isn't read in the list of the sheets: the part, and the number of parts.
     pub listed_unread: &'static str,
     /// The end of the list of the sheets, with the text.
     pub list_end_with_text: &'static str,
-    /// The sheet of a part that is received: on a rotor machine, and on a Converter.
-    pub rotor_receive: SheetTexts,
-    pub pin_receive: SheetTexts,
+}
+
+/// The texts of the sheet with the text.
+#[derive(Drop)]
+pub struct PlaintextTexts {
     /// The sheet with the text: the model, and the day. A part of it: the part, the number of parts, the model, the day.
     pub text: &'static str,
     pub text_part: &'static str,
@@ -39,9 +68,15 @@ pub struct MessageTexts {
     /// The order in which the parts came: what stands before their numbers, and after them.
     pub order: &'static str,
     pub order_end: &'static str,
-    /// A part that isn't read: what stands before the reason, and after it.
-    pub unread: &'static str,
-    pub reason_end: &'static str,
+    /// How spaces and signs of the text are meant: on the Enigma I and M3, on the M4, on the Converter.
+    pub enigma_text_note: &'static str,
+    pub naval_text_note: &'static str,
+    pub converter_text_note: &'static str,
+}
+
+/// The texts of what to ask the other station for.
+#[derive(Drop)]
+pub struct AskingTexts {
     /// What to ask for again: the part; then what of it; then the end.
     pub ask: &'static str,
     pub ask_end: &'static str,
@@ -49,6 +84,14 @@ pub struct MessageTexts {
     pub group: &'static str,
     pub its_heading: &'static str,
     pub all_of_it: &'static str,
+}
+
+/// The texts of why a part isn't read.
+#[derive(Drop)]
+pub struct ReasonTexts {
+    /// A part that isn't read: what stands before the reason, and after it.
+    pub unread: &'static str,
+    pub reason_end: &'static str,
     /// Why a part isn't read. Before the heading's count; before the count of the letters that came; after it. A letter
     /// of the indicators: its number.
     pub heading_damaged: &'static str,
@@ -62,10 +105,11 @@ pub struct MessageTexts {
     pub key_letter_lost: &'static str,
     pub key_not_on_wheel: &'static str,
     pub no_internal_key: &'static str,
-    /// How spaces and signs of the text are meant: on the Enigma I and M3, on the M4, on the Converter.
-    pub enigma_text_note: &'static str,
-    pub naval_text_note: &'static str,
-    pub converter_text_note: &'static str,
+}
+
+/// The texts of the key of the day that a machine has to be on.
+#[derive(Drop)]
+pub struct DayKeyTexts {
     /// The key of the day that a rotor machine has to be on: the reflector; then wheels, rings and cables.
     pub reflector: &'static str,
     pub rings: &'static str,
@@ -74,16 +118,22 @@ pub struct MessageTexts {
     pub key_end: &'static str,
     /// The key of the day that a Converter has to be on: the two letters of the key list.
     pub list: &'static str,
-    /// The end of a part's sheet on the M4, in place of `note`.
-    pub naval_note: &'static str,
-    /// A warning: one copy of a Converter's indicators has letters that the other one lost.
-    pub copies_lost: &'static str,
+}
+
+/// The texts of the pictures of windows and wheels.
+#[derive(Drop)]
+pub struct PictureTexts {
     /// The picture of the windows of a rotor machine: its title, and a window with its slot.
     pub windows: &'static str,
     pub window: &'static str,
     /// The picture of the wheels of a Converter: its title, and a wheel with its number.
     pub wheels: &'static str,
     pub wheel: &'static str,
+}
+
+/// The texts of the sheet with the form for the radio.
+#[derive(Drop)]
+pub struct RadioTexts {
     /// The sheet with the form for the radio: the model, and the day.
     pub form: &'static str,
     /// A part of the form: the part, the number of parts, the model, the day, the part, the number of parts, and the
@@ -130,31 +180,71 @@ pub fn message_texts(language: Language) -> MessageTexts
     ensures { AreTexts language result }
 {
     MessageTexts {
+        sheets: sheets_texts(language),
+        plaintext: plaintext_texts(language),
+        asking: asking_texts(language),
+        reasons: reasons_texts(language),
+        day_key: day_key_texts(language),
+        pictures: pictures_texts(language),
+        radio: radio_texts(language),
+        rotor_send: rotor_send(language),
+        pin_send: pin_send(language),
+        rotor_receive: rotor_receive(language),
+        pin_receive: pin_receive(language),
+        naval_note: language.text(NAVAL_NOTE),
+        copies_lost: language.text(COPIES_LOST),
+    }
+}
+
+fn sheets_texts(language: Language) -> SheetListTexts
+    ensures { AreSheetListTexts language result }
+{
+    SheetListTexts {
         head: language.text(HEAD),
         title_to_send: language.text(TITLE_TO_SEND),
         list_of_one: language.text(LIST_OF_ONE),
         list_of_several: language.text(LIST_OF_SEVERAL),
         listed_part: language.text(LISTED_PART),
         list_end_with_form: language.text(LIST_END_WITH_FORM),
-        rotor_send: rotor_send(language),
-        pin_send: pin_send(language),
         title_to_receive: language.text(TITLE_TO_RECEIVE),
         listed_unread: language.text(LISTED_UNREAD),
         list_end_with_text: language.text(LIST_END_WITH_TEXT),
-        rotor_receive: rotor_receive(language),
-        pin_receive: pin_receive(language),
+    }
+}
+
+fn plaintext_texts(language: Language) -> PlaintextTexts
+    ensures { ArePlaintextTexts language result }
+{
+    PlaintextTexts {
         text: language.text(TEXT_SHEET),
         text_part: language.text(TEXT_PART),
         text_part_end: language.text(TEXT_PART_END),
         order: language.text(ORDER),
         order_end: language.text(ORDER_END),
-        unread: language.text(UNREAD),
-        reason_end: language.text(REASON_END),
+        enigma_text_note: language.text(ENIGMA_TEXT_NOTE),
+        naval_text_note: language.text(NAVAL_TEXT_NOTE),
+        converter_text_note: language.text(CONVERTER_TEXT_NOTE),
+    }
+}
+
+fn asking_texts(language: Language) -> AskingTexts
+    ensures { AreAskingTexts language result }
+{
+    AskingTexts {
         ask: language.text(ASK),
         ask_end: language.text(ASK_END),
         group: language.text(GROUP),
         its_heading: language.text(ITS_HEADING),
         all_of_it: language.text(ALL_OF_IT),
+    }
+}
+
+fn reasons_texts(language: Language) -> ReasonTexts
+    ensures { AreReasonTexts language result }
+{
+    ReasonTexts {
+        unread: language.text(UNREAD),
+        reason_end: language.text(REASON_END),
         heading_damaged: language.text(HEADING_DAMAGED),
         did_not_come: language.text(DID_NOT_COME),
         heading_key_lost: language.text(HEADING_KEY_LOST),
@@ -166,21 +256,37 @@ pub fn message_texts(language: Language) -> MessageTexts
         key_letter_lost: language.text(KEY_LETTER_LOST),
         key_not_on_wheel: language.text(KEY_NOT_ON_WHEEL),
         no_internal_key: language.text(NO_INTERNAL_KEY),
-        enigma_text_note: language.text(ENIGMA_TEXT_NOTE),
-        naval_text_note: language.text(NAVAL_TEXT_NOTE),
-        converter_text_note: language.text(CONVERTER_TEXT_NOTE),
+    }
+}
+
+fn day_key_texts(language: Language) -> DayKeyTexts
+    ensures { AreDayKeyTexts language result }
+{
+    DayKeyTexts {
         reflector: language.text(REFLECTOR),
         rings: language.text(RINGS),
         cables: language.text(CABLES),
         no_cables: language.text(NO_CABLES),
         key_end: language.text(KEY_END),
         list: language.text(LIST),
-        naval_note: language.text(NAVAL_NOTE),
-        copies_lost: language.text(COPIES_LOST),
+    }
+}
+
+fn pictures_texts(language: Language) -> PictureTexts
+    ensures { ArePictureTexts language result }
+{
+    PictureTexts {
         windows: language.text(WINDOWS),
         window: language.text(WINDOW),
         wheels: language.text(WHEELS),
         wheel: language.text(WHEEL),
+    }
+}
+
+fn radio_texts(language: Language) -> RadioTexts
+    ensures { AreRadioTexts language result }
+{
+    RadioTexts {
         form: language.text(FORM),
         form_part: language.text(FORM_PART),
         form_ground: language.text(FORM_GROUND),

@@ -24,9 +24,9 @@ pub(crate) fn draw_windows<W: Sink>(
     draw(
         sink,
         if is_converter {
-            texts.wheels
+            texts.pictures.wheels
         } else {
-            texts.windows
+            texts.pictures.windows
         },
     );
     draw_all_words(sink, is_converter, "", 1, letters);
@@ -40,9 +40,9 @@ fn windows_title(texts: &MessageTexts, is_converter: bool) -> &'static str
     ensures { result.now ≡ windows_title texts.now is_converter }
 {
     if is_converter {
-        texts.wheels
+        texts.pictures.wheels
     } else {
-        texts.windows
+        texts.pictures.windows
     }
 }
 
@@ -118,7 +118,7 @@ fn draw_item<W: Sink>(
         let x = 2 + 60 * (slot - 1);
         fill(
             sink,
-            texts.wheel,
+            texts.pictures.wheel,
             &[
                 Value::Number(x + 20),
                 Value::Number(slot),
@@ -131,7 +131,7 @@ fn draw_item<W: Sink>(
         let x = 2 + 96 * (slot - 1);
         fill(
             sink,
-            texts.window,
+            texts.pictures.window,
             &[
                 Value::Number(x),
                 Value::Number(slot),
