@@ -1,4 +1,5 @@
--- The wheels in a machine's slots, with their rings and window letters. No public contract cites this file.
+-- The wheels in a machine's slots, with their rings and window letters, and the key of such wheels. Public contracts
+-- cite only `key_of_wheels`.
 use Rattle.std.specs.Prelude.{ℕ, List, map, Option, Some, None}
 use Rattle.kd_tables.specs.declared.wheel.Wheel.{Wheel}
 use Rattle.kd_tables.specs.declared.reflector.Reflector.{Reflector}
