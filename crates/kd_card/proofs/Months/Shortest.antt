@@ -56,7 +56,8 @@ pub cables_paired : (cables : List (Option ℕ × Option ℕ)) (pairs : List (�
 cables_paired cables pairs prices few count h =
     paired cable_cost (λ cable. cable) cable_of_column (λ cable. Unit {0})
     (λ cable column _ e. rw e (own_column column)) cables (columns_of pairs) prices (λ k d lt. tt)
-    (thirteen_columns pairs few ∙ sym count) (rw map-id (subst (IsPermutation cables) (sym (cables_by_columns pairs)) h))
+    (thirteen_columns pairs few ∙ sym count)
+    (rw map-id (subst (IsPermutation cables) (sym (cables_by_columns pairs)) h))
 
 pub thirteen_cables : (cables : List (Option ℕ × Option ℕ)) (pairs : List (ℕ × ℕ)) → length pairs ≤ 13
     → IsPermutation cables (cables_of pairs) → length cables ≡ 13

@@ -31,8 +31,8 @@ pub use Rattle.kd_tables.specs.declared.{place.Place.{Place, TheVariants.One}, r
 pub use Rattle.kd_tables.specs.{Places.{IsBefore, reading_of}, Tables.{reflector_text, reflectors_of, wheel_text}}
 pub use Rattle.kd_state.proofs.Wheels.{days_wheels_have_their_places, same_reflector-Decides, same_wheel_self}
 pub use Rattle.{kd_tables.specs.Permutation.alphabet}
-pub use Rattle.kd_state.proofs.{Cables.{cables_by_columns, column_is}, Slots.IsNumbered-not_none, SortedAlike.count_by-cons}
-pub use Rattle.kd_state.proofs.{CostTable.thirteen_columns, Slots.set_other, Slots.IsNumbered}
+pub use Rattle.kd_state.proofs.{Cables.column_is, Slots.IsNumbered-not_none, SortedAlike.count_by-cons}
+pub use Rattle.kd_state.proofs.{Cables.cables_by_columns, CostTable.thirteen_columns, Slots.{set_other, IsNumbered}}
 pub use Rattle.kd_state.proofs.Carrying.{if_carried, lug_moved, pin_made, pulled, reflector_made, ring_made, seat_made}
 pub use Rattle.kd_state.proofs.Carrying.{six_lists, turn_made, was_put, wheel_turn_made, when_carried}
 pub use Rattle.std.specs.Prelude.{IfOk, IsFalse}
