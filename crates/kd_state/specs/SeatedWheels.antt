@@ -17,7 +17,7 @@ key_of_wheels wheels reflector plugs = record {
   plugs = plugs;
 }
 
--- ---- The wheels in a machine's slots, with their rings and window letters. No public contract cites these definitions.
+-- ---- The wheels in a machine's slots, with rings and window letters. No public contract cites these definitions.
 
 -- the wheel with this ring and this window letter; `None` if the ring or the letter is missing
 abbrev pub wheel_with_letters : Wheel → Option ℕ → Option ℕ → Option SheetWheel
