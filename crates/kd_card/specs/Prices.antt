@@ -15,20 +15,19 @@ version_of (CableKinds row col) = ByKind
 version_of (BarKinds row col) = ByKind
 version_of _ = ByNumber
 
--- a price for each row of the table of costs: by number in the table's order; by kind one kind after another, each
--- price as often as the kind's count says
+-- a price for each cable or bar, in order; by kind, each price as often as its kind's count says
 abbrev pub row_prices : PriceParts → List ℤ
-row_prices (Cables row col) = row
-row_prices (Bars row col) = row
-row_prices (CableKinds row col) = flat_map (λ k. replicate k.count k.price) row.items
-row_prices (BarKinds row col) = flat_map (λ k. replicate k.count k.price) row.items
+row_prices (Cables cables columns) = cables
+row_prices (Bars bars rows) = bars
+row_prices (CableKinds cables columns) = flat_map (λ k. replicate k.count k.price) cables.items
+row_prices (BarKinds bars rows) = flat_map (λ k. replicate k.count k.price) bars.items
 
--- a price for each column of the table of costs, in the same order
+-- a price for each column of a rotor machine's day, or for each row of a Converter's day, in the same way
 abbrev pub column_prices : PriceParts → List ℤ
-column_prices (Cables row col) = col
-column_prices (Bars row col) = col
-column_prices (CableKinds row col) = flat_map (λ k. replicate k.count k.price) col.items
-column_prices (BarKinds row col) = flat_map (λ k. replicate k.count k.price) col.items
+column_prices (Cables cables columns) = columns
+column_prices (Bars bars rows) = rows
+column_prices (CableKinds cables columns) = flat_map (λ k. replicate k.count k.price) columns.items
+column_prices (BarKinds bars rows) = flat_map (λ k. replicate k.count k.price) rows.items
 
 -- the number of rows of the table of costs, which is also its number of columns
 abbrev pub table_size : PriceParts → ℕ

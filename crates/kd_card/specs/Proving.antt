@@ -90,14 +90,14 @@ IsShortest machine day settings =
 -- Prices by kind fit. The kinds count exactly the machine's cables and the day's columns, or the machine's bars and the
 -- day's rows. The prices of a cable and a column, or of a bar and a row, add up to at most the cost of the two.
 abbrev pub KindPricesFit : Parts → Day → PriceParts → Type 0
-KindPricesFit (Rotor machine) (OfRotors day) (CableKinds row col) =
-    IsPermutation machine.cables (flat_map (λ k. replicate k.count k.ends) row.items)
-    × IsPermutation (columns_in_order day.pairs) (flat_map (λ k. replicate k.count k.pair) col.items)
-    × All (λ k. All (λ other. (k.price +ℤ other.price) ≤ℤ pos (cable_cost k.ends other.pair)) col.items) row.items
-KindPricesFit (Pin machine) (OfPins day) (BarKinds row col) =
-    IsPermutation machine.bars (flat_map (λ k. replicate k.count k.standing) row.items)
-    × IsPermutation day.rows (flat_map (λ k. replicate k.count k.reading) col.items)
-    × All (λ k. All (λ other. (k.price +ℤ other.price) ≤ℤ pos (bar_cost k.standing other.reading)) col.items) row.items
+KindPricesFit (Rotor machine) (OfRotors day) (CableKinds cables columns) =
+    IsPermutation machine.cables (flat_map (λ k. replicate k.count k.ends) cables.items)
+    × IsPermutation (columns_in_order day.pairs) (flat_map (λ k. replicate k.count k.pair) columns.items)
+    × All (λ k. All (λ c. (k.price +ℤ c.price) ≤ℤ pos (cable_cost k.ends c.pair)) columns.items) cables.items
+KindPricesFit (Pin machine) (OfPins day) (BarKinds bars rows) =
+    IsPermutation machine.bars (flat_map (λ k. replicate k.count k.standing) bars.items)
+    × IsPermutation day.rows (flat_map (λ k. replicate k.count k.reading) rows.items)
+    × All (λ k. All (λ r. (k.price +ℤ r.price) ≤ℤ pos (bar_cost k.standing r.reading)) rows.items) bars.items
 KindPricesFit _ _ _ = ⊥
 
 -- Prices by kind show that no list that reaches the day is shorter than `settings`: they fit, and the number of

@@ -5,6 +5,7 @@ use Rattle.kd_desk.specs.RunCard.{Card, Different, IsChosenCard, IsShortestCard,
 use Rattle.kd_plan.specs.Planned.{IsProvedPlannedCard}
 use Rattle.{kd_host.specs.Writing.WritesText, kd_desk.specs.declared.fault.DeskFault.TheVariants.Device}
 use Rattle.kd_state.proofs.{Keys.{equally_set, reading_cipher, reading_ready}}
+use Rattle.kd_state.specs.{Setting.Leads, SheetsMachine.IsSheetsMachine}
 use Rattle.{kd_card.proofs.Showing.proving_prices_show, kd_state.proofs.Carrying.lists_keep_machines}
 use Rattle.kd_card.specs.Proving.{Proves}
 use Rattle.kd_card.specs.declared.card.Card as declared
@@ -12,7 +13,8 @@ use Rattle.kd_desk.specs.Headline as headline
 
 module _ (m : Parts) (s : Day) (is_machine : IsMachine m) (legal : IsLegalDay s) where
   leaves : (text settings : List _) (numbered prices : PriceParts) → IsProvedPlannedCard m s settings numbered
-      → IsCard text (day_number s) settings prices → headline.LeavesTheSheetsMachine m s settings
+      → IsCard text (day_number s) settings prices
+      → (after : Parts) × Leads m settings after × IsSheetsMachine after s
   leaves text settings numbered prices plans card = grind (arith, lists_keep_machines, reading_ready, reading_cipher)
 
   decipher : headline.EquallySetDecipherOn s

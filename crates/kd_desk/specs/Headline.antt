@@ -1,17 +1,10 @@
 -- What a card promises of the machine that its settings lead to.
 use Rattle.std.specs.Prelude.{◌≡◌, ◌<◌, ℕ, List, All}
 use Rattle.kd_state.specs.declared.machine.parts.Parts.{Parts}
-use Rattle.kd_state.specs.declared.setting.Setting.{Setting}
 use Rattle.kd_state.specs.Machine.{IsMachine}
-use Rattle.kd_state.specs.Setting.{Leads}
 use Rattle.kd_state.specs.SheetDay.{Day}
 use Rattle.kd_state.specs.OnKey.{OnKey}
-use Rattle.kd_state.specs.SheetsMachine.{IsSheetsMachine}
 use Rattle.kd_state.specs.TwoCiphers.{window_of, physical_cipher}
-
--- Each setting is legal after the settings before it. Together they lead to the machine that the day asks for.
-abbrev pub LeavesTheSheetsMachine : Parts → Day → List Setting → Type 0
-LeavesTheSheetsMachine machine day settings = (after : Parts) × Leads machine settings after × IsSheetsMachine after day
 
 -- Both machines are on the day's key, and they show the same letters.
 pub record AreEquallySet (day : Day) (one other : Parts) : Type 0 where

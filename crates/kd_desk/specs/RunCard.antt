@@ -6,6 +6,8 @@ use Rattle.std.specs.Prelude.{◌≡◌, ◌≢◌, ℕ, List, Result, Err}
 use Rattle.kd_state.specs.declared.machine.parts.Parts.{Parts}
 use Rattle.kd_state.specs.declared.setting.Setting.{Setting}
 use Rattle.kd_state.specs.Machine.{model_of}
+use Rattle.kd_state.specs.Setting.{Leads}
+use Rattle.kd_state.specs.SheetsMachine.{IsSheetsMachine}
 use Rattle.kd_state.specs.SheetDay.{Day, day_model}
 use Rattle.kd_card.specs.declared.prices.PriceParts.{PriceParts}
 use Rattle.kd_card.specs.CardText.{IsCard, card_text}
@@ -14,14 +16,14 @@ use Rattle.kd_plan.specs.Planned.{IsPlannedCard}
 use Rattle.kd_plan.specs.Spares.{SparesStayFree}
 use Rattle.kd_desk.specs.declared.fault.DeskFault.{DeskFault}
 use Rattle.kd_desk.specs.declared.fault.DeskFault.TheVariants.{Device, OtherModel}
-use Rattle.kd_desk.specs.Headline.{LeavesTheSheetsMachine, EquallySetDecipherOn}
+use Rattle.kd_desk.specs.Headline.{EquallySetDecipherOn}
 use Rattle.kd_tables.specs.Ports.{Port}
 use Rattle.kd_host.specs.Writing.{WritesText}
 
 -- A shortest card: its settings lead the machine to the day's machine. No list that reaches the day is shorter, and the
 -- prices, one for each kind, show it. Machines that are equally set for the day decipher each other's texts.
 pub record IsShortestCard (machine : Parts) (day : Day) (settings : List Setting) (prices : PriceParts) : Type 0 where
-  pub leaves : LeavesTheSheetsMachine machine day settings
+  pub leaves : (after : Parts) × Leads machine settings after × IsSheetsMachine after day
   pub shortest : IsShortest machine day settings
   pub shown : ShowShortest machine day settings prices
   pub deciphers : EquallySetDecipherOn day

@@ -9,7 +9,7 @@ use Rattle.kd_tables.specs.declared.wheel.Wheel.{Wheel}
 
 -- how many places a wheel is turned from the position of its published wiring: window letter minus ring letter
 abbrev pub offset : ℕ → ℕ → ℕ
-offset ring window = (window + (26 - ring)) % 26
+offset ring letter = (letter + (26 - ring)) % 26
 
 -- the permutation of a wiring that is turned by `by` places
 unfoldable pub wiring_turned_by : ℕ → List ℕ → List ℕ
@@ -17,4 +17,4 @@ wiring_turned_by by wiring = followed_by (followed_by (shift by) wiring) (shift 
 
 -- a wheel's permutation on the current's way in (from right to left), for a ring letter and a window letter
 abbrev pub rotor : Wheel → ℕ → ℕ → List ℕ
-rotor wheel ring window = wiring_turned_by (offset ring window) (wiring_of wheel)
+rotor wheel ring letter = wiring_turned_by (offset ring letter) (wiring_of wheel)

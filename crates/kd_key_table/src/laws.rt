@@ -18,7 +18,9 @@ pub fn templates_take_their_values()
     ensures { TemplatesTakeTheirValues }
 {}
 
-/// A month has the days 1 to 31. A table lists them from the last day on.
+/// A month has the days 1 to 31.
+///
+/// A page's month table lists them from the last day on; CSV tables and the Converter's key lists, from the first.
 pub fn days_are_a_months()
     ensures days { DAYS ≡ range_with_len 1 31 }
     ensures last_first { LAST_DAY_FIRST ≡ reverse (range_with_len 1 31) }

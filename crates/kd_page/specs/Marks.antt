@@ -1,4 +1,5 @@
--- Where a page has marks: only where a setting of its list changes something.
+-- A page marks a change only where its list has a setting. On a Converter's page, pins and lugs that stay have marks,
+-- too.
 use Rattle.std.specs.Prelude.{◌≡◌, ℕ, nat_eq, Bool, true, false, ◌&&◌, List}
 use Rattle.std.specs.List.{list_any}
 use Rattle.kd_tables.specs.declared.wheel.Wheel.{Wheel}
@@ -45,11 +46,11 @@ abbrev pub turns_pin_wheel : ℕ → Setting → Bool
 turns_pin_wheel wheel (settings.Turn other letter) = nat_eq wheel other
 turns_pin_wheel wheel _ = false
 
--- ---- The laws. A page marks a thing if it isn't the same on machine `m`, before the settings, as on machine `n`, after
--- them.
+-- ---- The laws. A page marks a change where a thing isn't the same on machine `m`, before the settings, as on machine
+-- `n`, after them.
 
--- A list that leads from `m` to `n` has a setting for each thing that is marked. In other words: what no setting of the
--- list sets is the same before and after.
+-- A list leads from `m` to `n`. What no setting of the list sets is the same before and after. Of wheels, this says only
+-- that no slot has a new wheel that the list doesn't seat there.
 pub record MarksHaveSettings (m n : Parts) (list : List Setting) : Type 0 where
   pub rings : (wheel : Wheel) → list_any (sets_ring wheel) list ≡ false → machine_ring n wheel ≡ machine_ring m wheel
   pub reflector : list_any sets_reflector list ≡ false → machine_reflector n ≡ machine_reflector m

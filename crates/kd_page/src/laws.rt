@@ -15,7 +15,7 @@ pub fn pages_have_the_boxes()
     ensures pin { PinPageHasTheBoxes }
 {}
 
-/// Where a page has a mark, the page's list has a setting.
+/// Where a page marks a change, the page's list has a setting.
 pub fn marks_have_settings()
     ensures { AllMarksHaveSettings }
 {}

@@ -8,7 +8,7 @@ use Rattle.kd_state.proofs.Prelude.{IsPermutation-append, IsPermutation-append_c
 use Rattle.kd_state.proofs.Prelude.{IsPermutation-append_right, IsPermutation-refl, IsPermutation-trans, All}
 use Rattle.kd_state.proofs.Prelude.{AllByRecursion, option_map_or, List, None, Option, Some, [], arith, false}
 use Rattle.kd_state.proofs.Prelude.{filter_map, get_or, length, map, nat_eq, refl, set, slice_get, suc, true, zero, ℕ}
-use Rattle.kd_state.proofs.Prelude.{◌++◌, ◌↔◌, ◌∙◌, ◌∷◌, ◌≡◌, ◌≢◌, IsPermutation, ◌&&◌}
+use Rattle.kd_state.proofs.Prelude.{◌++◌, ◌↔◌, ◌∙◌, ◌∷◌, ◌≡◌, ◌≢◌, IsPermutation, ap, subst, sym, ◌&&◌}
 use Rattle.{std.proofs.Common.replicate}
 use Rattle.std.proofs.lemmas.List.{Folds.{Any-from_list_any, list_any_at}, Sorted.list_any-IsPermutation}
 use Rattle.kd_enigma.specs.Plugs as plugs
@@ -108,6 +108,23 @@ no_letter_twice cables h whole = grind (arith, letters_of_pairs, recursion_from_
 
 -- ---- cables that are the day's cables, in any order
 
+cable_of_pair : (pair : ℕ × ℕ) → cable_of_column (Some pair) ≡ cable_in_order (Some pair.0) (Some pair.1)
+cable_of_pair pair = grind (arith, nat_tests, cond_both)
+
+empty_columns : (number : ℕ) → map cable_of_column (replicate number None) ≡ replicate number (None, None)
+empty_columns zero = refl
+empty_columns (suc number) = ap (λ cables. (None, None) ∷ cables) (empty_columns number)
+
+filled_columns : (pairs : List (ℕ × ℕ)) (number : ℕ)
+    → map cable_of_column (map Some pairs ++ replicate number None)
+    ≡ map (λ (pair : ℕ × ℕ). cable_in_order (Some pair.0) (Some pair.1)) pairs ++ replicate number (None, None)
+filled_columns [] number = empty_columns number
+filled_columns (pair ∷ pairs) number = grind (arith, cable_of_pair pair, filled_columns pairs number)
+
+-- the day's cables are the cables for the day's columns
+pub cables_by_columns : (pairs : List (ℕ × ℕ)) → map cable_of_column (columns_of pairs) ≡ cables_of pairs
+cables_by_columns pairs = filled_columns pairs (13 - length pairs)
+
 pub column_is : (column : Option (ℕ × ℕ)) (letter : ℕ)
     → has_letter (cable_letters (cable_of_column column)) letter ≡ has_letter (column_letters column) letter
 column_is column letter = grind (arith, nat_tests, cond_both)
@@ -120,7 +137,8 @@ pub whole_cables : (cables : List (Option ℕ × Option ℕ)) (pairs : List (ℕ
 whole_cables cables pairs order =
     let whole = λ (cable : Option ℕ × Option ℕ). length (cable_letters cable) ≢ 1 in
     All-permutation whole (cables_of pairs) cables (IsPermutation-sym cables (cables_of pairs) order)
-    (All-map whole cable_of_column (columns_of pairs) (λ k d below. whole_column (get_or (columns_of pairs) k d)))
+    (subst (All whole) (cables_by_columns pairs)
+    (All-map whole cable_of_column (columns_of pairs) (λ k d below. whole_column (get_or (columns_of pairs) k d))))
 
 -- whether `x` and `y` are the letters of the pair, in either order
 abbrev is_pair : ℕ → ℕ → ℕ × ℕ → Bool
@@ -152,5 +170,6 @@ pub pairs_joined : (cables : List (Option ℕ × Option ℕ)) (pairs : List (ℕ
     → (x y : ℕ) → plugs.HavePairOf (pairs_of cables) x y ↔ plugs.HavePairOf pairs x y
 pairs_joined cables pairs order x y =
     let same : list_any (is_pair x y) (pairs_of cables) ≡ list_any (is_pair x y) pairs = pairs_of_test cables x y
-    ∙ list_any-IsPermutation (joins x y) cables (cables_of pairs) order ∙ due_test pairs (13 - length pairs) x y in
+    ∙ list_any-IsPermutation (joins x y) cables (cables_of pairs) order
+    ∙ ap (list_any (joins x y)) (sym (cables_by_columns pairs)) ∙ due_test pairs (13 - length pairs) x y in
     grind (arith, pairs_test)

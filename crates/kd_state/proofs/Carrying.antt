@@ -11,11 +11,11 @@ use Rattle.kd_state.proofs.Prelude.{slice_get_within, All, is_none, option_map, 
 use Rattle.kd_state.proofs.Prelude.{Bool, List, Option, Some, [], ap, arith, false, inl, inr, length, map, nat_eq, refl}
 use Rattle.kd_state.proofs.Prelude.{rules, set, subst, sym, true, ℕ, ◌+◌, ◌-◌, ◌<◌, ◌∙◌, ◌∷◌, ◌≡◌, ◌≢◌, ◌⊎◌}
 use Rattle.kd_state.proofs.Prelude.{common_steps, IsDistinct, Carries, Leads, Refuses, ListsHaveOneResult}
-use Rattle.kd_state.proofs.Prelude.{ListsKeepMachines, ltb-true, not-true, All-head, take, get_or, ◌++◌, HasLugsInOrder}
+use Rattle.kd_state.proofs.Prelude.{ListsKeepMachines, ltb-true, not-true, All-head, take, get_or, ◌++◌}
 use Rattle.kd_state.proofs.Prelude.{NoSuchBar, SlotEmpty, with_lug, NoSuchCable, NotThere, NoLooseEnd, SocketTaken}
 use Rattle.kd_state.proofs.Prelude.{PlaceTaken, WouldPass, WheelNotAllowed, NotOnWheel, Reflector, Contains, list_any}
 use Rattle.kd_state.proofs.Prelude.{same_wheel, same_reflector, has_letter, cable_letters, has_loose_end, is_same_place}
-use Rattle.kd_state.proofs.Prelude.{not, place_rank, is_some, ◌&&◌, Lug, Place}
+use Rattle.kd_state.proofs.Prelude.{IsBefore, not, place_rank, is_some, ◌&&◌, Lug, Place}
 use Rattle.kd_state.proofs.Slots.{numbered_here, numbered_other, has_letter-Decides, place_there, is_numbered}
 use Rattle.kd_state.proofs.Slots.{IsNumbered}
 use Rattle.kd_state.proofs.{Prelude.IsPermutation, Slots.{IsNumbered-not_none, set_here, set_other}}
@@ -207,7 +207,7 @@ was_put m cable letter after e =
 pub record IsLugMoved (m : PinParts) (bar : ℕ) (lug : Lug) (place : Place) (after : Parts) : Type 0 where
   pub old : Place × Place
   pub there : IsNumbered m.bars bar old
-  pub before : HasLugsInOrder (with_lug lug place old)
+  pub before : IsBefore (with_lug lug place old).0 (with_lug lug place old).1
   pub made : Pin (record m { bars = set m.bars (bar - 1) (with_lug lug place old) }) ≡ after
 
 pub lug_moved : (m : PinParts) (bar : ℕ) (lug : Lug) (place : Place) (after : Parts)

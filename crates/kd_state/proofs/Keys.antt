@@ -27,7 +27,8 @@ or-min_max met a b = grind (arith, min-eq_left, max-eq_right, or_comm, min-eq_ri
 
 met_by_lugs : (acts : ℕ → Bool) (bars : List (Place × Place))
     → count_by (λ (row : ℕ × ℕ). acts row.0 || acts row.1) (map reading_of bars)
-    ≡ count_by (λ (bar : Place × Place). acts (place_number bar.0) || acts (place_number bar.1)) bars
+    ≡ count_by (λ (row : ℕ × ℕ). acts row.0 || acts row.1)
+    (map (λ (bar : Place × Place). (place_number bar.0, place_number bar.1)) bars)
 met_by_lugs acts [] = refl
 met_by_lugs acts (bar ∷ bars) = grind (arith, common_steps, sum_by-cons, or-min_max, met_by_lugs acts bars)
 

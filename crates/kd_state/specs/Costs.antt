@@ -71,10 +71,11 @@ cost_table _ _ = []
 
 -- ---- Loose things: all things that differ from the day, except cables and bars.
 
--- how many things, except cables and bars, differ from the day; rings and letters count for the day's wheels alone
+-- How many things, except cables and bars, differ from the day. On a rotor machine: slots, the reflector, and rings and
+-- letters of the day's wheels, added in this order. On a Converter: pins, and letters shown.
 abbrev pub loose_count : Parts → Day → ℕ
 loose_count (Rotor machine) (OfRotors day) =
-    count_by (λ slot. not (option_map_or (same_wheel slot.1.wheel) slot.0 false)) (zip machine.slots day.wheels)
+    count_by (λ both. not (option_map_or (same_wheel both.1.wheel) both.0 false)) (zip machine.slots day.wheels)
     + one_unless (same_reflector machine.reflector day.reflector)
     + count_by (λ w. not (option_map_or (nat_eq w.ring) (ring_at machine w.wheel) false)) day.wheels
     + count_by (λ w. not (option_map_or (nat_eq w.letter) (letter_at machine w.wheel) false)) day.wheels

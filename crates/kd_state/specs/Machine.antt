@@ -58,10 +58,6 @@ pub record AreOnWheels (letters : List ℕ) : Type 0 where
 abbrev pub HasAllPins : PinSet → Type 0
 HasAllPins pins = (wheel : ℕ) → length (wheel_pins pins wheel) ≡ length (ring_of wheel)
 
--- The left lug is left of the right lug.
-abbrev pub HasLugsInOrder : Place × Place → Type 0
-HasLugsInOrder bar = IsBefore bar.0 bar.1
-
 -- ---- Which parts make a machine.
 -- Source: the published accounts of the models; War Department TM 11-380; how a bar may stand is this desk's
 -- own rule.
@@ -83,7 +79,7 @@ pub record IsLegalPin (machine : PinParts) : Type 0 where
   pub pins : HasAllPins machine.pins
   pub letters : AreOnWheels machine.letters
   pub bars : length machine.bars ≡ 27
-  pub apart : All HasLugsInOrder machine.bars
+  pub apart : All (λ bar. IsBefore bar.0 bar.1) machine.bars
 
 -- The parts make a rotor machine or a Converter.
 abbrev pub IsLegal : Parts → Type 0

@@ -1,14 +1,14 @@
 -- What it means that a machine is on a day's key (set as the day says), and that it also shows the day's letters.
 -- Code: `on_key` sorts the cables of machine and day, or readings and rows, and compares them.
 -- Test: kd_trials/src/state/days.rt
-use Rattle.std.specs.Prelude.{◌≡◌, ℕ, List, map, All, IsPermutation, Option, Some, None}
+use Rattle.std.specs.Prelude.{◌≡◌, ℕ, ◌-◌, List, ◌++◌, length, map, replicate, All, IsPermutation, Option, Some, None}
 use Rattle.std.specs.Option.{option_map, option_map_or}
 use Rattle.kd_tables.specs.Places.{reading_of, smaller_first}
 use Rattle.kd_state.specs.declared.machine.rotor_parts.RotorParts.{RotorParts}
 use Rattle.kd_state.specs.declared.machine.parts.Parts.{Parts}
 use Rattle.kd_state.specs.declared.machine.parts.Parts.TheVariants.{Rotor, Pin}
 use Rattle.kd_state.specs.Costs.{columns_of}
-use Rattle.kd_state.specs.Machine.{ring_at, letter_at}
+use Rattle.kd_state.specs.Machine.{cable_in_order, ring_at, letter_at}
 use Rattle.kd_state.specs.SheetDay.{RotorDay, Day, OfRotors, OfPins, seats_of_wheels}
 
 -- a column with the letters of its pair in alphabetical order
@@ -19,13 +19,10 @@ pair_in_order column = option_map (λ pair. smaller_first pair.0 pair.1) column
 abbrev pub columns_in_order : List (ℕ × ℕ) → List (Option (ℕ × ℕ))
 columns_in_order pairs = map pair_in_order (columns_of pairs)
 
--- the cable for a column: it has the letters of the column's pair, in alphabetical order, or is empty without a pair
-abbrev pub cable_of_column : Option (ℕ × ℕ) → Option ℕ × Option ℕ
-cable_of_column column = option_map_or (λ pair. (Some pair.0, Some pair.1)) (pair_in_order column) (None, None)
-
--- the 13 cables of a day: a cable for each of its pairs, and then empty cables
+-- the 13 cables of a day: a cable for each pair, its letters in alphabetical order, and then empty cables
 abbrev pub cables_of : List (ℕ × ℕ) → List (Option ℕ × Option ℕ)
-cables_of pairs = map cable_of_column (columns_of pairs)
+cables_of pairs =
+    map (λ pair. cable_in_order (Some pair.0) (Some pair.1)) pairs ++ replicate (13 - length pairs) (None, None)
 
 -- The model, each slot's wheel with its ring, and the reflector are the day's. So are the cables, in any order.
 pub record IsRotorOnKey (machine : RotorParts) (day : RotorDay) : Type 0 where
@@ -51,3 +48,9 @@ ShowsWindow _ _ = ⊥
 pub record ReadsAs (machine : Parts) (day : Day) : Type 0 where
   pub key : OnKey machine day
   pub window : ShowsWindow machine day
+
+-- ---- The cables by columns. No public contract cites this definition.
+
+-- the cable for a column: it has the letters of the column's pair, in alphabetical order, or is empty without a pair
+abbrev pub cable_of_column : Option (ℕ × ℕ) → Option ℕ × Option ℕ
+cable_of_column column = option_map_or (λ pair. (Some pair.0, Some pair.1)) (pair_in_order column) (None, None)

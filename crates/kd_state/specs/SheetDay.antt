@@ -6,10 +6,10 @@ use Rattle.kd_tables.specs.declared.model.Model.{Model}
 use Rattle.kd_tables.specs.declared.model.Model.TheVariants.{M209}
 use Rattle.kd_tables.specs.declared.wheel.Wheel.{Wheel}
 use Rattle.kd_tables.specs.declared.reflector.Reflector.{Reflector}
+use Rattle.kd_tables.specs.Pairs.{letters_in_pairs, NoLetterTwice}
 use Rattle.kd_tables.specs.Places.{IsReading}
 use Rattle.kd_tables.specs.Tables.{reflectors_of}
 use Rattle.kd_pins.specs.declared.pin_set.PinSet.{PinSet}
-use Rattle.kd_enigma.specs.Plugs.{letters_in_pairs, NoLetterTwice}
 use Rattle.kd_state.specs.declared.sheet_day.rotor_entry.SheetWheel.{SheetWheel}
 use Rattle.kd_state.specs.SameParts.{numbered_item}
 use Rattle.kd_state.specs.Machine.{AreLegalSeats, AreLetters, AreOnWheels, HasAllPins}

@@ -1,8 +1,8 @@
 -- The key of an engine, for a rotor machine or a Converter, and the cipher that the engine makes with this key.
 -- Code: one type, `Engine`, serves all models.
 -- Test: kd_trials/src/state/engine.rt
-use Rattle.std.specs.Prelude.{◌≡◌, ◌≢◌, ℕ, ◌+◌, ◌-◌, ◌%◌, ◌||◌, List, length, map, All, IsSome}
-use Rattle.std.specs.List.{count_by, enumerate_from, filter_map}
+use Rattle.std.specs.Prelude.{◌≡◌, ◌≢◌, ℕ, List, length, map, All, IsSome}
+use Rattle.std.specs.List.{filter_map}
 use Rattle.std.specs.Option.{option_zip}
 use Rattle.kd_tables.specs.declared.place.Place.{Place}
 use Rattle.kd_tables.specs.declared.wheel.Wheel.{Wheel}
@@ -10,13 +10,13 @@ use Rattle.kd_tables.specs.Permutation.{exchange}
 use Rattle.kd_tables.specs.Places.{place_number, reading_of}
 use Rattle.kd_pins.specs.PinWheels.{pins_of}
 use Rattle.kd_enigma.specs.Cipher.{RotorKey, enigma_cipher, key_after, key_turned}
-use Rattle.kd_drum.specs.Converter.{PinKey, converter_cipher, is_acting_after, pin_key_after, pin_key_turned}
-use Rattle.kd_state.specs.declared.machine.pin_parts.PinParts.{PinParts}
+use Rattle.kd_drum.specs.Converter.{PinKey, converter_cipher, pin_key_after, pin_key_turned}
 use Rattle.kd_state.specs.declared.machine.rotor_parts.RotorParts.{RotorParts}
 use Rattle.kd_state.specs.declared.machine.parts.Parts.{Parts}
 use Rattle.kd_state.specs.declared.machine.parts.Parts.TheVariants.{Rotor, Pin}
 use Rattle.kd_state.specs.Machine.{cable_letters, ring_at, letter_at, AreLetters, AreOnWheels}
-use Rattle.kd_state.specs.SheetDay.{Day, OfRotors, OfPins}
+use Rattle.kd_state.specs.SeatedWheels.{key_of_wheels}
+use Rattle.kd_state.specs.SheetDay.{PinDay, Day, OfRotors, OfPins}
 
 -- An engine's key: for wheels, reflector and plugboard, or for a Converter's drum.
 pub data EngineKey : Type 0 where
@@ -65,15 +65,37 @@ window_of (Pin machine) = machine.letters
 -- Source: the published accounts of the current's path; War Department TM 11-380.
 -- Code: bars are counted by their readings, not by their lugs.
 
--- the key to which a machine is set; only cables with two letters count
-abbrev pub physical_key : Parts → EngineKey
-physical_key (Rotor machine) = OfWheels (record {
+-- the key to which a rotor machine is set; only cables with two letters count
+abbrev pub key_of_rotors : RotorParts → RotorKey
+key_of_rotors machine = record {
   wheels = seated_wheels machine;
   rings = filter_map (ring_at machine) (seated_wheels machine);
-  window = window_of (Rotor machine);
+  window = filter_map (letter_at machine) (seated_wheels machine);
   reflector = machine.reflector;
   plugs = exchange (filter_map (λ cable. option_zip cable.0 cable.1) machine.cables);
-})
+}
+
+-- the key that a Converter's day asks for, with the day's letters on the pin wheels
+abbrev pub key_of_pins : PinDay → PinKey
+key_of_pins day = record { pins = pins_of day.pins; letters = day.window; rows = day.rows }
+
+-- the ciphertext that a ready machine makes: a rotor machine by its key, a Converter by its pins, letters and lugs
+abbrev pub physical_cipher : Parts → List ℕ → List ℕ
+physical_cipher (Rotor machine) text = enigma_cipher (key_of_rotors machine) text
+physical_cipher (Pin machine) text =
+    let rows = map (λ (bar : Place × Place). (place_number bar.0, place_number bar.1)) machine.bars in
+    converter_cipher (record { pins = pins_of machine.pins; letters = machine.letters; rows = rows }) text
+
+-- the ciphertext that a day asks for
+abbrev pub sheet_cipher : Day → List ℕ → List ℕ
+sheet_cipher (OfRotors day) text = enigma_cipher (key_of_wheels day.wheels day.reflector (exchange day.pairs)) text
+sheet_cipher (OfPins day) text = converter_cipher (key_of_pins day) text
+
+-- ---- The engine's key for a machine and for a day.
+
+-- the key to which a machine is set
+abbrev pub physical_key : Parts → EngineKey
+physical_key (Rotor machine) = OfWheels (key_of_rotors machine)
 physical_key (Pin machine) = OfDrum (record {
   pins = pins_of machine.pins;
   letters = machine.letters;
@@ -82,30 +104,8 @@ physical_key (Pin machine) = OfDrum (record {
 
 -- the key that a day asks for, with the day's letters in the windows or on the pin wheels
 abbrev pub sheet_key : Day → EngineKey
-sheet_key (OfRotors day) = OfWheels (record {
-  wheels = map (λ w. w.wheel) day.wheels;
-  rings = map (λ w. w.ring) day.wheels;
-  window = map (λ w. w.letter) day.wheels;
-  reflector = day.reflector;
-  plugs = exchange day.pairs;
-})
-sheet_key (OfPins day) = OfDrum (record { pins = pins_of day.pins; letters = day.window; rows = day.rows })
-
--- how many bars are moved after `count` letters: all bars with a lug at which a wheel then acts
-abbrev pub bars_moved : PinParts → ℕ → ℕ
-bars_moved machine count =
-    let acts = λ (place : Place). is_acting_after (pins_of machine.pins) machine.letters count (place_number place) in
-    count_by (λ bar. acts bar.0 || acts bar.1) machine.bars
-
--- the ciphertext that a ready machine makes: a rotor machine by its key, a Converter by its pins, letters and lugs
-abbrev pub physical_cipher : Parts → List ℕ → List ℕ
-physical_cipher (Rotor machine) text = cipher (physical_key (Rotor machine)) text
-physical_cipher (Pin machine) text =
-    map (λ item. (25 + bars_moved machine item.0 - item.1) % 26) (enumerate_from 0 text)
-
--- the ciphertext that a day asks for
-abbrev pub sheet_cipher : Day → List ℕ → List ℕ
-sheet_cipher day = cipher (sheet_key day)
+sheet_key (OfRotors day) = OfWheels (key_of_wheels day.wheels day.reflector (exchange day.pairs))
+sheet_key (OfPins day) = OfDrum (key_of_pins day)
 
 -- The second machine is the first, turned until it shows these letters. The window letters of wheels in the box
 -- may differ.

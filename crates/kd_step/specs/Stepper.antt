@@ -19,11 +19,11 @@ pub record Stepping : Type 0 where
 abbrev pub next_letter : ℕ → ℕ
 next_letter letter = (letter + 1) % 26
 
--- whether the wheel at `place` is at one of its notches; places are counted from 0, from the right
+-- whether a wheel is at one of its notches: at `place` 0 the right wheel, at 1 the middle wheel
 abbrev pub stands_at_notch : List Wheel → List ℕ → ℕ → Bool
 stands_at_notch wheels window place =
-    let slot = length window - (place + 1) in
-    option_map_or (λ wheel. is_notch wheel (slice_index window slot)) (slice_get wheels slot) false
+    let index = length window - (place + 1) in
+    option_map_or (λ wheel. is_notch wheel (slice_index window index)) (slice_get wheels index) false
 
 -- `window` with each of its last `count` letters replaced by the next letter
 abbrev pub with_last_moved : ℕ → List ℕ → List ℕ
@@ -37,8 +37,7 @@ next_window wheels window =
     if stands_at_notch wheels window 1 then with_last_moved 3 window
     else (if stands_at_notch wheels window 0 then with_last_moved 2 window else with_last_moved 1 window)
 
--- The window after `n` steps: the last window of a chain that begins with `window`, and of which each next window is
--- one step on.
+-- the window after `n` steps of the wheels
 -- Code: `Stepper` overwrites the letters of its window at each step.
 abbrev pub window_after : List Wheel → List ℕ → ℕ → List ℕ
 window_after wheels window zero = window

@@ -7,8 +7,7 @@ use Rattle.kd_tables.specs.declared.place.Place.TheVariants.{One, ZeroLeft, Two,
 use Rattle.kd_tables.specs.declared.lug.Lug.{Lug}
 use Rattle.kd_tables.specs.declared.lug.Lug.TheVariants as lugs
 
--- for each place of a bar: its name, how many places are to its left, and the number of the pin wheel that acts there,
--- or 0 if no wheel does
+-- for each place of a bar: its name, how many places are to its left, and its pin wheel's number, or 0 without one
 abbrev pub place_table : Place → List ℕ × ℕ × ℕ
 place_table One = (codes "1", 0, 1)
 place_table ZeroLeft = (codes "0L", 1, 0)

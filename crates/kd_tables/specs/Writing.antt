@@ -10,4 +10,4 @@ TakesPrefix old new text = (count : ℕ) × (count < length text) × Appends old
 -- Without an error, the sink took the whole text. With an error, it took a prefix, but not the whole text.
 pub record Writes {T E : Type 0} (old new : Option (List ℕ)) (text : List ℕ) (answer : Result T E) : Type 0 where
   pub whole : OnOk answer (Appends old new text)
-  pub front : OnErr answer (TakesPrefix old new text)
+  pub front : OnErr answer ((count : ℕ) × (count < length text) × Appends old new (take count text))

@@ -56,13 +56,14 @@ pub cables_paired : (cables : List (Option ℕ × Option ℕ)) (pairs : List (�
 cables_paired cables pairs prices few count h =
     paired cable_cost (λ cable. cable) cable_of_column (λ cable. Unit {0})
     (λ cable column _ e. rw e (own_column column)) cables (columns_of pairs) prices (λ k d lt. tt)
-    (thirteen_columns pairs few ∙ sym count) (rw map-id h)
+    (thirteen_columns pairs few ∙ sym count)
+    (rw map-id (subst (IsPermutation cables) (sym (cables_by_columns pairs)) h))
 
 pub thirteen_cables : (cables : List (Option ℕ × Option ℕ)) (pairs : List (ℕ × ℕ)) → length pairs ≤ 13
     → IsPermutation cables (cables_of pairs) → length cables ≡ 13
 thirteen_cables cables pairs few h =
-    sym (length_permutation cables (cables_of pairs) h) ∙ length-map (columns_of pairs) cable_of_column
-    ∙ thirteen_columns pairs few
+    sym (length_permutation cables (cables_of pairs) h) ∙ ap length (sym (cables_by_columns pairs))
+    ∙ length-map (columns_of pairs) cable_of_column ∙ thirteen_columns pairs few
 
 -- A bar costs nothing at the row that it reads as.
 own_row : (left right : Place) → IsBefore left right → bar_cost (left, right) (reading_of (left, right)) ≡ 0

@@ -1,8 +1,8 @@
 //! Carries settings out on a Converter M-209.
 //!
 //! A setting that is refused changes nothing. The error is the first reason to refuse it.
-ghost use Rattle.kd_state.specs.Machine.{HasLugsInOrder};
 ghost use Rattle.kd_state.specs.Setting.{IsCarryAnswer, is_same_place, with_lug};
+ghost use Rattle.kd_tables.specs.Places.{IsBefore};
 ghost use Rattle.std.specs.Prelude.{◌≡◌, ◌↔◌, IsSome, IfSome};
 
 use crate::machine::parts::Parts;
@@ -88,7 +88,7 @@ fn is_taken(standing: Standing, lug: Lug, place: Place) -> bool
 
 /// `standing` with `lug` moved to `place`; `None` if the left lug would no longer be left of the right lug.
 fn with_lug(standing: Standing, lug: Lug, place: Place) -> Option<Standing>
-    ensures exists { IsSome result ↔ HasLugsInOrder (with_lug lug place standing) }
+    ensures exists { let moved = with_lug lug place standing in IsSome result ↔ IsBefore moved.0 moved.1 }
     ensures value { IfSome result (λ moved. moved ≡ with_lug lug place standing) }
 {
     match lug {

@@ -69,6 +69,9 @@ bars_fall m ws bar lug place old there =
 
 -- ---- settings keep the lugs of each bar in order
 
+abbrev pub HasLugsInOrder : Place × Place → Type 0
+HasLugsInOrder bar = IsBefore bar.0 bar.1
+
 abbrev pub HaveLugsInOrder : Parts → Type 0
 HaveLugsInOrder (Rotor m) = Unit {0}
 HaveLugsInOrder (Pin m) = All HasLugsInOrder m.bars

@@ -32,11 +32,11 @@ pub use Rattle.kd_tables.specs.{Places.{IsBefore, reading_of}, Tables.{reflector
 pub use Rattle.kd_state.proofs.Wheels.{days_wheels_have_their_places, same_reflector-Decides, same_wheel_self}
 pub use Rattle.{kd_tables.specs.Permutation.alphabet}
 pub use Rattle.kd_state.proofs.{Cables.column_is, Slots.IsNumbered-not_none, SortedAlike.count_by-cons}
-pub use Rattle.kd_state.proofs.{CostTable.thirteen_columns, Slots.set_other, Slots.IsNumbered}
+pub use Rattle.kd_state.proofs.{Cables.cables_by_columns, CostTable.thirteen_columns, Slots.{set_other, IsNumbered}}
 pub use Rattle.kd_state.proofs.Carrying.{if_carried, lug_moved, pin_made, pulled, reflector_made, ring_made, seat_made}
 pub use Rattle.kd_state.proofs.Carrying.{six_lists, turn_made, was_put, wheel_turn_made, when_carried}
 pub use Rattle.std.specs.Prelude.{IfOk, IsFalse}
-pub use Rattle.kd_state.specs.{Machine.HasLugsInOrder, Costs.{bar_cost, cable_cost, columns_of, exactly_one}}
+pub use Rattle.kd_state.specs.Costs.{bar_cost, cable_cost, columns_of, exactly_one}
 pub use Rattle.kd_state.specs.Costs.{column_letters, cost_table, loose_count, lugs_moved, one_unless}
 pub use Rattle.kd_state.specs.Setting.{Carries, cable_without, outcome, seat_without, with_lug}
 pub use Rattle.{kd_state.specs.{Pins.with_pin, Setting.{cable_with, Leads}}, kd_tables.specs.Pairs.has_letter}
