@@ -3,7 +3,8 @@ use super::places::is_text;
 use crate::form::samples::TWO_PARTS;
 use crate::machines::{PLAIN, keyed};
 use kd_form::receive;
-use kd_lost::{DamagedFormFault, PartDamage, read_damaged_form};
+use kd_lost::{DamagedFormFault, DamagedPart, PartDamage, read_damaged_form};
+use std::process::Abort;
 use std::test::Fail;
 
 /// A part of a form: its number, `None` if its heading is damaged; the letters of its text that are lost, or why it isn't
@@ -11,33 +12,18 @@ use std::test::Fail;
 type Due = (Option<u8>, Result<&'static [usize], PartDamage>);
 
 static FORMS: [(&str, &[Due]); 7] = [
-    (
-        TWO_PARTS,
-        &[
-            (Some(1), Ok(&[])),
-            (Some(2), Ok(&[])),
-        ],
-    ),
+    (TWO_PARTS, &[(Some(1), Ok(&[])), (Some(2), Ok(&[]))]),
     (
         "PART 1/2 10 AAA BDZ\nQXUGZ B?ZGO\nPART 2/2 10 AAA BDZ\nQXUGZ BDZG-\n",
-        &[
-            (Some(1), Ok(&[1])),
-            (Some(2), Ok(&[4])),
-        ],
+        &[(Some(1), Ok(&[1])), (Some(2), Ok(&[4]))],
     ),
     (
         "P?RT 1/2 10 AAA BDZ\nQXUGZ BDZGO\nPART 2/2 10 AAA BDZ\nQXUGZ BDZGO\n",
-        &[
-            (None, Err(PartDamage::HeadingDamaged)),
-            (Some(2), Ok(&[])),
-        ],
+        &[(None, Err(PartDamage::HeadingDamaged)), (Some(2), Ok(&[]))],
     ),
     (
         "PART 1/2 10 AAA BDZ\nQXUGZ BDZGO\nPA?T 2/? 10 AAA BDZ\nQXUGZ BDZGO\n",
-        &[
-            (Some(1), Ok(&[])),
-            (None, Err(PartDamage::HeadingDamaged)),
-        ],
+        &[(Some(1), Ok(&[])), (None, Err(PartDamage::HeadingDamaged))],
     ),
     (
         "PART 2/2 10 AAA BDZ\nQXUGZ BDZGO\nPART 1/2 10 AAA B-Z\nQXUGZ BDZGO\n",
@@ -48,16 +34,28 @@ static FORMS: [(&str, &[Due]); 7] = [
     ),
     (
         "PART 1/3 10 AAA BDZ\nQXUGZ BDZGO\nPART 1/3 10 AAA BDZ\nQXUGZ BDZG\n",
-        &[
-            (Some(1), Ok(&[])),
-            (Some(1), Err(PartDamage::CountWrong)),
-        ],
+        &[(Some(1), Ok(&[])), (Some(1), Err(PartDamage::CountWrong))],
     ),
-    (
-        "",
-        &[(None, Err(PartDamage::HeadingDamaged))],
-    ),
+    ("", &[(None, Err(PartDamage::HeadingDamaged))]),
 ];
+
+/// Checks what is read of a part.
+fn is_read(rt: &impl Abort, read: &DamagedPart, (number, text): &Due) {
+    assert!(rt; read.numbers.as_ref().map(|numbers| numbers.part) == *number);
+    match text {
+        Ok(lost) => is_text(rt, read, b"AAAAA", lost),
+        Err(damage) => assert!(rt; read.text.as_ref().err() == Some(damage)),
+    }
+}
+
+/// Checks what is read of the parts of a form.
+fn are_read(rt: &impl Abort, parts: &[DamagedPart], due: &[Due]) {
+    assert_eq!(rt; parts.len(), due.len());
+    for (index, due) in due.iter().enumerate() {
+        assert!(rt; index < parts.len());
+        is_read(rt, &parts[index], due);
+    }
+}
 
 #[test]
 fn damaged_forms_are_read(rt: HostRuntime) -> Result<(), Fail> {
@@ -66,16 +64,7 @@ fn damaged_forms_are_read(rt: HostRuntime) -> Result<(), Fail> {
         let parts = read_damaged_form(rt.alloc(), &keyed.1, form.as_bytes())
             .ok()
             .ok_or("memory")?;
-        assert_eq!(&rt; parts.len(), due.len());
-        for (index, (number, text)) in due.iter().enumerate() {
-            assert!(&rt; index < parts.len());
-            let read = &parts[index];
-            assert!(&rt; read.numbers.as_ref().map(|numbers| numbers.part) == *number);
-            match text {
-                Ok(lost) => is_text(&rt, read, b"AAAAA", lost),
-                Err(damage) => assert!(&rt; read.text.as_ref().err() == Some(damage)),
-            }
-        }
+        are_read(&rt, parts.as_slice(), due);
     }
     Ok(())
 }

@@ -2,6 +2,8 @@
 use crate::form::samples::{FOUR_WHEELS, ONE_PIN};
 use crate::machines::{IDLE, PLAIN, Told, keyed};
 use kd_lost::{DamagedPart, GroupTest, PartDamage, read_damaged_part};
+use kd_state::SheetDay;
+use std::alloc::Global;
 use std::process::Abort;
 use std::test::Fail;
 
@@ -101,24 +103,35 @@ fn is_marked(rt: &impl Abort, read: &DamagedPart, text: &[u8], mark: u8, place: 
     }
 }
 
+/// Checks what is read of a form if each of its bytes in turn is lost, as `sign`.
+fn are_marked(
+    rt: &impl Abort,
+    alloc: Global,
+    day: &SheetDay,
+    (_, form, text, marks): &Sample,
+    sign: u8,
+) -> Result<(), Fail> {
+    let mut place = 0usize;
+    for (index, mark) in marks.as_bytes().iter().enumerate() {
+        let mut bytes = form.as_bytes().to_vec(alloc)?;
+        assert!(rt; index < bytes.len());
+        bytes[index] = sign;
+        let read = read_damaged_part(day, bytes.as_slice());
+        is_marked(rt, &read, text.as_bytes(), *mark, place);
+        if *mark == b't' && place < 1000 {
+            place += 1;
+        }
+    }
+    Ok(())
+}
+
 #[test]
 fn each_byte_is_lost_in_turn(rt: HostRuntime) -> Result<(), Fail> {
-    for (told, form, text, marks) in &SAMPLES {
-        let keyed = keyed(&rt, rt.alloc(), told);
-        assert_eq!(&rt; form.len(), marks.len());
-        for sign in [b'?', b'-'] {
-            let mut place = 0usize;
-            for (index, mark) in marks.as_bytes().iter().enumerate() {
-                let mut bytes = form.as_bytes().to_vec(rt.alloc())?;
-                assert!(&rt; index < bytes.len());
-                bytes[index] = sign;
-                let read = read_damaged_part(&keyed.1, bytes.as_slice());
-                is_marked(&rt, &read, text.as_bytes(), *mark, place);
-                if *mark == b't' && place < 1000 {
-                    place += 1;
-                }
-            }
-        }
+    for sample in &SAMPLES {
+        let keyed = keyed(&rt, rt.alloc(), &sample.0);
+        assert_eq!(&rt; sample.1.len(), sample.3.len());
+        are_marked(&rt, rt.alloc(), &keyed.1, sample, b'?')?;
+        are_marked(&rt, rt.alloc(), &keyed.1, sample, b'-')?;
     }
     Ok(())
 }
