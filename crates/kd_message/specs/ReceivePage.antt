@@ -111,7 +111,7 @@ is_device_fault (Err faults.Device) = true
 is_device_fault _ = false
 
 -- `ReceivedPageWritten`: the page was written, of what is read of the form's parts, and the answer says whether all of
--- the form was read; or only a prefix of the page was written, since the sink failed. `FormNotRead`: nothing was written.
+-- the text was read; or only a prefix of the page was written, since the sink failed. `FormNotRead`: nothing was written.
 pub data IsReceivePageAnswer (texts : MessageTexts) (s : Day) (form : List ℕ) (sink : Port)
     (answer : Result Bool ReceivePageFault) : Type 0 where
   ReceivedPageWritten : (parts : List DamagedPart) → AreReadOf s (damaged_parts_of form) parts

@@ -1,4 +1,4 @@
--- The rows of a step: ten groups of five letters a row, and at each row's end the letters so far and the windows.
+-- The rows of a step: ten groups of five letters a row; at a row's end the letters so far, and after presses the windows.
 use Rattle.std.specs.Prelude.{decimal, ℕ, ◌+◌, ◌==◌, Bool, true, false, not, if◌then◌else◌}
 use Rattle.std.specs.Prelude.{List, [], ◌∷◌, ◌++◌, flat_map, length}
 use Rattle.std.specs.Int.{div_ceil}

@@ -1,4 +1,4 @@
--- Under which numbers the parts of a received form are shown, and whether all of the form was read.
+-- Under which numbers the parts of a received form are shown, and whether all of the text was read.
 use Rattle.std.specs.Prelude.{◌≡◌, ◌≢◌, ℕ, ◌+◌, ◌<◌, ◌==◌, if◌then◌else◌, max, List, [], ◌∷◌, All, Option, None, Some}
 use Rattle.std.specs.Prelude.{MatchOption, Ok, is_ok, nat_lt, ◌&&◌, ◌||◌, Bool, true, false}
 use Rattle.std.specs.List.{range_with_len}
@@ -65,7 +65,7 @@ shown_from place number (part ∷ parts) =
 abbrev pub shown_under : List DamagedPart → ℕ → Option DamagedPart
 shown_under parts number = shown_from 1 number parts
 
--- ---- Whether all of the form was read.
+-- ---- Whether all of the text was read.
 
 -- whether one of the parts is read
 abbrev pub is_any_read : List DamagedPart → Bool

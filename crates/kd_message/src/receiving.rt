@@ -43,7 +43,7 @@ pub enum ReceivePageFault {
 
 /// Writes the page in this language that says how to decipher `form` by hand on a machine on the day's key, and its text.
 ///
-/// Returns whether all of the form was read. For `Device`, a prefix of the page is written. For other faults, nothing is
+/// Returns whether all of the text was read. For `Device`, a prefix of the page is written. For other faults, nothing is
 /// written.
 pub fn write_receive_page<W: Sink>(
     alloc: Global,

@@ -1,4 +1,4 @@
-//! The rows of a step: ten groups of five letters a row, and at each row's end the letters so far and the windows.
+//! The rows of a step: ten groups of five letters a row; at a row's end the letters so far, and after presses the windows.
 ghost use Rattle.std.specs.Prelude.{◌≡◌, ◌+◌, ◌≤◌, ◌∷◌, flat_map, length};
 ghost use Rattle.kd_state.specs.TwoCiphers.{IsWindow, sheet_key};
 ghost use Rattle.kd_pictures.specs.Drawing.{Draws};

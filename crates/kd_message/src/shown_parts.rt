@@ -1,4 +1,4 @@
-//! Under which numbers the parts of a received form are shown, and whether all of the form was read.
+//! Under which numbers the parts of a received form are shown, and whether all of the text was read.
 ghost use Rattle.std.specs.Prelude.{◌≡◌, ◌≢◌, ◌↔◌, ◌≤◌, ◌+◌, All, IsTrue, MatchOption, None, Some, length};
 ghost use Rattle.std.specs.List.{range_with_len};
 ghost use Rattle.kd_message.specs.ShownParts.{IsNumberWhole, IsReadWhole, IsWhole, are_rising, greatest_number};

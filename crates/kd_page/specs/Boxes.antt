@@ -1,4 +1,4 @@
--- The boxes to tick: for each setting the words for the hand, and the setting's line.
+-- The boxes to tick: for each setting the words for the hand and, but for pins, its line.
 use Rattle.std.specs.Prelude.{decimal, ℕ, ◌-◌, ◌==◌, Bool, if◌then◌else◌, List, [], ◌∷◌, flat_map}
 use Rattle.std.specs.Prelude.{Option, Some, None}
 use Rattle.kd_tables.specs.declared.lug.Lug.{Lug}

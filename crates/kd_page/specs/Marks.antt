@@ -1,5 +1,5 @@
--- A page marks a change only where its list has a setting. On a Converter's page, pins and lugs that stay have marks,
--- too.
+-- A page marks a change only where its list has a setting; of an Enigma's windows nothing is said. On a Converter's page,
+-- pins and lugs that stay have marks, too.
 use Rattle.std.specs.Prelude.{◌≡◌, ℕ, nat_eq, Bool, true, false, ◌&&◌, List}
 use Rattle.std.specs.List.{list_any}
 use Rattle.kd_tables.specs.declared.wheel.Wheel.{Wheel}
