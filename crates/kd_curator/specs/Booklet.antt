@@ -1,5 +1,5 @@
 -- The pages of several days, in one file.
--- Test: each_page_starts_where_the_page_before_it_ends
+-- Test: tests/cases/curator-pages.toml
 use Rattle.std.specs.Prelude.{◌≡◌, ℕ, ◌≤◌, List, [], ◌∷◌, ◌++◌, length, map}
 use Rattle.kd_page.specs.DayPage.{day_text}
 use Rattle.kd_page.specs.Head.{file_text}

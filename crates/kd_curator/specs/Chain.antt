@@ -1,6 +1,6 @@
 -- Days one after another: each starts from the machine as the day before left it.
 -- Code: `add_plans` plans one day after another, and stops at the first day that can't be planned.
--- Test: each_page_starts_where_the_page_before_it_ends
+-- Test: tests/cases/curator-pages.toml
 use Rattle.std.specs.Prelude.{◌≡◌, ◌≢◌, ◌⊎◌, ℕ, List, [], ◌∷◌, ◌++◌, length, nat_lt, Bool, if◌then◌else◌}
 use Rattle.std.specs.Prelude.{Option, Some, None}
 use Rattle.kd_tables.specs.declared.model.Model.{Model}

@@ -1,7 +1,7 @@
 -- The grammar of the command line: `page`, `list`, `table`, `sheet`, `look`, `send` and `receive`, with their arguments
 -- and with help.
 -- Code: `grammar` builds the grammar by calls of the library `clap`.
--- Test: refuses_other_words
+-- Test: tests/cases/curator-words.toml
 use Rattle.std.specs.Prelude.{codes, decimal, ◌≡◌, ◌≢◌, ℕ, Bool, true, false, List, [], ◌∷◌, ◌++◌, Option, Some, None}
 use Rattle.std.specs.Prelude.{◌&&◌, ◌==◌, IsSomeAnd, IsTrue, length, option_map, unwrap_or}
 use Rattle.std.specs.Borrow.{Bor}
@@ -108,7 +108,7 @@ curator_grammar = record {
 
 -- ---- Which command a command line means.
 -- Code: `clap` parses the command line; `command_of` makes the command from the arguments that `clap` found.
--- Test: finds_the_days, refuses_other_words
+-- Test: tests/cases/curator-words.toml
 
 -- A command that has the names of its files.
 abbrev pub NamedCommand : Type 0

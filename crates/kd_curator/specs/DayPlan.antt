@@ -1,5 +1,5 @@
 -- What a day's list does with a machine.
--- Test: each_page_starts_where_the_page_before_it_ends
+-- Test: tests/cases/curator-pages.toml
 use Rattle.std.specs.Prelude.{◌≡◌, ◌≤◌, List, length}
 use Rattle.kd_state.specs.declared.machine.parts.Parts.{Parts}
 use Rattle.kd_state.specs.declared.machine.parts.Parts.TheVariants.{Pin, Rotor}

@@ -1,6 +1,6 @@
 -- The days that the argument DAYS names, such as `2`, `1-31` or `1,4,2`.
 -- Code: `days_of_word` adds the days of one range after another to an array of at most 31.
--- Test: reads_days
+-- Test: tests/cases/curator-pages.toml, tests/cases/curator-words.toml
 use Rattle.std.specs.Prelude.{decimal, ◌≡◌, ℕ, ◌+◌, ◌-◌, ◌<◌, ◌≤◌, ◌==◌, nat_lt, nat_le, ◌||◌, Bool, false, List, [], ◌∷◌, ◌++◌}
 use Rattle.std.specs.Prelude.{length, find, Option, Some, None, IfSome, option_map, if◌then◌else◌, bytes_eq}
 use Rattle.std.specs.List.{list_any, range_with_len, slice_split, position_or_len, before_first, after_first}

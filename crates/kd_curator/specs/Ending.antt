@@ -1,5 +1,5 @@
 -- How the program ends: what it writes to standard error, and its exit status.
--- Test: ends_with_a_status_and_a_line
+-- Test: tests/cases/curator-pages.toml
 use Rattle.std.specs.Prelude.{codes, decimal, ◌≡◌, ◌⊎◌, ℕ, List, [], ◌∷◌, ◌++◌, Option, Some, None, Result, Ok, Err}
 use Rattle.std.specs.Prelude.{string_bytes}
 use Rattle.std.specs.declared.io.ErrorKind.{ErrorKind}

@@ -1,5 +1,5 @@
 -- The language that a computer is set to.
--- Test: finds_the_language
+-- Test: tests/page-refusals
 use Rattle.std.specs.Prelude.{codes, ℕ, nat_eq, List, if◌then◌else◌}
 use Rattle.std.specs.List.{starts_with}
 use Rattle.kd_pictures.specs.declared.language.Language.{Language}

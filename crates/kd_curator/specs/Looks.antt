@@ -1,5 +1,5 @@
 -- What the command `look` writes, and when it refuses.
--- Test: looks_at_files
+-- Test: tests/cases/curator-look.toml
 use Rattle.std.specs.Prelude.{◌≡◌, ℕ, List, [], ◌∷◌, ◌++◌, Option, Some, Result, Ok, Err}
 use Rattle.kd_tables.specs.Ports.{Port}
 use Rattle.kd_look.specs.Look.{IsLookAnswer, NamedText}

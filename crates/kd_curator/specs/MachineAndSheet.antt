@@ -1,5 +1,5 @@
 -- How a machine and a key sheet are found in their files, and what is done with both.
--- Test: refuses_the_sheet_next
+-- Test: tests/cases/curator-pages.toml
 use Rattle.std.specs.Prelude.{◌≡◌, ◌⊎◌, ℕ, List, Option, Result, Ok, Err, MatchResult}
 use Rattle.std.specs.Result.{result_map_both}
 use Rattle.kd_state.specs.declared.machine.parts.Parts.{Parts}

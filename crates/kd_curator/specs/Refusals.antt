@@ -1,5 +1,5 @@
 -- Why a command is refused, and the text of the refusal.
--- Test: says_why_it_refuses
+-- Test: tests/cases/curator-pages.toml
 use Rattle.std.specs.Prelude.{codes, ℕ, Bool, true, false, List, None, Result, Ok, Err}
 use Rattle.kd_tables.specs.declared.refusal.Refusal.TheVariants as refusals
 use Rattle.kd_tables.specs.Refusals.{refusal_name}

@@ -1,5 +1,5 @@
 -- What the command `sheet` writes, and when it refuses.
--- Test: makes_sheets_of_tables
+-- Test: tests/cases/curator-sheet.toml
 use Rattle.std.specs.Prelude.{◌≡◌, ℕ, List, Result, Ok, Err, OnOk}
 use Rattle.kd_tables.specs.Ports.{Port}
 use Rattle.kd_host.specs.Writing.{WritesText}

@@ -1,23 +1,10 @@
-//! Tests of the program `curator`: its command line, its lists and pages, and how it ends.
+//! Tests of what no run of the program shows: sinks that are full after any number of bytes, and answers of the libraries
+//! that the program doesn't tell. All else is tried on the built program: `tests/cases`.
 #![tactic(auto)]
 
 #[cfg(test)]
-mod command;
-#[cfg(test)]
-mod days;
-#[cfg(test)]
-mod lists;
-#[cfg(test)]
-mod locale;
-#[cfg(test)]
-mod looks;
-#[cfg(test)]
-mod program;
-#[cfg(test)]
 mod samples;
-#[cfg(test)]
-mod sheets;
 #[cfg(test)]
 mod sinks;
 #[cfg(test)]
-mod tables;
+mod untold;

@@ -1,5 +1,5 @@
 -- The lines that name a file's faults: the file's name, the place, what is wrong, and the fault's number and name.
--- Test: kd_look_trials/src/slips.rt
+-- Test: tests/cases/curator-look.toml
 use Rattle.std.specs.Prelude.{codes, ◌≡◌, ℕ, ◌++◌, List, [], ◌∷◌, Option, Some, None, Result, Ok, Err, decimal}
 use Rattle.std.specs.Option.{option_map_or}
 use Rattle.toml.specs.Data.{Members}

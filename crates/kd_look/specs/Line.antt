@@ -1,6 +1,6 @@
 -- The line of a value: the first line of the file up to whose end the text is a document that has the value.
 -- Code: the document is parsed up to the end of each line in turn, once for all faults.
--- Test: kd_look_trials/src/slips.rt
+-- Test: tests/cases/curator-look.toml
 use Rattle.std.specs.Prelude.{ℕ, ◌+◌, ◌==◌, ◌||◌, ◌&&◌, nat_lt, Bool, true, false, List, find, length, take, count_by}
 use Rattle.std.specs.Prelude.{slice_index, Option, Some, None, is_some, option_map, if◌then◌else◌}
 use Rattle.std.specs.List.{range_with_len}

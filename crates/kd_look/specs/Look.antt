@@ -1,5 +1,5 @@
 -- What `look_at` writes and answers: a report on each file, and which fault is the first.
--- Test: kd_look_trials/src/slips.rt, kd_look_trials/src/pairs.rt
+-- Test: tests/cases/curator-look.toml
 use Rattle.std.specs.Prelude.{◌≡◌, ◌⊎◌, ℕ, ◌++◌, List, [], ◌∷◌, Bool, false, true, Result, Err, OnErr, IfOk}
 use Rattle.kd_tables.specs.Ports.{Port}
 use Rattle.kd_tables.specs.Writing.{Writes}

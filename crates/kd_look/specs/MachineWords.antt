@@ -1,5 +1,5 @@
 -- A machine in words: one line for each thing that a person compares with the metal.
--- Test: kd_look_trials/src/good.rt
+-- Test: tests/cases/curator-look.toml
 use Rattle.std.specs.Prelude.{codes, ℕ, ◌+◌, ◌++◌, false, List, [], ◌∷◌, Option, Some, None, decimal, if◌then◌else◌}
 use Rattle.std.specs.List.{flat_map, range_with_len}
 use Rattle.std.specs.Option.{option_map_or}

@@ -1,5 +1,5 @@
 -- The report on a file: what the file says, or its first fault.
--- Test: kd_look_trials/src/slips.rt
+-- Test: tests/cases/curator-look.toml
 use Rattle.std.specs.Prelude.{codes, ◌≡◌, ℕ, ◌++◌, List, Result, Ok, Err}
 use Rattle.kd_sheet.specs.declared.fault.SheetFault.{SheetFault}
 use Rattle.kd_look.specs.FaultWords.{NamesFault}

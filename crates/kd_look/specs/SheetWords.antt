@@ -1,5 +1,5 @@
 -- A key sheet in words: for each model its days, and the days without groups. Days in a row share a line.
--- Test: kd_look_trials/src/good.rt
+-- Test: tests/cases/curator-look.toml
 use Rattle.std.specs.Prelude.{codes, ℕ, ◌+◌, ◌-◌, ◌==◌, ◌++◌, Bool, false, List, [], length, Option, decimal}
 use Rattle.std.specs.Prelude.{if◌then◌else◌}
 use Rattle.std.specs.List.{flat_map, range_with_len}

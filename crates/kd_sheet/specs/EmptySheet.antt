@@ -1,6 +1,6 @@
 -- The text of a month to fill in: a section for each day, with `?` in place of each letter and number that is missing. The
 -- days are refused until they are filled in, so that no forgotten day can be taken for a key.
--- Test: kd_table_trials/src/empty.rt
+-- Test: tests/cases/curator-sheet.toml
 use Rattle.std.specs.Prelude.{codes, false, ℕ, List, [], ◌∷◌, ◌++◌, map, replicate}
 use Rattle.std.specs.List.{range_with_len}
 use Rattle.kd_tables.specs.Tables.{slots_of}

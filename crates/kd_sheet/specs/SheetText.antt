@@ -1,5 +1,5 @@
 -- The text of a key sheet: a section for each day.
--- Test: tables_make_sheets
+-- Test: tests/cases/curator-sheet.toml
 use Rattle.std.specs.Prelude.{codes, decimal, true, false, ◌≡◌, ◌==◌, ⊤, ℕ, Bool, List, [], ◌∷◌, ◌++◌, map, if◌then◌else◌}
 use Rattle.std.specs.List.{concat, list_any}
 use Rattle.kd_tables.specs.Places.{reading_text}

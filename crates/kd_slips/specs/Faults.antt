@@ -1,6 +1,6 @@
 -- The faults of a machine file: for each key in the order of testing, the fault with which the desk refuses the key's
 -- value. The desk stops at a file's first fault; here each key is judged for itself.
--- Test: kd_look_trials/src/slips.rt
+-- Test: tests/cases/curator-look.toml
 use Rattle.std.specs.Prelude.{ℕ, nat_le, true, List, [], ◌∷◌, ◌++◌, length, map, slice_get, Option, None, Result, Ok, Err}
 use Rattle.std.specs.Option.{option_map, option_map_or, option_to_list}
 use Rattle.std.specs.Result.{result_ok, result_err}

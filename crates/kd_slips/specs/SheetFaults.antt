@@ -1,6 +1,6 @@
 -- The faults of a key sheet: for each entry in turn, and each of its keys in the order of testing, the fault with which
 -- the desk refuses the key's value. The desk stops at a sheet's first fault; here the other entries are judged, too.
--- Test: kd_look_trials/src/slips.rt
+-- Test: tests/cases/curator-look.toml
 use Rattle.std.specs.Prelude.{◌≡◌, ◌⊎◌, ℕ, ◌+◌, ◌≤◌, ◌==◌, Bool, false, not, List, [], ◌∷◌, ◌++◌, length, take}
 use Rattle.std.specs.Prelude.{Option, Some, None, MatchOption, Result, Ok}
 use Rattle.std.specs.List.{list_any}

@@ -1,5 +1,5 @@
 -- In which columns of a table its values stand, by the names in the table's first row.
--- Test: kd_table_trials/src/tables.rt
+-- Test: tests/cases/curator-sheet.toml
 use Rattle.std.specs.Prelude.{codes, ℕ, ◌||◌, List, [], ◌∷◌, find, Option, Some, if◌then◌else◌}
 use Rattle.std.specs.List.{range_with_len}
 use Rattle.std.specs.Option.{option_and_then, option_map_or}

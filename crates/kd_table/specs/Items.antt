@@ -1,5 +1,5 @@
 -- What the cells of a table mean: numbers, wheels, letters, pairs and groups, with gaps between them.
--- Test: kd_table_trials/src/tables.rt
+-- Test: tests/cases/curator-sheet.toml
 use Rattle.std.specs.Prelude.{ℕ, nat_le, nat_eq, ◌+◌, ◌-◌, ◌*◌, ◌==◌, ◌&&◌, ◌||◌, Bool, List, [], ◌∷◌, length, map, Option, Some, None}
 use Rattle.std.specs.Prelude.{if◌then◌else◌, false, not, filter}
 use Rattle.std.specs.List.{list_all, flat_map}

@@ -1,6 +1,6 @@
 -- Names in the cells of a table: of columns, models, wheels and reflectors. Only letters and digits count, and capital
 -- and small letters are alike: `Enigma I`, `ENIGMA I` and `enigma-i` name the same model.
--- Test: kd_table_trials/src/tables.rt
+-- Test: tests/cases/curator-sheet.toml
 use Rattle.std.specs.Prelude.{ℕ, nat_le, ◌-◌, ◌&&◌, ◌||◌, Bool, List, [], ◌∷◌, length, map, filter, find, bytes_eq, Option}
 use Rattle.std.specs.Prelude.{if◌then◌else◌}
 use Rattle.kd_tables.specs.Tables.{box_of, reflectors_of, model_text, reflector_text, wheel_text}

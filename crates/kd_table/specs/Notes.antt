@@ -1,5 +1,5 @@
 -- What is told of a table, in words that no definition gives.
--- Test: kd_table_trials/src/faults.rt
+-- Test: tests/cases/curator-sheet.toml
 use Rattle.std.specs.Prelude.{List, ℕ, IsTrue}
 use Rattle.std.specs.Io.KnownBytes.{Appends}
 use Rattle.kd_tables.specs.Ports.{Port}

@@ -1,5 +1,5 @@
 -- The texts of the options: what is used where a table says nothing.
--- Test: kd_table_trials/src/tables.rt
+-- Test: tests/cases/curator-sheet.toml
 use Rattle.std.specs.Prelude.{List, ℕ}
 use Rattle.std.specs.Borrow.{Bor}
 use Rattle.kd_table.specs.declared.options.TableOptions.{TableOptions}

@@ -1,5 +1,5 @@
 -- What a row of a table says of a Converter's day.
--- Test: kd_table_trials/src/tables.rt
+-- Test: tests/cases/curator-sheet.toml
 use Rattle.std.specs.Prelude.{ℕ, Bool, List, slice_index_or, Option, Some, None}
 use Rattle.kd_tables.specs.Rings.{ring_of}
 use Rattle.kd_pins.specs.declared.pin_set.PinSet.{PinSet}

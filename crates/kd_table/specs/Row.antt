@@ -1,5 +1,5 @@
 -- What a row of a table says of a day.
--- Test: kd_table_trials/src/tables.rt
+-- Test: tests/cases/curator-sheet.toml
 use Rattle.std.specs.Prelude.{◌≡◌, ◌&&◌, ℕ, Bool, List, [], ◌∷◌, Option, Some, None, ⊤}
 use Rattle.std.specs.List.{list_all}
 use Rattle.std.specs.Option.{option_map}

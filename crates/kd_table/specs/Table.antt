@@ -1,5 +1,5 @@
 -- What a table means: the days of its rows, or that a row means no day.
--- Test: kd_table_trials/src/tables.rt
+-- Test: tests/cases/curator-sheet.toml
 use Rattle.std.specs.Prelude.{◌≡◌, ◌⊎◌, ◌<◌, ◌==◌, ℕ, Bool, true, false, List, [], ◌∷◌, ◌++◌, length, Option, Some, None, Result, Ok, Err}
 use Rattle.std.specs.List.{list_any}
 use Rattle.csv.specs.Reading.{AreRecords, strip_bom}
