@@ -26,6 +26,8 @@ mod pins;
 #[cfg(test)]
 mod prices;
 #[cfg(test)]
+mod sheet;
+#[cfg(test)]
 mod state;
 #[cfg(test)]
 mod step;
