@@ -1,5 +1,5 @@
 -- Answers of a call: lack of memory, a fault, a refusal before anything was written, or a failed device.
--- Test: refuses_the_machine_first
+-- Test: tests/cases/desk-program.toml
 use Rattle.std.specs.Prelude.{◌≡◌, ◌⊎◌, Bool, true, false, Result, Ok, Err}
 use Rattle.kd_sheet.specs.declared.fault.SheetFault.TheVariants.{NoMemory}
 use Rattle.kd_desk.specs.declared.fault.DeskFault.{DeskFault}

@@ -1,6 +1,6 @@
 -- The grammar of the desk's command line: the six commands with their arguments, without options or help.
 -- Code: `grammar` builds the grammar by calls of the library `clap`.
--- Test: refuses_other_words
+-- Test: tests/cases/desk-words.toml
 use Rattle.std.specs.Prelude.{codes, decimal, ◌≡◌, ℕ, true, false, List, [], ◌∷◌, ◌++◌, map, Option, Some, None}
 use Rattle.std.specs.Prelude.{IsSomeAnd}
 use Rattle.std.specs.Borrow.{Bor}
@@ -69,7 +69,7 @@ desk_grammar = record {
 -- ---- A command with other values in place of its files.
 -- Code: `Command` has two type parameters: one for files that are read whole, and one for a file that is
 -- streamed.
--- Test: stops_where_a_file_can_not_be_read_on
+-- Test: tests/cases/desk-program.toml
 
 -- the task, with `f` applied to a file that is read whole, and `g` applied to a file that is streamed
 abbrev pub with_task_files : {F G O P : Type 0} → (F → G) → (O → P) → Task F O → Task G P
@@ -109,7 +109,7 @@ command_stream command = action_stream command.action
 
 -- ---- Which command a command line means, and the names of its files.
 -- Code: `clap` parses the command line; `command_of` makes the command from the arguments that `clap` found.
--- Test: finds_the_machine_file, finds_the_day, refuses_other_words, stops_before_it_writes
+-- Test: tests/cases/desk-words.toml, tests/cases/desk-program.toml
 
 -- A command that has the names of its files, not the files themselves.
 abbrev pub NamedCommand : Type 0

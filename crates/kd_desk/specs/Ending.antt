@@ -1,6 +1,6 @@
 -- How the program ends: the line that it writes to standard error, and its exit status.
 -- Source: the table of the command line in docs/FORMATS.md.
--- Test: ends_with_a_status_and_a_line
+-- Test: tests/cases/desk-words.toml, tests/cases/desk-program.toml
 use Rattle.std.specs.Prelude.{codes, ℕ, List, [], ◌∷◌, ◌++◌, Result, Ok, Err}
 use Rattle.kd_tables.specs.Ports.{Port}
 use Rattle.kd_host.specs.Ending.{refused_line, EndsWithLine}

@@ -1,5 +1,5 @@
 -- What the desk does with a message: a text that is typed, an order that is sent, or a form that is received.
--- Test: types_to_the_first_byte_that_is_not_allowed, sends_orders, receives_forms
+-- Test: tests/cases/desk-messages.toml
 use Rattle.std.specs.Prelude.{◌≡◌, List, ℕ, ◌++◌, Result}
 use Rattle.std.specs.Result.{result_map_both}
 use Rattle.kd_state.specs.declared.machine.parts.Parts.{Parts}

@@ -1,5 +1,5 @@
 -- How a machine is found in a machine file, and a day in a key sheet, and what is done with both.
--- Test: refuses_the_sheet_next
+-- Test: tests/cases/desk-program.toml
 use Rattle.std.specs.Prelude.{◌≡◌, ◌⊎◌, ℕ, List, Result, Ok, Err, MatchResult, ok_or}
 use Rattle.std.specs.Result.{result_map_both}
 use Rattle.kd_state.specs.declared.machine.parts.Parts.{Parts}

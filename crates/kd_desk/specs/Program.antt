@@ -1,6 +1,6 @@
 -- A command with what is known of its files, or the fault of the first file that can't be read or opened.
 -- Code: `read_files` reads or opens one file after another, and returns the first fault.
--- Test: carries_each_command_out
+-- Test: tests/cases/desk-program.toml
 use Rattle.std.specs.Prelude.{◌≡◌, ◌⊎◌, ℕ, Bool, true, false, List, [], Option, None, Some, IfSome}
 use Rattle.std.specs.Prelude.{Result, Ok, Err, IfOk, IfErr, IsTrue}
 use Rattle.kd_sheet.specs.declared.fault.SheetFault.TheVariants.{NoMemory}

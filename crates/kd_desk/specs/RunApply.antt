@@ -1,5 +1,5 @@
 -- What the desk does with a machine and bytes that should be a list or a card.
--- Test: writes_the_machine_that_stands_then
+-- Test: tests/cases/desk-cards.toml
 use Rattle.std.specs.Prelude.{◌≡◌, ℕ, List, Result, Ok, Err}
 use Rattle.kd_state.specs.declared.machine.parts.Parts.{Parts}
 use Rattle.kd_state.specs.declared.setting.Setting.{Setting}

@@ -1,7 +1,7 @@
 -- What the desk writes as a card, and what the card promises.
 -- Code: `print_card` plans the card with `plan`, gives it prices by kind with `by_kind`, and writes it with
 -- `write_card`.
--- Test: prints_cards_without_prices, prints_cards_with_prices
+-- Test: tests/cases/desk-cards.toml
 use Rattle.std.specs.Prelude.{◌≡◌, ◌≢◌, ℕ, List, Result, Err}
 use Rattle.kd_state.specs.declared.machine.parts.Parts.{Parts}
 use Rattle.kd_state.specs.declared.setting.Setting.{Setting}

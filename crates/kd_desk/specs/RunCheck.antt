@@ -1,5 +1,5 @@
 -- What the desk answers when it checks a card.
--- Test: tells_of_each_card
+-- Test: tests/cases/desk-cards.toml
 use Rattle.std.specs.Prelude.{codes, decimal, ◌≡◌, ◌≢◌, ℕ, List, [], ◌∷◌, ◌++◌, length, Result, Err}
 use Rattle.kd_state.specs.declared.machine.parts.Parts.{Parts}
 use Rattle.kd_state.specs.declared.setting.Setting.{Setting}

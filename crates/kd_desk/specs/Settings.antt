@@ -1,6 +1,6 @@
 -- Settings as bytes: a card if the bytes begin as a card does, otherwise a list.
 -- Code: `read_settings` looks at the first five bytes, and then calls the reader of cards or the reader of lists.
--- Test: writes_the_machine_that_stands_then
+-- Test: tests/cases/desk-cards.toml
 use Rattle.std.specs.Prelude.{codes, ◌≡◌, ℕ, nat_eq, Bool, List, IsTrue, IsFalse}
 use Rattle.std.specs.List.{starts_with}
 use Rattle.kd_state.specs.declared.setting.Setting.{Setting}

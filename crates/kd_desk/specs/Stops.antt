@@ -1,5 +1,5 @@
 -- Why the program stops without success.
--- Test: stops_where_a_file_can_not_be_read_on, stops_half_way, ends_with_a_status_and_a_line
+-- Test: tests/cases/desk-program.toml, tests/refusals, tests/cases/desk-words.toml
 use Rattle.std.specs.Prelude.{Bool, true, Result, Ok, Err}
 use Rattle.std.specs.declared.io.ErrorKind.{ErrorKind}
 use Rattle.std.specs.declared.io.ErrorKind.TheVariants.{OutOfMemory}

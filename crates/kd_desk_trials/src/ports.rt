@@ -83,21 +83,13 @@ fn are_got<R: Read + Drop>(rt: &impl Abort, source: &mut ReaderSource<R>, gets: 
     }
 }
 
+/// A read that is interrupted fails, and so does one that finds no memory.
 #[test]
-fn a_reader_gives_what_it_has(rt: HostRuntime) {
+fn readers_give_what_they_have_or_fail(rt: HostRuntime) {
     are_got(&rt, &mut ReaderSource::new(b"ENIGMA".as_slice()), &GETS);
-}
-
-#[test]
-fn an_interrupted_read_fails(rt: HostRuntime) {
-    let reader = Interrupted { was: false };
-    let mut source = ReaderSource::new(reader);
+    let mut source = ReaderSource::new(Interrupted { was: false });
     are_got(&rt, &mut source, &GETS_OF_INTERRUPTED);
     assert_eq!(rt; source.fault(), Some(FileFault::Device));
-}
-
-#[test]
-fn a_read_that_finds_no_memory_says_so(rt: HostRuntime) {
     let mut source = ReaderSource::new(OutOfMemory);
     assert_eq!(rt; source.get(&mut [0; 2]), Err(Failed));
     assert_eq!(rt; source.fault(), Some(FileFault::NoMemory));

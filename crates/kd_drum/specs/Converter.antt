@@ -3,7 +3,7 @@
 -- Source: War Department TM 11-380
 -- Code: `Converter` turns its wheels at each letter. A table with an entry for each of the 64 sets of wheels tells how
 -- many bars are met.
--- Test: bars_are_met, files_are_refused
+-- Test: bars_are_met, tests/cases/desk-files.toml
 use Rattle.std.specs.Prelude.{ℕ, ◌+◌, ◌-◌, ◌%◌, ◌≤◌, nat_le, Bool, ◌&&◌, ◌||◌, List, length, map, slice_index}
 use Rattle.std.specs.Prelude.{Contains, unwrap_or}
 use Rattle.std.specs.List.{count_by, enumerate_from}

@@ -1,7 +1,7 @@
 -- The permutation of one wheel in the machine.
 -- Source: the published accounts of rings and windows.
 -- Code: `Rotor::new` makes the permutations of a wheel for all 26 window letters, once.
--- Test: machines_encipher
+-- Test: tests/refusals
 use Rattle.std.specs.Prelude.{ℕ, ◌+◌, ◌-◌, ◌%◌, List}
 use Rattle.kd_tables.specs.Permutation.{followed_by, shift}
 use Rattle.kd_tables.specs.Tables.{wiring_of}

@@ -16,7 +16,7 @@ use Rattle.kd_form.specs.PartMaking.{cipher_from, list_letters, enciphered_choic
 
 -- ---- The letters of a body on a rotor machine: two fillers, the group, and the enciphered text.
 -- Source: the singly enciphered message key of the Wehrmacht.
--- Test: a_message_of_1941
+-- Test: tests/refusals
 
 -- the group in a body: the three letters after the two fillers
 abbrev pub group_of_body : List ℕ → List ℕ
@@ -35,7 +35,7 @@ IsRotorAnswer s part indicator letters = do
 
 -- ---- The letters of a body on the Converter M-209: the indicators, the text, and the indicators again.
 -- Source: War Department TM 11-380.
--- Test: forms_are_received
+-- Test: tests/cases/desk-messages.toml
 
 -- The last ten letters repeat the first ten, and the first two letters are equal.
 pub record HasIndicatorsAround (letters : List ℕ) : Type 0 where
@@ -66,7 +66,7 @@ IsPinAnswer s part letters = do
   Yields (cipher_from s internal (text_of_body letters))
 
 -- ---- The letters of a body for either kind of machine.
--- Test: forms_are_received
+-- Test: tests/cases/desk-messages.toml
 
 -- The indicator is valid for the day's model. On a rotor machine, its ground setting and its enciphered key have a
 -- letter for each slot. On the Converter M-209, there is no indicator.

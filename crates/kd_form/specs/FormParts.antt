@@ -1,7 +1,7 @@
 -- How a form is cut into parts. A part is a heading line and all lines before the next heading line.
 -- Code: `FormReader` reads byte by byte; it keeps the first six bytes of a body's line, to see whether the line
 -- is a heading line.
--- Test: forms_are_received
+-- Test: tests/cases/desk-messages.toml
 use Rattle.std.specs.Prelude.{codes, ◌≡◌, ◌≢◌, ◌⊎◌, ℕ, ◌%◌, ◌≤◌, ◌==◌, ◌&&◌, nat_le, Bool, IsTrue, if◌then◌else◌}
 use Rattle.std.specs.Prelude.{List, [], ◌∷◌, ◌++◌, take, slice_index}
 use Rattle.std.specs.Str.{bytes_eq}

@@ -39,7 +39,7 @@ ReadsPartsTo s Holds p (part ∷ parts) letters =
     × ReadsPartsTo s Holds (next_part_start p read.parts part) parts more × (letters ≡ read.letters ++ more))
 
 -- ---- The text of a form.
--- Test: forms_are_received
+-- Test: tests/cases/desk-messages.toml
 
 -- the byte for a letter: a space if the letter is `for_space`, otherwise the capital letter
 abbrev pub plaintext_byte : Option ℕ → ℕ → ℕ
@@ -61,7 +61,7 @@ IsFormReadTo s Holds form text =
     × (text ≡ plaintext_bytes s letters)
 
 -- ---- The result of reading a form: its text, or its first fault.
--- Test: forms_are_received, parts_are_missing_or_exchanged
+-- Test: tests/cases/desk-messages.toml, tests/refusals
 
 -- The answer for a form whose other parts are read. It is the fault of the next part. If no part is left, as many parts
 -- must have been read as the headings say.
@@ -87,7 +87,7 @@ abbrev pub IsReceiveFault : Day → List ℕ → FormFault → Type 0
 IsReceiveFault s form fault = IsFormAnswer s form (Err fault)
 
 -- ---- Which faults no further bytes can change, and what is written before a fault.
--- Test: forms_are_received, parts_are_missing_or_exchanged
+-- Test: tests/cases/desk-messages.toml, tests/refusals
 
 -- The first part not yet read, which begins at `p`, has `fault`, and no further bytes can change that: another part
 -- follows, or the part's heading line has ended, and the fault is one of `IsContentAnswer`.

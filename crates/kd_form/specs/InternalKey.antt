@@ -2,7 +2,7 @@
 -- letters.
 -- Source: War Department TM 11-380.
 -- Code: `pick_internal_key` goes over the enciphered letters once.
--- Test: orders_are_sent
+-- Test: tests/cases/desk-messages.toml
 use Rattle.std.specs.Prelude.{◌≡◌, ◌++◌, Contains, ◌⊎◌, ℕ, ◌+◌, ◌<◌, ◌≤◌, List, [], ◌∷◌, length, map, slice_index}
 use Rattle.kd_tables.specs.Rings.{ring_of}
 use Rattle.kd_state.specs.Machine.{AreOnWheels}

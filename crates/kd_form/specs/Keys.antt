@@ -1,5 +1,5 @@
 -- The keys that an order gives for one part of its form, and the words of their line.
--- Test: orders_are_sent
+-- Test: tests/cases/desk-messages.toml
 use Rattle.std.specs.Prelude.{codes, ℕ, ◌<◌, List, [], ◌∷◌, length}
 use Rattle.kd_tables.specs.Text.{letters_text}
 use Rattle.kd_state.specs.Machine.{AreLetters}

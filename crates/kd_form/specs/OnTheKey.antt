@@ -1,5 +1,5 @@
 -- Whether a machine is ready and on the day's key, and what a call returns if it isn't.
--- Test: orders_are_sent
+-- Test: tests/cases/desk-messages.toml
 use Rattle.std.specs.Prelude.{◌≡◌, ◌⊎◌, Result, Err, MatchResult}
 use Rattle.kd_state.specs.declared.machine.parts.Parts.{Parts}
 use Rattle.kd_state.specs.SheetDay.{Day}

@@ -1,6 +1,6 @@
 -- An order is its head (a line of keys for each part, then the line TEXT), and then the text to send. The last
 -- definition says where a head has its fault. Bytes are counted from 1.
--- Test: orders_are_sent
+-- Test: tests/cases/desk-messages.toml
 use Rattle.std.specs.Prelude.{codes, ◌≡◌, ◌≢◌, ◌⊎◌, ℕ, ◌+◌, ◌≤◌, List, [], ◌∷◌, ◌++◌, length}
 use Rattle.kd_state.specs.LineWords.{line_of}
 use Rattle.kd_state.specs.SheetDay.{Day}

@@ -41,7 +41,7 @@ part_of part parts indicator letters = record {
 
 -- ---- A part's letters on a rotor machine: fillers, group and enciphered text.
 -- Source: the singly enciphered message key of the Wehrmacht.
--- Test: orders_are_sent
+-- Test: tests/cases/desk-messages.toml
 
 -- the ground setting, and the message key enciphered with the ground setting in the windows
 abbrev pub indicator_of : Day → RotorKeys → Indicator
@@ -54,7 +54,7 @@ rotor_letters s k text = k.fillers ++ k.group ++ cipher_from s k.message_key tex
 
 -- ---- A part's letters on the Converter M-209: indicators, enciphered text, and the indicators again.
 -- Source: War Department TM 11-380.
--- Test: orders_are_sent
+-- Test: tests/cases/desk-messages.toml
 
 -- the chosen letter twelve times, enciphered with the external letters in the windows at the start
 abbrev pub enciphered_choice : Day → PinKeys → List ℕ
@@ -75,7 +75,7 @@ pin_letters s k internal text = pin_indicators s k ++ cipher_from s internal (fi
     ++ pin_indicators s k
 
 -- ---- Which keys suit a day, and the part of a form that a text becomes with them.
--- Test: orders_are_sent
+-- Test: tests/cases/desk-messages.toml
 
 -- The answer to whether the keys of part `part` suit the day. On a rotor machine, the keys' group must be one of the
 -- day's groups. On the Converter M-209, each external letter must be on its wheel, and there must be an internal key.

@@ -1,6 +1,6 @@
 -- What one part of a form becomes: the letters of its text, or its first fault. Parts and bytes are counted
 -- from 1.
--- Test: forms_are_received
+-- Test: tests/cases/desk-messages.toml
 use Rattle.std.specs.Prelude.{◌≡◌, ℕ, ◌+◌, ◌-◌, List, length, Option, Some, None}
 use Rattle.kd_state.specs.AnswerRules.{AnswerRule, ◌>>=◌, Yields, Finds, Demands}
 use Rattle.kd_state.specs.SheetDay.{Day}

@@ -1,5 +1,5 @@
 -- Which parts of an order's form are written before the end of the order is read. Parts are counted from 1.
--- Test: orders_are_sent
+-- Test: tests/cases/desk-messages.toml
 use Rattle.std.specs.Prelude.{◌≡◌, ◌⊎◌, ℕ, ◌*◌, ◌<◌, ◌≤◌, List, [], ◌∷◌, ◌++◌, length, take, Ok, Err}
 use Rattle.std.specs.Prelude.{All, IsTrue, IsFalse}
 use Rattle.kd_tables.specs.Text.{is_text_byte}

@@ -14,7 +14,7 @@ use Rattle.kd_form.specs.PartMaking.{IsKeysAnswer, IsPartTextMade, part_size}
 use Rattle.kd_form.specs.Order.{IsOrder, IsOrderHeadFault}
 
 -- ---- The letters that an order's text gives, and how many parts they need.
--- Test: orders_are_sent
+-- Test: tests/cases/desk-messages.toml
 
 -- the letter that is sent for a space: Z on the Converter M-209; none on a rotor machine
 abbrev pub space_letter : Day → Option ℕ
@@ -67,7 +67,7 @@ IsMadeAnswer s keys letters = do
   FindsAlways (ArePartTextsMade s 1 (length keys) keys (pieces (part_size s) letters))
 
 -- ---- The result of reading an order: its form, or its first fault.
--- Test: orders_are_sent
+-- Test: tests/cases/desk-messages.toml
 
 -- what an order consists of: the head, which has a line for each of `keys`, and the text
 pub record OrderParts : Type 0 where

@@ -32,7 +32,7 @@ IsMessageAnswer m bytes text answer =
 
 -- ---- What a call answers, reads and writes for a message.
 -- Code: `stream_message` reads a message chunk by chunk; the readers of orders and forms take it byte by byte.
--- Test: orders_are_sent, forms_are_received
+-- Test: tests/cases/desk-messages.toml
 
 -- `text` is all that is due after some prefix of `read` that has no fault; or, if the source ends after `read`, all
 -- that is due at this end.
@@ -90,7 +90,7 @@ is_device (Err Device) = true
 is_device _ = false
 
 -- ---- What a call does only for a machine on the day's key.
--- Test: orders_are_sent, forms_are_received
+-- Test: tests/cases/desk-messages.toml
 
 -- whether the answer is that the machine isn't ready, or isn't on the key
 abbrev pub is_off_key : Result (Unit {0}) FormFault → Bool

@@ -1,7 +1,6 @@
 -- A text that is typed, as a kind of message: it becomes the ciphertext of its letters, and LF.
 -- Code: `type_stream` reads chunks of at most 4,096 bytes, and presses a key for each letter of a chunk.
--- Test: types_to_the_first_byte_that_is_not_allowed, stops_at_a_failed_read, stops_where_the_sink_fails,
--- reads_to_the_limit
+-- Test: tests/cases/desk-messages.toml, tests/refusals
 use Rattle.std.specs.Prelude.{◌≡◌, ℕ, ◌<◌, ◌≤◌, List, [], ◌∷◌, ◌++◌, length, take, slice_index, All, IsTrue}
 use Rattle.std.specs.Prelude.{IsFalse, None, Result, Ok, Err}
 use Rattle.kd_tables.specs.Text.{is_text_byte, letters_text}

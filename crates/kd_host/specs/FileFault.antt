@@ -1,5 +1,5 @@
 -- Why a file can't be read or opened, and the text of this refusal.
--- Test: a_read_that_finds_no_memory_says_so, a_file_that_is_not_there_is_a_failed_device
+-- Test: readers_give_what_they_have_or_fail, tests/cases/desk-program.toml
 use Rattle.std.specs.Prelude.{ℕ, List}
 use Rattle.std.specs.declared.io.ErrorKind.{ErrorKind}
 use Rattle.std.specs.declared.io.ErrorKind.TheVariants.{OutOfMemory}

@@ -1,6 +1,6 @@
 -- What is known of the bytes of a file, which is either read whole, or opened and then streamed.
 -- Code: `read_whole` reads a file chunk by chunk, into a vector that grows.
--- Test: reads_to_the_limit, a_file_that_is_not_there_is_a_failed_device, stops_where_an_order_is_too_long
+-- Test: tests/cases/desk-program.toml, tests/cases/desk-messages.toml
 use Rattle.std.specs.Prelude.{◌≡◌, ℕ, ◌+◌, ◌≤◌, nat_le, Bool, true, false, IsTrue, List, [], ◌∷◌, ◌++◌, map}
 use Rattle.std.specs.Prelude.{length, Option, Some, None, Result, Ok, Err, find, bytes_eq, option_map, if◌then◌else◌}
 use Rattle.std.specs.Result.{result_map_both}
@@ -61,7 +61,7 @@ pub record IsReadWhole (source : Port) (answer : Result (List ℕ) FileFault) : 
 
 -- ---- Which names of files were asked for.
 -- Code: `HostFiles` keeps the names in a record, `AskedNames`.
--- Test: stops_before_it_writes
+-- Test: tests/cases/desk-program.toml
 
 -- A file name that was asked for, and whether the file could be read or opened.
 abbrev pub AskedName : Type 0

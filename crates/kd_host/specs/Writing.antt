@@ -1,5 +1,5 @@
 -- What a call that writes a text answers.
--- Test: stops_where_the_sink_fails
+-- Test: tests/refusals
 use Rattle.std.specs.Prelude.{◌≡◌, ℕ, List, Result, Err, OnErr}
 use Rattle.kd_tables.specs.Ports.{Port}
 use Rattle.kd_tables.specs.Writing.{Writes}

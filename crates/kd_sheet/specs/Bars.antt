@@ -1,6 +1,6 @@
 -- The bars' standings in a machine file, and the bars' readings in a key sheet. A standing has the places of a bar's
 -- two lugs, and a reading has the numbers of the wheels at these places, or 0.
--- Test: kd_trials/src/sheet/files.rt
+-- Test: tests/cases/desk-files.toml
 use Rattle.std.specs.Prelude.{ℕ, nat_eq, ◌+◌, ◌-◌, ◌==◌, ◌&&◌, ◌||◌, nat_le, not, List, [], ◌∷◌, length, Option}
 use Rattle.std.specs.Prelude.{Some, None, Result, ok_or, if◌then◌else◌}
 use Rattle.std.specs.List.{list_all}

@@ -1,5 +1,5 @@
 -- How the cables of a machine file and the pairs of a key sheet are read, item by item.
--- Test: kd_trials/src/sheet/files.rt
+-- Test: tests/cases/desk-files.toml
 use Rattle.std.specs.Prelude.{ℕ, ◌-◌, nat_eq, nat_le, List, [], ◌∷◌, ◌++◌, length, replicate, slice_get, slice_index}
 use Rattle.std.specs.Prelude.{Option, None, Result, Ok, ok_or}
 use Rattle.std.specs.List.{flat_map}

@@ -2,7 +2,7 @@
 -- and the first fault is the result of the whole `do`.
 -- Source: TOML 1.1, toml.io.
 -- Code: the library `toml` parses the document, and `?` returns the first fault.
--- Test: kd_trials/src/sheet/files.rt, kd_trials/src/sheet/faults.rt
+-- Test: tests/cases/desk-files.toml
 use Rattle.std.specs.Prelude.{ℕ, Bool, List, [], ◌∷◌, length, Option, Result, Ok, Err, ok_or, option_map}
 use Rattle.std.specs.Prelude.{if◌then◌else◌}
 use Rattle.std.specs.Option.{option_and_then}

@@ -1,5 +1,5 @@
 -- Texts of capital letters.
--- Test: kd_trials/src/sheet/files.rt
+-- Test: tests/cases/desk-files.toml
 use Rattle.std.specs.Prelude.{ℕ, nat_eq, Bool, ◌&&◌, List, length, Option, Some, None, Result, if◌then◌else◌}
 use Rattle.std.specs.List.{list_all}
 use Rattle.toml.specs.Data.{Members}

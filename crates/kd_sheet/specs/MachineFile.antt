@@ -1,6 +1,6 @@
 -- How a machine file is read, key by key in the order of testing. The result is the machine that the file describes, or
 -- the first fault.
--- Test: kd_trials/src/sheet/files.rt, kd_trials/src/sheet/faults.rt
+-- Test: tests/cases/desk-files.toml
 use Rattle.std.specs.Prelude.{ℕ, nat_le, List, [], ◌∷◌, length, Result, Ok, ok_or}
 use Rattle.toml.specs.Data.{Members, as_str}
 use Rattle.kd_tables.specs.Tables.{box_of, model_text, reflector_text, reflectors_of}

@@ -1,5 +1,5 @@
 -- The text of a machine file, line by line.
--- Test: kd_trials/src/sheet/files.rt
+-- Test: tests/cases/desk-files.toml
 use Rattle.std.specs.Prelude.{codes, ℕ, ◌+◌, Bool, List, [], ◌∷◌, ◌++◌, map, zip, Option, if◌then◌else◌}
 use Rattle.std.specs.List.{concat, flat_map, join_by}
 use Rattle.std.specs.Option.{option_map_or}

@@ -1,5 +1,5 @@
 -- Models, reflectors, wheels and standings, found by their names.
--- Test: kd_trials/src/sheet/files.rt
+-- Test: tests/cases/desk-files.toml
 use Rattle.std.specs.Prelude.{ℕ, List, find, bytes_eq, Option}
 
 -- the first of `things` whose text is `text`

@@ -1,6 +1,6 @@
 -- Whole numbers in files.
 -- Source: key sheets of the war give ring settings as the numbers 01 to 26.
--- Test: kd_trials/src/sheet/files.rt
+-- Test: tests/cases/desk-files.toml
 use Rattle.std.specs.Prelude.{ℕ, ◌&&◌, ◌-◌, ◌==◌, nat_le, pos, List, length, map, Option, Some, None, is_some}
 use Rattle.std.specs.Prelude.{if◌then◌else◌}
 use Rattle.std.specs.List.{list_all, filter_map}

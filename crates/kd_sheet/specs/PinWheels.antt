@@ -1,5 +1,5 @@
 -- The letters that the Converter's six wheels show, and the wheels' effective pins.
--- Test: kd_trials/src/sheet/files.rt
+-- Test: tests/cases/desk-files.toml
 use Rattle.std.specs.Prelude.{ℕ, nat_eq, ◌+◌, ◌&&◌, Bool, List, [], length, map, Option, Some, None, Result, Ok}
 use Rattle.std.specs.Prelude.{ok_or, if◌then◌else◌}
 use Rattle.std.specs.List.{list_all, enumerate_from}

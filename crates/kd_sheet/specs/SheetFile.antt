@@ -1,6 +1,6 @@
 -- How a key sheet is read, key by key in the order of testing. The result is the days that the sheet describes, or the
 -- first fault.
--- Test: kd_trials/src/sheet/files.rt, kd_trials/src/sheet/faults.rt
+-- Test: tests/cases/desk-files.toml
 use Rattle.std.specs.Prelude.{ℕ, nat_eq, nat_le, ◌==◌, not, List, [], ◌∷◌, Option, Some, Result, Ok, ok_or}
 use Rattle.std.specs.List.{list_any}
 use Rattle.std.specs.Option.{option_and_then, option_map_or}

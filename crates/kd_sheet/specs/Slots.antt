@@ -1,5 +1,5 @@
 -- How the wheels in the slots of a machine file or a day are read, item by item from the left.
--- Test: kd_trials/src/sheet/files.rt
+-- Test: tests/cases/desk-files.toml
 use Rattle.std.specs.Prelude.{nat_eq, ◌+◌, false, not, List, [], length, Option, Some, None, Result, Ok}
 use Rattle.std.specs.Prelude.{ok_or}
 use Rattle.std.specs.List.{list_any}

@@ -1,6 +1,6 @@
 -- How many settings it takes to put a pair's letters into a cable, or to make a bar read as a row.
 -- Code: `cable_cost` goes through the alphabet; `bar_cost` tries the one or two standings that read as the row.
--- Test: kd_trials/src/state/days.rt
+-- Test: kd_trials/src/state.rt
 use Rattle.std.specs.Prelude.{ℕ, ◌+◌, ◌-◌, nat_eq, nat_lt, min, Bool, false, not, ◌&&◌, List, [], ◌∷◌, ◌++◌, length}
 use Rattle.std.specs.Prelude.{slice_index_or, map, filter, find, fold, zip, sum, count_by, replicate, Option, Some}
 use Rattle.std.specs.Prelude.{None, if◌then◌else◌}
@@ -53,7 +53,7 @@ abbrev pub nearest_standing : Place × Place → ℕ × ℕ → Option (Place ×
 nearest_standing bar row = find (λ other. nat_eq (lugs_moved bar other) (bar_cost bar row)) (standings_as row)
 
 -- ---- The cost tables: of cables and columns, and of bars and rows.
--- Test: cards_are_planned
+-- Test: tests/cases/desk-cards.toml
 
 -- the 13 columns of a day in the cost table: its pairs, and then columns without a pair
 abbrev pub columns_of : List (ℕ × ℕ) → List (Option (ℕ × ℕ))

@@ -1,5 +1,5 @@
 -- The line of a setting, and its words.
--- Test: kd_trials/src/state/line.rt
+-- Test: tests/cases/desk-lists.toml
 use Rattle.std.specs.Prelude.{codes, decimal, ◌≡◌, ◌≢◌, ℕ, ◌+◌, ◌^◌, ◌<◌, ◌≤◌, Bool, if◌then◌else◌, List, [], ◌∷◌, ◌++◌}
 use Rattle.std.specs.Prelude.{length, All, Option, MatchOption}
 use Rattle.std.specs.List.{flat_map}
@@ -45,7 +45,7 @@ IsSettingInRange (PinTo wheel letter effective) = (wheel < 2 ^ 8) × (letter < 2
 IsSettingInRange (LugTo bar lug place) = bar < 2 ^ 8
 
 -- ---- The text of a list of settings, and its first fault.
--- Test: kd_trials/src/state/list.rt
+-- Test: tests/cases/desk-lists.toml
 
 -- the text of a list: the line of each setting, and LF after it
 abbrev pub list_text : List Setting → List ℕ

@@ -1,5 +1,5 @@
 -- Lines of words with single spaces between them, and texts split at a byte.
--- Test: kd_trials/src/state/line.rt
+-- Test: tests/cases/desk-lists.toml
 use Rattle.std.specs.Prelude.{◌≡◌, ◌≢◌, ◌==◌, ℕ, List, ◌∷◌, ◌++◌, All}
 use Rattle.std.specs.List.{slice_split, join_with_byte}
 

@@ -1,5 +1,5 @@
 -- The parts of a machine (cables, slots, letters and pins), and when they are legal.
--- Test: kd_trials/src/state/carrying.rt
+-- Test: tests/cases/desk-lists.toml
 use Rattle.std.specs.Prelude.{◌≡◌, ℕ, ◌+◌, ◌<◌, nat_eq, nat_le, Bool, List, ◌++◌, length, map, All, Contains, slice_get}
 use Rattle.std.specs.Prelude.{Option, Some, None, if◌then◌else◌}
 use Rattle.std.specs.List.{flat_map, IsDistinct}
@@ -104,7 +104,7 @@ pub record IsMachine (machine : Parts) : Type 0 where
   pub cables : with_cables_in_order machine ≡ machine
 
 -- ---- What the getters of a machine show; `None` for a thing that the machine lacks.
--- Test: kd_trials/src/state/getters.rt
+-- Test: kd_trials/src/state.rt
 
 -- the machine's model
 abbrev pub model_of : Parts → Model

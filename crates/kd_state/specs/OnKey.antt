@@ -1,6 +1,6 @@
 -- What it means that a machine is on a day's key (set as the day says), and that it also shows the day's letters.
 -- Code: `on_key` sorts the cables of machine and day, or readings and rows, and compares them.
--- Test: kd_trials/src/state/days.rt
+-- Test: tests/cases/desk-cards.toml
 use Rattle.std.specs.Prelude.{◌≡◌, ℕ, ◌-◌, List, ◌++◌, length, map, replicate, All, IsPermutation, Option, Some, None}
 use Rattle.std.specs.Option.{option_map, option_map_or}
 use Rattle.kd_tables.specs.Places.{reading_of, smaller_first}

@@ -1,5 +1,5 @@
 -- A machine and a day of the same model, as one value.
--- Test: kd_trials/src/state/days.rt
+-- Test: tests/cases/desk-cards.toml
 use Rattle.std.specs.Prelude.{◌≡◌}
 use Rattle.kd_state.specs.declared.machine.parts.Parts.{Parts}
 use Rattle.kd_state.specs.declared.machine.parts.Parts.TheVariants as parts

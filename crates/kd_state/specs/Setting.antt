@@ -53,7 +53,7 @@ seat_without wheel seated = if option_map_or (same_wheel wheel) seated false the
 -- ---- What a setting makes of a machine.
 -- Source: this desk's own rules. The tables say which wheels and reflectors a model takes.
 -- Code: `carry` changes the machine in place.
--- Test: kd_trials/src/state/carrying.rt
+-- Test: tests/cases/desk-lists.toml
 
 -- The machine after the setting; or, if it is refused, the first reason, in the order of the lines. `Seat` empties the
 -- slot in which the wheel was. The wheel that was in the new slot goes to the box. Both keep their rings and window
@@ -107,7 +107,7 @@ Refuses machine setting why = outcome machine setting ≡ Err why
 
 -- ---- Settings carried out one after another, and the first that is refused.
 -- Code: `carry_all` is a loop that stops at the first setting that is refused.
--- Test: writes_the_machine_that_stands_then
+-- Test: tests/cases/desk-cards.toml
 
 -- The settings, carried out in order, turn the first machine into the second.
 abbrev pub Leads : Parts → List Setting → Parts → Type 0

@@ -54,7 +54,7 @@ pub data Day : Type 0 where
 
 -- ---- Which values a day can have.
 -- Code: a day keeps its pairs and groups in lists of bounded length.
--- Test: kd_trials/src/state/days.rt
+-- Test: kd_trials/src/state.rt
 
 -- The number can be a day of a month: it is from 1 to 31.
 pub record IsDayNumber (number : ℕ) : Type 0 where
@@ -101,7 +101,7 @@ IsLegalDay (OfRotors values) = IsLegalRotorDay values
 IsLegalDay (OfPins values) = IsLegalPinDay values
 
 -- ---- What the getters of a day show.
--- Test: kd_trials/src/state/days.rt
+-- Test: kd_trials/src/state.rt
 
 -- the day of the month
 abbrev pub day_number : Day → ℕ

@@ -1,6 +1,6 @@
 -- The key of an engine, for a rotor machine or a Converter, and the cipher that the engine makes with this key.
 -- Code: one type, `Engine`, serves all models.
--- Test: kd_trials/src/state/engine.rt
+-- Test: tests/refusals
 use Rattle.std.specs.Prelude.{◌≡◌, ◌≢◌, ℕ, List, length, map, All, IsSome}
 use Rattle.std.specs.List.{filter_map}
 use Rattle.std.specs.Option.{option_zip}

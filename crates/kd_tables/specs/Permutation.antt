@@ -1,7 +1,7 @@
 -- Permutations of the alphabet, as lists of numbers (A is 0): letter `x` becomes item `x` of the list.
 -- Code: a permutation is a table of 32 bytes; a product is one shuffle of bytes, and an inverse is one loop over
 -- letters.
--- Test: machines_encipher
+-- Test: tests/refusals
 use Rattle.std.specs.Prelude.{◌≡◌, ◌≢◌, ℕ, ◌+◌, ◌%◌, ◌==◌, List, [], ◌∷◌, length, map, slice_index, All, if◌then◌else◌}
 use Rattle.std.specs.List.{range_with_len, position_or_len}
 use Rattle.std.specs.Slice.Sort.{NamesEachOnce}

@@ -1,6 +1,6 @@
 -- Sources and sinks: which bytes one `get` or one `put` moves, and what a source or a sink in memory keeps.
 -- Code: a source is any type whose `get` satisfies `Gets`; a sink is any type whose `put` satisfies `Puts`.
--- Test: tells_that_the_sink_failed, a_source_or_a_sink_of_an_order_fails
+-- Test: tests/refusals
 use Rattle.std.specs.Prelude.{◌≡◌, ◌⊎◌, ℕ, ◌<◌, ◌≤◌, Bool, true, false, List, [], ◌∷◌, length, take, Option, Result}
 use Rattle.std.specs.Prelude.{IfOk, OnErr, Ok, Err, IsTrue}
 use Rattle.std.specs.Io.KnownBytes.{Appends, Consumes, Keeps, IsAtEnd}
@@ -43,7 +43,7 @@ pub record MemorySinkState : Type 0 where
 
 -- ---- A port before and after a call: its bytes, and whether it has failed.
 -- Code: a source or a sink that can fail keeps a flag, which is set when a `get` or a `put` fails.
--- Test: stops_at_a_failed_read, stops_where_the_sink_fails
+-- Test: tests/refusals
 
 -- A port (a source or a sink) before a call and after the call. `had` (before) and `has` (after) are the bytes that a
 -- source can still give, or that a sink has taken; `None` if they aren't known.

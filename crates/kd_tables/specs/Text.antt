@@ -1,5 +1,5 @@
 -- Letters as bytes, and which bytes a text of letters may have.
--- Test: types_to_the_first_byte_that_is_not_allowed
+-- Test: tests/cases/desk-messages.toml
 use Rattle.std.specs.Prelude.{ℕ, ◌+◌, nat_le, ◌==◌, Bool, ◌&&◌, ◌||◌, List, map}
 
 -- the ASCII codes of letters, as capital letters

@@ -1,5 +1,5 @@
 -- How much of a text a sink takes.
--- Test: stops_where_the_sink_fails
+-- Test: tests/refusals
 use Rattle.std.specs.Prelude.{ℕ, ◌<◌, List, length, take, Option, Result, OnOk, OnErr}
 use Rattle.std.specs.Io.KnownBytes.{Appends}
 

@@ -1,4 +1,4 @@
-//! Tests of the rotor machine. Its ciphertexts are tested with the machines of `kd_state`.
+//! Tests of the rotor machine. Its ciphertexts are tested on the program, by `tests/refusals` and `tests/cases`.
 use crate::letters::letters;
 use kd_enigma::{Enigma, EnigmaKey, Plugs};
 use kd_tables::{Letter, Reflector, Wheel};

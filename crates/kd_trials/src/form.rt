@@ -1,8 +1,4 @@
-//! Tests of orders and forms.
-mod failing;
-mod limits;
+//! Tests of messages that are sent and received at once, and of long ones.
 mod long_texts;
 mod memory;
-mod receiving;
 pub mod samples;
-mod sending;

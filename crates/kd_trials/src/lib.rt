@@ -1,4 +1,4 @@
-//! Tests of the public calls of all crates but `kd_desk`: a module for each crate, and samples.
+//! Tests of public calls of the crates below `kd_host` that no run of the program shows: a module for each crate, and samples.
 //!
 //! The tests have a crate of their own, since a crate with tests is proved twice.
 #![tactic(auto)]
@@ -19,11 +19,10 @@ mod letters;
 mod lost;
 #[cfg(test)]
 mod machines;
-pub mod named;
+#[cfg(test)]
+mod named;
 #[cfg(test)]
 mod pins;
-#[cfg(test)]
-mod plan;
 #[cfg(test)]
 mod prices;
 #[cfg(test)]
@@ -34,4 +33,5 @@ mod state;
 mod step;
 #[cfg(test)]
 mod tables;
-pub mod texts;
+#[cfg(test)]
+mod texts;

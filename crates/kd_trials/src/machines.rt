@@ -42,15 +42,6 @@ pub const TWO_BARS: Told = (
     ),
 );
 
-/// A Converter on which both lugs of a bar have to be moved, the right one first.
-pub const ONE_BAR: Told = (
-    (WithoutPins, "bars = [\"0L-0R\"", "bars = [\"1-3\""),
-    (DayWithoutPins, "rows = [\"0-0\"", "rows = [\"3-6\""),
-);
-
-/// A machine and a day of different models.
-pub const TWO_MODELS: Told = ((M1, "", ""), (DayWithoutPins, "", ""));
-
 /// Reads the machine from a machine file, after the file's change.
 pub fn machine(rt: &impl Abort, alloc: Global, (file, old, new): &File) -> Machine {
     let text = file

@@ -1,94 +1,15 @@
-//! Tests of the check of a card, and of prices by kind.
-use crate::machines::{CABLES, File, ONE_BAR, PLAIN, TWO_BARS, TWO_MODELS, Told, keyed};
+//! Tests of prices by kind.
+use crate::machines::{CABLES, File, PLAIN, TWO_BARS, Told, keyed};
 use crate::named::TextName::{
-    self, AllMet, BarKinds, BothLugs, DayOfAllMet, DayOfUnlikeBars, EmptyKinds, Higher, Highest,
-    M1, NoLine, NoLugs, NoPrices, NoSettings, OneBarKind, OneLug, PlainDay, TwoCableKinds,
-    TwoCables, TwoLugs, TwoLugsByKind, UnlikeBarKinds, UnlikeBars, UnlikeCableKinds,
+    self, AllMet, BarKinds, DayOfAllMet, DayOfUnlikeBars, EmptyKinds, M1, NoLugs, NoSettings,
+    OneBarKind, OneLug, PlainDay, TwoCableKinds, TwoCables, UnlikeBarKinds, UnlikeBars,
+    UnlikeCableKinds,
 };
 use kd_card::{read_card, write_card};
-use kd_prices::{Doubt, by_kind, check};
-use kd_state::Why;
+use kd_prices::by_kind;
 use kd_tables::MemorySink;
 use std::alloc::Global;
 use std::process::Abort;
-
-/// A machine and a day, a card, and the result of `check`.
-type Case = (Told, File, Result<(), Doubt>);
-
-static CASES: [Case; 29] = [
-    (CABLES, (TwoCables, "", ""), Ok(())),
-    (
-        CABLES,
-        (TwoCables, "PULL 1 A\nPULL 2 C", "PULL 2 C\nPULL 1 A"),
-        Ok(()),
-    ),
-    (CABLES, (NoSettings, "", ""), Err(Doubt::NotTheSheet)),
-    (CABLES, (TwoCableKinds, "", ""), Ok(())),
-    (
-        CABLES,
-        (TwoCableKinds, "PULL 1 A\nPULL 2 C", "PULL 2 C\nPULL 1 A"),
-        Ok(()),
-    ),
-    (CABLES, (NoLine, "", ""), Err(Doubt::NotTheSheet)),
-    (CABLES, (BarKinds, "", ""), Err(Doubt::OtherModel)),
-    (PLAIN, (NoSettings, "", ""), Ok(())),
-    (
-        PLAIN,
-        (NoSettings, "SETTINGS 0", "TURN 1 A\nSETTINGS 1"),
-        Err(Doubt::NeedlessLine(1)),
-    ),
-    (PLAIN, (OneLug, "", ""), Err(Doubt::OtherModel)),
-    (TWO_MODELS, (OneLug, "", ""), Err(Doubt::OtherModel)),
-    (TWO_BARS, (OneLug, "", ""), Ok(())),
-    (TWO_BARS, (NoPrices, "", ""), Err(Doubt::SumDiffers)),
-    (TWO_BARS, (Higher, "", ""), Err(Doubt::PriceTooHigh(1, 1))),
-    (TWO_BARS, (Highest, "", ""), Err(Doubt::PriceTooHigh(1, 2))),
-    (TWO_BARS, (TwoLugs, "", ""), Err(Doubt::PriceTooHigh(1, 1))),
-    (TWO_BARS, (BarKinds, "", ""), Ok(())),
-    (
-        TWO_BARS,
-        (BarKinds, "BAR 0L-3 1 1", "BAR 0L-4 1 1"),
-        Err(Doubt::PriceMissing),
-    ),
-    (
-        TWO_BARS,
-        (TwoLugsByKind, "", ""),
-        Err(Doubt::PriceTooHigh(1, 1)),
-    ),
-    (TWO_BARS, (TwoCableKinds, "", ""), Err(Doubt::OtherModel)),
-    (ONE_BAR, (BothLugs, "", ""), Ok(())),
-    (
-        ONE_BAR,
-        (BothLugs, "LUG 1 R 6\nLUG 1 L 3", "LUG 1 L 3\nLUG 1 R 6"),
-        Err(Doubt::IllegalAt(1, Why::PlaceTaken)),
-    ),
-    (PLAIN, (EmptyKinds, "", ""), Ok(())),
-    (FULL_CABLES, (UnlikeCableKinds, "", ""), Ok(())),
-    (FULL_CABLES, (EmptyKinds, "", ""), Err(Doubt::PriceMissing)),
-    (PLAIN, (UnlikeCableKinds, "", ""), Err(Doubt::PriceMissing)),
-    (ALIKE_BARS, (OneBarKind, "", ""), Ok(())),
-    (UNLIKE_BARS, (UnlikeBarKinds, "", ""), Ok(())),
-    (UNLIKE_BARS, (OneBarKind, "", ""), Err(Doubt::PriceMissing)),
-];
-
-/// Checks the result of `check` for a card.
-fn is_said(rt: &impl Abort, alloc: Global, (told, (text, old, new), due): &Case) {
-    let (machine, day) = keyed(rt, alloc, told);
-    let text = text
-        .text()
-        .replace(alloc, old, new)
-        .ok()
-        .expect(rt, "memory");
-    let (_, card) = read_card(text.as_bytes()).ok().expect(rt, "a card");
-    assert!(rt; check(&machine, &day, &card) == *due, "{text}");
-}
-
-#[test]
-fn cards_are_checked(rt: HostRuntime) {
-    for told in &CASES {
-        is_said(&rt, rt.alloc(), told);
-    }
-}
 
 /// A machine and a day, a card, and the text that `by_kind` gives the card, with one price for each kind.
 ///

@@ -1,51 +1,15 @@
-//! Tests of machine files and key sheets.
-use kd_sheet::{SheetFault, read_machine, read_sheet};
-use std::alloc::Global;
+//! A test of the days of a sheet. Those from 1 to 31 are tested on the program, by `tests/cases`.
+use crate::texts;
+use kd_sheet::{SheetFault, read_sheet};
 
-mod cut;
-mod faults;
-mod files;
-mod first_faults;
+/// A sheet with day 1.
+static SHEET: &str = texts::DAY_OF_1941;
 
-/// The kind of a file.
-enum Kind {
-    MachineFile,
-    Sheet,
-}
-
-/// The fault of a file, if it has one.
-fn fault(alloc: Global, kind: &Kind, file: &[u8]) -> Option<SheetFault> {
-    match kind {
-        Kind::MachineFile => read_machine(alloc, file).err(),
-        Kind::Sheet => read_sheet(alloc, file).err(),
+#[test]
+fn a_sheet_has_its_days_alone(rt: HostRuntime) -> Result<(), SheetFault> {
+    let sheet = read_sheet(rt.alloc(), SHEET.as_bytes())?;
+    for number in 0..=255 {
+        assert!(rt; sheet.day(number).is_some() == (number == 1), "{number}");
     }
+    Ok(())
 }
-
-/// A sheet with a day of an Enigma I, of an M4 and of a Converter M-209.
-const SHEET: &str = "[[day]]
-day = 1
-model = \"Enigma I\"
-reflector = \"B\"
-wheels = [\"I\", \"II\", \"III\"]
-rings = [1, 26, 2]
-window = \"ABC\"
-plugs = [\"BC\", \"ED\"]
-groups = [\"ABC\", \"XYZ\", \"AAA\", \"QQQ\"]
-
-[[day]]
-day = 31
-model = \"M4\"
-reflector = \"c\"
-wheels = [\"Gamma\", \"VIII\", \"I\", \"V\"]
-rings = \"ABCD\"
-window = \"WXYZ\"
-plugs = []
-
-[[day]]
-day = 9
-model = \"M-209\"
-rows = [\"3-0\", \"3-6\", \"0-0\", \"0-0\", \"0-0\", \"0-0\", \"0-0\", \"0-0\", \"0-0\", \"0-0\", \"0-0\", \"0-0\", \"0-0\", \"0-0\", \"0-0\", \"0-0\", \"0-0\", \"0-0\", \"0-0\", \"0-0\", \"0-0\", \"0-0\", \"0-0\", \"0-0\", \"0-0\", \"0-0\", \"0-0\"]
-pins = [\"ZA\", \"\", \"\", \"\", \"\", \"Q\"]
-window = \"ABCDEF\"
-list = \"QV\"
-";

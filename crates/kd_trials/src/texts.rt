@@ -1,4 +1,4 @@
-//! Machine files and cards as texts, for the tests of this crate and of the desk.
+//! Machine files, sheets and cards as texts.
 
 /// An Enigma I with reflector B, the wheels I, II and III in the slots, and all rings and letters A.
 pub const M1: &str = "version = 1
@@ -7,16 +7,6 @@ reflector = \"B\"
 slots = [\"I\", \"II\", \"III\"]
 rings = \"AAAAA\"
 letters = \"AAAAA\"
-";
-
-/// `M1` as the desk writes it, with its empty cables.
-pub const M1_WRITTEN: &str = "version = 1
-model = \"Enigma I\"
-reflector = \"B\"
-slots = [\"I\", \"II\", \"III\"]
-rings = \"AAAAA\"
-letters = \"AAAAA\"
-cables = [\"\", \"\", \"\", \"\", \"\", \"\", \"\", \"\", \"\", \"\", \"\", \"\", \"\"]
 ";
 
 /// An Enigma I with ten cables, some of them plugged with the later letter first.
@@ -29,41 +19,12 @@ letters = \"ABALA\"
 cables = [\"AV\", \"SB\", \"CG\", \"DL\", \"FU\", \"HZ\", \"IN\", \"MK\", \"OW\", \"RX\"]
 ";
 
-/// `TEN_CABLES` as the desk writes it.
-pub const TEN_CABLES_WRITTEN: &str = "version = 1
-model = \"Enigma I\"
-reflector = \"B\"
-slots = [\"II\", \"IV\", \"V\"]
-rings = \"ABAUL\"
-letters = \"ABALA\"
-cables = [\"AV\", \"BS\", \"CG\", \"DL\", \"FU\", \"HZ\", \"IN\", \"KM\", \"OW\", \"RX\", \"\", \"\", \"\"]
-";
-
-/// An M4 with ten cables.
-pub const M4: &str = "version = 2
-model = \"M4\"
-reflector = \"b\"
-slots = [\"Beta\", \"II\", \"IV\", \"I\"]
-rings = \"VAAAAAAAAA\"
-letters = \"AJANAAAAVA\"
-cables = [\"AT\", \"BL\", \"DF\", \"GJ\", \"HM\", \"NW\", \"OP\", \"QY\", \"RZ\", \"VX\", \"\", \"\", \"\"]
-";
-
 /// A Converter M-209 with the pins P of wheel 1 and O of wheel 2, and bar 1 at 1-2.
 pub const M209: &str = "version = 1
 model = \"M-209\"
 letters = \"AAAAAA\"
 pins = [\"P\", \"O\", \"\", \"\", \"\", \"\"]
 bars = [\"1-2\", \"0L-0R\", \"0L-0R\", \"0L-0R\", \"0L-0R\", \"0L-0R\", \"0L-0R\", \"0L-0R\", \"0L-0R\", \"0L-0R\", \"0L-0R\", \"0L-0R\", \"0L-0R\", \"0L-0R\", \"0L-0R\", \"0L-0R\", \"0L-0R\", \"0L-0R\", \"0L-0R\", \"0L-0R\", \"0L-0R\", \"0L-0R\", \"0L-0R\", \"0L-0R\", \"0L-0R\", \"0L-0R\", \"0L-0R\"]
-";
-
-/// An M3 with the wheels and the reflector of `M1`.
-pub const M3: &str = "version = 1
-model = \"M3\"
-reflector = \"B\"
-slots = [\"I\", \"II\", \"III\"]
-rings = \"AAAAAAAA\"
-letters = \"AAAAAAAA\"
 ";
 
 /// An M4 with all rings and letters A, and no cables: its thin reflector b with Beta at A acts as B.
@@ -255,225 +216,6 @@ SETTINGS 1
 BARS 9999 0 0 0 0 0 0 0 0 0 0 0 0 0 0 0 0 0 0 0 0 0 0 0 0 0 0
 ROWS -9999 0 0 0 0 0 0 0 0 0 0 0 0 0 0 0 0 0 0 0 0 0 0 0 0 0 0
 SUM 0
-";
-
-/// A card that moves one lug, and whose prices are 0.
-pub const NO_PRICES: &str = "CARD 1 DAY 9
-LUG 1 R 6
-SETTINGS 1
-BARS 0 0 0 0 0 0 0 0 0 0 0 0 0 0 0 0 0 0 0 0 0 0 0 0 0 0 0
-ROWS 0 0 0 0 0 0 0 0 0 0 0 0 0 0 0 0 0 0 0 0 0 0 0 0 0 0 0
-SUM 0
-";
-
-/// `NO_PRICES` with other prices, whose sum is 2. The first bar's price is higher than the costs allow.
-pub const HIGHER: &str = "CARD 1 DAY 9
-LUG 1 R 6
-SETTINGS 1
-BARS 2 1 0 0 0 0 0 0 0 0 0 0 0 0 0 0 0 0 0 0 0 0 0 0 0 0 0
-ROWS -1 0 0 0 0 0 0 0 0 0 0 0 0 0 0 0 0 0 0 0 0 0 0 0 0 0 0
-SUM 2
-";
-
-/// A card that leaves bar 1 as it is, and so takes two lines where one is enough.
-///
-/// The sum of its prices is 2, as if two lines were needed, but a price is too high.
-pub const TWO_LUGS: &str = "CARD 1 DAY 9
-LUG 2 R 6
-LUG 2 L 3
-SETTINGS 2
-BARS 2 0 0 0 0 0 0 0 0 0 0 0 0 0 0 0 0 0 0 0 0 0 0 0 0 0 0
-ROWS 0 0 0 0 0 0 0 0 0 0 0 0 0 0 0 0 0 0 0 0 0 0 0 0 0 0 0
-SUM 2
-";
-
-/// `TWO_LUGS` with prices by kind.
-pub const TWO_LUGS_BY_KIND: &str = "CARD 2 DAY 9
-LUG 2 R 6
-LUG 2 L 3
-SETTINGS 2
-BAR 0L-3 1 0
-BAR 0L-0R 25 0
-BAR 3-0R 1 2
-ROW 0-0 25 0
-ROW 0-3 1 0
-ROW 3-6 1 0
-SUM 2
-";
-
-/// A card that moves a bar's right lug to the right, so that the left lug can be moved too.
-pub const BOTH_LUGS: &str = "CARD 1 DAY 10
-LUG 1 R 6
-LUG 1 L 3
-SETTINGS 2
-BARS 2 0 0 0 0 0 0 0 0 0 0 0 0 0 0 0 0 0 0 0 0 0 0 0 0 0 0
-ROWS 0 0 0 0 0 0 0 0 0 0 0 0 0 0 0 0 0 0 0 0 0 0 0 0 0 0 0
-SUM 2
-";
-
-/// A card with no line and with prices 0, for cables AB and CD and the pairs BC and DE.
-pub const NO_LINE: &str = "CARD 2 DAY 8
-SETTINGS 0
-CABLE AB 1 0
-CABLE CD 1 0
-CABLE - 11 0
-PAIR BC 1 0
-PAIR DE 1 0
-PAIR - 11 0
-SUM 0
-";
-
-/// `M1` with an empty slot; it isn't ready.
-pub const UNREADY: &str = "version = 1
-model = \"Enigma I\"
-reflector = \"B\"
-slots = [\"I\", \"\", \"III\"]
-rings = \"AAAAA\"
-letters = \"AAAAA\"
-";
-
-/// A Converter M-209 that differs from its day in each pin, each letter, and both lugs of each bar.
-pub const FARTHEST: &str = "version = 1
-model = \"M-209\"
-letters = \"BBBBBB\"
-pins = [\"\", \"\", \"\", \"\", \"\", \"\"]
-bars = [
-    \"1-2\", \"1-2\", \"1-2\", \"1-2\", \"1-2\", \"1-2\", \"1-2\", \"1-2\", \"1-2\",
-    \"1-2\", \"1-2\", \"1-2\", \"1-2\", \"1-2\", \"1-2\", \"1-2\", \"1-2\", \"1-2\",
-    \"1-2\", \"1-2\", \"1-2\", \"1-2\", \"1-2\", \"1-2\", \"1-2\", \"1-2\", \"1-2\",
-]
-";
-
-/// A sheet with a day for each of the machines above.
-pub const SHEET: &str = "[[day]]
-day = 3
-model = \"M3\"
-reflector = \"B\"
-wheels = [\"I\", \"II\", \"III\"]
-rings = \"AAA\"
-window = \"AAA\"
-plugs = []
-groups = [\"ZUG\"]
-
-[[day]]
-day = 1
-model = \"M4\"
-reflector = \"b\"
-wheels = [\"Beta\", \"I\", \"II\", \"III\"]
-rings = \"AAAA\"
-window = \"AAAA\"
-plugs = []
-groups = [\"ZUG\"]
-
-[[day]]
-day = 8
-model = \"Enigma I\"
-reflector = \"B\"
-wheels = [\"I\", \"II\", \"III\"]
-rings = \"AAA\"
-window = \"AAA\"
-plugs = [\"BC\", \"DE\"]
-
-[[day]]
-day = 9
-model = \"M-209\"
-rows = [
-    \"0-3\", \"3-6\", \"0-0\", \"0-0\", \"0-0\", \"0-0\", \"0-0\", \"0-0\", \"0-0\",
-    \"0-0\", \"0-0\", \"0-0\", \"0-0\", \"0-0\", \"0-0\", \"0-0\", \"0-0\", \"0-0\",
-    \"0-0\", \"0-0\", \"0-0\", \"0-0\", \"0-0\", \"0-0\", \"0-0\", \"0-0\", \"0-0\",
-]
-pins = [\"P\", \"O\", \"\", \"\", \"\", \"\"]
-window = \"AAAAAA\"
-list = \"QV\"
-
-[[day]]
-day = 10
-model = \"M-209\"
-rows = [
-    \"3-6\", \"0-0\", \"0-0\", \"0-0\", \"0-0\", \"0-0\", \"0-0\", \"0-0\", \"0-0\",
-    \"0-0\", \"0-0\", \"0-0\", \"0-0\", \"0-0\", \"0-0\", \"0-0\", \"0-0\", \"0-0\",
-    \"0-0\", \"0-0\", \"0-0\", \"0-0\", \"0-0\", \"0-0\", \"0-0\", \"0-0\", \"0-0\",
-]
-pins = [\"P\", \"O\", \"\", \"\", \"\", \"\"]
-window = \"AAAAAA\"
-list = \"QV\"
-
-[[day]]
-day = 11
-model = \"Enigma I\"
-reflector = \"B\"
-wheels = [\"I\", \"II\", \"III\"]
-rings = \"AAA\"
-window = \"AAA\"
-plugs = []
-
-[[day]]
-day = 12
-model = \"Enigma I\"
-reflector = \"B\"
-wheels = [\"I\", \"II\", \"III\"]
-rings = \"AAA\"
-window = \"AAA\"
-plugs = []
-
-[[day]]
-day = 13
-model = \"M-209\"
-rows = [
-    \"3-4\", \"3-4\", \"3-4\", \"3-4\", \"3-4\", \"3-4\", \"3-4\", \"3-4\", \"3-4\",
-    \"3-4\", \"3-4\", \"3-4\", \"3-4\", \"3-4\", \"3-4\", \"3-4\", \"3-4\", \"3-4\",
-    \"3-4\", \"3-4\", \"3-4\", \"3-4\", \"3-4\", \"3-4\", \"3-4\", \"3-4\", \"3-4\",
-]
-pins = [
-    \"ABCDEFGHIJKLMNOPQRSTUVWXYZ\",
-    \"ABCDEFGHIJKLMNOPQRSTUVXYZ\",
-    \"ABCDEFGHIJKLMNOPQRSTUVX\",
-    \"ABCDEFGHIJKLMNOPQRSTU\",
-    \"ABCDEFGHIJKLMNOPQRS\",
-    \"ABCDEFGHIJKLMNOPQ\",
-]
-window = \"AAAAAA\"
-list = \"QV\"
-
-[[day]]
-day = 15
-model = \"M-209\"
-rows = [
-    \"0-0\", \"0-0\", \"0-0\", \"0-0\", \"0-0\", \"0-0\", \"0-0\", \"0-0\", \"0-0\",
-    \"0-0\", \"0-0\", \"0-0\", \"0-0\", \"0-0\", \"0-0\", \"0-0\", \"0-0\", \"0-0\",
-    \"0-0\", \"0-0\", \"0-0\", \"0-0\", \"0-0\", \"0-0\", \"0-0\", \"0-0\", \"0-0\",
-]
-pins = [\"\", \"\", \"\", \"\", \"\", \"\"]
-window = \"AAAAAA\"
-list = \"QV\"
-
-[[day]]
-day = 16
-model = \"Enigma I\"
-reflector = \"B\"
-wheels = [\"I\", \"II\", \"III\"]
-rings = \"AAA\"
-window = \"AAA\"
-plugs = [\"CF\"]
-
-[[day]]
-day = 17
-model = \"Enigma I\"
-reflector = \"B\"
-wheels = [\"I\", \"II\", \"III\"]
-rings = \"AAA\"
-window = \"AAA\"
-plugs = []
-groups = [\"ZUG\"]
-
-[[day]]
-day = 31
-model = \"M4\"
-reflector = \"c\"
-wheels = [\"Gamma\", \"I\", \"II\", \"III\"]
-rings = \"AAAA\"
-window = \"AAAA\"
-plugs = []
 ";
 
 /// A Converter M-209 without effective pins, whose bars have different standings.

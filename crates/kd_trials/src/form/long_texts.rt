@@ -1,7 +1,7 @@
 //! Tests of texts that fill whole parts, up to all 99 parts.
 use super::samples::{KEYS, PIN_KEYS, order_of};
 use crate::machines::{IDLE, Keyed, PLAIN, Told, keyed};
-use kd_form::{FormFault, receive, receive_stream, send, send_stream};
+use kd_form::{receive, receive_stream, send, send_stream};
 use kd_tables::{MemorySink, MemorySource};
 use std::alloc::Global;
 use std::process::Abort;
@@ -160,36 +160,5 @@ fn long_texts_are_sent_and_received(rt: HostRuntime) -> Result<(), Fail> {
     for case in &CASES {
         is_sent_and_received(&rt, rt.alloc(), case)?;
     }
-    Ok(())
-}
-
-/// Checks that the form has the fault `PartOrder`, and that the stream writes `letters` letters A before it.
-fn is_out_of_order(
-    rt: &impl Abort,
-    alloc: Global,
-    (machine, day): &Keyed,
-    form: &[u8],
-    letters: usize,
-) {
-    let fault = receive(alloc, machine, day, form).err();
-    assert!(rt; fault == Some(FormFault::PartOrder));
-    let mut source = MemorySource::new(form, 7, None);
-    let mut sink = MemorySink::<512>::new(512);
-    let fault = receive_stream(machine, day, &mut source, &mut sink).err();
-    assert!(rt; fault == Some(FormFault::PartOrder));
-    assert!(rt; sink.taken().len() == letters && sink.taken().iter().all(|byte| *byte == b'A'));
-}
-
-#[test]
-fn parts_are_missing_or_exchanged(rt: HostRuntime) -> Result<(), Fail> {
-    let keyed = keyed(&rt, rt.alloc(), &PLAIN);
-    let order = order_of(rt.alloc(), KEYS, 2, 246)?;
-    let form = send(rt.alloc(), &keyed.0, &keyed.1, order.as_bytes())?;
-    let (first, second) = form.as_slice().split_at_checked(321).ok_or("two parts")?;
-    let mut exchanged = Vec::new(rt.alloc());
-    exchanged.extend_from_slice(second)?;
-    exchanged.extend_from_slice(first)?;
-    is_out_of_order(&rt, rt.alloc(), &keyed, first, 245);
-    is_out_of_order(&rt, rt.alloc(), &keyed, exchanged.as_slice(), 0);
     Ok(())
 }

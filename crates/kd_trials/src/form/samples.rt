@@ -1,28 +1,7 @@
 //! Sample machines with their days, orders and forms.
 use crate::machines::Told;
-use crate::named::TextName::{
-    AllMet, DayOf1941, DayOfAllMet, DayOfM4, M1, M4AsEnigma, PlainDay, TenCables,
-};
-use kd_form::FormFault;
+use crate::named::TextName::{AllMet, DayOf1941, DayOfAllMet, DayOfM4, M4AsEnigma, TenCables};
 use std::alloc::{AllocError, Global};
-
-/// `M1` with other letters in its windows, on its day.
-///
-/// `OFF_KEY` is `M1` with another ring, and `UNREADY` is `M1` with one letter in a cable.
-pub const TURNED: Told = (
-    (M1, "letters = \"AAAAA\"", "letters = \"QRSAA\""),
-    (PlainDay, "", ""),
-);
-
-pub const OFF_KEY: Told = (
-    (M1, "rings = \"AAAAA\"", "rings = \"BAAAA\""),
-    (PlainDay, "", ""),
-);
-
-pub const UNREADY: Told = (
-    (M1, "version = 1", "version = 1\ncables = [\"A\"]"),
-    (PlainDay, "", ""),
-);
 
 /// An M4 that acts as `M1`.
 pub const FOUR_WHEELS: Told = ((M4AsEnigma, "", ""), (DayOfM4, "", ""));
@@ -49,12 +28,6 @@ pub enum Way {
     Sent,
     Received,
 }
-
-/// An order or a form, what is written, and then the fault, if there is one.
-pub type Case = (&'static str, &'static str, Option<FormFault>);
-
-/// The most bytes that a source gives at once: each test uses each of these numbers.
-pub static PIECES: [usize; 3] = [1, 2, 7];
 
 /// A line of keys for `M1`, and one for a Converter without effective pins.
 pub const KEYS: &str = "PART AAA AAA QX UGZ\n";

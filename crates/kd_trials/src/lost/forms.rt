@@ -2,7 +2,6 @@
 use super::places::is_text;
 use crate::form::samples::TWO_PARTS;
 use crate::machines::{PLAIN, keyed};
-use kd_form::receive;
 use kd_lost::{DamagedFormFault, DamagedPart, PartDamage, read_damaged_form};
 use std::process::Abort;
 use std::test::Fail;
@@ -66,15 +65,6 @@ fn damaged_forms_are_read(rt: HostRuntime) -> Result<(), Fail> {
             .ok_or("memory")?;
         are_read(&rt, parts.as_slice(), due);
     }
-    Ok(())
-}
-
-/// A form of two parts is received as `receive` does.
-#[test]
-fn a_whole_form_is_read_as_received(rt: HostRuntime) -> Result<(), Fail> {
-    let keyed = keyed(&rt, rt.alloc(), &PLAIN);
-    let text = receive(rt.alloc(), &keyed.0, &keyed.1, TWO_PARTS.as_bytes())?;
-    assert_eq!(&rt; text.as_slice(), b"AAAAAAAAAA\n".as_slice());
     Ok(())
 }
 
