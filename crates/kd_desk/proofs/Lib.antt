@@ -1,10 +1,7 @@
 pub mod Prelude
 pub mod Applying
-pub mod CommandLines
 pub mod Exclusions
-pub mod Grammars
 pub mod Runs
-pub mod SaidCommands
 mod Days
 mod Printing
 mod Checking

@@ -1,18 +1,11 @@
 -- Names from std and from other crates that the proofs of this crate use.
-pub use Rattle.std.proofs.Common.{Bool, Bor, Err, IfOk, IfSome, IsErr, IsErrAnd, IsFalse, IsSomeAnd, IsTrue, List}
-pub use Rattle.std.proofs.Common.{MatchResult, None, Ok, Option, Result, Some, [], ap, append_assoc, ap₂, arith, codes}
-pub use Rattle.std.proofs.Common.{decimal, false, inl, inr, is_ok, length, map, option_map, refl, rules, subst}
-pub use Rattle.std.proofs.Common.{sym, take, true, ℕ, ◌++◌, ◌+◌, ◌-◌, ◌||◌, ◌∙◌, ◌∷◌, ◌≡◌, ◌≢◌, ◌≤◌}
-pub use Rattle.std.proofs.Common.{◌⊎◌}
+pub use Rattle.std.proofs.Common.{Bool, Err, IfOk, IfSome, IsErr, IsErrAnd, IsFalse, IsTrue, List, MatchResult, None}
+pub use Rattle.std.proofs.Common.{Ok, Option, Result, Some, [], ap, append_assoc, arith, false, inl, inr, is_ok, length}
+pub use Rattle.std.proofs.Common.{refl, rules, subst, sym, true, ℕ, ◌++◌, ◌+◌, ◌-◌, ◌||◌, ◌∙◌, ◌∷◌, ◌≡◌, ◌≢◌, ◌≤◌, ◌⊎◌}
 pub use Rattle.std.{proofs.lemmas.Option.same_Some, specs.Io.KnownBytes.{Appends, Consumes}, specs.Option.ok_or}
-pub use Rattle.clap.specs.Simple.{app_of_fields}
-pub use Rattle.clap.specs.Words.{App, FailsBy, HasKind, HasMatchesOf, Row, app_of, fault_of, first_of, first_value}
-pub use Rattle.clap.specs.Words.{found_of, is_simple, is_simple_and_free, kind_of, new_app, new_rule, rows_of, rule_of}
-pub use Rattle.clap.specs.Words.{subcommand_of, subcommand_rows_of}
-pub use Rattle.{clap.specs.declared.builder.arg.Arg.Arg, kd_card.specs.CardText.IsCard}
+pub use Rattle.kd_card.specs.CardText.{IsCard}
 pub use Rattle.kd_card.specs.declared.prices.PriceParts.{PriceParts}
-pub use Rattle.kd_desk.specs.CommandLine.{IsActionOf, IsCommandOf, NamedCommand, NamedAction, IsCommandLineOf}
-pub use Rattle.kd_desk.specs.CommandLine.{unborrowed_command}
+pub use Rattle.kd_command.specs.CommandLine.{NamedCommand, IsCommandLineOf, unborrowed_command}
 pub use Rattle.kd_host.specs.Files.{AreAskedFor, AskedName, MissesOne, IsReadWhole, KnownFile}
 pub use Rattle.kd_tables.specs.Answers.{AgreesOrNoMemory}
 pub use Rattle.kd_host.specs.Files.{asked_and_had, asked_and_missed, known_file}
@@ -27,6 +20,6 @@ pub use Rattle.kd_desk.specs.Settings.{AreSettings, InCard, InList, IsSettingsFa
 pub use Rattle.kd_desk.specs.declared.{fault.DeskFault.DeskFault, stop.Stop.Stop, stop.Stop.TheVariants.{Unread, Usage}}
 pub use Rattle.{kd_form.specs.declared.fault.FormFault.FormFault, kd_sheet.specs.MachineFile.machine_of}
 pub use Rattle.kd_state.specs.{Machine.IsMachine, Setting.{Leads, Refuses}}
-pub use Rattle.kd_state.specs.{SheetDay.{Day, IsDayNumber, IsLegalDay, day_number}, declared.machine.parts.Parts.Parts}
+pub use Rattle.kd_state.specs.{SheetDay.{Day, IsLegalDay, day_number}, declared.machine.parts.Parts.Parts}
 pub use Rattle.kd_state.specs.declared.setting.Setting.{Setting}
 pub use Rattle.kd_tables.specs.{Ports.{FailureAgrees, KeepsFailureFlag, Port, port, read_limit}, Writing.TakesPrefix}

@@ -3,14 +3,12 @@ use Rattle.kd_desk.specs.{Program.is_stopped_before_message, CallAnswers.is_refu
 use Rattle.kd_desk.specs.declared.{fault.DeskFault.DeskFault, fault.DeskFault.TheVariants.{Device, File}}
 use Rattle.kd_desk.specs.declared.stop.Stop.TheVariants.{ReadFailed, Refused}
 use Rattle.kd_sheet.specs.declared.fault.SheetFault.TheVariants.{NoMemory}
-use Rattle.kd_desk.{proofs.SaidCommands.same_command, specs.CommandLine.desk_grammar}
 use Rattle.kd_host.proofs.Failing.{err_is}
 use Rattle.kd_host.specs.declared.file_fault.FileFault.TheVariants as files
 use Rattle.{kd_host.specs.declared.file_fault.FileFault.FileFault, std.proofs.Common.arith}
 use Rattle.kd_desk.proofs.Prelude.{◌≡◌, ℕ, Bool, true, false, List, [], Option, Some, None, IfSome}
-use Rattle.kd_desk.proofs.Prelude.{IsErr, IsSomeAnd, Result, Ok, Err, IsErrAnd, IsTrue, refl, sym, ◌∙◌, subst}
-use Rattle.kd_desk.proofs.Prelude.{inl, inr, Row, subcommand_of, Stop, Unread, NamedCommand, IsCommandOf}
-use Rattle.kd_desk.proofs.Prelude.{IsCommandLineOf, KnownCommand, known_command, AreAskedFor, AsksFor, AskedName}
+use Rattle.kd_desk.proofs.Prelude.{IsErr, Result, Ok, Err, IsErrAnd, IsTrue, refl, sym, ◌∙◌, subst}
+use Rattle.kd_desk.proofs.Prelude.{inl, inr, Stop, Unread, NamedCommand, KnownCommand, known_command, AreAskedFor, AsksFor, AskedName}
 use Rattle.kd_desk.proofs.Prelude.{CarriesOut, IsCommandDone}
 use Rattle.kd_desk.proofs.Prelude.{AgreesOrNoMemory, KnownFile, Port, ◌≢◌, Usage}
 
@@ -45,17 +43,6 @@ module _ (names : List (List ℕ)) (asked : List AskedName) where
   pub asked_all : (May : Type 0) (command : KnownCommand) (source sink : Port) (answer : Result (Unit {0}) Stop)
       → IsCommandDone May command source sink answer → AreAskedFor names [] asked true → Asks answer
   asked_all May command source sink answer done asks = subst Asks (sym done.answers) (asks_after _ done.told asks)
-
--- ---- what the command line means
-
-said_by : (said : Option (List ℕ × List Row)) (one other : NamedCommand) → IsSomeAnd said (λ x. IsCommandOf x one)
-    → IsSomeAnd said (λ x. IsCommandOf x other) → one ≡ other
-said_by said one other e d = grind (arith, same_command)
-
--- a command line means at most one command
-pub said_command : (words : List (List ℕ)) (one other : NamedCommand) → IsCommandLineOf words one
-    → IsCommandLineOf words other → one ≡ other
-said_command words one other says same = said_by (subcommand_of desk_grammar words) one other says.said same.said
 
 -- ---- how a command was carried out
 

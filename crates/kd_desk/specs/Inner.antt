@@ -1,58 +1,21 @@
 -- What the contracts of inner functions say. No public contract cites these definitions.
-use Rattle.std.specs.Prelude.{◌≡◌, ℕ, Bool, false, List, [], map, fold, Option, Result, Ok, IfSome, IsTrue}
-use Rattle.std.specs.Borrow.{Bor}
-use Rattle.clap.specs.declared.builder.command.Command.{Command as Grammar, out-Command}
-use Rattle.clap.specs.Words.{App, app_of, Row, Shape}
-use Rattle.clap.specs.Simple.{with_subcommand}
+use Rattle.std.specs.Prelude.{◌≡◌, ℕ, Bool, false, List, Option, Result, Ok, IfSome, IsTrue}
 use Rattle.kd_tables.specs.Ports.{Port}
 use Rattle.kd_state.specs.declared.machine.parts.Parts.{Parts}
 use Rattle.kd_state.specs.SheetDay.{Day, day_number}
 use Rattle.kd_sheet.specs.MachineFile.{machine_of}
 use Rattle.kd_host.specs.Files.{KnownFile}
-use Rattle.kd_desk.specs.declared.command.Action.{Action}
-use Rattle.kd_desk.specs.declared.command.Task.{Task}
+use Rattle.kd_command.specs.declared.command.Action.{Action}
+use Rattle.kd_command.specs.declared.command.Task.{Task}
 use Rattle.kd_desk.specs.declared.fault.DeskFault.{DeskFault}
 use Rattle.kd_desk.specs.declared.stop.Stop.{Stop}
-use Rattle.kd_desk.specs.CommandLine.{NamedCommand, IsCommandOf, command_shape, task_stream}
-use Rattle.kd_desk.specs.CommandLine.{with_action_files, with_task_files}
+use Rattle.kd_command.specs.CommandLine.{task_stream, with_action_files, with_task_files}
 use Rattle.kd_desk.specs.Month.{AreWritten, CardAndFile}
 use Rattle.kd_desk.specs.OnDay.{IsAnswerOnDay, machine_and_day}
 use Rattle.kd_desk.specs.Program.{DoesTask, KnownTask, file_port, has_file_failed}
 use Rattle.kd_desk.specs.Stops.{stop_after}
 
--- ---- Building the grammar, and reading the arguments. No public contract cites these definitions.
-
--- a grammar whose only command is `shape`; this command has no subcommands
-abbrev pub app_without_subcommands : Shape → App
-app_without_subcommands shape = record { top = shape; subs = [] }
-
--- `command_shape`, but the names of the arguments are borrowed
-abbrev pub borrowed_shape : List ℕ → List (Bor (List ℕ)) → Shape
-borrowed_shape name words = command_shape name (map (λ word. word.now) words)
-
--- the grammar `app` with `commands` added as subcommands, each with the names of its arguments
-abbrev pub with_commands : App → List (Bor (List ℕ) × Bor (List (Bor (List ℕ)))) → App
-with_commands app commands = fold (λ a command. with_subcommand a (borrowed_shape command.0.now command.1.now)) app
-    commands
-
--- `grammar` is the command `name` with an argument for each of `words`, and no argument is global.
-pub record IsMadeOf (grammar : Grammar) (name : List ℕ) (words : List (Bor (List ℕ))) : Type 0 where
-  pub shape : app_of grammar ≡ app_without_subcommands (borrowed_shape name words)
-  pub local : (out-Command grammar).has_globals ≡ false
-
--- No command has this name and these values of its arguments.
-abbrev pub IsNoCommand : List ℕ × List Row → Type 0
-IsNoCommand said = (command : NamedCommand) → ¬ (IsCommandOf said command)
-
 -- ---- Reading and carrying out a part of a command. No public contract cites these definitions.
-
--- the task, with its borrowed file names replaced by the names themselves
-abbrev pub unborrowed_task : Task (Bor (List ℕ)) (Bor (List ℕ)) → Task (List ℕ) (List ℕ)
-unborrowed_task task = with_task_files (λ name. name.now) (λ name. name.now) task
-
--- the action, with its borrowed file names replaced by the names themselves
-abbrev pub unborrowed_action : Action (Bor (List ℕ)) (Bor (List ℕ)) → Action (List ℕ) (List ℕ)
-unborrowed_action action = with_action_files (λ name. name.now) (λ name. name.now) action
 
 -- the task, with `g` applied to the file that is streamed
 abbrev pub with_task_stream : {F O P : Type 0} → (O → P) → Task F O → Task F P

@@ -1,4 +1,3 @@
-pub mod CommandLine
 pub mod Program
 pub mod Laws
 pub mod Messages

@@ -7,14 +7,14 @@ use Rattle.kd_sheet.specs.declared.fault.SheetFault.TheVariants.{NoMemory}
 use Rattle.kd_sheet.specs.MachineFile.{machine_of}
 use Rattle.kd_state.specs.declared.machine.parts.Parts.{Parts}
 use Rattle.kd_state.specs.SheetDay.{Day}
-use Rattle.kd_desk.specs.CommandLine.{IsCommandLineOf, IsNoCommandLine, files_of, NamedCommand, NamedAction, NamedTask}
-use Rattle.kd_desk.specs.CommandLine.{with_command_stream, command_stream}
-use Rattle.kd_desk.specs.declared.command.Command.{Command}
-use Rattle.kd_desk.specs.declared.command.Action.{Action}
-use Rattle.kd_desk.specs.declared.command.Action.TheVariants as actions
-use Rattle.kd_desk.specs.declared.command.Task.{Task}
-use Rattle.kd_desk.specs.declared.command.Task.TheVariants as tasks
-use Rattle.kd_desk.specs.declared.command.Direction.TheVariants.{Send, Receive}
+use Rattle.kd_command.specs.CommandLine.{IsCommandLineOf, IsNoCommandLine, files_of, NamedCommand, NamedAction, NamedTask}
+use Rattle.kd_command.specs.CommandLine.{with_command_stream, command_stream}
+use Rattle.kd_command.specs.declared.command.Command.{Command}
+use Rattle.kd_command.specs.declared.command.Action.{Action}
+use Rattle.kd_command.specs.declared.command.Action.TheVariants as actions
+use Rattle.kd_command.specs.declared.command.Task.{Task}
+use Rattle.kd_command.specs.declared.command.Task.TheVariants as tasks
+use Rattle.kd_command.specs.declared.command.Direction.TheVariants.{Send, Receive}
 use Rattle.kd_desk.specs.declared.fault.DeskFault.{DeskFault}
 use Rattle.kd_desk.specs.declared.fault.DeskFault.TheVariants.{File}
 use Rattle.kd_host.specs.declared.file_fault.FileFault.{FileFault}

@@ -3,11 +3,18 @@
 use Rattle.std.specs.Prelude.{Bool, true, Result, Ok, Err}
 use Rattle.std.specs.declared.io.ErrorKind.{ErrorKind}
 use Rattle.std.specs.declared.io.ErrorKind.TheVariants.{OutOfMemory}
+use Rattle.kd_command.specs.declared.command.NoCommand.{NoCommand}
+use Rattle.kd_command.specs.declared.command.NoCommand.TheVariants as none
 use Rattle.kd_desk.specs.declared.fault.DeskFault.{DeskFault}
 use Rattle.kd_desk.specs.declared.fault.DeskFault.TheVariants.{File, Device}
 use Rattle.kd_sheet.specs.declared.fault.SheetFault.TheVariants.{NoMemory}
 use Rattle.kd_desk.specs.declared.stop.Stop.{Stop}
 use Rattle.kd_desk.specs.declared.stop.Stop.TheVariants.{Usage, ReadFailed, Refused}
+
+-- why the program stops if the command line gives no command
+abbrev pub stop_without_command : NoCommand → Stop
+stop_without_command none.Usage = Usage
+stop_without_command none.NoMemory = Refused (File NoMemory)
 
 -- why the command line can't be read, by the kind of the error: no memory, or an argument that isn't UTF-8
 abbrev pub stop_of_kind : ErrorKind → Stop

@@ -3,7 +3,6 @@
 //! `run_desk` is the whole program, from its command line to its output.
 #![tactic(auto)]
 
-mod command;
 mod fault;
 pub mod laws;
 mod list_or_card;
@@ -17,8 +16,10 @@ pub mod run_send;
 pub mod run_type;
 mod stop;
 
-pub use command::{Action, Command, Direction, NamedAction, NamedCommand, Task, parse_words};
 pub use fault::DeskFault;
+pub use kd_command::{
+    Action, Command, Direction, NamedAction, NamedCommand, NoCommand, Task, parse_words,
+};
 pub use kd_host::{
     AskedNames, Content, FileFault, Files, HostFile, HostFiles, ReaderSource, WriterSink,
     read_whole,

@@ -1,20 +1,20 @@
 //! The program: reads the command line and the files, and carries the command out.
 ghost use Rattle.std.specs.Prelude.{◌≡◌, ◌≤◌, ◌⊎◌, ◌||◌, [], false, map, length, Err, IfSome, IfOk, IsTrue, is_ok};
-ghost use Rattle.kd_desk.specs.CommandLine.{unborrowed_command, files_of};
-ghost use Rattle.kd_desk.specs.CommandLine.{action_files, task_files, with_command_stream};
-ghost use Rattle.kd_desk.specs.CommandLine.{command_stream, action_stream, task_stream};
-ghost use Rattle.kd_desk.specs.CommandLine.{IsCommandLineOf, IsNoCommandLine};
+ghost use Rattle.kd_command.specs.CommandLine.{unborrowed_command, files_of};
+ghost use Rattle.kd_command.specs.CommandLine.{action_files, task_files, with_command_stream};
+ghost use Rattle.kd_command.specs.CommandLine.{command_stream, action_stream, task_stream};
+ghost use Rattle.kd_command.specs.CommandLine.{IsCommandLineOf, IsNoCommandLine};
 ghost use Rattle.kd_desk.specs.Program.{known_command, known_action, known_task, AsksFor, CarriesOutKnown};
 ghost use Rattle.kd_desk.specs.Program.{DoesTask, IsCommandDone, HasEnded, IsRun, StopsForMemory};
 ghost use Rattle.kd_desk.specs.Program.{is_stopped_before_message, is_stopped_by_port};
-ghost use Rattle.kd_desk.specs.Inner.{unborrowed_action, unborrowed_task, with_action_stream, with_task_stream};
+ghost use Rattle.kd_command.specs.CommandLine.{unborrowed_action, unborrowed_task};
+ghost use Rattle.kd_desk.specs.Inner.{with_action_stream, with_task_stream};
 ghost use Rattle.kd_desk.specs.Inner.{HasNoFailedRead, IsTaskDone};
 ghost use Rattle.kd_host.specs.Files.{AreAskedFor, CanFail, IsReadAnswer, known_file};
 ghost use Rattle.kd_desk.specs.OnDay.{IsAnswerOnDay};
 ghost use Rattle.kd_tables.specs.Ports.{FailureAgrees, port};
 ghost use Rattle.kd_desk.specs.CallAnswers.{is_device, is_refused_before_message};
 
-use crate::command::{Action, Command, Direction, NamedAction, NamedCommand, Task, parse_words};
 use crate::fault::DeskFault;
 use crate::run_apply::run_apply;
 use crate::run_card::run_card;
@@ -23,6 +23,7 @@ use crate::run_receive::run_receive;
 use crate::run_send::run_send;
 use crate::run_type::run_type;
 use crate::stop::{Stop, end_program};
+use kd_command::{Action, Command, Direction, NamedAction, NamedCommand, Task, parse_words};
 use kd_host::{Content, FileFault, Files};
 use kd_tables::{Sink, Source};
 use std::alloc::Global;

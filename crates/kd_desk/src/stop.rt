@@ -5,6 +5,7 @@ ghost use Rattle.kd_desk.specs.Ending.{status_of, stop_line, EndsAs};
 ghost use Rattle.kd_desk.specs.Stops.{stop_after};
 
 use crate::fault::DeskFault;
+use kd_command::NoCommand;
 use kd_host::{FileFault, Line, end_with_line, refused_line};
 use kd_tables::Sink;
 use std::alloc::AllocError;
@@ -93,6 +94,20 @@ impl From<FileFault> for Stop {
 
     fn from(fault: FileFault) -> Stop {
         Stop::Unread(fault)
+    }
+}
+
+impl From<NoCommand> for Stop {
+    ghost use Rattle.std.specs.Prelude.{◌≡◌};
+    ghost use Rattle.kd_desk.specs.Stops.{stop_without_command};
+
+    ghost from_gives = { λ why stop. stop ≡ stop_without_command why };
+
+    fn from(why: NoCommand) -> Stop {
+        match why {
+            NoCommand::Usage => Stop::Usage,
+            NoCommand::NoMemory => Stop::from(AllocError),
+        }
     }
 }
 

@@ -1,4 +1,5 @@
-use Rattle.kd_desk.proofs.{Prelude.{arith, unborrowed_command}, Runs.{asked_all, asked_yet, said_command, done, unread}}
+use Rattle.kd_desk.proofs.{Prelude.{arith, unborrowed_command}, Runs.{asked_all, asked_yet, done, unread}}
+use Rattle.kd_command.proofs.SaidCommands.{said_command}
 use Rattle.kd_desk.proofs.program.run_words.Goals as goal
 
 pub returns-in_err-command-2-clause-carried : goal.returns-in_err-command-2-clause-carried

@@ -1,6 +1,6 @@
-use Rattle.kd_desk.proofs.Prelude.{arith, ap, first_of, found_of, refl, rows_of, rules, sym, ◌∙◌}
-use Rattle.kd_desk.proofs.CommandLines.{read_none, read_some}
-use Rattle.kd_desk.proofs.command.message_of.Goals as goal
+use Rattle.kd_command.proofs.Prelude.{arith, ap, first_of, found_of, refl, rows_of, rules, sym, ◌∙◌}
+use Rattle.kd_command.proofs.CommandLines.{read_none, read_some}
+use Rattle.kd_command.proofs.command.message_of.Goals as goal
 
 pub returns-in_err-sheet-clause-none : goal.returns-in_err-sheet-clause-none
 returns-in_err-sheet-clause-none c = grind (arith, c.in_err-sheet.ensures.none)

@@ -1,13 +1,14 @@
 -- Commands, and the values of their arguments as clap finds them.
-use Rattle.kd_desk.proofs.Prelude.{◌≡◌, ◌≢◌, ℕ, List, Option, Some, None, Bor, decimal, option_map, sym, ap, ◌∙◌}
-use Rattle.kd_desk.proofs.Prelude.{Result, Ok, IfSome, IfOk, true, [], refl, subst, App, FailsBy, HasKind, HasMatchesOf}
-use Rattle.kd_desk.proofs.Prelude.{Row, fault_of, first_of, first_value, is_simple, is_simple_and_free, kind_of}
-use Rattle.kd_desk.proofs.Prelude.{rows_of, subcommand_of, subcommand_rows_of, same_Some, IsDayNumber, Stop, Usage}
-use Rattle.kd_desk.proofs.Prelude.{NamedCommand, IsCommandOf, IsCommandLineOf, arith}
+use Rattle.kd_command.proofs.Prelude.{◌≡◌, ◌≢◌, ℕ, List, Option, Some, None, Bor, decimal, option_map, sym, ap, ◌∙◌}
+use Rattle.kd_command.proofs.Prelude.{Result, Ok, IfSome, IfOk, true, [], refl, subst, App, FailsBy, HasKind, HasMatchesOf}
+use Rattle.kd_command.proofs.Prelude.{Row, fault_of, first_of, first_value, is_simple, is_simple_and_free, kind_of}
+use Rattle.kd_command.proofs.Prelude.{rows_of, subcommand_of, subcommand_rows_of, same_Some, IsDayNumber}
+use Rattle.kd_command.proofs.Prelude.{NamedCommand, IsCommandOf, IsCommandLineOf, arith}
 use Rattle.clap.proofs.{OnLiterals.clap_on_literals, WalkLemmas.first_value-rows}
 use Rattle.clap.specs.declared.error.{Error.Error, kind.ErrorKind.TheVariants.OutOfMemory}
+use Rattle.kd_command.specs.declared.command.NoCommand.TheVariants.{Usage}
 use Rattle.clap.specs.declared.parser.matches.{ArgMatches.ArgMatches, Found.Found}
-use Rattle.{kd_desk.specs.{CommandLine.desk_grammar, declared.command.Command.Command}, std.proofs.Common.ok_or}
+use Rattle.{kd_command.specs.{CommandLine.desk_grammar, declared.command.Command.Command, declared.command.NoCommand.NoCommand}, std.proofs.Common.ok_or}
 
 -- a command with borrowed file names
 abbrev LentCommand : Type 0
@@ -78,7 +79,7 @@ pub name_with_rows : {X : Type 0} (entered : Option X) (name : X → List ℕ) (
 name_with_rows entered name rows n r is is_rows = grind (arith)
 
 -- what holds of a command that was found holds of the answer, if the answer is `Ok`
-pub ok_said : (said : Option LentCommand) (answer : Result LentCommand Stop) (P Q : LentCommand → Type 0)
+pub ok_said : (said : Option LentCommand) (answer : Result LentCommand NoCommand) (P Q : LentCommand → Type 0)
     → answer ≡ ok_or said Usage
     → ((command : LentCommand) → P command → Q command) → IfSome said P → IfOk answer Q
 ok_said said answer P Q e d g = grind arith

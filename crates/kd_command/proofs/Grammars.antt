@@ -1,9 +1,9 @@
 -- The desk's grammar as it is built: without help, argument by argument and command by command.
-use Rattle.kd_desk.proofs.Prelude.{arith, ◌≡◌, ◌∙◌, [], ◌∷◌, ◌++◌, ℕ, List, true, false, ap, ap₂, sym, subst, App}
-use Rattle.kd_desk.proofs.Prelude.{app_of, rule_of, new_rule, app_of_fields, Arg, Bor}
+use Rattle.kd_command.proofs.Prelude.{arith, ◌≡◌, ◌∙◌, [], ◌∷◌, ◌++◌, ℕ, List, true, false, ap, ap₂, sym, subst, App}
+use Rattle.kd_command.proofs.Prelude.{app_of, rule_of, new_rule, app_of_fields, Arg, Bor}
 use Rattle.clap.specs.{Built.AddsArg, Built.AddsSubcommand, Simple.new_app, Simple.with_subcommand}
 use Rattle.clap.specs.declared.builder.command.Command.{Command, TheOpen.Command-F, TheViews.out-Command}
-use Rattle.{kd_desk.specs.Inner.{IsMadeOf, borrowed_shape}, std.proofs.lemmas.List.map-append}
+use Rattle.{kd_command.specs.Inner.{IsMadeOf, borrowed_shape}, std.proofs.lemmas.List.map-append}
 
 abbrev pub without_help : App → App
 without_help a = record a { top = record a.top { disable_help_flag = true } }

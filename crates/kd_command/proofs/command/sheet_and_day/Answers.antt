@@ -1,6 +1,6 @@
-use Rattle.kd_desk.proofs.Prelude.{arith, Some, ap, codes, found_of, rules, sym, ◌∙◌}
-use Rattle.kd_desk.proofs.CommandLines.{read_none, read_some, other_word}
-use Rattle.kd_desk.proofs.command.sheet_and_day.Goals as goal
+use Rattle.kd_command.proofs.Prelude.{arith, Some, ap, codes, found_of, rules, sym, ◌∙◌}
+use Rattle.kd_command.proofs.CommandLines.{read_none, read_some, other_word}
+use Rattle.kd_command.proofs.command.sheet_and_day.Goals as goal
 
 pub returns-in_err-sheet-clause-none : goal.returns-in_err-sheet-clause-none
 returns-in_err-sheet-clause-none c = grind (arith, read_none)

@@ -1,7 +1,7 @@
-use Rattle.kd_desk.{proofs.Grammars.one_command_more, proofs.Prelude.{Bor, List, [], ℕ, ap, sym, ◌∙◌}}
-use Rattle.kd_desk.specs.Inner.{with_commands}
+use Rattle.kd_command.{proofs.Grammars.one_command_more, proofs.Prelude.{Bor, List, [], ℕ, ap, sym, ◌∙◌}}
+use Rattle.kd_command.specs.Inner.{with_commands}
 use Rattle.std.proofs.lemmas.{List.Sums.fold_more, List.take_all}
-use Rattle.kd_desk.proofs.command.with_commands.Goals as goal
+use Rattle.kd_command.proofs.command.with_commands.Goals as goal
 
 pub loop-name-preserved : goal.loop-name-preserved
 loop-name-preserved c =

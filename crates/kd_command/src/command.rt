@@ -1,16 +1,13 @@
 //! The desk's commands, and the parser of the desk's command line.
-ghost use Rattle.std.specs.Prelude.{◌≡◌, ◌≢◌, [], ◌∷◌, ℕ, List, false, codes, map, Err, IfSome, IfOk, IfErr};
+ghost use Rattle.std.specs.Prelude.{◌≡◌, ◌≢◌, [], ◌∷◌, ℕ, List, false, codes, map, Err, IfSome, IfOk};
 ghost use Rattle.clap.specs.Words.{App, app_of, found_of, kind_of, rows_of};
-ghost use Rattle.kd_desk.specs.CommandLine.{direction_name, direction_word, desk_grammar};
-ghost use Rattle.kd_desk.specs.Inner.{IsMadeOf, IsNoCommand, unborrowed_action, with_commands};
-ghost use Rattle.kd_desk.specs.CommandLine.{unborrowed_command, HaveSheetAndDay, IsActionOf};
-ghost use Rattle.kd_desk.specs.CommandLine.{IsCommandOf, IsCommandLineOf, IsNoCommandLine};
+ghost use Rattle.kd_command.specs.CommandLine.{direction_name, direction_word, desk_grammar};
+ghost use Rattle.kd_command.specs.Inner.{IsMadeOf, IsNoCommand, with_commands};
+ghost use Rattle.kd_command.specs.CommandLine.{unborrowed_action, unborrowed_command, HaveSheetAndDay, IsActionOf};
+ghost use Rattle.kd_command.specs.CommandLine.{IsCommandOf, IsCommandLineOf, IsNoCommandLine};
 
-use crate::fault::DeskFault;
-use crate::stop::Stop;
 use clap::error::ErrorKind;
 use clap::{Arg, ArgMatches, Command as Grammar, Error};
-use kd_sheet::SheetFault;
 use kd_state::day_of_text;
 use std::alloc::{AllocError, Global};
 use std::convert::AsStr;
@@ -83,26 +80,46 @@ pub type NamedCommand<'a> = Command<&'a str, &'a str>;
 /// An action with the names of its files, before any file is read or opened.
 pub type NamedAction<'a> = Action<&'a str, &'a str>;
 
+/// Why a command line gives no command.
+#[derive(Clone, Copy)]
+pub enum NoCommand {
+    /// The words aren't a command of the desk.
+    Usage,
+    /// Memory ran out.
+    NoMemory,
+}
+
+impl From<AllocError> for NoCommand {
+    ghost use Rattle.std.specs.Prelude.{◌≡◌};
+    ghost use Rattle.kd_command.specs.declared.command.NoCommand.TheVariants.{NoMemory};
+
+    ghost from_gives = { λ _ why. why ≡ NoMemory };
+
+    fn from(_: AllocError) -> NoCommand {
+        NoCommand::NoMemory
+    }
+}
+
 /// Parses the command line `words`, which begins with the program's own name.
 ///
 /// A file name that begins with `-` must come after the argument `--`, unless the name is `-` alone. The argument
-/// `--` may come once, after the command's name. An invalid command line gives `Usage`; the only other error is
-/// lack of memory.
-pub fn parse_words<'a, S: AsStr>(alloc: Global, words: &'a [S]) -> Result<NamedCommand<'a>, Stop>
+/// `--` may come once, after the command's name. An invalid command line gives `Usage`.
+pub fn parse_words<'a, S: AsStr>(
+    alloc: Global,
+    words: &'a [S],
+) -> Result<NamedCommand<'a>, NoCommand>
     ensures said { IfOk result
         (λ command. IsCommandLineOf (map S.text words.entry.now) (unborrowed_command command)) }
-    ensures usage { result ≡ Err Stop.Usage → IsNoCommandLine (map S.text words.entry.now) }
-    ensures memory { IfErr result (λ stop. stop ≢ Stop.Usage
-        → stop ≡ Stop.Refused (DeskFault.File SheetFault.NoMemory)) }
+    ensures usage { result ≡ Err NoCommand.Usage → IsNoCommandLine (map S.text words.entry.now) }
 {
     let matches = match grammar(alloc)?.try_get_matches_from(words) {
         Ok(matches) => matches,
-        Err(error) => return Err(stop_of_error(&error)),
+        Err(error) => return Err(no_command(&error)),
     };
     let Some((name, words)) = matches.subcommand() else {
-        return Err(Stop::Usage);
+        return Err(NoCommand::Usage);
     };
-    command_of(name, words).ok_or(Stop::Usage)
+    command_of(name, words).ok_or(NoCommand::Usage)
 }
 
 /// The command named `name`; its file names and its day are the arguments in `words`.
@@ -246,14 +263,13 @@ fn command_grammar<'a>(
     Ok(command)
 }
 
-/// The `Stop` for a command line that can't be parsed: `Usage`, or lack of memory.
-fn stop_of_error(error: &Error) -> Stop
-    ensures memory { kind_of error.now ≡ ErrorKind.OutOfMemory
-        → result ≡ Stop.Refused (DeskFault.File SheetFault.NoMemory) }
-    ensures usage { kind_of error.now ≢ ErrorKind.OutOfMemory → result ≡ Stop.Usage }
+/// Why clap takes no command from the words: memory ran out, or the words aren't a command.
+fn no_command(error: &Error) -> NoCommand
+    ensures memory { kind_of error.now ≡ ErrorKind.OutOfMemory → result ≡ NoCommand.NoMemory }
+    ensures usage { kind_of error.now ≢ ErrorKind.OutOfMemory → result ≡ NoCommand.Usage }
 {
     match error.kind() {
-        ErrorKind::OutOfMemory => Stop::from(AllocError),
-        _ => Stop::Usage,
+        ErrorKind::OutOfMemory => NoCommand::NoMemory,
+        _ => NoCommand::Usage,
     }
 }

@@ -1,8 +1,8 @@
-use Rattle.kd_desk.proofs.Prelude.{arith, map, ℕ, List, Err, sym, ◌∙◌, Row, app_of, found_of, rows_of}
-use Rattle.kd_desk.proofs.Prelude.{unborrowed_command, IsCommandOf, IsCommandLineOf}
-use Rattle.kd_desk.proofs.CommandLines.{parse_fails_by, parse_takes, parse_enters, no_fault_said, no_subcommand_said}
-use Rattle.kd_desk.proofs.CommandLines.{said_subcommand, name_with_rows, ok_said}
-use Rattle.kd_desk.proofs.command.parse_words.Goals as goal
+use Rattle.kd_command.proofs.Prelude.{arith, map, ℕ, List, Err, sym, ◌∙◌, Row, app_of, found_of, rows_of}
+use Rattle.kd_command.proofs.Prelude.{unborrowed_command, IsCommandOf, IsCommandLineOf}
+use Rattle.kd_command.proofs.CommandLines.{parse_fails_by, parse_takes, parse_enters, no_fault_said, no_subcommand_said}
+use Rattle.kd_command.proofs.CommandLines.{said_subcommand, name_with_rows, ok_said}
+use Rattle.kd_command.proofs.command.parse_words.Goals as goal
 
 pub returns-in-Err-clause-usage : goal.returns-in-Err-clause-usage
 returns-in-Err-clause-usage g c =
@@ -10,7 +10,7 @@ returns-in-Err-clause-usage g c =
     λ usage. no_fault_said words c.in-Err.error
     (parse_fails_by (app_of c.in_ok-grammar.field-0) words
     (Err c.in-Err.error) c.in_ok-grammar.ensures c.in-Err.ensures.kinds)
-    (λ memory. cc (c.stop_of_error.ensures.memory memory))
+    (λ memory. cc (c.no_command.ensures.memory memory))
 
 pub returns-in_default-clause-usage : goal.returns-in_default-clause-usage
 returns-in_default-clause-usage g c =
@@ -43,6 +43,3 @@ returns-clause-usage g c =
     words c.in-Ok.matches c.in_ok-grammar.ensures c.in-Ok.ensures.matches)
     ∙ name_with_rows _ _ _ said.0 said.1 c.in-Some.ensures.name c.in-Some.ensures.rows in
     λ usage command says. c.command_of.ensures.none (grind arith) command (rw entered at says.said)
-
-pub returns-clause-memory : goal.returns-clause-memory
-returns-clause-memory g c = grind arith

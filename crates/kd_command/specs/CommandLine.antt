@@ -7,13 +7,13 @@ use Rattle.std.specs.Borrow.{Bor}
 use Rattle.clap.specs.Words.{App, Row, Shape, first_of, fault_of, new_rule, subcommand_of}
 use Rattle.clap.specs.Simple.{new_shape}
 use Rattle.kd_state.specs.SheetDay.{IsDayNumber}
-use Rattle.kd_desk.specs.declared.command.Command.{Command}
-use Rattle.kd_desk.specs.declared.command.Action.{Action}
-use Rattle.kd_desk.specs.declared.command.Action.TheVariants as actions
-use Rattle.kd_desk.specs.declared.command.Task.{Task}
-use Rattle.kd_desk.specs.declared.command.Task.TheVariants as tasks
-use Rattle.kd_desk.specs.declared.command.Direction.{Direction}
-use Rattle.kd_desk.specs.declared.command.Direction.TheVariants.{Send, Receive}
+use Rattle.kd_command.specs.declared.command.Command.{Command}
+use Rattle.kd_command.specs.declared.command.Action.{Action}
+use Rattle.kd_command.specs.declared.command.Action.TheVariants as actions
+use Rattle.kd_command.specs.declared.command.Task.{Task}
+use Rattle.kd_command.specs.declared.command.Task.TheVariants as tasks
+use Rattle.kd_command.specs.declared.command.Direction.{Direction}
+use Rattle.kd_command.specs.declared.command.Direction.TheVariants.{Send, Receive}
 
 -- the command `name` with an argument for each of `words`, without options or help
 abbrev pub command_shape : List ℕ → List (List ℕ) → Shape
@@ -84,6 +84,14 @@ with_action_files f g (actions.OnDay sheet day task) = actions.OnDay (f sheet) d
 
 abbrev pub with_files : {F G O P : Type 0} → (F → G) → (O → P) → Command F O → Command G P
 with_files f g command = record { machine = f command.machine; action = with_action_files f g command.action }
+
+-- the task, with its borrowed file names replaced by the names themselves
+abbrev pub unborrowed_task : Task (Bor (List ℕ)) (Bor (List ℕ)) → Task (List ℕ) (List ℕ)
+unborrowed_task task = with_task_files (λ name. name.now) (λ name. name.now) task
+
+-- the action, with its borrowed file names replaced by the names themselves
+abbrev pub unborrowed_action : Action (Bor (List ℕ)) (Bor (List ℕ)) → Action (List ℕ) (List ℕ)
+unborrowed_action action = with_action_files (λ name. name.now) (λ name. name.now) action
 
 -- the command, with its borrowed file names replaced by the names themselves
 abbrev pub unborrowed_command : Command (Bor (List ℕ)) (Bor (List ℕ)) → Command (List ℕ) (List ℕ)

@@ -1,6 +1,6 @@
-use Rattle.kd_desk.proofs.{Prelude.{ℕ, Bor, List, []}, Grammars.{first_word, one_word_more}}
+use Rattle.kd_command.proofs.{Prelude.{ℕ, Bor, List, []}, Grammars.{first_word, one_word_more}}
 use Rattle.std.proofs.lemmas.List.{take_more, take_all}
-use Rattle.kd_desk.proofs.command.command_grammar.Goals as goal
+use Rattle.kd_command.proofs.command.command_grammar.Goals as goal
 
 pub loop-word_name-init : goal.loop-word_name-init
 loop-word_name-init c = first_word _ _ c.new.ensures.app c.new.ensures.local c.disable_help_flag-command.ensures

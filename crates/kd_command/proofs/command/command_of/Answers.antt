@@ -1,5 +1,5 @@
-use Rattle.kd_desk.proofs.{Prelude.{arith, codes, found_of, rules}, CommandLines.{read_none, read_some}}
-use Rattle.kd_desk.proofs.command.command_of.Goals as goal
+use Rattle.kd_command.proofs.{Prelude.{arith, codes, found_of, rules}, CommandLines.{read_none, read_some}}
+use Rattle.kd_command.proofs.command.command_of.Goals as goal
 
 pub returns-in_err-machine-clause-none : goal.returns-in_err-machine-clause-none
 returns-in_err-machine-clause-none c = grind (arith, read_none)

@@ -1,6 +1,6 @@
-use Rattle.kd_desk.proofs.Prelude.{true, ap, codes, ◌≡◌, ◌∙◌, App, app_of, new_app, app_of_fields}
-use Rattle.{kd_desk.proofs.Grammars.without_help, kd_desk.specs.CommandLine.desk_grammar}
-use Rattle.kd_desk.proofs.command.grammar.Goals as goal
+use Rattle.kd_command.proofs.Prelude.{true, ap, codes, ◌≡◌, ◌∙◌, App, app_of, new_app, app_of_fields}
+use Rattle.{kd_command.proofs.Grammars.without_help, kd_command.specs.CommandLine.desk_grammar}
+use Rattle.kd_command.proofs.command.grammar.Goals as goal
 
 abbrev without_help_command : App → App
 without_help_command a = record a { top = record a.top { disable_help_subcommand = true } }

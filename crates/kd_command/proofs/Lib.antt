@@ -1,0 +1,4 @@
+pub mod Prelude
+pub mod CommandLines
+pub mod Grammars
+pub mod SaidCommands

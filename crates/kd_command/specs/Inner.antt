@@ -1,0 +1,30 @@
+-- What the contracts of inner functions say: building the grammar, and reading the arguments. No public contract cites
+-- these definitions.
+use Rattle.std.specs.Prelude.{◌≡◌, ℕ, false, List, [], map, fold}
+use Rattle.std.specs.Borrow.{Bor}
+use Rattle.clap.specs.declared.builder.command.Command.{Command as Grammar, out-Command}
+use Rattle.clap.specs.Words.{App, app_of, Row, Shape}
+use Rattle.clap.specs.Simple.{with_subcommand}
+use Rattle.kd_command.specs.CommandLine.{NamedCommand, IsCommandOf, command_shape}
+
+-- a grammar whose only command is `shape`; this command has no subcommands
+abbrev pub app_without_subcommands : Shape → App
+app_without_subcommands shape = record { top = shape; subs = [] }
+
+-- `command_shape`, but the names of the arguments are borrowed
+abbrev pub borrowed_shape : List ℕ → List (Bor (List ℕ)) → Shape
+borrowed_shape name words = command_shape name (map (λ word. word.now) words)
+
+-- the grammar `app` with `commands` added as subcommands, each with the names of its arguments
+abbrev pub with_commands : App → List (Bor (List ℕ) × Bor (List (Bor (List ℕ)))) → App
+with_commands app commands = fold (λ a command. with_subcommand a (borrowed_shape command.0.now command.1.now)) app
+    commands
+
+-- `grammar` is the command `name` with an argument for each of `words`, and no argument is global.
+pub record IsMadeOf (grammar : Grammar) (name : List ℕ) (words : List (Bor (List ℕ))) : Type 0 where
+  pub shape : app_of grammar ≡ app_without_subcommands (borrowed_shape name words)
+  pub local : (out-Command grammar).has_globals ≡ false
+
+-- No command has this name and these values of its arguments.
+abbrev pub IsNoCommand : List ℕ × List Row → Type 0
+IsNoCommand said = (command : NamedCommand) → ¬ (IsCommandOf said command)
