@@ -85,14 +85,6 @@ with_action_files f g (actions.OnDay sheet day task) = actions.OnDay (f sheet) d
 abbrev pub with_files : {F G O P : Type 0} → (F → G) → (O → P) → Command F O → Command G P
 with_files f g command = record { machine = f command.machine; action = with_action_files f g command.action }
 
--- the task, with its borrowed file names replaced by the names themselves
-abbrev pub unborrowed_task : Task (Bor (List ℕ)) (Bor (List ℕ)) → Task (List ℕ) (List ℕ)
-unborrowed_task task = with_task_files (λ name. name.now) (λ name. name.now) task
-
--- the action, with its borrowed file names replaced by the names themselves
-abbrev pub unborrowed_action : Action (Bor (List ℕ)) (Bor (List ℕ)) → Action (List ℕ) (List ℕ)
-unborrowed_action action = with_action_files (λ name. name.now) (λ name. name.now) action
-
 -- the command, with its borrowed file names replaced by the names themselves
 abbrev pub unborrowed_command : Command (Bor (List ℕ)) (Bor (List ℕ)) → Command (List ℕ) (List ℕ)
 unborrowed_command command = with_files (λ name. name.now) (λ name. name.now) command

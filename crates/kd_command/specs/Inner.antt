@@ -5,7 +5,9 @@ use Rattle.std.specs.Borrow.{Bor}
 use Rattle.clap.specs.declared.builder.command.Command.{Command as Grammar, out-Command}
 use Rattle.clap.specs.Words.{App, app_of, Row, Shape}
 use Rattle.clap.specs.Simple.{with_subcommand}
-use Rattle.kd_command.specs.CommandLine.{NamedCommand, IsCommandOf, command_shape}
+use Rattle.kd_command.specs.declared.command.Action.{Action}
+use Rattle.kd_command.specs.declared.command.Task.{Task}
+use Rattle.kd_command.specs.CommandLine.{NamedCommand, IsCommandOf, command_shape, with_action_files, with_task_files}
 
 -- a grammar whose only command is `shape`; this command has no subcommands
 abbrev pub app_without_subcommands : Shape → App
@@ -28,3 +30,11 @@ pub record IsMadeOf (grammar : Grammar) (name : List ℕ) (words : List (Bor (Li
 -- No command has this name and these values of its arguments.
 abbrev pub IsNoCommand : List ℕ × List Row → Type 0
 IsNoCommand said = (command : NamedCommand) → ¬ (IsCommandOf said command)
+
+-- the task, with its borrowed file names replaced by the names themselves
+abbrev pub unborrowed_task : Task (Bor (List ℕ)) (Bor (List ℕ)) → Task (List ℕ) (List ℕ)
+unborrowed_task task = with_task_files (λ name. name.now) (λ name. name.now) task
+
+-- the action, with its borrowed file names replaced by the names themselves
+abbrev pub unborrowed_action : Action (Bor (List ℕ)) (Bor (List ℕ)) → Action (List ℕ) (List ℕ)
+unborrowed_action action = with_action_files (λ name. name.now) (λ name. name.now) action

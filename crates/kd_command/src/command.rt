@@ -2,8 +2,8 @@
 ghost use Rattle.std.specs.Prelude.{◌≡◌, ◌≢◌, [], ◌∷◌, ℕ, List, false, codes, map, Err, IfSome, IfOk};
 ghost use Rattle.clap.specs.Words.{App, app_of, found_of, kind_of, rows_of};
 ghost use Rattle.kd_command.specs.CommandLine.{direction_name, direction_word, desk_grammar};
-ghost use Rattle.kd_command.specs.Inner.{IsMadeOf, IsNoCommand, with_commands};
-ghost use Rattle.kd_command.specs.CommandLine.{unborrowed_action, unborrowed_command, HaveSheetAndDay, IsActionOf};
+ghost use Rattle.kd_command.specs.Inner.{IsMadeOf, IsNoCommand, unborrowed_action, with_commands};
+ghost use Rattle.kd_command.specs.CommandLine.{unborrowed_command, HaveSheetAndDay, IsActionOf};
 ghost use Rattle.kd_command.specs.CommandLine.{IsCommandOf, IsCommandLineOf, IsNoCommandLine};
 
 use clap::error::ErrorKind;

@@ -7,7 +7,7 @@ ghost use Rattle.kd_command.specs.CommandLine.{IsCommandLineOf, IsNoCommandLine}
 ghost use Rattle.kd_desk.specs.Program.{known_command, known_action, known_task, AsksFor, CarriesOutKnown};
 ghost use Rattle.kd_desk.specs.Program.{DoesTask, IsCommandDone, HasEnded, IsRun, StopsForMemory};
 ghost use Rattle.kd_desk.specs.Program.{is_stopped_before_message, is_stopped_by_port};
-ghost use Rattle.kd_command.specs.CommandLine.{unborrowed_action, unborrowed_task};
+ghost use Rattle.kd_command.specs.Inner.{unborrowed_action, unborrowed_task};
 ghost use Rattle.kd_desk.specs.Inner.{with_action_stream, with_task_stream};
 ghost use Rattle.kd_desk.specs.Inner.{HasNoFailedRead, IsTaskDone};
 ghost use Rattle.kd_host.specs.Files.{AreAskedFor, CanFail, IsReadAnswer, known_file};
