@@ -1,7 +1,7 @@
 //! Tests of the lists, which `desk apply` carries out.
 use crate::samples::{DAY_2, DAY_5, DAY_7, DAY_20, DAYS, ENIGMA, M3, M4, M4_DAYS, M209, M209_DAYS};
+use kd_booklet::{DayPlan, plan_days};
 use kd_curator::run_list::run_list;
-use kd_curator::{DayPlan, plan_days};
 use kd_desk::run_apply::run_apply;
 use kd_sheet::{read_machine, read_sheet};
 use kd_tables::MemorySink;
