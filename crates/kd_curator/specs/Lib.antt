@@ -1,11 +1,6 @@
-pub mod Booklet
-pub mod Chain
 pub mod CommandLine
-pub mod DayPlan
 pub mod Days
 pub mod Ending
-pub mod HandList
-pub mod HandOrder
 pub mod Locale
 pub mod MachineAndSheet
 pub mod Program
@@ -14,7 +9,6 @@ pub mod RunList
 pub mod RunPage
 pub mod RunReceive
 pub mod RunSend
-pub mod SettingChanges
 pub mod Sheets
 pub mod Looks
 pub mod Tables

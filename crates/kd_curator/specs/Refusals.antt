@@ -1,8 +1,11 @@
 -- Why a command is refused, and the text of the refusal.
 -- Test: tests/cases/curator-pages.toml
-use Rattle.std.specs.Prelude.{codes, ℕ, Bool, true, false, List, None, Result, Ok, Err}
+use Rattle.std.specs.Prelude.{codes, ℕ, Bool, true, false, List, Some, None, Result, Ok, Err, if◌then◌else◌}
 use Rattle.kd_tables.specs.declared.refusal.Refusal.TheVariants as refusals
 use Rattle.kd_tables.specs.Refusals.{refusal_name}
+use Rattle.kd_booklet.specs.declared.fault.DayFault.{DayFault}
+use Rattle.kd_booklet.specs.declared.fault.NoPlan.{NoPlan}
+use Rattle.kd_booklet.specs.declared.fault.NoPlan.TheVariants as plans
 use Rattle.kd_sheet.specs.FaultText.{sheet_fault_text}
 use Rattle.kd_sheet.specs.declared.fault.SheetFault.TheVariants.{NoMemory}
 use Rattle.kd_form.specs.FaultText.{form_fault_text}
@@ -34,6 +37,18 @@ page_fault_text faults.Device = refusal_name refusals.Device
 -- a refusal that is of no day, or of the only one
 abbrev pub refused_whole : PageFault → Refused
 refused_whole fault = record { day = None; fault = fault }
+
+-- why a day can't be planned, as the fault of a refusal
+abbrev pub fault_of_plan : NoPlan → PageFault
+fault_of_plan plans.NoSuchDay = faults.NoSuchDay
+fault_of_plan plans.OtherModel = faults.OtherModel
+
+-- The refusal for a day's fault. It names the day if there are several.
+abbrev pub day_refusal : Bool → DayFault → Refused
+day_refusal several fault = record {
+  day = if several then Some fault.day else None;
+  fault = fault_of_plan fault.why;
+}
 
 abbrev pub is_device_fault : PageFault → Bool
 is_device_fault faults.Device = true

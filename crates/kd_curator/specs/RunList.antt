@@ -6,10 +6,10 @@ use Rattle.kd_state.specs.Line.{list_text, IsListText}
 use Rattle.kd_state.specs.Machine.{model_of}
 use Rattle.kd_state.specs.SheetDay.{Day}
 use Rattle.kd_host.specs.Writing.{WritesText}
-use Rattle.kd_curator.specs.Chain.{IsDayFault, IsPlanOf, day_refusal}
-use Rattle.kd_curator.specs.Refusals.{refused_device}
-use Rattle.kd_curator.specs.declared.chain.DayFault.{DayFault}
-use Rattle.kd_curator.specs.declared.day_plan.DayPlan.{DayPlan}
+use Rattle.kd_booklet.specs.Chain.{IsDayFault, IsPlanOf}
+use Rattle.kd_booklet.specs.declared.day_plan.DayPlan.{DayPlan}
+use Rattle.kd_booklet.specs.declared.fault.DayFault.{DayFault}
+use Rattle.kd_curator.specs.Refusals.{day_refusal, refused_device}
 use Rattle.kd_curator.specs.declared.fault.Refused.{Refused}
 
 -- The answer is why the day can't be planned. Or the settings of a plan for the day were written, in the order of a

@@ -1,5 +1,6 @@
 -- What `run_page` writes, and when it refuses.
-use Rattle.std.specs.Prelude.{◌≡◌, ℕ, Bool, true, false, List, [], ◌∷◌, filter, Option, Some, None, Result, Err}
+use Rattle.std.specs.Prelude.{◌≡◌, ℕ, nat_lt, Bool, true, false, List, [], ◌∷◌, filter, length, Option, Some, None}
+use Rattle.std.specs.Prelude.{Result, Err}
 use Rattle.std.specs.List.{range_with_len}
 use Rattle.std.specs.Option.{option_map_or}
 use Rattle.kd_tables.specs.declared.model.Model.{Model}
@@ -11,10 +12,11 @@ use Rattle.kd_state.specs.SheetDay.{Day, day_model}
 use Rattle.kd_sheet.specs.Sheet.{day_of}
 use Rattle.kd_host.specs.Writing.{WritesText}
 use Rattle.kd_pictures.specs.declared.language.Language.{Language}
-use Rattle.kd_curator.specs.Booklet.{IsBooklet}
-use Rattle.kd_curator.specs.Chain.{ArePlanned, IsDayRefusal}
-use Rattle.kd_curator.specs.Refusals.{refused_device, refused_whole}
-use Rattle.kd_curator.specs.declared.day_plan.DayPlan.{DayPlan}
+use Rattle.kd_booklet.specs.Booklet.{IsBooklet}
+use Rattle.kd_booklet.specs.Chain.{ArePlanned, IsFirstFault}
+use Rattle.kd_booklet.specs.declared.day_plan.DayPlan.{DayPlan}
+use Rattle.kd_booklet.specs.declared.fault.DayFault.{DayFault}
+use Rattle.kd_curator.specs.Refusals.{day_refusal, refused_device, refused_whole}
 use Rattle.kd_curator.specs.declared.fault.PageFault.TheVariants.{NoSuchDay}
 use Rattle.kd_curator.specs.declared.fault.Refused.{Refused}
 
@@ -33,6 +35,13 @@ has_day_of model month number = option_map_or (λ s. is_same_model (day_model s)
 abbrev pub wanted_days : Option (List ℕ) → Model → List (Option Day) → List ℕ
 wanted_days (Some days) model month = days
 wanted_days None model month = filter (has_day_of model month) (range_with_len 1 31)
+
+-- The first day that can't be planned is refused.
+pub record IsDayRefusal (model : Model) (month : List (Option Day)) (numbers : List ℕ) (refused : Refused)
+    : Type 0 where
+  pub fault : DayFault
+  pub first : IsFirstFault model month numbers fault
+  pub told : refused ≡ day_refusal (nat_lt 1 (length numbers)) fault
 
 -- There are no days; or the first day that can't be planned was refused. Or the pages of all days were written, or a
 -- prefix of them if the device failed.

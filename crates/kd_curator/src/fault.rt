@@ -1,7 +1,8 @@
 //! `Refused`: why a command is refused.
 ghost use Rattle.std.specs.Prelude.{◌≡◌, ◌≤◌, length};
-ghost use Rattle.kd_curator.specs.Refusals.{page_fault_text};
+ghost use Rattle.kd_curator.specs.Refusals.{day_refusal, page_fault_text};
 
+use kd_booklet::{DayFault, NoPlan};
 use kd_form::FormFault;
 use kd_key_table::TableFault;
 use kd_look::LookFault;
@@ -72,6 +73,32 @@ pub struct Refused {
     /// The day that has the fault, if several were asked for.
     pub day: Option<u8>,
     pub fault: PageFault,
+}
+
+impl Refused {
+    /// The refusal for a day that can't be planned; it names the day if there are `several`.
+    pub(crate) fn of_day(fault: DayFault, several: bool) -> Refused
+        ensures { result ≡ day_refusal several fault }
+    {
+        Refused {
+            day: several.then_some(fault.day),
+            fault: PageFault::from(fault.why),
+        }
+    }
+}
+
+impl From<NoPlan> for PageFault {
+    ghost use Rattle.std.specs.Prelude.{◌≡◌};
+    ghost use Rattle.kd_curator.specs.Refusals.{fault_of_plan};
+
+    ghost from_gives = { λ why page. page ≡ fault_of_plan why };
+
+    fn from(why: NoPlan) -> PageFault {
+        match why {
+            NoPlan::NoSuchDay => PageFault::NoSuchDay,
+            NoPlan::OtherModel => PageFault::OtherModel,
+        }
+    }
 }
 
 impl From<SheetFault> for PageFault {

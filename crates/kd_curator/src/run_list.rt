@@ -7,10 +7,9 @@ ghost use Rattle.kd_curator.specs.MachineAndSheet.{IsAnswerOnSheet};
 ghost use Rattle.kd_curator.specs.Refusals.{is_device};
 ghost use Rattle.kd_curator.specs.RunList.{WritesList};
 
-use crate::chain::day_of_model;
-use crate::day_plan::plan_day;
 use crate::fault::Refused;
 use crate::machine_and_sheet::read_both;
+use kd_booklet::{day_of_model, plan_day};
 use kd_sheet::Sheet;
 use kd_state::{Machine, Setting};
 use kd_tables::{Device, Sink, put_all};
@@ -52,7 +51,7 @@ pub fn write_list<W: Sink>(
 {
     let day = match day_of_model(machine, sheet, number) {
         Ok(day) => day,
-        Err(fault) => return Err(fault.refused(false)),
+        Err(fault) => return Err(Refused::of_day(fault, false)),
     };
     let (plan, _) = plan_day(machine, day);
     put_lines(sink, plan.settings.as_slice())?;

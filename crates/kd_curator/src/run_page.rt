@@ -1,17 +1,17 @@
 //! The command `page`: writes an HTML page of each day, from the machine as the day before left it.
-ghost use Rattle.std.specs.Prelude.{◌≡◌, ◌||◌, ◌+◌, ◌-◌, ◌≤◌, ◌++◌, filter, false, IsErr, length};
+ghost use Rattle.std.specs.Prelude.{◌≡◌, ◌||◌, ◌+◌, ◌-◌, ◌≤◌, ◌++◌, filter, false, IfErr, IfOk, IsErr, length};
 ghost use Rattle.std.specs.List.{range_with_len};
 ghost use Rattle.kd_state.specs.Machine.{model_of};
 ghost use Rattle.kd_tables.specs.Ports.{port};
+ghost use Rattle.kd_booklet.specs.Chain.{ArePlanned};
 ghost use Rattle.kd_curator.specs.MachineAndSheet.{IsAnswerOnSheet};
 ghost use Rattle.kd_curator.specs.Refusals.{is_device};
-ghost use Rattle.kd_curator.specs.RunPage.{WritesPages, has_day_of, wanted_days};
+ghost use Rattle.kd_curator.specs.RunPage.{IsDayRefusal, WritesPages, has_day_of, wanted_days};
 
-use crate::chain::plan_days;
 use crate::days::Days;
 use crate::fault::{PageFault, Refused};
 use crate::machine_and_sheet::read_both;
-use crate::pages::write_pages;
+use kd_booklet::{DayPlans, plan_days, write_pages};
 use kd_page::Language;
 use kd_sheet::Sheet;
 use kd_state::Machine;
@@ -55,12 +55,25 @@ pub fn write_days<W: Sink>(
     ensures untouched { IsErr result → is_device result ≡ false → sink.new ≡ sink.old }
     ensures failed { W.has_failed sink.new ≡ (W.has_failed sink.old || is_device result) }
 {
-    let plans = plan_days(machine, sheet, days.as_slice())?;
+    let plans = plan_or_refuse(machine, sheet, days)?;
     let Some((first, others)) = plans.as_slice().split_first() else {
         return Err(Refused::from(PageFault::NoSuchDay));
     };
     write_pages(sink, language, machine, first, others)?;
     Ok(())
+}
+
+/// Plans the days, or refuses the first day that can't be planned.
+fn plan_or_refuse(machine: &Machine, sheet: &Sheet, days: &Days) -> Result<DayPlans, Refused>
+    ensures planned { IfOk result
+        (λ plans. ArePlanned sheet.now machine.now days.now plans.items) }
+    ensures refused { IfErr result (IsDayRefusal (model_of machine.now) sheet.now days.now) }
+{
+    let numbers = days.as_slice();
+    match plan_days(machine, sheet, numbers) {
+        Ok(plans) => Ok(plans),
+        Err(fault) => Err(Refused::of_day(fault, numbers.len() > 1)),
+    }
 }
 
 /// The days, or without `days` all days that the sheet has for the model.

@@ -10,7 +10,7 @@ nothing_on_err P (Err made) fault is = tt
 nothing_on_err P (Ok done) fault is = absurd is
 
 pub returns-in-Err-clause-list : goal.returns-in-Err-clause-list
-returns-in-Err-clause-list g c = rw c.refused.ensures (NoList c.in-Err.fault c.in-Err.ensures.fault refl)
+returns-in-Err-clause-list g c = rw c.of_day.ensures (NoList c.in-Err.fault c.in-Err.ensures.fault refl)
 
 pub returns-in_err-put_lines-clause-list : goal.returns-in_err-put_lines-clause-list
 returns-in_err-put_lines-clause-list g c = Settings _ _

@@ -1,0 +1,12 @@
+pub mod Chains
+pub mod DayPlans
+pub mod DayMarks
+pub mod Drawn
+pub mod EachSetting
+pub mod HandOrders
+pub mod PinMarks
+pub mod PlannedBoxes
+pub mod PlannedOrder
+pub mod PlannedPieces
+pub mod Ranked
+pub mod RotorMarks

@@ -1,0 +1,20 @@
+-- The settings of a page: those of a shortest card, in an order for the hand.
+use Rattle.std.specs.Prelude.{◌≡◌, List, IsPermutation}
+use Rattle.kd_state.specs.declared.machine.parts.Parts.{Parts}
+use Rattle.kd_state.specs.declared.setting.Setting.{Setting}
+use Rattle.kd_state.specs.SheetDay.{Day}
+use Rattle.kd_card.specs.Proving.{IsShortest, LeadsToTheDay}
+use Rattle.kd_card.specs.declared.prices.PriceParts.{PriceParts}
+use Rattle.kd_plan.specs.Planned.{IsProvedPlannedCard}
+use Rattle.kd_booklet.specs.HandOrder.{in_hand_order}
+
+-- The settings are a planned card's, in an order for the hand: rings first, window letters last. In this order, too,
+-- they lead to the day, and no list that leads to the day is shorter.
+pub record IsHandList (m : Parts) (s : Day) (settings : List Setting) : Type 0 where
+  pub planned : List Setting
+  pub prices : PriceParts
+  pub of_planner : IsProvedPlannedCard m s planned prices
+  pub order : settings ≡ in_hand_order planned
+  pub same : IsPermutation planned settings
+  pub leads : LeadsToTheDay m s settings
+  pub shortest : IsShortest m s settings

@@ -1,0 +1,48 @@
+-- The order in which the settings of a card suit the hand.
+use Rattle.std.specs.Prelude.{Bool, true, false, not, List, [], ◌∷◌, ◌++◌, filter, if◌then◌else◌, IsTrue}
+use Rattle.std.specs.Prelude.{IsPermutation}
+use Rattle.std.specs.List.{list_all}
+use Rattle.kd_state.specs.declared.machine.parts.Parts.{Parts}
+use Rattle.kd_state.specs.declared.setting.Setting.{Setting}
+use Rattle.kd_state.specs.declared.setting.Setting.TheVariants.{Seat, RingTo, Turn}
+use Rattle.kd_state.specs.Setting.{Leads}
+use Rattle.kd_booklet.specs.declared.stages.Stage.{Stage}
+use Rattle.kd_booklet.specs.declared.stages.Stage.TheVariants.{Rings, Parts as Others, Windows}
+
+abbrev pub stage_of : Setting → Stage
+stage_of (RingTo wheel letter) = Rings
+stage_of (Turn slot letter) = Windows
+stage_of _ = Others
+
+abbrev pub is_same_stage : Stage → Stage → Bool
+is_same_stage Rings Rings = true
+is_same_stage Others Others = true
+is_same_stage Windows Windows = true
+is_same_stage _ _ = false
+
+abbrev pub is_at_stage : Stage → Setting → Bool
+is_at_stage stage x = is_same_stage (stage_of x) stage
+
+-- the same settings: rings first, window letters last, and all others between them
+abbrev pub in_hand_order : List Setting → List Setting
+in_hand_order xs =
+    filter (is_at_stage Rings) xs ++ (filter (is_at_stage Others) xs ++ filter (is_at_stage Windows) xs)
+
+abbrev pub is_seat : Setting → Bool
+is_seat (Seat slot wheel) = true
+is_seat _ = false
+
+-- whether no wheel is put into a slot after a window was turned
+abbrev pub seats_before_turning : List Setting → Bool
+seats_before_turning [] = true
+seats_before_turning (x ∷ xs) =
+    if is_at_stage Windows x then list_all (λ y. not (is_seat y)) xs else seats_before_turning xs
+
+-- In an order for the hand, a list has the same settings. If no wheel is seated after a turn, it leads to the same
+-- machine.
+abbrev pub HandOrderIsPermutation : Type 0
+HandOrderIsPermutation = (xs : List Setting) → IsPermutation xs (in_hand_order xs)
+
+abbrev pub HandOrderLeads : Type 0
+HandOrderLeads =
+    (m n : Parts) (xs : List Setting) → IsTrue (seats_before_turning xs) → Leads m xs n → Leads m (in_hand_order xs) n

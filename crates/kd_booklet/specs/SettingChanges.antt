@@ -1,0 +1,55 @@
+-- Each setting of a day's list changes what it sets.
+use Rattle.std.specs.Prelude.{◌≡◌, ◌≢◌, ℕ, true, false, All, Option, Some, option_map}
+use Rattle.kd_tables.specs.declared.lug.Lug.{Lug}
+use Rattle.kd_tables.specs.declared.lug.Lug.TheVariants.{Left, Right}
+use Rattle.kd_tables.specs.declared.place.Place.{Place}
+use Rattle.kd_tables.specs.declared.wheel.Wheel.{Wheel}
+use Rattle.kd_state.specs.declared.machine.parts.Parts.{Parts}
+use Rattle.kd_state.specs.declared.machine.parts.Parts.TheVariants.{Pin, Rotor}
+use Rattle.kd_state.specs.declared.setting.Setting.{Setting}
+use Rattle.kd_state.specs.declared.setting.Setting.TheVariants.{Pull, Put, Seat, SeatReflector, RingTo, Turn, PinTo}
+use Rattle.kd_state.specs.declared.setting.Setting.TheVariants.{LugTo}
+use Rattle.kd_state.specs.Machine.{IsMachine, machine_letter, machine_pin, machine_pin_letter, machine_reflector}
+use Rattle.kd_state.specs.Machine.{machine_ring, machine_standing}
+use Rattle.kd_state.specs.SheetDay.{Day, IsLegalDay}
+use Rattle.kd_pictures.specs.Board.{has_plug}
+use Rattle.kd_pictures.specs.Wheels.{is_seated}
+use Rattle.kd_booklet.specs.DayPlan.{IsDayPlan}
+use Rattle.kd_booklet.specs.declared.day_plan.DayPlan.{DayPlan}
+
+-- the place of a bar's left or right lug, if the machine has this bar
+abbrev pub lug_at : Parts → ℕ → Lug → Option Place
+lug_at m bar Left = option_map (λ standing. standing.0) (machine_standing m bar)
+lug_at m bar Right = option_map (λ standing. standing.1) (machine_standing m bar)
+
+-- A value is `due` after a list, and was another value before.
+abbrev pub Becomes : {A : Type 0} → A → A → A → Type 0
+Becomes before after due = (before ≢ due) × (after ≡ due)
+
+-- The letter in a window changes to `letter`. On a rotor machine, the window is the window of the wheel that machine `n`
+-- has in slot `number`; on a Converter, it is the window of pin wheel `number`.
+abbrev pub WindowTurns : Parts → Parts → ℕ → ℕ → Type 0
+WindowTurns (Rotor m) n number letter =
+    (wheel : Wheel) → is_seated n number wheel ≡ true
+    → Becomes (machine_letter (Rotor m) wheel) (machine_letter n wheel) (Some letter)
+WindowTurns (Pin m) n number letter =
+    Becomes (machine_pin_letter (Pin m) number) (machine_pin_letter n number) (Some letter)
+
+-- What the setting sets differs between machine `m`, before a list, and machine `n`, after the list. A page marks this
+-- thing, unless it is a Converter's letter.
+abbrev pub Changes : Parts → Parts → Setting → Type 0
+Changes m n (RingTo wheel letter) = Becomes (machine_ring m wheel) (machine_ring n wheel) (Some letter)
+Changes m n (SeatReflector reflector) = Becomes (machine_reflector m) (machine_reflector n) (Some reflector)
+Changes m n (Seat slot wheel) = Becomes (is_seated m slot wheel) (is_seated n slot wheel) true
+Changes m n (Pull cable letter) = Becomes (has_plug m cable letter) (has_plug n cable letter) false
+Changes m n (Put cable letter) = Becomes (has_plug m cable letter) (has_plug n cable letter) true
+Changes m n (PinTo wheel letter effective) =
+    Becomes (machine_pin m wheel letter) (machine_pin n wheel letter) (Some effective)
+Changes m n (LugTo bar lug place) = Becomes (lug_at m bar lug) (lug_at n bar lug) (Some place)
+Changes m n (Turn number letter) = WindowTurns m n number letter
+
+-- Each setting of a day's list changes what it sets. Of a list that turns a wheel twice, this would be false.
+abbrev pub DaySettingsChangeThings : Type 0
+DaySettingsChangeThings =
+    (m n : Parts) (s : Day) (plan : DayPlan) → IsMachine m → IsLegalDay s → IsDayPlan m s plan n
+    → All (Changes m n) plan.settings.items

@@ -1,0 +1,76 @@
+//! The chain of days: each day starts from the machine as the day before left it.
+ghost use Rattle.std.specs.Prelude.{◌≡◌, ◌+◌, ◌≤◌, length, IfErr, IfOk, OnOk};
+ghost use Rattle.arrayvec.specs.ArrayVec.{array_vec_len};
+ghost use Rattle.kd_state.specs.Machine.{model_of};
+ghost use Rattle.kd_state.specs.SheetDay.{day_model};
+ghost use Rattle.kd_sheet.specs.Sheet.{day_of};
+ghost use Rattle.kd_booklet.specs.Chain.{ArePlanned, IsDayFault, IsFirstFault, AddsPlans};
+
+use crate::day_plan::{DayPlan, plan_day};
+use crate::fault::{DayFault, NoPlan};
+use arrayvec::ArrayVec;
+use kd_sheet::Sheet;
+use kd_state::{Machine, SheetDay};
+
+/// The plans of several days.
+pub type DayPlans = ArrayVec<DayPlan, 31>;
+
+/// Plans the days `numbers`, each from the machine as the day before left it.
+///
+/// The first day that the sheet lacks, or that is of another model, is the fault.
+pub fn plan_days(machine: &Machine, sheet: &Sheet, numbers: &[u8]) -> Result<DayPlans, DayFault>
+    requires { length numbers.now ≤ 31 }
+    ensures planned { IfOk result
+        (λ plans. ArePlanned sheet.now machine.now numbers.now plans.items) }
+    ensures fault { IfErr result (IsFirstFault (model_of machine.now) sheet.now numbers.now) }
+{
+    let mut plans = ArrayVec::new();
+    add_plans(&mut plans, machine, sheet, numbers)?;
+    Ok(plans)
+}
+
+/// Plans the days `numbers`, and adds their plans to `plans`.
+fn add_plans(
+    plans: &mut DayPlans,
+    machine: &Machine,
+    sheet: &Sheet,
+    numbers: &[u8],
+) -> Result<(), DayFault>
+    requires { array_vec_len plans.old + length numbers.now ≤ 31 }
+    ensures planned { OnOk result
+        (AddsPlans sheet.now machine.now numbers.now plans.old.items plans.new.items) }
+    ensures fault { IfErr result (IsFirstFault (model_of machine.now) sheet.now numbers.now) }
+{
+    let Some((number, numbers)) = numbers.split_first() else {
+        return Ok(());
+    };
+    let day = day_of_model(machine, sheet, *number)?;
+    let (plan, after) = plan_day(machine, day);
+    plans.push(plan);
+    add_plans(plans, &after, sheet, numbers)
+}
+
+/// Day `number` of the sheet, if it is of the machine's model.
+pub fn day_of_model<'a>(
+    machine: &Machine,
+    sheet: &'a Sheet,
+    number: u8,
+) -> Result<&'a SheetDay, DayFault>
+    ensures found { IfOk result (λ day. day_of sheet.now number ≡ Some day.now) }
+    ensures model { IfOk result (λ day. model_of machine.now ≡ day_model day.now) }
+    ensures fault { IfErr result (IsDayFault (model_of machine.now) sheet.now number) }
+{
+    let Some(day) = sheet.day(number) else {
+        return Err(DayFault {
+            day: number,
+            why: NoPlan::NoSuchDay,
+        });
+    };
+    if day.model() != machine.model() {
+        return Err(DayFault {
+            day: number,
+            why: NoPlan::OtherModel,
+        });
+    }
+    Ok(day)
+}

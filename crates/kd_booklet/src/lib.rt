@@ -1,0 +1,16 @@
+//! The days of a booklet: planned one after another, each list in the order of a page, and drawn.
+#![tactic(auto)]
+
+mod chain;
+mod day_plan;
+mod fault;
+mod hand_list;
+pub mod laws;
+mod pages;
+mod stages;
+
+pub use chain::{DayPlans, day_of_model, plan_days};
+pub use day_plan::{DayPlan, plan_day};
+pub use fault::{DayFault, NoPlan};
+pub use kd_page::Language;
+pub use pages::write_pages;

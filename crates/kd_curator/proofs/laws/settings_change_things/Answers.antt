@@ -1,5 +1,0 @@
-use Rattle.kd_curator.proofs.DayMarks.{day_settings_have_marks}
-use Rattle.kd_curator.proofs.laws.settings_change_things.Goals as goal
-
-pub returns : goal.returns
-returns c = day_settings_have_marks
