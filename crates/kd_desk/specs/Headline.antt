@@ -1,4 +1,4 @@
--- What a card promises of the machine that its settings lead to.
+-- Machines that are equally set for a day decipher each other's texts. What else a card promises: `IsShortestCard`.
 use Rattle.std.specs.Prelude.{◌≡◌, ◌<◌, ℕ, List, All}
 use Rattle.kd_state.specs.declared.machine.parts.Parts.{Parts}
 use Rattle.kd_state.specs.Machine.{IsMachine}

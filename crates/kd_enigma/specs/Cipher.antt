@@ -1,4 +1,4 @@
--- The key of a rotor machine, before and after key presses.
+-- The key of a rotor machine, before and after key presses; the current's path, and the cipher.
 -- Code: `Enigma` keeps each part of the key in a field; the window is in its stepper.
 -- Test: the_rings_do_not_turn_the_notches
 use Rattle.std.specs.Prelude.{ℕ, List, [], ◌∷◌, ◌++◌, map, reverse, slice_index}

@@ -80,7 +80,7 @@ loose_count (Rotor machine) (OfRotors day) =
     + count_by (λ w. not (option_map_or (nat_eq w.ring) (ring_at machine w.wheel) false)) day.wheels
     + count_by (λ w. not (option_map_or (nat_eq w.letter) (letter_at machine w.wheel) false)) day.wheels
 loose_count (Pin machine) (OfPins day) =
-    sum (map (λ w. count_by (λ pin. exactly_one pin.0 pin.1) (zip w.0 w.1))
+    sum (map (λ both. count_by (λ pin. exactly_one pin.0 pin.1) (zip both.0 both.1))
     (zip (pins_of machine.pins) (pins_of day.pins)))
     + count_by (λ letter. not (nat_eq letter.0 letter.1)) (zip machine.letters day.window)
 loose_count _ _ = 0

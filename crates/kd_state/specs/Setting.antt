@@ -56,8 +56,8 @@ seat_without wheel seated = if option_map_or (same_wheel wheel) seated false the
 -- Test: tests/cases/desk-lists.toml
 
 -- The machine after the setting; or, if it is refused, the first reason, in the order of the lines. `Seat` empties the
--- slot in which the wheel was. The wheel that was in the new slot goes to the box. Both keep their rings and window
--- letters.
+-- slot in which the wheel was. The wheel that was in the new slot is then in no slot. Both keep their rings and
+-- window letters.
 abbrev pub outcome : Parts → Setting → Result Parts Why
 outcome (Rotor machine) (Pull cable letter) = do
   held ← ok_or (numbered_item machine.cables cable) NoSuchCable

@@ -1,4 +1,4 @@
--- The key of an engine, for a rotor machine or a Converter, and the cipher that the engine makes with this key.
+-- The cipher of a machine, and the cipher of a day; and the keys of engines, for a rotor machine or a Converter.
 -- Code: one type, `Engine`, serves all models.
 -- Test: tests/refusals
 use Rattle.std.specs.Prelude.{◌≡◌, ◌≢◌, ℕ, List, length, map, All, IsSome}

@@ -95,7 +95,7 @@ wheels_for M4 slot =
     else (if nat_le 2 slot && nat_le slot 4 then I ∷ II ∷ III ∷ IV ∷ V ∷ VI ∷ VII ∷ VIII ∷ [] else [])
 wheels_for M209 slot = []
 
--- the box of a model: all wheels that may be in the model's slots, from I to VIII, then Beta and Gamma
+-- the box of a model: all its wheels, seated or not, from I to VIII, then Beta and Gamma
 abbrev pub box_of : Model → List Wheel
 box_of M4 = wheels_for M4 2 ++ wheels_for M4 1
 box_of model = wheels_for model 1
