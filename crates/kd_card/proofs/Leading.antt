@@ -158,10 +158,19 @@ module _ (m : RotorParts) where
 set_same : (xs : List ℕ) (p v : ℕ) → slice_get xs p ≡ Some v → set xs p v ≡ xs
 set_same xs p v e = rw (get_or_from_slice_get xs p v 0 e) at (set-get_or xs p 0)
 
+-- If a search's first element is one that it finds, or it finds `w` behind it, then `w` has the wheel.
+first_or_later : (same : Bool) (wheel : Wheel) (v w : SheetWheel) (later : Option SheetWheel)
+    → same_wheel wheel v.wheel ≡ same → (later ≡ Some w → wheel ≡ w.wheel) → cond same (Some v) later ≡ Some w
+    → wheel ≡ w.wheel
+first_or_later true wheel v w later same rest e =
+    (same_wheel-Decides wheel v.wheel).0 same ∙ ap (λ (x : SheetWheel). x.wheel) (same_Some v w e)
+first_or_later false wheel v w later same rest e = rest e
+
 is_the_one : (wheel : Wheel) (wheels : List SheetWheel) (w : SheetWheel)
     → find (λ (v : SheetWheel). same_wheel wheel v.wheel) wheels ≡ Some w → wheel ≡ w.wheel
 is_the_one wheel [] w e = absurd cc
-is_the_one wheel (v ∷ wheels) w e = grind (arith, same_wheel-Decides, is_the_one wheel wheels w)
+is_the_one wheel (v ∷ wheels) w e =
+    first_or_later (same_wheel wheel v.wheel) wheel v w _ refl (is_the_one wheel wheels w) e
 
 -- all settings for the loose things of a rotor machine, carried out in turn
 module _ (m : RotorParts) (s : RotorDay) (machine : IsMachine (Rotor m)) (legal : IsLegalRotorDay s)
