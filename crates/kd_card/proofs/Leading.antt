@@ -123,7 +123,9 @@ module _ (m : RotorParts) where
       → number ≡ suc (length front) → Contains (wheels_for m.model number) w.wheel → IsAbsent front w
       → Led (with_slots (front ++ now ∷ slots)) (slot_seat_line number (now, w))
       (with_slots (front ++ Some w.wheel ∷ behind now w slots))
-  seat_led front slots now w number e allowed absent = grind (arith, common_steps, false, led_unless, set_at, allowed)
+  seat_led front slots now w number e allowed absent =
+      led_unless (option_map_or (same_wheel w.wheel) now false) _ _ _
+      (λ so. grind (arith, common_steps, so, same_wheel-Decides)) (λ so. grind (arith, common_steps, so, set_at, allowed))
 
   seats_led : (front slots : List (Option Wheel)) (wheels : List SheetWheel) (number : ℕ) → number ≡ suc (length front)
       → length slots ≡ length wheels
