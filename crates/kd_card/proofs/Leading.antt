@@ -125,7 +125,8 @@ module _ (m : RotorParts) where
       (with_slots (front ++ Some w.wheel ∷ behind now w slots))
   seat_led front slots now w number e allowed absent =
       led_unless (option_map_or (same_wheel w.wheel) now false) _ _ _
-      (λ so. grind (arith, common_steps, so, same_wheel-Decides)) (λ so. grind (arith, common_steps, so, set_at, allowed))
+      (λ so. grind (arith, common_steps, so, same_wheel-Decides))
+      (λ so. grind (arith, common_steps, so, set_at, allowed))
 
   seats_led : (front slots : List (Option Wheel)) (wheels : List SheetWheel) (number : ℕ) → number ≡ suc (length front)
       → length slots ≡ length wheels
@@ -160,7 +161,7 @@ module _ (m : RotorParts) where
 set_same : (xs : List ℕ) (p v : ℕ) → slice_get xs p ≡ Some v → set xs p v ≡ xs
 set_same xs p v e = rw (get_or_from_slice_get xs p v 0 e) at (set-get_or xs p 0)
 
--- If a search's first element is one that it finds, or it finds `w` behind it, then `w` has the wheel.
+-- A search for `wheel` tests `v` first: `same` is the answer, and `later` is what it finds behind `v`.
 first_or_later : (same : Bool) (wheel : Wheel) (v w : SheetWheel) (later : Option SheetWheel)
     → same_wheel wheel v.wheel ≡ same → (later ≡ Some w → wheel ≡ w.wheel) → cond same (Some v) later ≡ Some w
     → wheel ≡ w.wheel

@@ -49,9 +49,11 @@ counted_once : (letter first number : ℕ)
 counted_once letter first number = grind (arith, count_by-range_at_most letter first number)
 
 one_letter_more : (letter : ℕ) (letters xs : List ℕ) → count_by (λ other. nat_eq letter other) xs ≤ 1
-    → count_by (has_letter letters) xs ≤ length letters → count_by (has_letter (letter ∷ letters)) xs ≤ suc (length letters)
+    → count_by (has_letter letters) xs ≤ length letters
+    → count_by (has_letter (letter ∷ letters)) xs ≤ suc (length letters)
 one_letter_more letter letters xs once rest =
-    omega (arith, joined_counts (λ a b. a || b) or_fits (λ other. nat_eq letter other) (has_letter letters) xs, once, rest)
+    let joined = joined_counts (λ a b. a || b) or_fits (λ other. nat_eq letter other) (has_letter letters) xs in
+    omega (arith, joined, once, rest)
 
 -- a list has at most as many letters of the alphabet as it has elements
 count_by-has_letter : (letters : List ℕ) → count_by (has_letter letters) alphabet ≤ length letters
