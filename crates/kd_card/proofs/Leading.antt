@@ -123,7 +123,10 @@ module _ (m : RotorParts) where
       → number ≡ suc (length front) → Contains (wheels_for m.model number) w.wheel → IsAbsent front w
       → Led (with_slots (front ++ now ∷ slots)) (slot_seat_line number (now, w))
       (with_slots (front ++ Some w.wheel ∷ behind now w slots))
-  seat_led front slots now w number e allowed absent = grind (arith, common_steps, false, led_unless, set_at, allowed)
+  seat_led front slots now w number e allowed absent =
+      led_unless (option_map_or (same_wheel w.wheel) now false) _ _ _
+      (λ so. grind (arith, common_steps, so, same_wheel-Decides))
+      (λ so. grind (arith, common_steps, so, set_at, allowed))
 
   seats_led : (front slots : List (Option Wheel)) (wheels : List SheetWheel) (number : ℕ) → number ≡ suc (length front)
       → length slots ≡ length wheels
@@ -158,10 +161,19 @@ module _ (m : RotorParts) where
 set_same : (xs : List ℕ) (p v : ℕ) → slice_get xs p ≡ Some v → set xs p v ≡ xs
 set_same xs p v e = rw (get_or_from_slice_get xs p v 0 e) at (set-get_or xs p 0)
 
+-- A search for `wheel` tests `v` first: `same` is the answer, and `later` is what it finds behind `v`.
+first_or_later : (same : Bool) (wheel : Wheel) (v w : SheetWheel) (later : Option SheetWheel)
+    → same_wheel wheel v.wheel ≡ same → (later ≡ Some w → wheel ≡ w.wheel) → cond same (Some v) later ≡ Some w
+    → wheel ≡ w.wheel
+first_or_later true wheel v w later same rest e =
+    (same_wheel-Decides wheel v.wheel).0 same ∙ ap (λ (x : SheetWheel). x.wheel) (same_Some v w e)
+first_or_later false wheel v w later same rest e = rest e
+
 is_the_one : (wheel : Wheel) (wheels : List SheetWheel) (w : SheetWheel)
     → find (λ (v : SheetWheel). same_wheel wheel v.wheel) wheels ≡ Some w → wheel ≡ w.wheel
 is_the_one wheel [] w e = absurd cc
-is_the_one wheel (v ∷ wheels) w e = grind (arith, same_wheel-Decides, is_the_one wheel wheels w)
+is_the_one wheel (v ∷ wheels) w e =
+    first_or_later (same_wheel wheel v.wheel) wheel v w _ refl (is_the_one wheel wheels w) e
 
 -- all settings for the loose things of a rotor machine, carried out in turn
 module _ (m : RotorParts) (s : RotorDay) (machine : IsMachine (Rotor m)) (legal : IsLegalRotorDay s)

@@ -114,11 +114,20 @@ fn push_price_line<const N: usize>(text: &mut ArrayString<N>, word: &str, prices
     ensures len { array_string_len text.new
         ≤ array_string_len text.old + length word.now + 7 * length prices.now + 1 }
 {
-    let mut buffer = Buffer::new();
     text.push_str(word);
     for price in prices {
-        text.push_str(" ");
-        text.push_str(buffer.format(*price));
+        push_price(text, *price);
     }
     text.push_str("\n");
+}
+
+/// Appends a space, and then `price`.
+fn push_price<const N: usize>(text: &mut ArrayString<N>, price: i16)
+    requires { array_string_len text.old + 7 ≤ N }
+    ensures bytes { text.new.bytes ≡ text.old.bytes ++ 32 ∷ signed_decimal price }
+    ensures len { array_string_len text.new ≤ array_string_len text.old + 7 }
+{
+    let mut buffer = Buffer::new();
+    text.push_str(" ");
+    text.push_str(buffer.format(price));
 }

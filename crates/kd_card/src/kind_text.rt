@@ -17,7 +17,7 @@ use kd_state::{is_word, number_of_text, push_number, split_words};
 ///
 /// For the line `CABLE AB 1 0`, `behind` is `AB 1 0`; if a line has only one word, `behind` is `None`. The result is
 /// `None` if the words don't make a valid kind.
-#[tactic(auto, using(crate::proofs::OneCard::words_in_place, crate::proofs::OneCard::no_count))]
+#[tactic(auto, using(crate::proofs::OneCard::words_in_place))]
 fn kind_of_words<K: Kind>(behind: Option<&[u8]>) -> Option<K>
     ensures { let words = K.format.word ∷ words_after_first (option_copied behind.entry) in
         MatchOption result
@@ -28,6 +28,17 @@ fn kind_of_words<K: Kind>(behind: Option<&[u8]>) -> Option<K>
     let [key, count, price] = words.as_slice() else {
         return None;
     };
+    kind_of_parts(key, count, price)
+}
+
+/// Parses a kind from the words `key`, `count` and `price` of its line, as `AB`, `1` and `0` of `CABLE AB 1 0`.
+#[tactic(auto, using(crate::proofs::OneCard::no_count))]
+fn kind_of_parts<K: Kind>(key: &[u8], count: &[u8], price: &[u8]) -> Option<K>
+    ensures { let words = K.format.word ∷ key.now ∷ count.now ∷ price.now ∷ [] in
+        MatchOption result
+        ((kind : K) → ¬ (HasKindWords K.format words kind))
+        (IsKindOfWords K.format words) }
+{
     let key = K::key_of_text(key)?;
     let count = number_of_text(count)?;
     let price = price_of_text(price)?;

@@ -2,7 +2,7 @@
 use Rattle.kd_state.proofs.Prelude.{All, AllByRecursion, AllPass-from_list_all, Bool, IsBefore, IsDistinct, IsReading}
 use Rattle.kd_state.proofs.Prelude.{List, None, Option, Place, Some, [], alphabet, ap, arith, bar_cost, cable_cost}
 use Rattle.kd_state.proofs.Prelude.{cable_letters, cases_eq, column_letters, columns_of, common_steps, count_by}
-use Rattle.kd_state.proofs.Prelude.{exactly_one, find, get_or, has_letter, inl, inr, le-leb, length, length-append}
+use Rattle.kd_state.proofs.Prelude.{exactly_one, find, get_or, has_letter, inl, inr, length, length-append}
 use Rattle.kd_state.proofs.Prelude.{length-map, length-replicate, letters_in_pairs, ltb-true, map, nat_eq, nat_tests}
 use Rattle.kd_state.proofs.Prelude.{option_to_list, range_with_len, recursion_from_All, refl, rules, slice_get, suc}
 use Rattle.kd_state.proofs.Prelude.{sum_by-cons, sum_by_more, take, true, unwrap_or, zero, ℕ, ◌&&◌, reading_of}
@@ -41,10 +41,25 @@ joined_counts f fits p q (x ∷ xs) = search (rules, count_by-cons, p, q, fits, 
 differ_fits : (a b : Bool) → one_if (exactly_one a b) ≤ one_if a + one_if b
 differ_fits a b = grind arith
 
+or_fits : (a b : Bool) → one_if (a || b) ≤ one_if a + one_if b
+or_fits a b = grind arith
+
+counted_once : (letter first number : ℕ)
+    → count_by (λ other. nat_eq letter other) (range_with_len first number) ≤ 1
+counted_once letter first number = grind (arith, count_by-range_at_most letter first number)
+
+one_letter_more : (letter : ℕ) (letters xs : List ℕ) → count_by (λ other. nat_eq letter other) xs ≤ 1
+    → count_by (has_letter letters) xs ≤ length letters
+    → count_by (has_letter (letter ∷ letters)) xs ≤ suc (length letters)
+one_letter_more letter letters xs once rest =
+    let joined = joined_counts (λ a b. a || b) or_fits (λ other. nat_eq letter other) (has_letter letters) xs in
+    omega (arith, joined, once, rest)
+
 -- a list has at most as many letters of the alphabet as it has elements
 count_by-has_letter : (letters : List ℕ) → count_by (has_letter letters) alphabet ≤ length letters
 count_by-has_letter [] = omega arith
-count_by-has_letter (letter ∷ letters) = search (rules, le-leb, count_by-range_at_most, count_by-has_letter letters)
+count_by-has_letter (letter ∷ letters) =
+    one_letter_more letter letters alphabet (counted_once letter 0 26) (count_by-has_letter letters)
 
 -- the letters are all different and below 26
 pub record AreProper (letters : List ℕ) : Type 0 where

@@ -6,7 +6,8 @@ pub use Rattle.std.proofs.Common.{AllPairs, get_or, length, List, nat_eq, refl, 
 pub use Rattle.std.proofs.Common.{[], append_assoc, false, fold, is_some, map, None, subst, sym, zip, ◌+◌, ◌∙◌, ◌∷◌}
 pub use Rattle.std.proofs.Common.{ap, arith, Bool, cond, count_by, find, length-append, Option, Some, ℕ, ◌++◌, ◌<◌, ◌≢◌}
 pub use Rattle.std.proofs.{Common.{Contains, flat_map, not, true, unwrap_or, ◌≡◌}, lemmas.Bool.{cond_both, eqb-true}}
-pub use Rattle.std.proofs.lemmas.Option.{get_or_from_slice_get, slice_get-get_or, slice_get-map, slice_get_within}
+pub use Rattle.std.proofs.lemmas.Option.{get_or_from_slice_get, same_Some, slice_get-get_or, slice_get-map}
+pub use Rattle.std.proofs.lemmas.Option.{slice_get_within}
 pub use Rattle.std.proofs.lemmas.List.{length-map, map-append, set_at, Folds.fold-map, Quantifiers.all_pairs_remove}
 pub use Rattle.std.proofs.lemmas.List.{get_or_at, set-get_or, Sums.{fold_push, sum_by-append, sum_by-cons, sum_by-le}}
 pub use Rattle.std.proofs.lemmas.List.{append-nil, length-set, Elements.recursion_from_All, Recursion.found_at}

@@ -9,7 +9,7 @@ use super::push_unless;
 use arrayvec::ArrayVec;
 use kd_pins::PinSet;
 use kd_state::{PinEntry, PinParts, Setting, Settings};
-use kd_tables::{Letter, ring1, ring2, ring3, ring4, ring5, ring6};
+use kd_tables::{Letter, Ring, ring1, ring2, ring3, ring4, ring5, ring6};
 
 /// Lists the settings for the pins and wheel letters of a Converter M-209 that aren't as the day says.
 ///
@@ -31,12 +31,28 @@ fn push_pins(settings: &mut Settings, present: &PinSet, wanted: &PinSet)
         ++ lines_from wheel_pin_lines 1 (zip (pins_of present.now) (pins_of wanted.now)) }
     ensures few { array_vec_len settings.new ≤ array_vec_len settings.old + 131 }
 {
-    push_wheel_pins(settings, 1, &ring1().letters(), &present.w1, &wanted.w1);
-    push_wheel_pins(settings, 2, &ring2().letters(), &present.w2, &wanted.w2);
-    push_wheel_pins(settings, 3, &ring3().letters(), &present.w3, &wanted.w3);
-    push_wheel_pins(settings, 4, &ring4().letters(), &present.w4, &wanted.w4);
-    push_wheel_pins(settings, 5, &ring5().letters(), &present.w5, &wanted.w5);
-    push_wheel_pins(settings, 6, &ring6().letters(), &present.w6, &wanted.w6);
+    push_wheel(settings, 1, ring1(), &present.w1, &wanted.w1);
+    push_wheel(settings, 2, ring2(), &present.w2, &wanted.w2);
+    push_wheel(settings, 3, ring3(), &present.w3, &wanted.w3);
+    push_wheel(settings, 4, ring4(), &present.w4, &wanted.w4);
+    push_wheel(settings, 5, ring5(), &present.w5, &wanted.w5);
+    push_wheel(settings, 6, ring6(), &present.w6, &wanted.w6);
+}
+
+/// Appends the setting PIN for each pin on wheel `wheel`, with the letters `ring`, that differs from the day's.
+fn push_wheel<const N: usize>(
+    settings: &mut Settings,
+    wheel: u8,
+    ring: Ring<N>,
+    present: &[bool; N],
+    wanted: &[bool; N],
+)
+    requires { array_vec_len settings.old + N ≤ 192 }
+    ensures items { settings.new.items ≡ settings.old.items
+        ++ flat_map (pin_line wheel) (zip ring.entry (zip present.now wanted.now)) }
+    ensures few { array_vec_len settings.new ≤ array_vec_len settings.old + N }
+{
+    push_wheel_pins(settings, wheel, &ring.letters(), present, wanted);
 }
 
 /// Appends the setting TURN for each pin wheel that shows another letter than the day's.

@@ -34,7 +34,8 @@ pub one_pair : (text : List ℕ) (x : Option (ℕ × ℕ)) → HasText pair_form
 one_pair text x has = record { has = has; only = λ y other. same_pair y x (other.written ∙ sym has.written) }
 
 pub one_standing : (text : List ℕ) (x : Place × Place) → HasText bar_format text x → IsOnlyKey bar_format text x
-one_standing text (a, b) has = grind (arith, common_steps, same_standing)
+one_standing text (a, b) has =
+    record { has = has; only = λ (c, d) other. same_standing c d a b (other.written ∙ sym has.written) }
 
 pub one_reading : (text : List ℕ) (x : ℕ × ℕ) → HasText row_format text x → IsOnlyKey row_format text x
 one_reading text x has = record { has = has; only = λ y other. same_reading y x (other.written ∙ sym has.written) }
