@@ -1,6 +1,6 @@
 //! Sample machines with their days, orders and forms.
 use crate::machines::Told;
-use crate::named::TextName::{AllMet, DayOf1941, DayOfAllMet, DayOfM4, M4AsEnigma, TenCables};
+use crate::named::TextName::{AllMet, DayOfAllMet, DayOfM4, M4AsEnigma};
 use std::alloc::{AllocError, Global};
 
 /// An M4 that acts as `M1`.
@@ -8,12 +8,6 @@ pub const FOUR_WHEELS: Told = ((M4AsEnigma, "", ""), (DayOfM4, "", ""));
 
 /// A Converter on which one pin moves all bars.
 pub const ONE_PIN: Told = ((AllMet, "", ""), (DayOfAllMet, "", ""));
-
-/// The machine with ten cables, on the day of a message of 1941.
-pub const OF_1941: Told = ((TenCables, "", ""), (DayOf1941, "", ""));
-
-/// The machine with ten cables, on a day with another group.
-pub const OTHER_GROUP: Told = ((TenCables, "", ""), (DayOf1941, "UGZ", "ABC"));
 
 /// A form of two parts, each with the text AAAAA.
 pub const TWO_PARTS: &str = "PART 1/2 10 AAA BDZ\nQXUGZ BDZGO\nPART 2/2 10 AAA BDZ\nQXUGZ BDZGO\n";

@@ -2,7 +2,7 @@
 use super::places::is_text;
 use crate::form::samples::TWO_PARTS;
 use crate::machines::{PLAIN, keyed};
-use kd_lost::{DamagedFormFault, DamagedPart, PartDamage, read_damaged_form};
+use kd_lost::{DamagedPart, PartDamage, read_damaged_form};
 use std::process::Abort;
 use std::test::Fail;
 
@@ -65,22 +65,5 @@ fn damaged_forms_are_read(rt: HostRuntime) -> Result<(), Fail> {
             .ok_or("memory")?;
         are_read(&rt, parts.as_slice(), due);
     }
-    Ok(())
-}
-
-/// A form with 255 lines with digits is read, and one with 256 isn't.
-#[test]
-fn too_many_parts_are_refused(rt: HostRuntime) -> Result<(), Fail> {
-    let keyed = keyed(&rt, rt.alloc(), &PLAIN);
-    let mut form = Vec::new(rt.alloc());
-    for _ in 0..255 {
-        form.push(b'1')?;
-        form.push(b'\n')?;
-    }
-    let read = read_damaged_form(rt.alloc(), &keyed.1, form.as_slice());
-    assert!(&rt; read.is_ok_and(|parts| parts.len() == 255));
-    form.push(b'1')?;
-    let read = read_damaged_form(rt.alloc(), &keyed.1, form.as_slice());
-    assert!(&rt; read.err() == Some(DamagedFormFault::TooManyParts));
     Ok(())
 }
