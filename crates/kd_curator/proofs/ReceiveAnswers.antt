@@ -9,10 +9,10 @@ use Rattle.kd_form.specs.OnTheKey.{IsReadyOnKey}
 use Rattle.kd_pictures.specs.declared.language.Language.{Language}
 use Rattle.kd_message.specs.ReceivePage.{FormNotRead, IsReceivePageAnswer, ReceivedPageWritten}
 use Rattle.kd_message.specs.ReceivePage.{is_device_fault as is_page_device}
-use Rattle.kd_message.specs.Texts.{AreTexts}
+use Rattle.kd_part_sheet.specs.Texts.{AreTexts}
 use Rattle.kd_message.specs.declared.receiving.ReceivePageFault.{ReceivePageFault}
 use Rattle.kd_message.specs.declared.receiving.ReceivePageFault.TheVariants.{NoMemory, TooManyParts, Device}
-use Rattle.kd_message.specs.declared.texts.MessageTexts.{MessageTexts}
+use Rattle.kd_part_sheet.specs.declared.texts.MessageTexts.{MessageTexts}
 use Rattle.kd_curator.specs.Refusals.{has_written, is_device, refused_receive, refused_whole}
 use Rattle.kd_curator.specs.RunReceive.{Cut, NotRead, Page, WritesReceivePage}
 use Rattle.kd_curator.specs.declared.fault.PageFault.TheVariants.{LettersMissing}

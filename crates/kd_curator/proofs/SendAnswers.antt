@@ -6,10 +6,10 @@ use Rattle.kd_state.specs.SheetDay.{Day}
 use Rattle.kd_sheet.specs.Sheet.{day_of}
 use Rattle.kd_pictures.specs.declared.language.Language.{Language}
 use Rattle.kd_message.specs.SendPage.{IsSendPageAnswer, PageWritten, Refused as PageRefused, is_device as is_page_device}
-use Rattle.kd_message.specs.Texts.{AreTexts}
+use Rattle.kd_part_sheet.specs.Texts.{AreTexts}
 use Rattle.kd_message.specs.declared.sending.SendPageFault.{SendPageFault}
 use Rattle.kd_message.specs.declared.sending.SendPageFault.TheVariants.{Order, Device}
-use Rattle.kd_message.specs.declared.texts.MessageTexts.{MessageTexts}
+use Rattle.kd_part_sheet.specs.declared.texts.MessageTexts.{MessageTexts}
 use Rattle.kd_curator.specs.Refusals.{is_device, refused_send}
 use Rattle.kd_curator.specs.RunSend.{NoPage, Page, WritesSendPage}
 use Rattle.kd_curator.specs.declared.fault.Refused.{Refused}

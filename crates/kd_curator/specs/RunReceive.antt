@@ -14,8 +14,8 @@ use Rattle.kd_lost.specs.declared.part.DamagedPart.{DamagedPart}
 use Rattle.kd_pictures.specs.declared.language.Language.{Language}
 use Rattle.kd_message.specs.ReceivePage.{page_fault, receive_text}
 use Rattle.kd_message.specs.ShownParts.{IsWhole}
-use Rattle.kd_message.specs.Texts.{AreTexts}
-use Rattle.kd_message.specs.declared.texts.MessageTexts.{MessageTexts}
+use Rattle.kd_part_sheet.specs.Texts.{AreTexts}
+use Rattle.kd_part_sheet.specs.declared.texts.MessageTexts.{MessageTexts}
 use Rattle.kd_curator.specs.Refusals.{refused_device, refused_receive, refused_whole}
 use Rattle.kd_curator.specs.declared.fault.PageFault.TheVariants.{LettersMissing, Message, NoSuchDay}
 use Rattle.kd_curator.specs.declared.fault.Refused.{Refused}

@@ -10,8 +10,8 @@ use Rattle.kd_form.specs.Sending.{IsFormOf}
 use Rattle.kd_form.specs.declared.fault.FormFault.{FormFault}
 use Rattle.kd_pictures.specs.declared.language.Language.{Language}
 use Rattle.kd_message.specs.SendPage.{IsSendPage, IsSendRefusal}
-use Rattle.kd_message.specs.Texts.{AreTexts}
-use Rattle.kd_message.specs.declared.texts.MessageTexts.{MessageTexts}
+use Rattle.kd_part_sheet.specs.Texts.{AreTexts}
+use Rattle.kd_part_sheet.specs.declared.texts.MessageTexts.{MessageTexts}
 use Rattle.kd_curator.specs.Refusals.{refused_device, refused_whole}
 use Rattle.kd_curator.specs.declared.fault.PageFault.TheVariants.{Message, NoSuchDay}
 use Rattle.kd_curator.specs.declared.fault.Refused.{Refused}

@@ -1,4 +1,3 @@
-pub mod Pieces
 pub mod Sheets
 pub mod Orders
 pub mod Works

@@ -18,8 +18,8 @@ use Rattle.kd_lost.specs.DamagedForm.{AreReadOf}
 use Rattle.kd_lost.specs.DamagedPart.{IsDamagedTextAnswer}
 use Rattle.kd_lost.specs.DamagedText.{AreTextKeys}
 use Rattle.kd_lost.proofs.PartShown.{shown_there}
-use Rattle.kd_message.specs.declared.texts.MessageTexts.{MessageTexts}
-use Rattle.kd_message.specs.PartWork.{AreShowable}
+use Rattle.kd_part_sheet.specs.declared.texts.MessageTexts.{MessageTexts}
+use Rattle.kd_message.specs.ReceivedWork.{AreShowable}
 unfoldable use Rattle.kd_message.specs.ReceivePage.{receive_text}
 use Rattle.kd_message.specs.ReceivePage.{AreWorkable}
 use Rattle.kd_message.specs.ShownParts.{later_or, number_of, shown_from}

@@ -15,11 +15,11 @@ use Rattle.kd_lost.specs.Lost.{Completes, covered, filled}
 use Rattle.kd_lost.proofs.Ciphers.{filled_completes}
 use Rattle.kd_lost.proofs.Completions.{completes_length}
 use Rattle.kd_lost.proofs.PartShown.{shown_there}
-use Rattle.kd_message.specs.declared.cells.Cell.{Cell}
-use Rattle.kd_message.specs.declared.cells.Mark.TheVariants as marks
-use Rattle.kd_message.specs.Cells.{received_cells, sign_of, skipped, text_sign}
+use Rattle.kd_part_sheet.specs.declared.cells.Cell.{Cell}
+use Rattle.kd_part_sheet.specs.declared.cells.Mark.TheVariants as marks
+use Rattle.kd_part_sheet.specs.Cells.{received_cells, sign_of, skipped, text_sign}
 use Rattle.kd_message.specs.Laws.{RowsAreDeciphered, letter_of, pressed_of}
-use Rattle.kd_message.specs.PartWork.{received_work, work_with}
+use Rattle.kd_message.specs.ReceivedWork.{received_work, work_with}
 
 -- ---- Cells that are pressed.
 

@@ -21,15 +21,15 @@ use Rattle.kd_form.proofs.MadeParts.{size_some}
 use Rattle.kd_form.proofs.OneOrder.{all_of_the_day, one_order, orders_have_one_answer}
 use Rattle.kd_pictures.specs.Drawing.{Draws}
 use Rattle.kd_pictures.proofs.Drawings.{both}
-use Rattle.kd_message.specs.declared.texts.MessageTexts.{MessageTexts}
+use Rattle.kd_part_sheet.specs.declared.texts.MessageTexts.{MessageTexts}
+use Rattle.kd_part_sheet.specs.PartWork.{IsWork, Work}
+use Rattle.kd_part_sheet.specs.Rows.{pieces}
+use Rattle.kd_part_sheet.proofs.Pieces.{pieces-next, pieces-none}
 use Rattle.kd_message.specs.FormSheet.{form_part}
-use Rattle.kd_message.specs.PartWork.{IsWork, Work}
-use Rattle.kd_message.specs.Rows.{pieces}
 use Rattle.kd_message.specs.SendPage.{AreKeysOfText, AreMade, AreWorks, IsSendPage, IsSendRefusal, form_parts}
 use Rattle.kd_message.specs.SendPage.{part_name, part_sheets, send_sheet, text_pieces}
 unfoldable use Rattle.kd_message.specs.SendPage.{send_text}
 use Rattle.kd_message.proofs.Orders.{parts_of_order}
-use Rattle.kd_message.proofs.Pieces.{pieces-next, pieces-none}
 
 length-first_chunks : {X : Type 0} (size count : ℕ) (items : List X) → length (first_chunks size count items) ≡ count
 length-first_chunks size zero items = refl

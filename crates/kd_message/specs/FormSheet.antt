@@ -7,9 +7,9 @@ use Rattle.kd_form.specs.declared.heading.Indicator.{Indicator}
 use Rattle.kd_form.specs.Part.{Part}
 use Rattle.kd_pictures.specs.Template.{filled}
 use Rattle.kd_pictures.specs.Words.{model_name}
-use Rattle.kd_message.specs.declared.markup.TheConstants.{FORM_GROUP, FORM_GROUP_END}
-use Rattle.kd_message.specs.declared.texts.MessageTexts.{MessageTexts}
-use Rattle.kd_message.specs.Rows.{pieces}
+use Rattle.kd_part_sheet.specs.declared.markup.TheConstants.{FORM_GROUP, FORM_GROUP_END}
+use Rattle.kd_part_sheet.specs.declared.texts.MessageTexts.{MessageTexts}
+use Rattle.kd_part_sheet.specs.Rows.{pieces}
 
 -- the head of the sheet
 abbrev pub form_head : MessageTexts → Day → List ℕ

@@ -6,12 +6,12 @@ use Rattle.kd_form.specs.Sending.{space_letter}
 use Rattle.kd_lost.specs.declared.damaged_text.DamagedText.{DamagedText}
 use Rattle.kd_lost.specs.DamagedPart.{IsDamagedTextAnswer}
 use Rattle.kd_lost.specs.Lost.{Completes, covered}
-use Rattle.kd_message.specs.declared.cells.Cell.{Cell}
-use Rattle.kd_message.specs.declared.cells.Sign.{Sign}
-use Rattle.kd_message.specs.declared.cells.Sign.TheVariants as signs
-use Rattle.kd_message.specs.Cells.{received_cells}
-use Rattle.kd_message.specs.LettersAfter.{letters_after}
-use Rattle.kd_message.specs.PartWork.{received_work}
+use Rattle.kd_part_sheet.specs.declared.cells.Cell.{Cell}
+use Rattle.kd_part_sheet.specs.declared.cells.Sign.{Sign}
+use Rattle.kd_part_sheet.specs.declared.cells.Sign.TheVariants as signs
+use Rattle.kd_part_sheet.specs.Cells.{received_cells}
+use Rattle.kd_part_sheet.specs.LettersAfter.{letters_after}
+use Rattle.kd_message.specs.ReceivedWork.{received_work}
 
 -- The lamps of a row are the machine's cipher of the letters that are pressed in this row, from the letters that the
 -- machine shows after the rows before it.

@@ -1,11 +1,4 @@
-pub mod Texts
-pub mod Cells
-pub mod LettersAfter
-pub mod Words
-pub mod Windows
-pub mod Rows
-pub mod PartWork
-pub mod PartSheet
+pub mod ReceivedWork
 pub mod FormSheet
 pub mod SendPage
 pub mod ShownParts

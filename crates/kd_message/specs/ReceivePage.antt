@@ -17,16 +17,16 @@ use Rattle.kd_lost.specs.DamagedForm.{AreReadOf, IsFormFault, damaged_parts_of}
 use Rattle.kd_pictures.specs.declared.texts.TheConstants.{FOOT}
 use Rattle.kd_pictures.specs.Template.{filled}
 use Rattle.kd_pictures.specs.Words.{is_converter}
-use Rattle.kd_message.specs.declared.markup.TheConstants.{ARTICLE_END}
-use Rattle.kd_message.specs.declared.part_sheet.PartName.{PartName}
+use Rattle.kd_part_sheet.specs.declared.markup.TheConstants.{ARTICLE_END}
+use Rattle.kd_part_sheet.specs.declared.part_sheet.PartName.{PartName}
+use Rattle.kd_part_sheet.specs.declared.texts.MessageTexts.{MessageTexts}
+use Rattle.kd_part_sheet.specs.declared.texts.SheetTexts.{SheetTexts}
+use Rattle.kd_part_sheet.specs.PartSheet.{part_sheet, text_if}
 use Rattle.kd_message.specs.declared.receiving.ReceivePageFault.{ReceivePageFault}
 use Rattle.kd_message.specs.declared.receiving.ReceivePageFault.TheVariants as faults
 use Rattle.kd_message.specs.declared.receiving.Section.{Section}
 use Rattle.kd_message.specs.declared.receiving.Section.TheVariants as sections
-use Rattle.kd_message.specs.declared.texts.MessageTexts.{MessageTexts}
-use Rattle.kd_message.specs.declared.texts.SheetTexts.{SheetTexts}
-use Rattle.kd_message.specs.PartSheet.{part_sheet, text_if}
-use Rattle.kd_message.specs.PartWork.{AreShowable, received_work}
+use Rattle.kd_message.specs.ReceivedWork.{AreShowable, received_work}
 use Rattle.kd_message.specs.SendPage.{list_head, part_name, title_text}
 use Rattle.kd_message.specs.ShownParts.{IsWhole, is_any_read, last_of, shown_under, total_of}
 use Rattle.kd_message.specs.TextSheet.{damage_text, missing_text, order_text, read_text, text_note, text_part_head}

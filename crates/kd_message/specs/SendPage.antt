@@ -19,17 +19,17 @@ use Rattle.kd_pictures.specs.declared.texts.TheConstants as page_texts
 use Rattle.kd_pictures.specs.Template.{filled}
 use Rattle.kd_pictures.specs.Words.{is_converter, model_name}
 use Rattle.kd_tables.specs.declared.model.Model.{Model}
-use Rattle.kd_message.specs.declared.markup.TheConstants.{ARTICLE_END}
-use Rattle.kd_message.specs.declared.part_sheet.PartName.{PartName}
-use Rattle.kd_message.specs.declared.part_sheet.Warnings.{Warnings}
+use Rattle.kd_part_sheet.specs.declared.markup.TheConstants.{ARTICLE_END}
+use Rattle.kd_part_sheet.specs.declared.part_sheet.PartName.{PartName}
+use Rattle.kd_part_sheet.specs.declared.part_sheet.Warnings.{Warnings}
+use Rattle.kd_part_sheet.specs.declared.texts.MessageTexts.{MessageTexts}
+use Rattle.kd_part_sheet.specs.declared.texts.SheetTexts.{SheetTexts}
+use Rattle.kd_part_sheet.specs.PartSheet.{part_sheet}
+use Rattle.kd_part_sheet.specs.PartWork.{IsWork, Work}
+use Rattle.kd_part_sheet.specs.Rows.{pieces}
 use Rattle.kd_message.specs.declared.sending.SendPageFault.{SendPageFault}
 use Rattle.kd_message.specs.declared.sending.SendPageFault.TheVariants.{Order, Device}
-use Rattle.kd_message.specs.declared.texts.MessageTexts.{MessageTexts}
-use Rattle.kd_message.specs.declared.texts.SheetTexts.{SheetTexts}
 use Rattle.kd_message.specs.FormSheet.{form_head, form_part}
-use Rattle.kd_message.specs.PartSheet.{part_sheet}
-use Rattle.kd_message.specs.PartWork.{IsWork, Work}
-use Rattle.kd_message.specs.Rows.{pieces}
 
 -- the head of the file, with the title that the template `title` gives
 unfoldable pub title_text : MessageTexts → List ℕ → Day → List ℕ

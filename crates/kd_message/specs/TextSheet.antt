@@ -16,13 +16,13 @@ use Rattle.kd_lost.specs.declared.part.{DamagedPart.{DamagedPart}, PartNumbers.{
 use Rattle.kd_lost.specs.DamagedForm.{shown_byte}
 use Rattle.kd_pictures.specs.Template.{filled}
 use Rattle.kd_pictures.specs.Words.{is_converter, model_name}
-use Rattle.kd_message.specs.declared.markup.TheConstants.{COMMA, TEXT_END, TEXT_LETTERS, TEXT_WORDS}
-use Rattle.kd_message.specs.declared.part_sheet.PartName.{PartName}
-use Rattle.kd_message.specs.declared.part_sheet.Warnings.{Warnings}
-use Rattle.kd_message.specs.declared.texts.MessageTexts.{MessageTexts}
-use Rattle.kd_message.specs.declared.texts.SheetTexts.{SheetTexts}
-use Rattle.kd_message.specs.PartSheet.{warnings_text}
-use Rattle.kd_message.specs.Rows.{pieces}
+use Rattle.kd_part_sheet.specs.declared.markup.TheConstants.{COMMA, TEXT_END, TEXT_LETTERS, TEXT_WORDS}
+use Rattle.kd_part_sheet.specs.declared.part_sheet.PartName.{PartName}
+use Rattle.kd_part_sheet.specs.declared.part_sheet.Warnings.{Warnings}
+use Rattle.kd_part_sheet.specs.declared.texts.MessageTexts.{MessageTexts}
+use Rattle.kd_part_sheet.specs.declared.texts.SheetTexts.{SheetTexts}
+use Rattle.kd_part_sheet.specs.PartSheet.{warnings_text}
+use Rattle.kd_part_sheet.specs.Rows.{pieces}
 use Rattle.kd_message.specs.ShownParts.{are_rising, numbers_of}
 
 -- the head of the sheet

@@ -2,16 +2,16 @@
 ghost use Rattle.std.specs.Prelude.{◌≡◌, ◌+◌, ◌≤◌, ◌∷◌, flat_map, length};
 ghost use Rattle.kd_form.specs.PartMaking.{part_of};
 ghost use Rattle.kd_pictures.specs.Drawing.{Draws};
+ghost use Rattle.kd_part_sheet.specs.Rows.{pieces};
 ghost use Rattle.kd_message.specs.FormSheet.{form_group, form_head, form_part, indicator_text, keys_text};
 ghost use Rattle.kd_message.specs.FormSheet.{part_head, part_note};
-ghost use Rattle.kd_message.specs.Rows.{pieces};
 
-use crate::filling::fill;
-use crate::markup::{FORM_GROUP, FORM_GROUP_END};
-use crate::part_sheet::PartName;
-use crate::texts::MessageTexts;
-use crate::words::draw_letters;
 use kd_form::heading::Indicator;
+use kd_part_sheet::filling::fill;
+use kd_part_sheet::markup::{FORM_GROUP, FORM_GROUP_END};
+use kd_part_sheet::part_sheet::PartName;
+use kd_part_sheet::texts::MessageTexts;
+use kd_part_sheet::words::draw_letters;
 use kd_pictures::draw;
 use kd_pictures::template::Value;
 use kd_state::SheetDay;

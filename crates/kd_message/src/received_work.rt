@@ -2,15 +2,16 @@
 ghost use Rattle.std.specs.Prelude.{◌≡◌};
 ghost use Rattle.kd_state.specs.TwoCiphers.{IsWindow, sheet_key};
 ghost use Rattle.kd_form.specs.BodyCipher.{HasIndicator};
-ghost use Rattle.kd_message.specs.PartWork.{AreShowable, IsWorkable, pin_received, received_work, rotor_received};
+ghost use Rattle.kd_part_sheet.specs.PartWork.{IsWorkable};
+ghost use Rattle.kd_message.specs.ReceivedWork.{AreShowable, pin_received, received_work, rotor_received};
 
-use crate::cells::{push_choice, push_pressed, push_received, push_skipped};
-use crate::part_work::{PartWork, letters_of};
 use arrayvec::ArrayVec;
 use kd_form::day_machine::DayMachine;
 use kd_form::heading::Indicator;
 use kd_form::text_bytes::space_letter;
 use kd_lost::{DamagedText, PinTextKeys, TextKeys};
+use kd_part_sheet::cells::{push_choice, push_pressed, push_received, push_skipped};
+use kd_part_sheet::part_work::{PartWork, letters_of};
 use kd_state::SheetDay;
 
 /// What is pressed and found when a part is deciphered to `shown`.

@@ -3,16 +3,13 @@ ghost use Rattle.std.specs.Prelude.{◌≡◌, ◌≤◌, ◌+◌, ◌||◌, [],
 ghost use Rattle.std.specs.List.{range_with_len};
 ghost use Rattle.kd_tables.specs.Ports.{port};
 ghost use Rattle.kd_pictures.specs.Drawing.{Draws};
-ghost use Rattle.kd_message.specs.PartWork.{AreShowable};
+ghost use Rattle.kd_part_sheet.specs.declared.texts.MessageTexts.{MessageTexts};
+ghost use Rattle.kd_part_sheet.specs.Texts.{AreTexts};
+ghost use Rattle.kd_message.specs.ReceivedWork.{AreShowable};
 ghost use Rattle.kd_message.specs.ReceivePage.{AreWorkable, IsReceivePageAnswer, listed_text, listed_unread, missing_in};
 ghost use Rattle.kd_message.specs.ReceivePage.{number_in, page_fault, part_in, receive_text, receive_texts, section_text};
 ghost use Rattle.kd_message.specs.ReceivePage.{is_device_fault, text_or_damage, worked_text};
-ghost use Rattle.kd_message.specs.Texts.{AreTexts};
-ghost use Rattle.kd_message.specs.declared.texts.MessageTexts.{MessageTexts};
 
-use crate::filling::fill;
-use crate::markup::ARTICLE_END;
-use crate::part_sheet::{PartName, draw_if, draw_part_sheet};
 use crate::received_work::received_work;
 use crate::sending::{draw_title, list_head, part_name};
 use crate::shown_parts::{is_any_read, is_whole, last_of, shown_under, total_of};
@@ -20,8 +17,11 @@ use crate::text_sheet::{
     draw_damage, draw_missing, draw_order, draw_read_text, draw_text_part_head,
     draw_text_sheet_head, text_note, warnings_of,
 };
-use crate::texts::{MessageTexts, SheetTexts, message_texts};
 use kd_lost::{DamagedFormFault, DamagedPart, DamagedText, PartDamage, read_damaged_form};
+use kd_part_sheet::filling::fill;
+use kd_part_sheet::markup::ARTICLE_END;
+use kd_part_sheet::part_sheet::{PartName, draw_if, draw_part_sheet};
+use kd_part_sheet::texts::{MessageTexts, SheetTexts, message_texts};
 use kd_pictures::template::Value;
 use kd_pictures::texts::FOOT;
 use kd_pictures::words::is_converter;

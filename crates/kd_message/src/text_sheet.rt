@@ -3,7 +3,7 @@ ghost use Rattle.std.specs.Prelude.{◌≡◌, ◌∷◌, ◌++◌, ◌+◌, ◌
 ghost use Rattle.kd_pictures.specs.Drawing.{Draws};
 ghost use Rattle.kd_form.specs.Sending.{space_letter};
 ghost use Rattle.kd_lost.specs.DamagedForm.{shown_byte};
-ghost use Rattle.kd_message.specs.Rows.{pieces};
+ghost use Rattle.kd_part_sheet.specs.Rows.{pieces};
 ghost use Rattle.kd_message.specs.ShownParts.{numbers_from, numbers_of};
 ghost use Rattle.kd_message.specs.TextSheet.{ask_for_lost, ask_text, asked_words, counts_text, damage_text};
 ghost use Rattle.kd_message.specs.TextSheet.{first_text_group, group_words, has_lost, heading_count, indicator_groups};
@@ -12,14 +12,14 @@ ghost use Rattle.kd_message.specs.TextSheet.{lost_groups, missing_text, numbers_
 ghost use Rattle.kd_message.specs.TextSheet.{reason_text, text_begin, text_note, text_part_head, text_sheet_head};
 ghost use Rattle.kd_message.specs.TextSheet.{warnings_of};
 
-use crate::filling::fill;
-use crate::markup::{COMMA, LOST_LETTER, SPACE, TEXT_END, TEXT_LETTERS, TEXT_WORDS};
-use crate::part_sheet::{PartName, Warnings, draw_warnings};
 use crate::shown_parts::{are_rising, number_of};
-use crate::texts::{MessageTexts, SheetTexts};
 use itoa::Buffer;
 use kd_form::text_bytes::space_letter;
 use kd_lost::{DamagedPart, DamagedText, GroupTest, LostCopies, PartDamage, PartNumbers};
+use kd_part_sheet::filling::fill;
+use kd_part_sheet::markup::{COMMA, LOST_LETTER, SPACE, TEXT_END, TEXT_LETTERS, TEXT_WORDS};
+use kd_part_sheet::part_sheet::{PartName, Warnings, draw_warnings};
+use kd_part_sheet::texts::{MessageTexts, SheetTexts};
 use kd_pictures::draw;
 use kd_pictures::template::{Value, draw_letter};
 use kd_pictures::words::is_converter;
@@ -264,7 +264,7 @@ fn draw_lost_groups<W: Sink>(
 }
 
 /// Splits `letters` after the first five, or after the last letter if there are fewer.
-#[tactic(auto, using(crate::proofs::Pieces::first_pieces))]
+#[tactic(auto, using(kd_part_sheet::proofs::Pieces::first_pieces))]
 fn first_group(letters: &[Option<Letter>]) -> (&[Option<Letter>], &[Option<Letter>])
     requires { 1 ≤ length letters.now }
     ensures pieces { pieces 5 letters.now ≡ result.0.now ∷ pieces 5 result.1.now }

@@ -1,5 +1,5 @@
 use Rattle.std.specs.Prelude.{IfOk}
-use Rattle.kd_message.specs.PartWork.{AreShowable}
+use Rattle.kd_message.specs.ReceivedWork.{AreShowable}
 use Rattle.kd_message.proofs.ReceivePages.{shown_holds}
 use Rattle.kd_message.proofs.receiving.draw_number.Goals as goal
 

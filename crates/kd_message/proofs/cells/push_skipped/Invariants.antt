@@ -1,6 +1,0 @@
-use Rattle.std.proofs.Common.{◌≡◌, ◌++◌, map, take}
-use Rattle.kd_message.specs.Cells.{skipped}
-use Rattle.kd_message.proofs.cells.push_skipped.Given as goal
-
-abbrev pub invariant-loop-letter : goal.invariant-loop-letter
-invariant-loop-letter g l = l.cells.items ≡ l.fn.cells.items ++ map skipped (take l.letter-index l.letters)

@@ -1,8 +1,0 @@
-use Rattle.std.proofs.Common.{arith}
-use Rattle.std.proofs.lemmas.Grind.{common_steps}
-use Rattle.kd_pictures.proofs.Drawings.{joined}
-use Rattle.kd_message.proofs.rows.+draw_groups.Goals as goal
-
-pub returns-then-not-is_empty : goal.returns-then-not-is_empty
-returns-then-not-is_empty g t c =
-    joined c.draw_group.ensures c.draw_groups.ensures (grind (arith, common_steps))

@@ -1,5 +1,0 @@
-use Rattle.std.proofs.Common.{length}
-use Rattle.kd_message.proofs.rows.+draw_rows.Given as goal
-
-abbrev pub decreases-draw_rows : goal.decreases-draw_rows
-decreases-draw_rows g l = length l.cells.now

@@ -1,5 +1,0 @@
-use Rattle.std.proofs.Common.{length}
-use Rattle.kd_message.proofs.rows.+has_below.Given as goal
-
-abbrev pub decreases-has_below : goal.decreases-has_below
-decreases-has_below l = length l.group.now

@@ -1,0 +1,17 @@
+-- The second sheet of paper.
+use Rattle.std.proofs.Common.{◌≡◌, ℕ, ◌<◌, List, [], ◌∷◌, ◌++◌, length, arith, refl}
+use Rattle.kd_state.specs.SheetDay.{Day}
+use Rattle.kd_pictures.specs.Template.{filled}
+use Rattle.kd_part_sheet.specs.declared.cells.Cell.{Cell}
+use Rattle.kd_part_sheet.specs.declared.part_sheet.PartName.{PartName}
+use Rattle.kd_part_sheet.specs.declared.rows.Progress.{Progress}
+use Rattle.kd_part_sheet.specs.declared.texts.SheetTexts.{SheetTexts}
+use Rattle.kd_part_sheet.specs.PartSheet.{name_values, next_sheet}
+use Rattle.kd_part_sheet.specs.Rows.{pieces, rows_after}
+
+pub next_sheet_some : (sheet : SheetTexts) (s : Day) (name : PartName) (start : List ℕ) (progress : Progress)
+    (cells : List Cell) → 0 < length cells
+    → next_sheet sheet s name start progress cells
+    ≡ filled sheet.next_step.now (name_values name) ++ rows_after s start progress (pieces 50 cells)
+next_sheet_some sheet s name start progress [] some = absurd (omega arith)
+next_sheet_some sheet s name start progress (cell ∷ cells) some = refl

@@ -1,0 +1,6 @@
+use Rattle.std.proofs.Common.{◌≡◌, ◌++◌, map, take}
+use Rattle.kd_part_sheet.specs.Cells.{skipped}
+use Rattle.kd_part_sheet.proofs.cells.push_skipped.Given as goal
+
+abbrev pub invariant-loop-letter : goal.invariant-loop-letter
+invariant-loop-letter g l = l.cells.items ≡ l.fn.cells.items ++ map skipped (take l.letter-index l.letters)

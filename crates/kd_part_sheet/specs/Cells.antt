@@ -1,0 +1,91 @@
+-- The cells of a row: a letter's sign above the line, and its sign below the line.
+use Rattle.std.specs.Prelude.{decimal, ℕ, ◌+◌, ◌==◌, true, false, is_some, if◌then◌else◌, List, [], ◌∷◌, Option, None, Some}
+use Rattle.kd_tables.specs.Rings.{place_on, ring_of}
+use Rattle.kd_pictures.specs.Template.{letter_text}
+use Rattle.kd_part_sheet.specs.declared.cells.Cell.{Cell}
+use Rattle.kd_part_sheet.specs.declared.cells.Sign.{Sign}
+use Rattle.kd_part_sheet.specs.declared.cells.Sign.TheVariants as signs
+use Rattle.kd_part_sheet.specs.declared.cells.Mark.{Mark}
+use Rattle.kd_part_sheet.specs.declared.cells.Mark.TheVariants as marks
+use Rattle.kd_part_sheet.specs.declared.cells.Line.{Line}
+use Rattle.kd_part_sheet.specs.declared.cells.Line.TheVariants as lines
+use Rattle.kd_part_sheet.specs.declared.markup.TheConstants.{LOST_LETTER, NO_LETTER, STRUCK_OUT}
+
+abbrev pub sign_text : Sign → List ℕ
+sign_text signs.Nothing = NO_LETTER.now
+sign_text signs.Lost = LOST_LETTER.now
+sign_text (signs.Letter letter) = letter_text letter
+
+-- a letter that is copied to the line: nothing is pressed for it
+abbrev pub copied : ℕ → Cell
+copied letter =
+    record { above = signs.Nothing; below = signs.Letter letter; is_pressed = false; mark = marks.NoMark }
+
+-- a letter that is pressed, and the lamp that has to light up for it
+abbrev pub pressed : ℕ → ℕ → Cell
+pressed key lamp =
+    record { above = signs.Letter key; below = signs.Letter lamp; is_pressed = true; mark = marks.NoMark }
+
+-- letters that are pressed, and their lamps
+abbrev pub pressed_cells : List ℕ → List ℕ → List Cell
+pressed_cells (key ∷ keys) (lamp ∷ lamps) = pressed key lamp ∷ pressed_cells keys lamps
+pressed_cells [] lamps = []
+pressed_cells (key ∷ keys) [] = []
+
+-- ---- Letters that came with a form. `None` is a lost letter.
+
+abbrev pub sign_of : Option ℕ → Sign
+sign_of None = signs.Lost
+sign_of (Some letter) = signs.Letter letter
+
+-- a letter that came with the form, and isn't pressed
+abbrev pub skipped : Option ℕ → Cell
+skipped letter = record { above = sign_of letter; below = signs.Nothing; is_pressed = false; mark = marks.NoMark }
+
+-- the sign of a letter of the text: nothing for a space, for which `for_space` was sent
+abbrev pub text_sign : Option ℕ → Option ℕ → Sign
+text_sign for_space None = signs.Lost
+text_sign None (Some letter) = signs.Letter letter
+text_sign (Some space) (Some letter) = if letter == space then signs.Nothing else signs.Letter letter
+
+-- letters that came with the form and are pressed, and the letters of the text
+abbrev pub received_cells : Option ℕ → List (Option ℕ) → List (Option ℕ) → List Cell
+received_cells for_space (key ∷ keys) (letter ∷ text) =
+    record { above = sign_of key; below = text_sign for_space letter; is_pressed = true; mark = marks.NoMark }
+    ∷ received_cells for_space keys text
+received_cells for_space [] text = []
+received_cells for_space (key ∷ keys) [] = []
+
+-- ---- The internal key of a Converter: wheels 1 to 6 each take the next letter that they have.
+
+-- what the wheels do with a letter if the wheels up to wheel `taken` have taken letters
+abbrev pub mark_of : ℕ → ℕ → Mark
+mark_of taken letter =
+    if taken == 6 then marks.NotNeeded
+    else if is_some (place_on (ring_of (taken + 1)) letter) then marks.Taken (taken + 1) else marks.StruckOut
+
+-- how many wheels have taken letters after a letter with this mark
+abbrev pub taken_after : ℕ → Mark → ℕ
+taken_after taken marks.NoMark = taken
+taken_after taken marks.NotNeeded = taken
+taken_after taken marks.StruckOut = taken
+taken_after taken (marks.Taken wheel) = wheel
+
+-- the chosen letter for each of the letters that are printed for it, with what the wheels do with the printed letter
+abbrev pub choice_cells : ℕ → ℕ → List ℕ → List Cell
+choice_cells taken chosen [] = []
+choice_cells taken chosen (letter ∷ printed) =
+    record { above = signs.Letter chosen; below = signs.Letter letter; is_pressed = true; mark = mark_of taken letter }
+    ∷ choice_cells (taken_after taken (mark_of taken letter)) chosen printed
+
+abbrev pub mark_text : Mark → List ℕ
+mark_text marks.NoMark = []
+mark_text marks.NotNeeded = NO_LETTER.now
+mark_text marks.StruckOut = STRUCK_OUT.now
+mark_text (marks.Taken wheel) = decimal wheel
+
+-- what a line has for a cell
+abbrev pub place_text : Line → Cell → List ℕ
+place_text lines.Above cell = sign_text cell.above
+place_text lines.Below cell = sign_text cell.below
+place_text lines.Marks cell = mark_text cell.mark

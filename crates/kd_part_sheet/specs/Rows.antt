@@ -1,0 +1,105 @@
+-- The rows of a step: ten groups of five letters a row; at a row's end the letters so far, and after presses the windows.
+use Rattle.std.specs.Prelude.{decimal, ℕ, ◌+◌, ◌==◌, Bool, true, false, not, if◌then◌else◌}
+use Rattle.std.specs.Prelude.{List, [], ◌∷◌, ◌++◌, flat_map, length}
+use Rattle.std.specs.Int.{div_ceil}
+use Rattle.std.specs.List.{count_by}
+use Rattle.std.specs.Simd.{first_chunks}
+use Rattle.kd_state.specs.SheetDay.{Day, day_model}
+use Rattle.kd_pictures.specs.Template.{filled}
+use Rattle.kd_pictures.specs.Words.{is_converter}
+use Rattle.kd_part_sheet.specs.declared.cells.Cell.{Cell}
+use Rattle.kd_part_sheet.specs.declared.cells.Line.{Line}
+use Rattle.kd_part_sheet.specs.declared.cells.Line.TheVariants as lines
+use Rattle.kd_part_sheet.specs.declared.cells.Mark.{Mark}
+use Rattle.kd_part_sheet.specs.declared.cells.Mark.TheVariants as marks
+use Rattle.kd_part_sheet.specs.declared.cells.Sign.{Sign}
+use Rattle.kd_part_sheet.specs.declared.cells.Sign.TheVariants as signs
+use Rattle.kd_part_sheet.specs.declared.markup.TheConstants as markup
+use Rattle.kd_part_sheet.specs.declared.rows.Progress.{Progress}
+use Rattle.kd_part_sheet.specs.Cells.{place_text}
+use Rattle.kd_part_sheet.specs.LettersAfter.{letters_after}
+use Rattle.kd_part_sheet.specs.Words.{letter_words}
+
+-- a list cut into pieces of `size` items; the last piece may be shorter
+abbrev pub pieces : {X : Type 0} → ℕ → List X → List (List X)
+pieces size items = first_chunks size (div_ceil (length items) size) items
+
+-- ---- A group.
+
+abbrev pub is_nothing : Sign → Bool
+is_nothing signs.Nothing = true
+is_nothing signs.Lost = false
+is_nothing (signs.Letter letter) = false
+
+-- whether the group came with the form and isn't pressed: all of it is pressed, or nothing
+abbrev pub is_skipped : List Cell → Bool
+is_skipped [] = false
+is_skipped (cell ∷ cells) = if cell.is_pressed then false else not (is_nothing cell.above)
+
+-- what stands above the line, small if it isn't pressed
+abbrev pub above_text : Bool → List Cell → List ℕ
+above_text is_small cells =
+    if is_small then markup.SMALL.now ++ flat_map (place_text lines.Above) cells ++ markup.SMALL_END.now
+    else flat_map (place_text lines.Above) cells
+
+-- whether a sign stands below the line
+abbrev pub has_below : List Cell → Bool
+has_below [] = false
+has_below (cell ∷ cells) = if is_nothing cell.below then has_below cells else true
+
+abbrev pub is_mark : Mark → Bool
+is_mark marks.NoMark = false
+is_mark marks.NotNeeded = true
+is_mark marks.StruckOut = true
+is_mark (marks.Taken wheel) = true
+
+-- whether the group has marks: all of its cells have marks, or none
+abbrev pub has_marks : List Cell → Bool
+has_marks [] = false
+has_marks (cell ∷ cells) = is_mark cell.mark
+
+-- a line of a group between `before` and `after`, if the group has it
+abbrev pub line_if : Bool → List ℕ → List ℕ → Line → List Cell → List ℕ
+line_if is_there before after line cells = if is_there then before ++ flat_map (place_text line) cells ++ after else []
+
+-- what stands above the line, what stands below it, and the marks
+unfoldable pub group_text : List Cell → List ℕ
+group_text cells =
+    markup.GROUP.now ++ above_text (is_skipped cells) cells ++ markup.ABOVE_END.now
+    ++ line_if (has_below cells) markup.SMALL.now markup.SMALL_END.now lines.Below cells
+    ++ line_if (has_marks cells) markup.MARKS.now markup.MARKS_END.now lines.Marks cells ++ markup.GROUP_END.now
+
+-- ---- A row.
+
+-- how many letters of a row are pressed
+abbrev pub pressed_count : List Cell → ℕ
+pressed_count cells = count_by (λ cell. cell.is_pressed) cells
+
+-- how far a step has come after another row
+abbrev pub progress_after : Progress → List Cell → Progress
+progress_after progress row =
+    record { letters = progress.letters + length row; presses = progress.presses + pressed_count row }
+
+-- the letters that the machine shows, on a rotor machine with their numbers
+abbrev pub shown_after : Bool → List ℕ → List ℕ
+shown_after is_converter letters =
+    if is_converter then letter_words false markup.ROW_LETTERS.now markup.SPACE.now letters
+    else letter_words false markup.ROW_LETTERS.now markup.TWO_SPACES.now letters
+    ++ letter_words true markup.ROW_NUMBERS.now markup.SPACE.now letters
+
+-- the windows after this many letters were pressed, unless the row has no letter that is pressed
+abbrev pub windows_after : Day → List ℕ → ℕ → Bool → List ℕ
+windows_after s start presses is_idle =
+    if is_idle then [] else shown_after (is_converter (day_model s)) (letters_after s start presses)
+
+-- a row's groups, and at its end a box, the letters so far, and the windows after its last letter
+unfoldable pub row_text : Day → List ℕ → Progress → List Cell → List ℕ
+row_text s start progress row =
+    markup.ROW.now ++ flat_map group_text (pieces 5 row) ++ filled markup.ROW_BOX.now (decimal progress.letters ∷ [])
+    ++ windows_after s start progress.presses (pressed_count row == 0) ++ markup.ROW_END.now
+
+-- the rows after rows with this progress; at the step's start, the machine shows the letters `start`
+abbrev pub rows_after : Day → List ℕ → Progress → List (List Cell) → List ℕ
+rows_after s start progress [] = []
+rows_after s start progress (row ∷ rows) =
+    row_text s start (progress_after progress row) row ++ rows_after s start (progress_after progress row) rows

@@ -1,0 +1,39 @@
+-- Lists of letters, wheels and cables, with something between each two.
+use Rattle.std.specs.Prelude.{ℕ, Bool, if◌then◌else◌, List, [], ◌∷◌, ◌++◌}
+use Rattle.kd_tables.specs.Tables.{wheel_text}
+use Rattle.kd_tables.specs.Text.{letters_text}
+use Rattle.kd_state.specs.declared.sheet_day.rotor_entry.SheetWheel.{SheetWheel}
+use Rattle.kd_pictures.specs.Template.{filled, letter_text, ordinal_text}
+use Rattle.kd_part_sheet.specs.declared.markup.TheConstants.{COMMA, RING, SPACE, WIDE_SPACE}
+
+-- a letter, or its number
+abbrev pub shown_text : Bool → ℕ → List ℕ
+shown_text is_number letter = if is_number then ordinal_text letter else letter_text letter
+
+-- letters, or their numbers: `first` stands before the first of them, and `separator` before each other
+abbrev pub letter_words : Bool → List ℕ → List ℕ → List ℕ → List ℕ
+letter_words are_numbers first separator [] = []
+letter_words are_numbers first separator (letter ∷ letters) =
+    first ++ shown_text are_numbers letter ++ letter_words are_numbers separator separator letters
+
+-- the names of wheels, the first after `first`
+abbrev pub wheels_after : List ℕ → List SheetWheel → List ℕ
+wheels_after first [] = []
+wheels_after first (wheel ∷ wheels) = first ++ wheel_text wheel.wheel ++ wheels_after WIDE_SPACE.now wheels
+
+-- the rings of wheels by letter and number, the first after `first`
+abbrev pub rings_after : List ℕ → List SheetWheel → List ℕ
+rings_after first [] = []
+rings_after first (wheel ∷ wheels) =
+    first ++ filled RING.now (letter_text wheel.ring ∷ ordinal_text wheel.ring ∷ []) ++ rings_after COMMA.now wheels
+
+-- the letters of pairs, the first after `first`
+abbrev pub pairs_after : List ℕ → List (ℕ × ℕ) → List ℕ
+pairs_after first [] = []
+pairs_after first (pair ∷ pairs) =
+    first ++ letters_text (pair.0 ∷ pair.1 ∷ []) ++ pairs_after SPACE.now pairs
+
+-- the cables of the day, or that there are none
+abbrev pub cables_text : List ℕ → List (ℕ × ℕ) → List ℕ
+cables_text none [] = none
+cables_text none (pair ∷ pairs) = pairs_after [] (pair ∷ pairs)

@@ -1,0 +1,244 @@
+//! The cells of a row: what stands above the line of a letter, and below it.
+ghost use Rattle.std.specs.Prelude.{◌≡◌, ◌+◌, ◌≤◌, ◌++◌, length, map};
+ghost use Rattle.kd_pictures.specs.Drawing.{Draws};
+ghost use Rattle.kd_part_sheet.specs.Cells.{choice_cells, copied, mark_of, mark_text, place_text, pressed_cells};
+ghost use Rattle.kd_part_sheet.specs.Cells.{received_cells, sign_of, sign_text, skipped, taken_after, text_sign};
+
+use crate::markup::{LOST_LETTER, NO_LETTER, STRUCK_OUT};
+use arrayvec::ArrayVec;
+use itoa::Buffer;
+use kd_pictures::draw;
+use kd_pictures::template::draw_letter;
+use kd_tables::{Letter, Sink, place_on_wheel};
+
+/// What stands in a place for a letter.
+#[derive(Clone, Copy)]
+pub enum Sign {
+    Nothing,
+    Lost,
+    Letter(Letter),
+}
+
+/// A letter of a row.
+#[derive(Clone, Copy)]
+pub struct Cell {
+    /// What stands above the line.
+    pub above: Sign,
+    /// What stands below the line.
+    pub below: Sign,
+    /// Whether the letter is pressed.
+    pub is_pressed: bool,
+    pub mark: Mark,
+}
+
+/// What a Converter's wheels do with a letter that was printed for the internal key.
+#[derive(Clone, Copy)]
+pub enum Mark {
+    /// The row has no marks.
+    NoMark,
+    /// The internal key is already complete.
+    NotNeeded,
+    StruckOut,
+    /// This wheel takes the letter.
+    Taken(u8),
+}
+
+/// A placeholder: an `ArrayVec` of cells needs a value for its unused places.
+impl Default for Cell {
+    fn default() -> Self {
+        Cell {
+            above: Sign::Nothing,
+            below: Sign::Nothing,
+            is_pressed: false,
+            mark: Mark::NoMark,
+        }
+    }
+}
+
+/// Appends letters that are copied: nothing is pressed for them.
+pub(crate) fn push_copied<const N: usize>(cells: &mut ArrayVec<Cell, N>, letters: &[Letter])
+    requires { length cells.old.items + length letters.now ≤ N }
+    ensures { cells.new.items ≡ cells.old.items ++ map copied letters.now }
+{
+    for letter in letters {
+        cells.push(Cell {
+            above: Sign::Nothing,
+            below: Sign::Letter(*letter),
+            is_pressed: false,
+            mark: Mark::NoMark,
+        });
+    }
+}
+
+/// Appends letters that are pressed, with the lamps that light up for them.
+pub fn push_pressed<const N: usize>(
+    cells: &mut ArrayVec<Cell, N>,
+    keys: &[Letter],
+    lamps: &[Letter],
+)
+    requires { length cells.old.items + length keys.now ≤ N }
+    ensures { cells.new.items ≡ cells.old.items ++ pressed_cells keys.now lamps.now }
+{
+    if let [key, keys @ ..] = keys
+        && let [lamp, lamps @ ..] = lamps
+    {
+        cells.push(Cell {
+            above: Sign::Letter(*key),
+            below: Sign::Letter(*lamp),
+            is_pressed: true,
+            mark: Mark::NoMark,
+        });
+        push_pressed(cells, keys, lamps);
+    }
+}
+
+/// Appends letters that came with the form, and aren't pressed.
+pub fn push_skipped<const N: usize>(cells: &mut ArrayVec<Cell, N>, letters: &[Option<Letter>])
+    requires { length cells.old.items + length letters.now ≤ N }
+    ensures { cells.new.items ≡ cells.old.items ++ map skipped letters.now }
+{
+    for letter in letters {
+        cells.push(Cell {
+            above: sign_of(*letter),
+            below: Sign::Nothing,
+            is_pressed: false,
+            mark: Mark::NoMark,
+        });
+    }
+}
+
+/// The sign of a letter, which may be lost.
+fn sign_of(letter: Option<Letter>) -> Sign
+    ensures { result ≡ sign_of letter }
+{
+    match letter {
+        Some(letter) => Sign::Letter(letter),
+        None => Sign::Lost,
+    }
+}
+
+/// Appends letters that came with the form and are pressed, with the letters of the text, of which `for_space` is a
+/// space.
+pub fn push_received<const N: usize>(
+    cells: &mut ArrayVec<Cell, N>,
+    for_space: &Option<Letter>,
+    keys: &[Option<Letter>],
+    text: &[Option<Letter>],
+)
+    requires { length cells.old.items + length keys.now ≤ N }
+    ensures { cells.new.items
+        ≡ cells.old.items ++ received_cells for_space.now keys.now text.now }
+{
+    if let [key, keys @ ..] = keys
+        && let [letter, text @ ..] = text
+    {
+        cells.push(Cell {
+            above: sign_of(*key),
+            below: text_sign(for_space, *letter),
+            is_pressed: true,
+            mark: Mark::NoMark,
+        });
+        push_received(cells, for_space, keys, text);
+    }
+}
+
+/// The sign of a letter of the text: nothing for a space.
+fn text_sign(for_space: &Option<Letter>, letter: Option<Letter>) -> Sign
+    ensures { result ≡ text_sign for_space.now letter }
+{
+    match letter {
+        Some(_) if *for_space == letter => Sign::Nothing,
+        _ => sign_of(letter),
+    }
+}
+
+/// Appends `chosen` for each of the letters that the machine prints for it, and which wheel takes the printed letter.
+///
+/// The wheels up to wheel `taken` have taken letters.
+pub fn push_choice<const N: usize>(
+    cells: &mut ArrayVec<Cell, N>,
+    taken: u8,
+    chosen: Letter,
+    printed: &[Letter],
+)
+    requires few { taken ≤ 6 }
+    requires room { length cells.old.items + length printed.now ≤ N }
+    ensures { cells.new.items ≡ cells.old.items ++ choice_cells taken chosen printed.now }
+{
+    if let [letter, printed @ ..] = printed {
+        let mark = mark_of(taken, *letter);
+        cells.push(Cell {
+            above: Sign::Letter(chosen),
+            below: Sign::Letter(*letter),
+            is_pressed: true,
+            mark,
+        });
+        push_choice(cells, taken_after(taken, mark), chosen, printed);
+    }
+}
+
+/// What the wheels do with a letter if the wheels up to wheel `taken` have taken letters.
+fn mark_of(taken: u8, letter: Letter) -> Mark
+    requires { taken ≤ 6 }
+    ensures { result ≡ mark_of taken letter }
+{
+    if taken == 6 {
+        Mark::NotNeeded
+    } else if place_on_wheel(taken + 1, letter).is_some() {
+        Mark::Taken(taken + 1)
+    } else {
+        Mark::StruckOut
+    }
+}
+
+/// How many wheels have taken letters after a letter with this mark.
+fn taken_after(taken: u8, mark: Mark) -> u8
+    ensures { result ≡ taken_after taken mark }
+{
+    match mark {
+        Mark::Taken(wheel) => wheel,
+        _ => taken,
+    }
+}
+
+/// A line of a group: above the line to write on, below it, and the marks under them.
+#[derive(Clone, Copy)]
+pub(crate) enum Line {
+    Above,
+    Below,
+    Marks,
+}
+
+/// Writes what a line has for a cell.
+pub(crate) fn draw_place<W: Sink>(sink: &mut W, line: Line, cell: &Cell)
+    ensures { Draws W.taken W.has_failed sink.old sink.new (place_text line cell.now) }
+{
+    match line {
+        Line::Above => draw_sign(sink, cell.above),
+        Line::Below => draw_sign(sink, cell.below),
+        Line::Marks => draw_mark(sink, cell.mark),
+    }
+}
+
+/// Writes a sign.
+fn draw_sign<W: Sink>(sink: &mut W, sign: Sign)
+    ensures { Draws W.taken W.has_failed sink.old sink.new (sign_text sign) }
+{
+    match sign {
+        Sign::Nothing => draw(sink, NO_LETTER),
+        Sign::Lost => draw(sink, LOST_LETTER),
+        Sign::Letter(letter) => draw_letter(sink, letter),
+    }
+}
+
+/// Writes what the wheels do with a letter.
+fn draw_mark<W: Sink>(sink: &mut W, mark: Mark)
+    ensures { Draws W.taken W.has_failed sink.old sink.new (mark_text mark) }
+{
+    match mark {
+        Mark::NoMark => draw(sink, ""),
+        Mark::NotNeeded => draw(sink, NO_LETTER),
+        Mark::StruckOut => draw(sink, STRUCK_OUT),
+        Mark::Taken(wheel) => draw(sink, Buffer::new().format(wheel)),
+    }
+}

@@ -1,0 +1,236 @@
+//! The rows of a step: ten groups of five letters a row; at a row's end the letters so far, and after presses the windows.
+ghost use Rattle.std.specs.Prelude.{◌≡◌, ◌+◌, ◌≤◌, ◌∷◌, flat_map, length};
+ghost use Rattle.kd_state.specs.TwoCiphers.{IsWindow, sheet_key};
+ghost use Rattle.kd_pictures.specs.Drawing.{Draws};
+ghost use Rattle.kd_part_sheet.specs.Cells.{place_text};
+ghost use Rattle.kd_part_sheet.specs.Rows.{above_text, group_text, has_below, has_marks, is_skipped, line_if, pieces, pressed_count};
+ghost use Rattle.kd_part_sheet.specs.Rows.{progress_after, row_text, rows_after, shown_after, windows_after};
+
+use crate::cells::{Cell, Line, Mark, Sign, draw_place};
+use crate::filling::fill;
+use crate::letters_after::letters_after;
+use crate::markup::{
+    ABOVE_END, GROUP, GROUP_END, MARKS, MARKS_END, ROW, ROW_BOX, ROW_END, ROW_LETTERS, ROW_NUMBERS,
+    SMALL, SMALL_END, SPACE, TWO_SPACES,
+};
+use crate::words::draw_shown;
+use kd_pictures::draw;
+use kd_pictures::template::Value;
+use kd_pictures::words::is_converter;
+use kd_state::SheetDay;
+use kd_tables::{Letter, Sink};
+
+/// How far a step has come: the letters in the rows so far, and how many of them were pressed.
+#[derive(Clone, Copy)]
+pub(crate) struct Progress {
+    pub(crate) letters: usize,
+    pub(crate) presses: usize,
+}
+
+/// Writes the rows of `cells`, after rows with this progress. At the step's start, the machine shows `start`.
+pub(crate) fn draw_rows<W: Sink>(
+    sink: &mut W,
+    day: &SheetDay,
+    start: &[Letter],
+    progress: Progress,
+    cells: &[Cell],
+)
+    requires window { IsWindow (sheet_key day.now) start.now }
+    requires presses { progress.presses ≤ progress.letters }
+    requires few { progress.letters + length cells.now ≤ 520 }
+    ensures { Draws W.taken W.has_failed sink.old sink.new
+        (rows_after day.now start.now progress (pieces 50 cells.now)) }
+{
+    if !cells.is_empty() {
+        let (row, rest) = first_piece(cells, 50);
+        let progress = progress_after(progress, row);
+        draw_row(sink, day, start, progress, row);
+        draw_rows(sink, day, start, progress, rest);
+    }
+}
+
+/// Splits `cells` after the first `size` cells, or after the last cell if there are fewer.
+#[tactic(auto, using(crate::proofs::Pieces::first_pieces))]
+fn first_piece(cells: &[Cell], size: usize) -> (&[Cell], &[Cell])
+    requires size { 1 ≤ size }
+    requires some { 1 ≤ length cells.now }
+    ensures pieces { pieces size cells.now ≡ result.0.now ∷ pieces size result.1.now }
+    ensures some { 1 ≤ length result.0.now }
+    ensures len { length result.0.now + length result.1.now ≡ length cells.now }
+{
+    cells.split_at(cells.len().min(size))
+}
+
+/// The progress after another row.
+pub(crate) fn progress_after(progress: Progress, row: &[Cell]) -> Progress
+    requires presses { progress.presses ≤ progress.letters }
+    requires few { progress.letters + length row.now ≤ 520 }
+    ensures value { result ≡ progress_after progress row.now }
+    ensures presses { result.presses ≤ result.letters }
+{
+    Progress {
+        letters: progress.letters + row.len(),
+        presses: progress.presses + pressed_count(row),
+    }
+}
+
+/// How many letters of a row are pressed.
+fn pressed_count(row: &[Cell]) -> usize
+    ensures value { result ≡ pressed_count row.now }
+    ensures few { result ≤ length row.now }
+{
+    row.iter().filter(|cell| cell.is_pressed).count()
+}
+
+/// Writes a row, after which the step has this progress.
+fn draw_row<W: Sink>(
+    sink: &mut W,
+    day: &SheetDay,
+    start: &[Letter],
+    progress: Progress,
+    row: &[Cell],
+)
+    requires window { IsWindow (sheet_key day.now) start.now }
+    requires presses { progress.presses ≤ progress.letters }
+    requires few { progress.letters ≤ 520 }
+    ensures { Draws W.taken W.has_failed sink.old sink.new
+        (row_text day.now start.now progress row.now) }
+{
+    draw(sink, ROW);
+    draw_groups(sink, row);
+    fill(sink, ROW_BOX, &[Value::Number(progress.letters as u16)]);
+    draw_windows_after(sink, day, start, progress.presses, pressed_count(row) == 0);
+    draw(sink, ROW_END);
+}
+
+/// Writes the windows after `presses` letters, unless the row has no letter that is pressed.
+fn draw_windows_after<W: Sink>(
+    sink: &mut W,
+    day: &SheetDay,
+    start: &[Letter],
+    presses: usize,
+    is_idle: bool,
+)
+    requires window { IsWindow (sheet_key day.now) start.now }
+    requires few { presses ≤ 520 }
+    ensures { Draws W.taken W.has_failed sink.old sink.new
+        (windows_after day.now start.now presses is_idle) }
+{
+    if is_idle {
+        draw(sink, "");
+    } else {
+        let letters = letters_after(day, start, presses);
+        draw_shown_after(sink, is_converter(day.model()), letters.as_slice());
+    }
+}
+
+/// Writes the letters that the machine shows, on a rotor machine with their numbers.
+fn draw_shown_after<W: Sink>(sink: &mut W, is_converter: bool, letters: &[Letter])
+    ensures { Draws W.taken W.has_failed sink.old sink.new (shown_after is_converter letters.now) }
+{
+    if is_converter {
+        draw_shown(sink, false, ROW_LETTERS, SPACE, letters);
+    } else {
+        draw_shown(sink, false, ROW_LETTERS, TWO_SPACES, letters);
+        draw_shown(sink, true, ROW_NUMBERS, SPACE, letters);
+    }
+}
+
+/// Writes cells in groups of five.
+fn draw_groups<W: Sink>(sink: &mut W, cells: &[Cell])
+    ensures { Draws W.taken W.has_failed sink.old sink.new
+        (flat_map group_text (pieces 5 cells.now)) }
+{
+    if !cells.is_empty() {
+        let (group, rest) = first_piece(cells, 5);
+        draw_group(sink, group);
+        draw_groups(sink, rest);
+    }
+}
+
+/// Writes a group: what stands above the line, what stands below it, and the marks.
+fn draw_group<W: Sink>(sink: &mut W, group: &[Cell])
+    ensures { Draws W.taken W.has_failed sink.old sink.new (group_text group.now) }
+{
+    draw(sink, GROUP);
+    draw_above(sink, is_skipped(group), group);
+    draw(sink, ABOVE_END);
+    draw_line_if(sink, has_below(group), SMALL, SMALL_END, Line::Below, group);
+    draw_line_if(sink, has_marks(group), MARKS, MARKS_END, Line::Marks, group);
+    draw(sink, GROUP_END);
+}
+
+/// Whether the group came with the form and isn't pressed: its first letter isn't.
+fn is_skipped(group: &[Cell]) -> bool
+    ensures { result ≡ is_skipped group.now }
+{
+    match group {
+        [cell, ..] => !cell.is_pressed && !matches!(cell.above, Sign::Nothing),
+        [] => false,
+    }
+}
+
+/// Writes what stands above the line, small if it isn't pressed.
+fn draw_above<W: Sink>(sink: &mut W, is_small: bool, group: &[Cell])
+    ensures { Draws W.taken W.has_failed sink.old sink.new (above_text is_small group.now) }
+{
+    if is_small {
+        draw(sink, SMALL);
+        draw_line(sink, Line::Above, group);
+        draw(sink, SMALL_END);
+    } else {
+        draw_line(sink, Line::Above, group);
+    }
+}
+
+/// Whether a sign stands below the line.
+fn has_below(group: &[Cell]) -> bool
+    ensures { result ≡ has_below group.now }
+{
+    match group {
+        [cell, rest @ ..] => !matches!(cell.below, Sign::Nothing) || has_below(rest),
+        [] => false,
+    }
+}
+
+/// Whether the group has marks: its first cell has one.
+fn has_marks(group: &[Cell]) -> bool
+    ensures { result ≡ has_marks group.now }
+{
+    match group {
+        [cell, ..] => !matches!(cell.mark, Mark::NoMark),
+        [] => false,
+    }
+}
+
+/// Writes a line of a group between `before` and `after`, if the group has it.
+fn draw_line_if<W: Sink>(
+    sink: &mut W,
+    is_there: bool,
+    before: &str,
+    after: &str,
+    line: Line,
+    group: &[Cell],
+)
+    ensures { Draws W.taken W.has_failed sink.old sink.new
+        (line_if is_there before.now after.now line group.now) }
+{
+    if is_there {
+        draw(sink, before);
+        draw_line(sink, line, group);
+        draw(sink, after);
+    } else {
+        draw(sink, "");
+    }
+}
+
+/// Writes a line of a group.
+pub(crate) fn draw_line<W: Sink>(sink: &mut W, line: Line, group: &[Cell])
+    ensures { Draws W.taken W.has_failed sink.old sink.new
+        (flat_map (place_text line) group.now) }
+{
+    if let [cell, rest @ ..] = group {
+        draw_place(sink, line, cell);
+        draw_line(sink, line, rest);
+    }
+}

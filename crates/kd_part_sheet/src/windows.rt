@@ -1,0 +1,146 @@
+//! The picture of the windows, or of a Converter's wheels, that the hand sets.
+ghost use Rattle.std.specs.Prelude.{◌≡◌, ◌+◌, ◌≤◌, length};
+ghost use Rattle.kd_pictures.specs.Drawing.{Draws};
+ghost use Rattle.kd_part_sheet.specs.Windows.{window_item, window_items, window_words, windows_text, windows_title, words_after};
+
+use crate::filling::fill;
+use crate::markup::{COMMA, WHEEL_WORDS, WINDOW_WORDS, WINDOWS_END, WINDOWS_TITLE_END};
+use crate::texts::MessageTexts;
+use kd_pictures::draw;
+use kd_pictures::template::Value;
+use kd_tables::{Letter, Sink};
+
+/// Writes the picture of windows, or of a Converter's wheels, that show `letters`.
+pub(crate) fn draw_windows<W: Sink>(
+    sink: &mut W,
+    texts: &MessageTexts,
+    is_converter: bool,
+    letters: &[Letter],
+)
+    requires { length letters.now ≤ 6 }
+    ensures { Draws W.taken W.has_failed sink.old sink.new
+        (windows_text texts.now is_converter letters.now) }
+{
+    draw(
+        sink,
+        if is_converter {
+            texts.pictures.wheels
+        } else {
+            texts.pictures.windows
+        },
+    );
+    draw_all_words(sink, is_converter, "", 1, letters);
+    draw(sink, WINDOWS_TITLE_END);
+    draw_items(sink, texts, is_converter, 1, letters);
+    draw(sink, WINDOWS_END);
+}
+
+/// The beginning of the picture's title.
+fn windows_title(texts: &MessageTexts, is_converter: bool) -> &'static str
+    ensures { result.now ≡ windows_title texts.now is_converter }
+{
+    if is_converter {
+        texts.pictures.wheels
+    } else {
+        texts.pictures.windows
+    }
+}
+
+/// Writes windows in words, from number `number` on, the first after `first`.
+fn draw_all_words<W: Sink>(
+    sink: &mut W,
+    is_converter: bool,
+    first: &str,
+    number: u8,
+    letters: &[Letter],
+)
+    requires { number + length letters.now ≤ 7 }
+    ensures { Draws W.taken W.has_failed sink.old sink.new
+        (words_after is_converter first.now number letters.now) }
+{
+    if let [letter, rest @ ..] = letters {
+        draw(sink, first);
+        draw_words(sink, is_converter, number, *letter);
+        draw_all_words(sink, is_converter, COMMA, number + 1, rest);
+    }
+}
+
+fn draw_words<W: Sink>(sink: &mut W, is_converter: bool, number: u8, letter: Letter)
+    ensures { Draws W.taken W.has_failed sink.old sink.new
+        (window_words is_converter number letter) }
+{
+    let number = Value::Number(u16::from(number));
+    if is_converter {
+        fill(sink, WHEEL_WORDS, &[number, Value::Letter(letter)]);
+    } else {
+        fill(
+            sink,
+            WINDOW_WORDS,
+            &[number, Value::Letter(letter), Value::Ordinal(letter)],
+        );
+    }
+}
+
+/// Writes the windows from number `number` on.
+fn draw_items<W: Sink>(
+    sink: &mut W,
+    texts: &MessageTexts,
+    is_converter: bool,
+    number: u8,
+    letters: &[Letter],
+)
+    requires some { 1 ≤ number }
+    requires few { number + length letters.now ≤ 7 }
+    ensures { Draws W.taken W.has_failed sink.old sink.new
+        (window_items texts.now is_converter number letters.now) }
+{
+    if let [letter, rest @ ..] = letters {
+        draw_item(sink, texts, is_converter, number, *letter);
+        draw_items(sink, texts, is_converter, number + 1, rest);
+    }
+}
+
+fn draw_item<W: Sink>(
+    sink: &mut W,
+    texts: &MessageTexts,
+    is_converter: bool,
+    number: u8,
+    letter: Letter,
+)
+    requires some { 1 ≤ number }
+    requires few { number ≤ 6 }
+    ensures { Draws W.taken W.has_failed sink.old sink.new
+        (window_item texts.now is_converter number letter) }
+{
+    let slot = u16::from(number);
+    let letter_value = Value::Letter(letter);
+    if is_converter {
+        let x = 2 + 60 * (slot - 1);
+        fill(
+            sink,
+            texts.pictures.wheel,
+            &[
+                Value::Number(x + 20),
+                Value::Number(slot),
+                Value::Number(x),
+                Value::Number(x + 20),
+                letter_value,
+            ],
+        );
+    } else {
+        let x = 2 + 96 * (slot - 1);
+        fill(
+            sink,
+            texts.pictures.window,
+            &[
+                Value::Number(x),
+                Value::Number(slot),
+                Value::Number(x),
+                Value::Number(x + 20),
+                letter_value,
+                Value::Number(x + 62),
+                Value::Ordinal(letter),
+            ],
+        );
+    }
+}

@@ -1,0 +1,98 @@
+//! Lists of letters, wheels and cables, with something between each two.
+ghost use Rattle.std.specs.Prelude.{◌++◌};
+ghost use Rattle.kd_tables.specs.Text.{letters_text};
+ghost use Rattle.kd_pictures.specs.Drawing.{Draws};
+ghost use Rattle.kd_part_sheet.specs.Words.{cables_text, letter_words, pairs_after, rings_after, shown_text, wheels_after};
+
+use crate::filling::fill;
+use crate::markup::{COMMA, RING, SPACE, WIDE_SPACE};
+use kd_pictures::draw;
+use kd_pictures::template::{Value, draw_letter, draw_ordinal};
+use kd_state::SheetWheel;
+use kd_tables::{Letter, Sink};
+
+/// Writes letters without anything between them.
+pub fn draw_letters<W: Sink>(sink: &mut W, letters: &[Letter])
+    ensures { Draws W.taken W.has_failed sink.old sink.new (letters_text letters.now) }
+{
+    if let [letter, rest @ ..] = letters {
+        draw_letter(sink, *letter);
+        draw_letters(sink, rest);
+    }
+}
+
+/// Writes letters, or their numbers: `first` before the first of them, and `separator` before each other.
+pub(crate) fn draw_shown<W: Sink>(
+    sink: &mut W,
+    are_numbers: bool,
+    first: &str,
+    separator: &str,
+    letters: &[Letter],
+)
+    ensures { Draws W.taken W.has_failed sink.old sink.new
+        (letter_words are_numbers first.now separator.now letters.now) }
+{
+    if let [letter, rest @ ..] = letters {
+        draw(sink, first);
+        draw_one(sink, are_numbers, *letter);
+        draw_shown(sink, are_numbers, separator, separator, rest);
+    }
+}
+
+fn draw_one<W: Sink>(sink: &mut W, is_number: bool, letter: Letter)
+    ensures { Draws W.taken W.has_failed sink.old sink.new (shown_text is_number letter) }
+{
+    if is_number {
+        draw_ordinal(sink, letter);
+    } else {
+        draw_letter(sink, letter);
+    }
+}
+
+/// Writes the names of wheels, the first after `first`.
+pub(crate) fn draw_wheels<W: Sink>(sink: &mut W, first: &str, wheels: &[SheetWheel])
+    ensures { Draws W.taken W.has_failed sink.old sink.new (wheels_after first.now wheels.now) }
+{
+    if let [wheel, rest @ ..] = wheels {
+        draw(sink, first);
+        draw(sink, wheel.wheel.text().as_str());
+        draw_wheels(sink, WIDE_SPACE, rest);
+    }
+}
+
+/// Writes the rings of wheels, the first after `first`.
+pub(crate) fn draw_rings<W: Sink>(sink: &mut W, first: &str, wheels: &[SheetWheel])
+    ensures { Draws W.taken W.has_failed sink.old sink.new (rings_after first.now wheels.now) }
+{
+    if let [wheel, rest @ ..] = wheels {
+        draw(sink, first);
+        fill(
+            sink,
+            RING,
+            &[Value::Letter(wheel.ring), Value::Ordinal(wheel.ring)],
+        );
+        draw_rings(sink, COMMA, rest);
+    }
+}
+
+/// Writes cables, or `none` if there are none.
+pub(crate) fn draw_cables<W: Sink>(sink: &mut W, none: &str, pairs: &[(Letter, Letter)])
+    ensures { Draws W.taken W.has_failed sink.old sink.new (cables_text none.now pairs.now) }
+{
+    if pairs.is_empty() {
+        draw(sink, none);
+    } else {
+        draw_pairs(sink, "", pairs);
+    }
+}
+
+/// Writes pairs of letters, the first after `first`.
+fn draw_pairs<W: Sink>(sink: &mut W, first: &str, pairs: &[(Letter, Letter)])
+    ensures { Draws W.taken W.has_failed sink.old sink.new (pairs_after first.now pairs.now) }
+{
+    if let [pair, rest @ ..] = pairs {
+        draw(sink, first);
+        draw_letters(sink, &[pair.0, pair.1]);
+        draw_pairs(sink, SPACE, rest);
+    }
+}
