@@ -11,10 +11,10 @@ use Rattle.kd_sheet.specs.Document.{◌>>=◌, document_of}
 use Rattle.kd_sheet.specs.MachineFile.{machine_of}
 use Rattle.kd_sheet.specs.SheetFile.{sheet_of}
 use Rattle.kd_sheet.specs.declared.fault.SheetFault.{SheetFault}
-use Rattle.kd_slips.specs.Faults.{faults_of, first_fault}
-use Rattle.kd_slips.specs.SheetFaults.{AreFaults, entries_of, file_fault}
-use Rattle.kd_slips.specs.declared.findings.Finding.{Finding}
-use Rattle.kd_slips.specs.declared.place.Place.{Place}
+use Rattle.kd_findings.specs.Faults.{faults_of, first_fault}
+use Rattle.kd_findings.specs.SheetFaults.{AreFaults, entries_of, file_fault}
+use Rattle.kd_findings.specs.declared.findings.Finding.{Finding}
+use Rattle.kd_findings.specs.declared.place.Place.{Place}
 use Rattle.kd_look.specs.FaultWords.{AreFaultLines, AreLinesFor, IsFaultLine, IsLineAt}
 use Rattle.kd_look.specs.Line.{line_of}
 use Rattle.kd_look.specs.Texts.{AppendsText}

@@ -6,7 +6,7 @@ use Rattle.std.specs.Option.{option_and_then, option_map_or}
 use Rattle.std.specs.Result.{result_ok}
 use Rattle.toml.specs.Data.{Members}
 use Rattle.kd_sheet.specs.Document.{document_of}
-use Rattle.kd_slips.specs.declared.findings.Finding.{Finding}
+use Rattle.kd_findings.specs.declared.findings.Finding.{Finding}
 use Rattle.kd_look.specs.Line.{ends_line, is_too_long, line_at, line_before, line_in_text, line_number, line_of}
 use Rattle.kd_look.specs.Line.{or_line, sought_for}
 use Rattle.kd_look.specs.declared.line.Sought.{Sought}

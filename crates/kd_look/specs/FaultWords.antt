@@ -7,9 +7,9 @@ use Rattle.kd_sheet.specs.Document.{document_of}
 use Rattle.kd_sheet.specs.FaultText.{sheet_fault_text}
 use Rattle.kd_sheet.specs.Key.{key_name}
 use Rattle.kd_sheet.specs.declared.fault.SheetFault.{SheetFault}
-use Rattle.kd_slips.specs.Faults.{first_fault}
-use Rattle.kd_slips.specs.SheetFaults.{AreFaults}
-use Rattle.kd_slips.specs.declared.place.Place.{Place}
+use Rattle.kd_findings.specs.Faults.{first_fault}
+use Rattle.kd_findings.specs.SheetFaults.{AreFaults}
+use Rattle.kd_findings.specs.declared.place.Place.{Place}
 use Rattle.kd_look.specs.Line.{line_of_fault}
 use Rattle.kd_look.specs.Texts.{BeginsWith}
 

@@ -4,7 +4,7 @@ use Rattle.kd_sheet.specs.Document.{◌>>=◌, document_of}
 use Rattle.kd_sheet.specs.MachineFile.{machine_of}
 use Rattle.kd_sheet.specs.SheetFile.{sheet_of}
 use Rattle.kd_sheet.specs.declared.fault.SheetFault.{SheetFault}
-use Rattle.kd_slips.specs.SheetFaults.{entries_of}
+use Rattle.kd_findings.specs.SheetFaults.{entries_of}
 use Rattle.kd_look.specs.declared.file.File.{File}
 use Rattle.kd_look.specs.declared.file.File.TheVariants as files
 

@@ -13,9 +13,9 @@ use Rattle.kd_sheet.specs.Key.{key_name}
 use Rattle.kd_sheet.specs.declared.key.Key.{Key}
 use Rattle.kd_sheet.specs.declared.fault.SheetFault.{SheetFault}
 use Rattle.kd_sheet.specs.declared.fault.SheetFault.TheVariants.{Missing}
-use Rattle.kd_slips.specs.SheetFaults.{entries_of}
-use Rattle.kd_slips.specs.declared.findings.Finding.{Finding}
-use Rattle.kd_slips.specs.declared.place.Place.{Place}
+use Rattle.kd_findings.specs.SheetFaults.{entries_of}
+use Rattle.kd_findings.specs.declared.findings.Finding.{Finding}
+use Rattle.kd_findings.specs.declared.place.Place.{Place}
 use Rattle.kd_look.specs.declared.line.Sought.{Sought}
 
 -- entry `entry` of `items`, counted from 1, if it is a table

@@ -1,7 +1,7 @@
 //! The lines that name the faults of a file.
 ghost use Rattle.std.specs.Prelude.{◌≡◌, ◌++◌, ℕ, List, codes, decimal, map, IfOk, OnOk, Err};
 ghost use Rattle.std.specs.String.{string_bytes};
-ghost use Rattle.kd_slips.specs.Faults.{faults_of};
+ghost use Rattle.kd_findings.specs.Faults.{faults_of};
 ghost use Rattle.kd_look.specs.FaultWords.{AreFaultLines, IsLineAt, NamesFault, entry_words, fault_end, fault_line};
 ghost use Rattle.kd_look.specs.FaultWords.{AreLinesFor, IsPlainLine, line_words};
 ghost use Rattle.kd_look.specs.File.{file_of};
@@ -12,9 +12,9 @@ ghost use Rattle.kd_sheet.specs.Document.{document_of};
 use crate::line::lines_of;
 use crate::texts::push_wide_number;
 use crate::warnings::key_warnings;
+use kd_findings::{Finding, Place, find_faults, toml_words, wrong_words};
 use kd_sheet::SheetFault;
 use kd_sheet::by_key::parse_table;
-use kd_slips::{Finding, Place, find_faults, toml_words, wrong_words};
 use std::alloc::{AllocError, Global};
 
 /// Appends the number and the name of `fault` in parentheses, and ends the line.

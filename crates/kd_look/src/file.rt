@@ -2,9 +2,9 @@
 ghost use Rattle.kd_tables.specs.Answers.{AgreesOrNoMemory};
 ghost use Rattle.kd_look.specs.File.{file_of};
 
+use kd_findings::entries_of;
 use kd_sheet::by_key::parse_table;
 use kd_sheet::{Sheet, SheetFault, read_machine, read_sheet};
-use kd_slips::entries_of;
 use kd_state::Machine;
 use std::alloc::Global;
 

@@ -1,13 +1,13 @@
 //! Finds the line of a value in a file.
 ghost use Rattle.std.specs.Prelude.{◌≡◌, ◌+◌, ◌<◌, ℕ, Option, None, IfOk, length, map, option_map};
 ghost use Rattle.toml.specs.View.{table_view, view};
-ghost use Rattle.kd_slips.specs.declared.findings.Finding.{Finding};
+ghost use Rattle.kd_findings.specs.declared.findings.Finding.{Finding};
 ghost use Rattle.kd_look.specs.Line.{ends_line, entry_of, table_at, has_key, has_value, is_too_long, line_at, line_in};
 ghost use Rattle.kd_look.specs.Line.{line_in_text, line_of, line_so_far, or_line, sought_for};
 
+use kd_findings::{Finding, Place, entries_of};
 use kd_sheet::by_key::{find_at, parse_table};
 use kd_sheet::{Key, SheetFault};
-use kd_slips::{Finding, Place, entries_of};
 use std::alloc::{AllocError, Global};
 use toml::{Table, Value};
 

@@ -2,9 +2,9 @@
 
 use crate::alike::alike_days;
 use crate::file::File;
+use kd_findings::warning_lines;
 use kd_sheet::SheetFault;
 use kd_sheet::by_key::parse_table;
-use kd_slips::warning_lines;
 use std::alloc::{AllocError, Global};
 
 /// A warning of a byte order mark, if the file begins with one.

@@ -1,30 +1,15 @@
-//! Finds the faults of machine files and key sheets, each with its place and in words, and warns.
+//! Says in words why a value in a machine file or a key sheet is refused.
 //!
-//! The desk stops at a file's first fault. This crate judges each key for itself, by the readers of the desk.
+//! For each sort of value, a module has the checks that `kd_findings` calls.
 #![tactic(auto)]
 
-mod cables;
-mod explanation_words;
-mod findings;
-mod judging;
-mod key_names;
-mod letters;
-mod machine;
-mod models;
-mod not_toml;
-mod numbers;
-mod pins;
-mod place;
-mod rings;
-mod sheet;
-mod slip;
-mod values;
-mod warnings;
+pub mod cables;
+pub mod letters;
+pub mod models;
+pub mod numbers;
+pub mod pins;
+pub mod rings;
+pub mod slip;
+pub mod values;
 
-pub use explanation_words::wrong_words;
-pub use findings::{Explanation, Finding};
-pub use judging::{entries_of, find_faults};
 pub use models::model_name;
-pub use not_toml::toml_words;
-pub use place::Place;
-pub use warnings::warning_lines;

@@ -2,7 +2,7 @@ use Rattle.std.proofs.Common.{◌≡◌, Ok, arith, map, subst}
 use Rattle.std.specs.String.{string_bytes}
 use Rattle.toml.specs.View.{table_view}
 use Rattle.kd_sheet.specs.Document.{document_of}
-use Rattle.kd_slips.specs.Faults.{faults_of}
+use Rattle.kd_findings.specs.Faults.{faults_of}
 use Rattle.kd_look.proofs.FaultLines.{AreLinesFor-document}
 use Rattle.kd_look.specs.FaultWords.{AreFaultLines}
 use Rattle.kd_look.specs.Line.{line_of}

@@ -1,6 +1,6 @@
 use Rattle.std.proofs.Common.{◌≡◌, ℕ, Option, map, take}
 use Rattle.toml.specs.View.{table_view}
-use Rattle.kd_slips.specs.declared.findings.Finding.{Finding}
+use Rattle.kd_findings.specs.declared.findings.Finding.{Finding}
 use Rattle.kd_look.specs.Line.{line_in, or_line}
 use Rattle.kd_look.proofs.line.next_lines.Given as goal
 

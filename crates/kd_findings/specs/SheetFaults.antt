@@ -24,8 +24,8 @@ use Rattle.kd_sheet.specs.declared.key.Key.{Key}
 use Rattle.kd_sheet.specs.declared.key.Key.TheVariants as keys
 use Rattle.kd_sheet.specs.declared.fault.SheetFault.{SheetFault}
 use Rattle.kd_sheet.specs.declared.fault.SheetFault.TheVariants.{BadValue, DayTwice}
-use Rattle.kd_slips.specs.Faults.{after_model, at_key, fault_at, machine_faults}
-use Rattle.kd_slips.specs.declared.place.Place.{Place}
+use Rattle.kd_findings.specs.Faults.{after_model, at_key, fault_at, machine_faults}
+use Rattle.kd_findings.specs.declared.place.Place.{Place}
 
 -- the place of a key in an entry, which is counted from 1, with the entry's day if it is known
 abbrev pub in_entry : ℕ → Option ℕ → Key → Place

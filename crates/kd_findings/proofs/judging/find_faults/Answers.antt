@@ -1,8 +1,8 @@
 use Rattle.std.proofs.Common.{ap, sym, ◌∙◌}
 use Rattle.std.proofs.lemmas.Result.{IfOk-weaker}
-use Rattle.kd_slips.specs.Faults.{first_fault}
-use Rattle.kd_slips.proofs.FirstOfFile.{first_of_machine, first_of_sheet}
-use Rattle.kd_slips.proofs.judging.find_faults.Goals as goal
+use Rattle.kd_findings.specs.Faults.{first_fault}
+use Rattle.kd_findings.proofs.FirstOfFile.{first_of_machine, first_of_sheet}
+use Rattle.kd_findings.proofs.judging.find_faults.Goals as goal
 
 pub returns-in-Some-clause-first : goal.returns-in-Some-clause-first
 returns-in-Some-clause-first c bytes parsed = IfOk-weaker c.sheet_faults.result _ _

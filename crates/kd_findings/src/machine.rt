@@ -6,22 +6,22 @@ ghost use Rattle.kd_tables.specs.Tables.{box_of, slots_of};
 ghost use Rattle.kd_sheet.specs.Letters.{letters_at};
 ghost use Rattle.kd_sheet.specs.declared.key.Key.TheVariants as keys;
 ghost use Rattle.kd_sheet.specs.MachineText.{file_version};
-ghost use Rattle.kd_slips.specs.Faults.{after_model, fault_at, in_file, model_file_faults};
-ghost use Rattle.kd_slips.specs.Faults.{faults_of, file_model, machine_faults, pin_file_faults, rotor_file_faults};
+ghost use Rattle.kd_findings.specs.Faults.{after_model, fault_at, in_file, model_file_faults};
+ghost use Rattle.kd_findings.specs.Faults.{faults_of, file_model, machine_faults, pin_file_faults, rotor_file_faults};
 
-use crate::cables::check_machine_cables;
 use crate::findings::{Finding, note};
-use crate::letters::{check_letters, check_shown};
-use crate::models::{check_reflector, check_wheels, model_at};
-use crate::numbers::check_number;
-use crate::pins::{check_bars, check_pins};
 use crate::place::Place;
-use crate::slip::{Slip, refuse};
 use kd_sheet::by_key::{
     bars_in, box_letters_in, cables_in, model_in, number_at, pins_in, reflector_in,
     shown_letters_in, slots_in,
 };
 use kd_sheet::{Key, SheetFault};
+use kd_slips::cables::check_machine_cables;
+use kd_slips::letters::{check_letters, check_shown};
+use kd_slips::models::{check_reflector, check_wheels, model_at};
+use kd_slips::numbers::check_number;
+use kd_slips::pins::{check_bars, check_pins};
+use kd_slips::slip::{Slip, refuse};
 use kd_tables::Model;
 use std::alloc::{AllocError, Global};
 use toml::Table;

@@ -1,9 +1,9 @@
 //! Finds the faults of a file: of a key sheet, or of a machine file.
 ghost use Rattle.std.specs.Prelude.{◌≡◌, ℕ, List, Ok, IfOk, map, option_map};
 ghost use Rattle.toml.specs.View.{view, table_view};
-ghost use Rattle.kd_slips.specs.Faults.{faults_of, first_fault};
+ghost use Rattle.kd_findings.specs.Faults.{faults_of, first_fault};
 ghost use Rattle.kd_sheet.specs.Document.{document_of};
-ghost use Rattle.kd_slips.specs.SheetFaults.{AreFaults, entries_of, file_fault};
+ghost use Rattle.kd_findings.specs.SheetFaults.{AreFaults, entries_of, file_fault};
 
 use crate::findings::Finding;
 use crate::machine::machine_faults;

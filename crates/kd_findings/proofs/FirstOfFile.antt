@@ -10,11 +10,11 @@ use Rattle.kd_sheet.specs.SheetFile.{day_for}
 use Rattle.kd_sheet.specs.declared.key.Key.{Key}
 use Rattle.kd_sheet.specs.declared.key.Key.TheVariants as keys
 use Rattle.kd_sheet.specs.declared.fault.SheetFault.{SheetFault}
-use Rattle.kd_slips.specs.declared.place.Place.{Place}
-use Rattle.kd_slips.specs.Faults.{first_fault, machine_faults}
-use Rattle.kd_slips.specs.SheetFaults.{AreSheetFaults, entries_of, file_fault}
-use Rattle.kd_slips.proofs.FirstFault.{of_machine}
-use Rattle.kd_slips.proofs.FirstSheetFault.{of_sheet}
+use Rattle.kd_findings.specs.declared.place.Place.{Place}
+use Rattle.kd_findings.specs.Faults.{first_fault, machine_faults}
+use Rattle.kd_findings.specs.SheetFaults.{AreSheetFaults, entries_of, file_fault}
+use Rattle.kd_findings.proofs.FirstFault.{of_machine}
+use Rattle.kd_findings.proofs.FirstSheetFault.{of_sheet}
 
 -- the array at a key, if the table has it, is what is read there
 array_read : (key : Key) (value : Option Data) (items : List Data) → option_and_then as_items value ≡ Some items

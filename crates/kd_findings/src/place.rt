@@ -1,7 +1,7 @@
 //! `Place`: where in a file a value stands.
 ghost use Rattle.std.specs.Prelude.{◌≡◌};
-ghost use Rattle.kd_slips.specs.Faults.{at_key, in_file};
-ghost use Rattle.kd_slips.specs.SheetFaults.{in_entry};
+ghost use Rattle.kd_findings.specs.Faults.{at_key, in_file};
+ghost use Rattle.kd_findings.specs.SheetFaults.{in_entry};
 
 use kd_sheet::Key;
 

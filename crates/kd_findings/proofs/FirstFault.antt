@@ -11,10 +11,10 @@ use Rattle.kd_sheet.specs.MachineText.{file_version}
 use Rattle.kd_sheet.specs.declared.key.Key.TheVariants as keys
 use Rattle.kd_sheet.specs.declared.fault.SheetFault.{SheetFault}
 use Rattle.kd_sheet.specs.declared.fault.SheetFault.TheVariants.{UnknownModel}
-use Rattle.kd_slips.specs.declared.place.Place.{Place}
-use Rattle.kd_slips.specs.Faults.{after_model, fault_at, first_fault, in_file, model_file_faults, version_in}
+use Rattle.kd_findings.specs.declared.place.Place.{Place}
+use Rattle.kd_findings.specs.Faults.{after_model, fault_at, first_fault, in_file, model_file_faults, version_in}
 unfoldable use Rattle.kd_sheet.specs.MachineFile.{model_in, parts_in, pin_parts_in, rotor_parts_in}
-unfoldable use Rattle.kd_slips.specs.Faults.{file_model, machine_faults, pin_file_faults, rotor_file_faults}
+unfoldable use Rattle.kd_findings.specs.Faults.{file_model, machine_faults, pin_file_faults, rotor_file_faults}
 
 -- The first of the faults is the fault of the reading; without a fault of the reading there are none.
 pub record AreOf {A : Type 0} (faults : List (Place × SheetFault)) (reading : Result A SheetFault) : Type 0 where

@@ -5,25 +5,25 @@ ghost use Rattle.toml.specs.View.{view, table_view};
 ghost use Rattle.kd_tables.specs.Tables.{slots_of};
 ghost use Rattle.kd_sheet.specs.MachineFile.{model_in};
 ghost use Rattle.kd_sheet.specs.declared.key.Key.TheVariants as keys;
-ghost use Rattle.kd_slips.specs.Faults.{after_model, at_key, faults_of};
-ghost use Rattle.kd_slips.specs.SheetFaults.{AreSheetFaults, entry_faults, has_number, model_day_faults, new_day};
-ghost use Rattle.kd_slips.specs.SheetFaults.{pin_day_faults, rotor_day_faults, table_faults};
+ghost use Rattle.kd_findings.specs.Faults.{after_model, at_key, faults_of};
+ghost use Rattle.kd_findings.specs.SheetFaults.{AreSheetFaults, entry_faults, has_number, model_day_faults, new_day};
+ghost use Rattle.kd_findings.specs.SheetFaults.{pin_day_faults, rotor_day_faults, table_faults};
 
-use crate::cables::{check_groups, check_pairs};
 use crate::findings::{Finding, note};
-use crate::letters::{check_letters, check_shown};
-use crate::models::{check_reflector, check_wheels, model_at};
-use crate::numbers::check_number;
-use crate::pins::{check_pins, check_rows};
 use crate::place::Place;
-use crate::rings::check_rings;
-use crate::slip::{Slip, refuse};
-use crate::values::kind_of;
 use kd_sheet::by_key::{
     groups_in, letters_at, model_in, number_at, pairs_in, pins_in, reflector_in, rings_in, rows_in,
     shown_letters_in, slots_in, window_in,
 };
 use kd_sheet::{Key, SheetFault};
+use kd_slips::cables::{check_groups, check_pairs};
+use kd_slips::letters::{check_letters, check_shown};
+use kd_slips::models::{check_reflector, check_wheels, model_at};
+use kd_slips::numbers::check_number;
+use kd_slips::pins::{check_pins, check_rows};
+use kd_slips::rings::check_rings;
+use kd_slips::slip::{Slip, refuse};
+use kd_slips::values::kind_of;
 use kd_tables::Model;
 use std::alloc::{AllocError, Global};
 use toml::{Table, Value};

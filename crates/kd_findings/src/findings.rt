@@ -1,10 +1,10 @@
 //! `Finding`: a fault of a file, with its place and in words.
 ghost use Rattle.std.specs.Prelude.{◌≡◌, ◌++◌, OnOk, Some};
-ghost use Rattle.kd_slips.specs.Faults.{at_place, faults_of};
+ghost use Rattle.kd_findings.specs.Faults.{at_place, faults_of};
 
 use crate::place::Place;
-use crate::slip::Slip;
 use kd_sheet::SheetFault;
+use kd_slips::slip::Slip;
 use std::alloc::{AllocError, Global};
 
 /// A fault with its place, in words.

@@ -15,17 +15,17 @@ use Rattle.kd_sheet.specs.Document.{◌>>=◌, ◌>>◌, demand, read_items}
 use Rattle.kd_sheet.specs.declared.key.Key.TheVariants as keys
 use Rattle.kd_sheet.specs.declared.fault.SheetFault.{SheetFault}
 use Rattle.kd_sheet.specs.declared.fault.SheetFault.TheVariants.{BadValue, DayTwice}
-use Rattle.kd_slips.specs.declared.place.Place.{Place}
-use Rattle.kd_slips.specs.Faults.{after_model, at_key, first_fault}
-use Rattle.kd_slips.specs.SheetFaults.{AreSheetFaults, day_place, entry_faults, faults_after}
-use Rattle.kd_slips.specs.SheetFaults.{has_number, in_entry, model_day_faults, number_in}
+use Rattle.kd_findings.specs.declared.place.Place.{Place}
+use Rattle.kd_findings.specs.Faults.{after_model, at_key, first_fault}
+use Rattle.kd_findings.specs.SheetFaults.{AreSheetFaults, day_place, entry_faults, faults_after}
+use Rattle.kd_findings.specs.SheetFaults.{has_number, in_entry, model_day_faults, number_in}
 use Rattle.kd_state.proofs.FirstFault.{demand-Ok}
 use Rattle.kd_sheet.proofs.ReadBack.Described.KeyValues.Steps.{bind-Ok}
-use Rattle.kd_slips.proofs.FirstFault.{AreOf, of_form, of_model, of_one, of_two}
+use Rattle.kd_findings.proofs.FirstFault.{AreOf, of_form, of_model, of_one, of_two}
 use Rattle.std.proofs.lemmas.Option.{none-some}
 unfoldable use Rattle.kd_sheet.specs.MachineFile.{model_in}
 unfoldable use Rattle.kd_sheet.specs.SheetFile.{day_for, day_in, pin_day_in, rotor_day_in}
-unfoldable use Rattle.kd_slips.specs.SheetFaults.{new_day, pin_day_faults, rotor_day_faults, table_faults}
+unfoldable use Rattle.kd_findings.specs.SheetFaults.{new_day, pin_day_faults, rotor_day_faults, table_faults}
 
 of_rotor_day : (place : Place) (number : ℕ) (model : Model) (table : Members)
     → AreOf (rotor_day_faults place model table) (rotor_day_in number model table)

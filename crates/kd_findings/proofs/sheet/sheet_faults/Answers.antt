@@ -1,6 +1,6 @@
 use Rattle.std.proofs.Common.{arith}
-use Rattle.kd_slips.proofs.FirstSheetFault.{one_more_entry}
-use Rattle.kd_slips.proofs.sheet.sheet_faults.Goals as goal
+use Rattle.kd_findings.proofs.FirstSheetFault.{one_more_entry}
+use Rattle.kd_findings.proofs.sheet.sheet_faults.Goals as goal
 
 pub loop-index-preserved : goal.loop-index-preserved
 loop-index-preserved c =

@@ -21,8 +21,8 @@ use Rattle.kd_sheet.specs.declared.key.Key.{Key}
 use Rattle.kd_sheet.specs.declared.key.Key.TheVariants as keys
 use Rattle.kd_sheet.specs.declared.fault.SheetFault.{SheetFault}
 use Rattle.kd_sheet.specs.declared.fault.SheetFault.TheVariants.{UnknownModel}
-use Rattle.kd_slips.specs.declared.findings.Finding.{Finding}
-use Rattle.kd_slips.specs.declared.place.Place.{Place}
+use Rattle.kd_findings.specs.declared.findings.Finding.{Finding}
+use Rattle.kd_findings.specs.declared.place.Place.{Place}
 
 -- the place of a key in a machine file
 abbrev pub in_file : Key → Place

@@ -1,10 +1,10 @@
 //! Warnings: what the desk accepts, but what was perhaps not meant.
 
 use crate::key_names::{is_known, is_near, meant_key};
-use crate::numbers::number_at;
-use crate::values::shown;
 use kd_sheet::Key;
 use kd_sheet::by_key::find_at;
+use kd_slips::numbers::number_at;
+use kd_slips::values::shown;
 use kd_tables::Model;
 use std::alloc::{AllocError, Global};
 use toml::{Table, Value};

@@ -1,0 +1,21 @@
+//! Finds all faults of machine files and key sheets, each with its place and in words, and warns.
+//!
+//! The desk stops at a file's first fault. This crate judges each key for itself, by the readers of the desk.
+#![tactic(auto)]
+
+mod explanation_words;
+mod findings;
+mod judging;
+mod key_names;
+mod machine;
+mod not_toml;
+mod place;
+mod sheet;
+mod warnings;
+
+pub use explanation_words::wrong_words;
+pub use findings::{Explanation, Finding};
+pub use judging::{entries_of, find_faults};
+pub use not_toml::toml_words;
+pub use place::Place;
+pub use warnings::warning_lines;
