@@ -1,11 +1,6 @@
 pub mod Answers
-pub mod CommandLines
 pub mod DayRefusals
-pub mod DaysNamed
-pub mod Grammars
-pub mod Prelude
 pub mod LookFiles
-pub mod OneCommand
 pub mod Passing
 pub mod Runs
 pub mod ReceiveAnswers

@@ -31,8 +31,8 @@ use Rattle.kd_sheet.specs.declared.fault.SheetFault.{SheetFault}
 use Rattle.kd_pictures.specs.declared.language.Language.{Language}
 use Rattle.kd_key_table.specs.TableFile.{file_text}
 use Rattle.kd_key_table.specs.declared.table_file.TableForm.{TableForm}
-use Rattle.kd_curator.specs.CommandLine.{ReadCommand}
-use Rattle.kd_curator.specs.declared.command.Command.TheVariants as commands
+use Rattle.kd_curator_command.specs.CommandLine.{ReadCommand}
+use Rattle.kd_curator_command.specs.declared.command.Command.TheVariants as commands
 use Rattle.kd_curator.specs.declared.fault.PageFault.TheVariants.{File}
 use Rattle.kd_curator.specs.RunList.{WritesList, NoList, Settings}
 use Rattle.std.specs.Prelude.{unwrap_or}
@@ -42,10 +42,10 @@ use Rattle.kd_curator.specs.RunReceive.{WritesReceivePage}
 use Rattle.kd_curator.specs.RunReceive as receives
 use Rattle.kd_curator.specs.RunSend.{WritesSendPage}
 use Rattle.kd_curator.specs.RunSend as sends
-use Rattle.kd_curator.specs.declared.command.MessageKind.{MessageKind}
-use Rattle.kd_curator.specs.declared.command.MessageKind.TheVariants as kinds
-use Rattle.kd_curator.specs.declared.command.Task.{Task}
-use Rattle.kd_curator.specs.declared.command.Task.TheVariants as tasks
+use Rattle.kd_curator_command.specs.declared.command.MessageKind.{MessageKind}
+use Rattle.kd_curator_command.specs.declared.command.MessageKind.TheVariants as kinds
+use Rattle.kd_curator_command.specs.declared.command.Task.{Task}
+use Rattle.kd_curator_command.specs.declared.command.Task.TheVariants as tasks
 use Rattle.kd_curator.specs.declared.fault.Refused.{Refused}
 use Rattle.kd_curator.specs.declared.stop.Stop.{Stop}
 use Rattle.kd_curator.specs.declared.stop.Stop.TheVariants as stops

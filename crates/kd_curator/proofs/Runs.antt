@@ -5,8 +5,8 @@ use Rattle.std.proofs.Common.{OnErr, inl, refl, arith, ap, subst, sym, ◌∙◌
 use Rattle.clap.specs.Words.{Row, subcommand_of}
 use Rattle.kd_tables.specs.Ports.{Port}
 use Rattle.kd_tables.specs.declared.model.Model.{Model}
-use Rattle.kd_curator.specs.CommandLine.{IsCommandLineOf, IsMeant, NamedCommand, ReadCommand, curator_grammar}
-use Rattle.kd_curator.specs.declared.command.Command.TheVariants as commands
+use Rattle.kd_curator_command.specs.CommandLine.{IsCommandLineOf, IsMeant, NamedCommand, ReadCommand, curator_grammar}
+use Rattle.kd_curator_command.specs.declared.command.Command.TheVariants as commands
 use Rattle.kd_curator.specs.Program.{AreAlike, HasMonth, HasNotes, HasTold, IsLeftAlone, NoNotes, TableNotes}
 use Rattle.kd_curator.specs.Ending.{stop_after}
 use Rattle.kd_curator.specs.Program.{IsTold, IsAnswerAfterFlush, is_stopped_before_writing}

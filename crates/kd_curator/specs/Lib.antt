@@ -1,7 +1,4 @@
-pub mod CommandLine
-pub mod Days
 pub mod Ending
-pub mod Locale
 pub mod MachineAndSheet
 pub mod Program
 pub mod Refusals
@@ -12,4 +9,3 @@ pub mod RunSend
 pub mod Sheets
 pub mod Looks
 pub mod Tables
-pub mod UpToThree

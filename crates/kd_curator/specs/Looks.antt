@@ -9,7 +9,7 @@ use Rattle.kd_look.specs.declared.outcome.Outcome.TheVariants.{Faultless, Faulty
 use Rattle.kd_curator.specs.Refusals.{refused_look, refused_whole}
 use Rattle.kd_curator.specs.declared.fault.PageFault.TheVariants.{FaultyFile}
 use Rattle.kd_curator.specs.declared.fault.Refused.{Refused}
-use Rattle.kd_curator.specs.declared.up_to_three.UpToThree.{UpToThree}
+use Rattle.kd_curator_command.specs.declared.up_to_three.UpToThree.{UpToThree}
 
 -- a file with its name, if there is one
 abbrev pub other_text : Option (List ℕ) → Option (List ℕ) → List NamedText

@@ -18,14 +18,14 @@ use Rattle.kd_table.specs.Notes.{Tells}
 use Rattle.kd_table.specs.Options.{OptionTexts}
 use Rattle.kd_state.specs.Machine.{model_of}
 use Rattle.kd_tables.specs.Ports.{Port}
-use Rattle.kd_curator.specs.CommandLine.{AsksForHelp, IsCommandLineOf, IsNoCommandLine, NamedCommand, ReadCommand, with_texts}
-use Rattle.kd_curator.specs.CommandLine.{curator_grammar}
-use Rattle.kd_curator.specs.CommandLine.{is_help}
+use Rattle.kd_curator_command.specs.CommandLine.{AsksForHelp, IsCommandLineOf, IsNoCommandLine, NamedCommand, ReadCommand, with_texts}
+use Rattle.kd_curator_command.specs.CommandLine.{curator_grammar}
+use Rattle.kd_curator_command.specs.CommandLine.{is_help}
 use Rattle.kd_curator.specs.Ending.{EndsAs, stop_after}
 use Rattle.kd_curator.specs.MachineAndSheet.{IsAnswerOnSheet}
 use Rattle.kd_curator.specs.Looks.{Looks, named_texts}
-use Rattle.kd_curator.specs.UpToThree.{AreAsMany, list_of_three}
-use Rattle.kd_curator.specs.declared.up_to_three.UpToThree.{UpToThree}
+use Rattle.kd_curator_command.specs.UpToThree.{AreAsMany, list_of_three}
+use Rattle.kd_curator_command.specs.declared.up_to_three.UpToThree.{UpToThree}
 use Rattle.kd_curator.specs.Refusals.{comes_after_writing, is_after_all, is_device_fault, refused_device}
 use Rattle.kd_pictures.specs.declared.language.Language.{Language}
 use Rattle.kd_curator.specs.RunList.{WritesList}
@@ -34,15 +34,15 @@ use Rattle.kd_curator.specs.RunReceive.{WritesReceivePage}
 use Rattle.kd_curator.specs.RunSend.{WritesSendPage}
 use Rattle.kd_state.specs.SheetDay.{Day}
 use Rattle.kd_state.specs.declared.machine.parts.Parts.{Parts}
-use Rattle.kd_curator.specs.declared.command.MessageKind.{MessageKind}
-use Rattle.kd_curator.specs.declared.command.MessageKind.TheVariants as kinds
-use Rattle.kd_curator.specs.declared.command.MessageTask.{MessageTask}
+use Rattle.kd_curator_command.specs.declared.command.MessageKind.{MessageKind}
+use Rattle.kd_curator_command.specs.declared.command.MessageKind.TheVariants as kinds
+use Rattle.kd_curator_command.specs.declared.command.MessageTask.{MessageTask}
 use Rattle.kd_curator.specs.Sheets.{MakesSheet}
 use Rattle.kd_curator.specs.Tables.{WritesTables}
-use Rattle.kd_curator.specs.declared.command.Command.{Command}
-use Rattle.kd_curator.specs.declared.command.Command.TheVariants as commands
-use Rattle.kd_curator.specs.declared.command.Task.{Task}
-use Rattle.kd_curator.specs.declared.command.Task.TheVariants as tasks
+use Rattle.kd_curator_command.specs.declared.command.Command.{Command}
+use Rattle.kd_curator_command.specs.declared.command.Command.TheVariants as commands
+use Rattle.kd_curator_command.specs.declared.command.Task.{Task}
+use Rattle.kd_curator_command.specs.declared.command.Task.TheVariants as tasks
 use Rattle.kd_curator.specs.declared.fault.Refused.{Refused}
 use Rattle.kd_curator.specs.declared.stop.Stop.{Stop}
 use Rattle.kd_curator.specs.declared.stop.Stop.TheVariants as stops

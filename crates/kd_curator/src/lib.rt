@@ -4,12 +4,7 @@
 #![tactic(auto)]
 
 mod buffered_sink;
-mod command;
-mod days;
 mod fault;
-mod grammar;
-pub mod laws;
-mod locale;
 mod looks;
 mod machine_and_sheet;
 mod program;
@@ -20,13 +15,12 @@ pub mod run_send;
 mod sheets;
 mod stop;
 mod tables;
-mod up_to_three;
 
-pub use command::{Command, MessageKind, MessageTask, NamedCommand, NoCommand, Task, parse_words};
-pub use days::{Days, days_of_word};
 pub use fault::{PageFault, Refused};
+pub use kd_curator_command::{
+    Command, Days, MessageKind, MessageTask, NamedCommand, NoCommand, Task, UpToThree,
+    days_of_word, language_of, language_of_code, parse_words,
+};
 pub use kd_page::Language;
-pub use locale::{language_of, language_of_code};
 pub use program::run_curator;
 pub use stop::{Stop, end_program};
-pub use up_to_three::UpToThree;

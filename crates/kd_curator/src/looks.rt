@@ -4,10 +4,10 @@ ghost use Rattle.kd_tables.specs.Ports.{port};
 ghost use Rattle.kd_look.specs.Look.{IsLookAnswer, is_device as is_look_device, named_text};
 ghost use Rattle.kd_curator.specs.Looks.{Looks, look_answer, named_texts, other_text};
 ghost use Rattle.kd_curator.specs.Refusals.{has_written, is_device};
-ghost use Rattle.kd_curator.specs.UpToThree.{list_of_option, unborrowed_three};
+ghost use Rattle.kd_curator_command.specs.UpToThree.{list_of_option, unborrowed_three};
 
 use crate::fault::{PageFault, Refused};
-use crate::up_to_three::UpToThree;
+use kd_curator_command::UpToThree;
 use kd_host::Content;
 use kd_look::{LookFault, NamedFile, Outcome, look_at};
 use kd_tables::Sink;

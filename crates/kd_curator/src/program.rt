@@ -6,22 +6,19 @@ ghost use Rattle.kd_tables.specs.Answers.{AgreesOrNoMemory};
 ghost use Rattle.kd_tables.specs.Ports.{port};
 ghost use Rattle.kd_host.specs.Files.{AreAskedFor};
 ghost use Rattle.kd_host.specs.Writing.{WritesText};
-ghost use Rattle.kd_curator.specs.CommandLine.{unborrowed_command, with_texts};
+ghost use Rattle.kd_curator_command.specs.CommandLine.{unborrowed_command, with_texts};
 ghost use Rattle.kd_table.specs.Options.{texts_of};
 ghost use Rattle.kd_curator.specs.Ending.{stop_after};
-ghost use Rattle.kd_curator.specs.declared.command.Command.TheVariants.{Look, Message, OnMachine, Sheet, Table};
+ghost use Rattle.kd_curator_command.specs.declared.command.Command.TheVariants.{Look, Message, OnMachine, Sheet, Table};
 ghost use Rattle.kd_curator.specs.Program.{AreAlike, CarriesOut, DoesCommand, DoesTask, HasEnded, IsRun};
 ghost use Rattle.kd_curator.specs.Program.{port_with_untaken, known_command};
 ghost use Rattle.kd_curator.specs.Program.{HasMonth, HasNotes, HasTold, names_of, read_with_texts};
 ghost use Rattle.kd_curator.specs.Program.{IsAnswerAfterFlush, is_stopped_before_writing, is_stopped_by_device};
 ghost use Rattle.kd_curator.specs.Program.{WorksMessage, is_whole, known_other};
 ghost use Rattle.kd_curator.specs.Refusals.{has_written, is_device, refused_device};
-ghost use Rattle.kd_curator.specs.UpToThree.{list_of_option, list_of_three, unborrowed_three};
+ghost use Rattle.kd_curator_command.specs.UpToThree.{list_of_option, list_of_three, unborrowed_three};
 
 use crate::buffered_sink::BufferedSink;
-use crate::command::{
-    Command, MessageKind, MessageTask, NamedCommand, NoCommand, Task, parse_words,
-};
 use crate::fault::{PageFault, Refused};
 use crate::looks::look_at_files;
 use crate::run_list::run_list;
@@ -31,7 +28,9 @@ use crate::run_send::run_send;
 use crate::sheets::{make_sheet, write_empty_sheet};
 use crate::stop::{Stop, end_program};
 use crate::tables::write_tables;
-use crate::up_to_three::UpToThree;
+use kd_curator_command::{
+    Command, MessageKind, MessageTask, NamedCommand, NoCommand, Task, UpToThree, parse_words,
+};
 use kd_host::{Content, FileFault, Files};
 use kd_key_table::TableForm;
 use kd_page::Language;

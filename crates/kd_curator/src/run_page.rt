@@ -8,10 +8,10 @@ ghost use Rattle.kd_curator.specs.MachineAndSheet.{IsAnswerOnSheet};
 ghost use Rattle.kd_curator.specs.Refusals.{is_device};
 ghost use Rattle.kd_curator.specs.RunPage.{IsDayRefusal, WritesPages, has_day_of, wanted_days};
 
-use crate::days::Days;
 use crate::fault::{PageFault, Refused};
 use crate::machine_and_sheet::read_both;
 use kd_booklet::{DayPlans, plan_days, write_pages};
+use kd_curator_command::Days;
 use kd_page::Language;
 use kd_sheet::Sheet;
 use kd_state::Machine;

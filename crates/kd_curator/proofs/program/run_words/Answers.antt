@@ -1,5 +1,5 @@
 use Rattle.kd_host.proofs.Failing.{err_is}
-use Rattle.kd_curator.specs.CommandLine.{unborrowed_command, with_texts}
+use Rattle.kd_curator_command.specs.CommandLine.{unborrowed_command, with_texts}
 use Rattle.kd_curator.specs.Program.{Carried, FileUnread, NoNotes, Shown}
 use Rattle.kd_curator.proofs.Runs.{device_so, left_alone, months_so, notes_so, only_device, stopped_so, told_so}
 use Rattle.kd_curator.proofs.program.run_words.Goals as goal

@@ -1,5 +1,0 @@
-use Rattle.std.proofs.Common.{length}
-use Rattle.kd_curator.proofs.days.+add_ranges.Given as goal
-
-abbrev pub decreases-add_ranges : goal.decreases-add_ranges
-decreases-add_ranges l = length l.text.now

@@ -1,9 +1,0 @@
-use Rattle.kd_curator.proofs.Prelude.{ap, ◌∙◌, rule_of, Rule, true}
-use Rattle.kd_curator.proofs.grammar.needed.Goals as goal
-
-abbrev required_rule : Rule → Rule
-required_rule rule = record rule { required = true }
-
-pub returns-clause-rule : goal.returns-clause-rule
-returns-clause-rule c =
-    ap rule_of c.help.ensures ∙ ap rule_of c.required.ensures ∙ ap required_rule c.new.ensures.rule

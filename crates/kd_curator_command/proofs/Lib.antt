@@ -1,0 +1,5 @@
+pub mod Prelude
+pub mod CommandLines
+pub mod DaysNamed
+pub mod Grammars
+pub mod OneCommand

@@ -1,0 +1,322 @@
+-- The grammar of the command line: `page`, `list`, `table`, `sheet`, `look`, `send` and `receive`, with their arguments
+-- and with help.
+-- Code: `grammar` builds the grammar by calls of the library `clap`.
+-- Test: tests/cases/curator-words.toml
+use Rattle.std.specs.Prelude.{codes, decimal, ◌≡◌, ◌≢◌, ℕ, Bool, true, false, List, [], ◌∷◌, ◌++◌, Option, Some, None}
+use Rattle.std.specs.Prelude.{◌&&◌, ◌==◌, IsSomeAnd, IsTrue, length, option_map, unwrap_or}
+use Rattle.std.specs.Borrow.{Bor}
+use Rattle.clap.specs.declared.builder.command.Command.{Command as Grammar, out-Command}
+use Rattle.clap.specs.declared.error.kind.ErrorKind.{ErrorKind}
+use Rattle.clap.specs.declared.error.kind.ErrorKind.TheVariants.{DisplayHelp, DisplayVersion, OutOfMemory}
+use Rattle.clap.specs.Words.{App, app_of, IsAmong, Row, Rule, Shape, first_of, fault_of, new_rule, subcommand_of}
+use Rattle.clap.specs.Simple.{new_shape}
+use Rattle.kd_state.specs.SheetDay.{IsDayNumber}
+use Rattle.kd_curator_command.specs.Days.{AreDays}
+use Rattle.kd_curator_command.specs.Locale.{language_code}
+use Rattle.kd_pictures.specs.declared.language.Language.{Language}
+use Rattle.clap.specs.declared.builder.action.ArgAction.TheVariants.{SetTrue}
+use Rattle.kd_tables.specs.Tables.{model_text}
+use Rattle.kd_tables.specs.declared.model.Model.{Model}
+use Rattle.kd_table.specs.Options.{OptionTexts, texts_of}
+use Rattle.kd_curator_command.specs.UpToThree.{unborrowed_three}
+use Rattle.kd_curator_command.specs.declared.up_to_three.UpToThree.{UpToThree}
+use Rattle.kd_key_table.specs.declared.table_file.TableForm.{TableForm}
+use Rattle.kd_key_table.specs.declared.table_file.TableForm.TheVariants as forms
+use Rattle.kd_curator_command.specs.declared.command.Command.{Command}
+use Rattle.kd_curator_command.specs.declared.command.Command.TheVariants as commands
+use Rattle.kd_curator_command.specs.declared.command.MessageKind.{MessageKind}
+use Rattle.kd_curator_command.specs.declared.command.MessageKind.TheVariants as kinds
+use Rattle.kd_curator_command.specs.declared.command.MessageTask.{MessageTask}
+use Rattle.kd_curator_command.specs.declared.command.NoCommand.{NoCommand}
+use Rattle.kd_curator_command.specs.declared.command.NoCommand.TheVariants.{Asked, Usage, NoMemory}
+use Rattle.kd_curator_command.specs.declared.command.Task.{Task}
+use Rattle.kd_curator_command.specs.declared.command.Task.TheVariants as tasks
+
+-- an argument that each command line must have
+abbrev pub needed : List ℕ → Rule
+needed name = record (new_rule name) { required = true }
+
+abbrev pub command_shape : List ℕ → Rule → Shape
+command_shape name last = record (new_shape name) {
+  rules = needed (codes "MACHINE") ∷ needed (codes "SHEET") ∷ last ∷ [];
+}
+
+-- an option with a value
+abbrev pub option_rule : List ℕ → Rule
+option_rule name = record (new_rule name) { long = Some name; value_names = 1 }
+
+-- the option `--in`, for the language
+abbrev pub language_option : Rule
+language_option = option_rule (codes "in")
+
+-- a command with one more argument
+abbrev pub with_rule : Shape → Rule → Shape
+with_rule shape rule = record shape { rules = shape.rules ++ rule ∷ [] }
+
+abbrev pub page_shape : Shape
+page_shape = with_rule (command_shape (codes "page") (new_rule (codes "DAYS"))) language_option
+
+abbrev pub list_shape : Shape
+list_shape = command_shape (codes "list") (needed (codes "DAY"))
+
+-- the option `--csv`, which has no value
+abbrev pub csv_flag : Rule
+csv_flag = record (new_rule (codes "csv")) { long = Some (codes "csv"); action = Some SetTrue }
+
+abbrev pub table_shape : Shape
+table_shape = record (new_shape (codes "table")) { rules = csv_flag ∷ needed (codes "SHEET") ∷ language_option ∷ [] }
+
+abbrev pub sheet_shape : Shape
+sheet_shape = record (new_shape (codes "sheet")) {
+  rules = option_rule (codes "model") ∷ option_rule (codes "reflector") ∷ option_rule (codes "window")
+      ∷ option_rule (codes "empty") ∷ needed (codes "TABLE") ∷ [];
+}
+
+abbrev pub look_shape : Shape
+look_shape = record (new_shape (codes "look")) {
+  rules = needed (codes "FILE") ∷ new_rule (codes "FILE2") ∷ new_rule (codes "FILE3") ∷ [];
+}
+
+abbrev pub message_shape : List ℕ → Rule → Shape
+message_shape name message =
+    with_rule (with_rule (command_shape name (needed (codes "DAY"))) message) language_option
+
+abbrev pub send_shape : Shape
+send_shape = message_shape (codes "send") (needed (codes "ORDER"))
+
+abbrev pub receive_shape : Shape
+receive_shape = message_shape (codes "receive") (needed (codes "FORM"))
+
+-- the program without its commands
+abbrev pub program_alone : App
+program_alone = record {
+  top = record (new_shape (codes "curator")) {
+    disable_help_subcommand = true;
+    has_version = true;
+    subcommand_required = true;
+    arg_required_else_help = true;
+  };
+  subs = [];
+}
+
+-- the grammar of the program, with its commands
+unfoldable pub curator_grammar : App
+curator_grammar = record {
+  top = record program_alone.top { is_leaf = false };
+  subs = page_shape ∷ list_shape ∷ send_shape ∷ receive_shape ∷ table_shape ∷ sheet_shape ∷ look_shape ∷ [];
+}
+
+-- ---- Which command a command line means.
+-- Code: `clap` parses the command line; `command_of` makes the command from the arguments that `clap` found.
+-- Test: tests/cases/curator-words.toml
+
+-- A command that has the names of its files.
+abbrev pub NamedCommand : Type 0
+NamedCommand = Command (List ℕ) (List ℕ)
+
+-- the command, with its borrowed texts replaced by the texts themselves
+abbrev pub unborrowed_command : Command (Bor (List ℕ)) (Bor (List ℕ)) → NamedCommand
+unborrowed_command (commands.OnMachine machine sheet task) = commands.OnMachine machine.now sheet.now task
+unborrowed_command (commands.Message machine sheet message task) =
+    commands.Message machine.now sheet.now message.now task
+unborrowed_command (commands.Table sheet form language) = commands.Table sheet.now form language
+unborrowed_command (commands.Sheet table options) = commands.Sheet table.now (texts_of options)
+unborrowed_command (commands.Look names files) = commands.Look (unborrowed_three names) (unborrowed_three files)
+unborrowed_command (commands.EmptySheet model days) = commands.EmptySheet model days
+
+-- A command that has the bytes of its files.
+abbrev pub ReadCommand : Type 0
+ReadCommand = Command (List ℕ) (List ℕ)
+
+-- The argument DAYS, which `page` may lack, names these days.
+abbrev pub HasDays : List Row → Option (List ℕ) → Type 0
+HasDays rows None = first_of (codes "DAYS") rows ≡ None
+HasDays rows (Some days) =
+    (word : List ℕ) × (first_of (codes "DAYS") rows ≡ Some word) × AreDays word days
+
+-- The argument DAY is this day's number.
+abbrev pub HasDay : List Row → ℕ → Type 0
+HasDay rows day = (first_of (codes "DAY") rows ≡ Some (decimal day)) × IsDayNumber day
+
+-- The option `--in` has this language's code. `None`: it isn't used.
+abbrev pub HasLanguage : List Row → Option Language → Type 0
+HasLanguage rows language = first_of (codes "in") rows ≡ option_map language_code language
+
+abbrev pub task_name : Task → List ℕ
+task_name (tasks.Page days language) = codes "page"
+task_name (tasks.List day) = codes "list"
+
+-- The arguments in `rows` are those of the task.
+abbrev pub HasArguments : List Row → Task → Type 0
+HasArguments rows (tasks.Page days language) = HasDays rows days × HasLanguage rows language
+HasArguments rows (tasks.List day) = HasDay rows day
+
+-- `said` is a command's name and the values of its arguments. They mean the task `task`.
+pub record IsTaskOf (said : List ℕ × List Row) (task : Task) : Type 0 where
+  pub name : said.0 ≡ task_name task
+  pub arguments : HasArguments said.1 task
+
+-- `said` is a command's name and the values of its arguments. They mean the task `task`, with these files.
+pub record IsTaskWith (said : List ℕ × List Row) (machine_file key_sheet : List ℕ) (its_task : Task) : Type 0 where
+  pub machine : first_of (codes "MACHINE") said.1 ≡ Some machine_file
+  pub sheet : first_of (codes "SHEET") said.1 ≡ Some key_sheet
+  pub task : IsTaskOf said its_task
+
+-- The arguments in `rows` ask for tables in this form: as CSV with the option `--csv`, as a page without it.
+abbrev pub HasForm : List Row → TableForm → Type 0
+HasForm rows forms.Csv = first_of (codes "csv") rows ≡ Some (codes "true")
+HasForm rows forms.Page = first_of (codes "csv") rows ≢ Some (codes "true")
+
+-- the name of the command for a message, and that of the argument for its file
+abbrev pub message_name : MessageKind → List ℕ
+message_name kinds.Order = codes "send"
+message_name kinds.Form = codes "receive"
+
+abbrev pub message_argument : MessageKind → List ℕ
+message_argument kinds.Order = codes "ORDER"
+message_argument kinds.Form = codes "FORM"
+
+-- They mean the command `send` or `receive`, with these files and this task.
+pub record IsMessageOf (said : List ℕ × List Row) (machine_file key_sheet its_message : List ℕ) (its_task : MessageTask)
+    : Type 0 where
+  pub name : said.0 ≡ message_name its_task.kind
+  pub machine : first_of (codes "MACHINE") said.1 ≡ Some machine_file
+  pub sheet : first_of (codes "SHEET") said.1 ≡ Some key_sheet
+  pub message : first_of (message_argument its_task.kind) said.1 ≡ Some its_message
+  pub day : HasDay said.1 its_task.day
+  pub language : HasLanguage said.1 its_task.language
+
+-- They mean the command `table`, with this file, this form and this language.
+pub record IsTableOf (said : List ℕ × List Row) (key_sheet : List ℕ) (its_form : TableForm)
+    (its_language : Option Language) : Type 0 where
+  pub name : said.0 ≡ codes "table"
+  pub sheet : first_of (codes "SHEET") said.1 ≡ Some key_sheet
+  pub form : HasForm said.1 its_form
+  pub language : HasLanguage said.1 its_language
+
+-- the text of an option; an empty text if it isn't used
+abbrev pub option_text : List ℕ → List Row → List ℕ
+option_text name rows = unwrap_or (first_of name rows) []
+
+-- the options of `sheet`
+abbrev pub option_texts : List Row → OptionTexts
+option_texts rows = record {
+  model = option_text (codes "model") rows;
+  reflector = option_text (codes "reflector") rows;
+  window = option_text (codes "window") rows;
+}
+
+-- whether no option has a text
+abbrev pub are_blank : OptionTexts → Bool
+are_blank options =
+    (length options.model == 0) && (length options.reflector == 0) && (length options.window == 0)
+
+-- They mean the command `sheet`, with this table and these options, and without `--empty`.
+pub record IsSheetOf (said : List ℕ × List Row) (its_table : List ℕ) (its_options : OptionTexts) : Type 0 where
+  pub name : said.0 ≡ codes "sheet"
+  pub filled : first_of (codes "empty") said.1 ≡ None
+  pub table : first_of (codes "TABLE") said.1 ≡ Some its_table
+  pub options : its_options ≡ option_texts said.1
+
+-- The words are a model's name, and a number of days, from 1 to 31.
+pub record IsMonthNamed (model_word days_word : List ℕ) (model : Model) (days : ℕ) : Type 0 where
+  pub named : model_text model ≡ model_word
+  pub numbered : decimal days ≡ days_word
+  pub within : IsDayNumber days
+
+-- They mean the command `sheet --empty`, with this model and this number of days, and without other options.
+pub record IsEmptySheetOf (said : List ℕ × List Row) (model : Model) (days : ℕ) : Type 0 where
+  pub name : said.0 ≡ codes "sheet"
+  pub model_word : List ℕ
+  pub empty : first_of (codes "empty") said.1 ≡ Some model_word
+  pub days_word : List ℕ
+  pub table : first_of (codes "TABLE") said.1 ≡ Some days_word
+  pub month : IsMonthNamed model_word days_word model days
+  pub alone : are_blank (option_texts said.1) ≡ true
+
+-- They mean the command `look`, with these files.
+pub record IsLookOf (said : List ℕ × List Row) (names files : UpToThree (List ℕ)) : Type 0 where
+  pub name : said.0 ≡ codes "look"
+  pub first : first_of (codes "FILE") said.1 ≡ Some names.first
+  pub second : first_of (codes "FILE2") said.1 ≡ names.second
+  pub third : first_of (codes "FILE3") said.1 ≡ names.third
+  pub same : files ≡ names
+
+-- They mean the command `command`.
+abbrev pub IsCommandOf : List ℕ × List Row → NamedCommand → Type 0
+IsCommandOf said (commands.OnMachine machine sheet task) = IsTaskWith said machine sheet task
+IsCommandOf said (commands.Message machine sheet message task) = IsMessageOf said machine sheet message task
+IsCommandOf said (commands.Table sheet form language) = IsTableOf said sheet form language
+IsCommandOf said (commands.Sheet table options) = IsSheetOf said table options
+IsCommandOf said (commands.Look names files) = IsLookOf said names files
+IsCommandOf said (commands.EmptySheet model days) = IsEmptySheetOf said model days
+
+-- What is said, if anything, means the command `command`.
+abbrev pub IsMeant : Option (List ℕ × List Row) → NamedCommand → Type 0
+IsMeant said command = IsSomeAnd said (λ x. IsCommandOf x command)
+
+-- The command line `words` fits the grammar and means `command`. Its first word is the program's own name.
+pub record IsCommandLineOf (words : List (List ℕ)) (command : NamedCommand) : Type 0 where
+  pub taken : fault_of curator_grammar words ≡ []
+  pub said : IsMeant (subcommand_of curator_grammar words) command
+
+abbrev pub IsNoCommandLine : List (List ℕ) → Type 0
+IsNoCommandLine words = (command : NamedCommand) → ¬ (IsCommandLineOf words command)
+
+-- A command line means at most one command.
+abbrev pub CommandLinesMeanOneCommand : Type 0
+CommandLinesMeanOneCommand =
+    (words : List (List ℕ)) (one other : NamedCommand) → IsCommandLineOf words one → IsCommandLineOf words other
+    → one ≡ other
+
+-- ---- What a command line is that is no command.
+
+-- whether the words ask for help or for the version
+abbrev pub is_help : ErrorKind → Bool
+is_help DisplayHelp = true
+is_help DisplayVersion = true
+is_help _ = false
+
+-- The words ask for help, or for the version.
+abbrev pub AsksForHelp : List (List ℕ) → Type 0
+AsksForHelp words = (kind : ErrorKind) × (fault_of curator_grammar words ≡ kind ∷ []) × IsTrue (is_help kind)
+
+-- Why there is no command. `Asked`: a word asks for help or for the version. `Usage`: the words mean no command.
+abbrev pub HasNoCommand : List (List ℕ) → NoCommand → Type 0
+HasNoCommand words (Asked text) =
+    (kind : ErrorKind) × IsAmong kind (fault_of curator_grammar words) × IsTrue (is_help kind)
+HasNoCommand words (Usage text) = IsNoCommandLine words × ¬ (AsksForHelp words)
+HasNoCommand words NoMemory = Unit {0}
+
+-- ---- What inner functions make of grammars and errors. No public contract cites these definitions.
+
+-- `grammar` is the command `shape`, and no argument is global.
+pub record IsMadeOf (grammar : Grammar) (shape : Shape) : Type 0 where
+  pub made : app_of grammar ≡ record { top = shape; subs = [] }
+  pub local : (out-Command grammar).has_globals ≡ false
+
+-- The arguments in `rows` are those of a task of this kind.
+pub record IsMessageTask (rows : List Row) (kind : MessageKind) (task : MessageTask) : Type 0 where
+  pub same : task.kind ≡ kind
+  pub day : HasDay rows task.day
+  pub language : HasLanguage rows task.language
+
+-- clap's error of this kind gives this reason.
+abbrev pub IsToldAs : ErrorKind → NoCommand → Type 0
+IsToldAs kind (Asked text) = IsTrue (is_help kind)
+IsToldAs kind (Usage text) = (is_help kind ≡ false) × (kind ≢ OutOfMemory)
+IsToldAs kind NoMemory = Unit {0}
+
+-- `word` is a value of the option `--csv`: `true` means tables as CSV.
+abbrev pub IsFormNamed : List ℕ → TableForm → Type 0
+IsFormNamed word forms.Csv = word ≡ codes "true"
+IsFormNamed word forms.Page = word ≢ codes "true"
+
+-- the command, with the borrowed texts of its options replaced by the texts themselves
+abbrev pub with_texts : Command (List ℕ) (Bor (List ℕ)) → ReadCommand
+with_texts (commands.OnMachine machine sheet task) = commands.OnMachine machine sheet task
+with_texts (commands.Message machine sheet message task) = commands.Message machine sheet message task
+with_texts (commands.Table sheet form language) = commands.Table sheet form language
+with_texts (commands.Sheet table options) = commands.Sheet table (texts_of options)
+with_texts (commands.Look names files) = commands.Look (unborrowed_three names) files
+with_texts (commands.EmptySheet model days) = commands.EmptySheet model days

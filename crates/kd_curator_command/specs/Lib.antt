@@ -1,0 +1,4 @@
+pub mod CommandLine
+pub mod Days
+pub mod Locale
+pub mod UpToThree

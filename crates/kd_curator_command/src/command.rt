@@ -1,0 +1,492 @@
+//! The commands, and the parser of the command line.
+ghost use Rattle.std.specs.Prelude.{◌≡◌, ◌≢◌, ℕ, List, Option, None, codes, map, IfErr, IfOk, IfSome, IsErr};
+ghost use Rattle.clap.specs.Words.{found_of, kind_of, rows_of, subcommand_rows_of};
+ghost use Rattle.kd_table.specs.Options.{texts_of};
+ghost use Rattle.kd_curator_command.specs.CommandLine.{HasDay, HasDays, HasForm, HasLanguage, HasNoCommand, IsCommandLineOf};
+ghost use Rattle.kd_curator_command.specs.CommandLine.{IsCommandOf, IsFormNamed, IsMeant, IsMessageTask, IsMonthNamed, IsTaskOf};
+ghost use Rattle.kd_curator_command.specs.CommandLine.{IsToldAs, NamedCommand, are_blank, message_argument, message_name};
+ghost use Rattle.kd_curator_command.specs.CommandLine.{option_text, option_texts, unborrowed_command};
+ghost use Rattle.kd_curator_command.specs.declared.command.MessageTask.{MessageTask};
+
+use crate::days::{Days, days_of_word};
+use crate::grammar::grammar;
+use crate::locale::language_of_code;
+use crate::up_to_three::UpToThree;
+use clap::error::ErrorKind;
+use clap::{ArgMatches, Command as Grammar, Error};
+use kd_key_table::TableForm;
+use kd_pictures::Language;
+use kd_state::day_of_text;
+use kd_table::TableOptions;
+use kd_tables::Model;
+use std::alloc::{AllocError, Global};
+use std::convert::AsStr;
+
+/// The text of the error for `sheet --empty` with other words than a model and a number of days.
+const NO_MONTH: &str =
+    "--empty needs Enigma I, M3, M4 or M-209, then a number of days from 1 to 31, and no other option";
+
+/// The text of the error for an argument that isn't a day.
+const NO_DAY: &str = "the day is a number from 1 to 31";
+
+/// The text of the error for an option `--in` with another language.
+const NO_LANGUAGE: &str = "--in takes de or en";
+
+/// The text of the error for an argument that names no days.
+const NO_DAYS: &str = "days are numbers from 1 to 31, each once, such as 2, 1-31 or 1,4,2";
+
+/// A command, with its files or their names, and with the texts of its options.
+#[derive(Drop)]
+pub enum Command<F, T> {
+    /// Writes how a machine is set to days of a key sheet.
+    OnMachine {
+        /// The machine file.
+        machine: F,
+        /// The key sheet.
+        sheet: F,
+        /// What is written.
+        task: Task,
+    },
+    /// Writes how a message is worked by hand.
+    Message {
+        /// The machine file.
+        machine: F,
+        /// The key sheet.
+        sheet: F,
+        /// The order or the form.
+        message: F,
+        /// What is written.
+        task: MessageTask,
+    },
+    /// Writes a key sheet as printed tables.
+    Table {
+        /// The key sheet.
+        sheet: F,
+        /// The form in which it is written.
+        form: TableForm,
+        /// The language of the tables, if the words say it.
+        language: Option<Language>,
+    },
+    /// Makes a key sheet of a spreadsheet's table.
+    Sheet {
+        /// The table.
+        table: F,
+        /// What is used where the table says nothing.
+        options: TableOptions<T>,
+    },
+    /// Says in words what machine files and key sheets say, or what is wrong with them.
+    Look {
+        /// The files' names.
+        names: UpToThree<T>,
+        /// The files.
+        files: UpToThree<F>,
+    },
+    /// Writes a key sheet to fill in.
+    EmptySheet {
+        model: Model,
+        /// How many days the sheet has.
+        days: u8,
+    },
+}
+
+/// What is written of a machine and of days.
+#[derive(Drop)]
+pub enum Task {
+    /// Pages of days.
+    Page {
+        /// The days; `None` means all days that the sheet has for the machine's model.
+        days: Option<Days>,
+        /// The language of the pages, if the words say it.
+        language: Option<Language>,
+    },
+    /// The settings of this day's page, as a list that `desk apply` carries out.
+    List(u8),
+}
+
+/// What is written of a message.
+#[derive(Clone, Copy)]
+pub struct MessageTask {
+    pub kind: MessageKind,
+    /// The day of the sheet.
+    pub day: u8,
+    /// The language of the page, if the words say it.
+    pub language: Option<Language>,
+}
+
+/// Which message a page is of.
+#[derive(Clone, Copy, Debug, PartialEq, Eq)]
+pub enum MessageKind {
+    /// An order, which is sent.
+    Order,
+    /// A form, which is received.
+    Form,
+}
+
+/// A command with the names of its files, before any file is read.
+pub type NamedCommand<'a> = Command<&'a str, &'a str>;
+
+/// Why a command line gives no command.
+#[derive(Drop)]
+pub enum NoCommand {
+    /// The words ask for help or for the version, which is this text.
+    Asked(String),
+    /// The words aren't a command. The text says why.
+    Usage(String),
+    /// Memory ran out.
+    NoMemory,
+}
+
+/// Parses the command line `words`, which begins with the program's own name.
+pub fn parse_words<'a, S: AsStr>(
+    alloc: Global,
+    words: &'a [S],
+) -> Result<NamedCommand<'a>, NoCommand>
+    ensures said { IfOk result
+        (λ command. IsCommandLineOf (map S.text words.entry.now) (unborrowed_command command)) }
+    ensures none { IfErr result (HasNoCommand (map S.text words.entry.now)) }
+{
+    let mut grammar = grammar(alloc)?;
+    let matches = match grammar.try_get_matches_from_mut(words) {
+        Ok(matches) => matches,
+        Err(error) => return Err(no_command(alloc, &error)),
+    };
+    match meant_command(&matches) {
+        Some(command) => Ok(command),
+        None => Err(no_days(alloc, &mut grammar, why_not(&matches))),
+    }
+}
+
+/// What is wrong with words that clap takes, but that mean no command.
+fn why_not(matches: &ArgMatches<'_>) -> &'static str {
+    match matches.subcommand() {
+        Some(("sheet", _)) => NO_MONTH,
+        Some(("list", _)) => NO_DAY,
+        Some((_, words)) if language_asked(words).is_err() => NO_LANGUAGE,
+        Some(("send" | "receive", _)) => NO_DAY,
+        _ => NO_DAYS,
+    }
+}
+
+/// Why there is no command, if clap takes the words, but a word doesn't name days, a model or a language.
+fn no_days(alloc: Global, grammar: &mut Grammar<'_>, why: &str) -> NoCommand
+    ensures { IsToldAs ErrorKind.InvalidValue result }
+{
+    match grammar.error(ErrorKind::InvalidValue, why) {
+        Ok(error) => no_command(alloc, &error),
+        Err(_) => NoCommand::NoMemory,
+    }
+}
+
+/// Why there is no command, after clap has given `error`.
+fn no_command(alloc: Global, error: &Error) -> NoCommand
+    ensures { IsToldAs (kind_of error.now) result }
+{
+    let Ok(text) = format!(in alloc; "{error}") else {
+        return NoCommand::NoMemory;
+    };
+    match error.kind() {
+        ErrorKind::OutOfMemory => NoCommand::NoMemory,
+        ErrorKind::DisplayHelp | ErrorKind::DisplayVersion => NoCommand::Asked(text),
+        _ => NoCommand::Usage(text),
+    }
+}
+
+impl From<AllocError> for NoCommand {
+    ghost use Rattle.std.specs.Prelude.{◌≡◌};
+    ghost use Rattle.kd_curator_command.specs.declared.command.NoCommand.TheVariants.{NoMemory};
+
+    ghost from_gives = { λ _ none. none ≡ NoMemory };
+
+    fn from(_: AllocError) -> NoCommand {
+        NoCommand::NoMemory
+    }
+}
+
+/// The command that `matches` mean; `None` if an argument has a wrong value.
+fn meant_command<'a>(matches: &ArgMatches<'a>) -> Option<NamedCommand<'a>>
+    ensures said { IfSome result (λ command.
+        IsMeant (subcommand_rows_of matches.now) (unborrowed_command command)) }
+    ensures none { result ≡ None → (command : NamedCommand)
+        → ¬ (IsMeant (subcommand_rows_of matches.now) command) }
+{
+    let (name, words) = matches.subcommand()?;
+    command_of(name, words)
+}
+
+/// The command named `name`, with the arguments in `words`; `None` if one has a wrong value.
+fn command_of<'a>(name: &str, words: &ArgMatches<'a>) -> Option<NamedCommand<'a>>
+    ensures said { IfSome result (λ command.
+        IsCommandOf (name.now, rows_of (found_of words.now)) (unborrowed_command command)) }
+    ensures none { result ≡ None → (command : NamedCommand)
+        → ¬ (IsCommandOf (name.now, rows_of (found_of words.now)) command) }
+{
+    match name {
+        "table" => table_of(words),
+        "sheet" => sheet_of(words),
+        "look" => look_of(words),
+        "send" => message_of(words, MessageKind::Order),
+        "receive" => message_of(words, MessageKind::Form),
+        _ => task_with_files(name, words),
+    }
+}
+
+/// The command for a message of this kind, with the arguments in `words`; `None` if one has a wrong value.
+fn message_of<'a>(words: &ArgMatches<'a>, kind: MessageKind) -> Option<NamedCommand<'a>>
+    ensures said { IfSome result (λ command.
+        IsCommandOf (message_name kind, rows_of (found_of words.now)) (unborrowed_command command)) }
+    ensures none { result ≡ None → (command : NamedCommand)
+        → ¬ (IsCommandOf (message_name kind, rows_of (found_of words.now)) command) }
+{
+    let machine = words.get_str("MACHINE")?;
+    let sheet = words.get_str("SHEET")?;
+    let message = words.get_str(message_argument(kind))?;
+    let task = message_task(words, kind)?;
+    Some(Command::Message {
+        machine,
+        sheet,
+        message,
+        task,
+    })
+}
+
+/// The name of the argument for a message's file.
+fn message_argument(kind: MessageKind) -> &'static str
+    ensures { result.now ≡ message_argument kind }
+{
+    match kind {
+        MessageKind::Order => "ORDER",
+        MessageKind::Form => "FORM",
+    }
+}
+
+/// What is written of a message of this kind; `None` if an argument has a wrong value.
+fn message_task(words: &ArgMatches<'_>, kind: MessageKind) -> Option<MessageTask>
+    ensures said { IfSome result (IsMessageTask (rows_of (found_of words.now)) kind) }
+    ensures none { result ≡ None → (task : MessageTask)
+        → ¬ (IsMessageTask (rows_of (found_of words.now)) kind task) }
+{
+    let day = day_asked(words)?;
+    let language = language_asked(words).ok()?;
+    Some(MessageTask {
+        kind,
+        day,
+        language,
+    })
+}
+
+/// The command `table`, with the key sheet in `words`; `None` if an argument has a wrong value.
+fn table_of<'a>(words: &ArgMatches<'a>) -> Option<NamedCommand<'a>>
+    ensures said { IfSome result (λ command.
+        IsCommandOf (codes "table", rows_of (found_of words.now)) (unborrowed_command command)) }
+    ensures none { result ≡ None → (command : NamedCommand)
+        → ¬ (IsCommandOf (codes "table", rows_of (found_of words.now)) command) }
+{
+    let sheet = words.get_str("SHEET")?;
+    let form = form_of(words);
+    let language = language_asked(words).ok()?;
+    Some(Command::Table {
+        sheet,
+        form,
+        language,
+    })
+}
+
+/// The form of tables for which the arguments in `words` ask.
+fn form_of(words: &ArgMatches<'_>) -> TableForm
+    ensures { HasForm (rows_of (found_of words.now)) result }
+{
+    match words.get_str("csv") {
+        Some(word) => form_named(word),
+        None => TableForm::Page,
+    }
+}
+
+/// The form of tables, if the option `--csv` has the value `word`: `true` if the option is used.
+fn form_named(word: &str) -> TableForm
+    ensures { IsFormNamed word.now result }
+{
+    if word == "true" {
+        TableForm::Csv
+    } else {
+        TableForm::Page
+    }
+}
+
+/// The command `look`, with the files in `words`.
+fn look_of<'a>(words: &ArgMatches<'a>) -> Option<NamedCommand<'a>>
+    ensures said { IfSome result (λ command.
+        IsCommandOf (codes "look", rows_of (found_of words.now)) (unborrowed_command command)) }
+    ensures none { result ≡ None → (command : NamedCommand)
+        → ¬ (IsCommandOf (codes "look", rows_of (found_of words.now)) command) }
+{
+    let first = words.get_str("FILE")?;
+    let second = words.get_str("FILE2");
+    let third = words.get_str("FILE3");
+    Some(Command::Look {
+        names: UpToThree {
+            first,
+            second,
+            third,
+        },
+        files: UpToThree {
+            first,
+            second,
+            third,
+        },
+    })
+}
+
+/// The command `sheet`, with the table or the month in `words`; `None` if the month isn't one.
+fn sheet_of<'a>(words: &ArgMatches<'a>) -> Option<NamedCommand<'a>>
+    ensures said { IfSome result (λ command.
+        IsCommandOf (codes "sheet", rows_of (found_of words.now)) (unborrowed_command command)) }
+    ensures none { result ≡ None → (command : NamedCommand)
+        → ¬ (IsCommandOf (codes "sheet", rows_of (found_of words.now)) command) }
+{
+    let table = words.get_str("TABLE")?;
+    let options = options_of(words);
+    let Some(model) = words.get_str("empty") else {
+        return Some(Command::Sheet { table, options });
+    };
+    if !are_blank(&options) {
+        return None;
+    }
+    let (model, days) = month_named(model, table)?;
+    Some(Command::EmptySheet { model, days })
+}
+
+/// The options of `sheet` in `words`.
+fn options_of<'a>(words: &ArgMatches<'a>) -> TableOptions<&'a str>
+    ensures { texts_of result ≡ option_texts (rows_of (found_of words.now)) }
+{
+    TableOptions {
+        model: option_text(words, "model"),
+        reflector: option_text(words, "reflector"),
+        window: option_text(words, "window"),
+    }
+}
+
+/// The text of an option; an empty text if it isn't used.
+fn option_text<'a>(words: &ArgMatches<'a>, name: &str) -> &'a str
+    ensures { result.now ≡ option_text name.now (rows_of (found_of words.now)) }
+{
+    words.get_str(name).unwrap_or("")
+}
+
+/// Whether no option has a text.
+fn are_blank(options: &TableOptions<&str>) -> bool
+    ensures { result ≡ are_blank (texts_of options.now) }
+{
+    options.model.is_empty() && options.reflector.is_empty() && options.window.is_empty()
+}
+
+/// The model with this name, and this number of days; `None` if there is no such model or month.
+fn month_named(model: &str, days: &str) -> Option<(Model, u8)>
+    ensures said { IfSome result (λ month. IsMonthNamed model.now days.now month.0 month.1) }
+    ensures none { result ≡ None → (month : Model × ℕ)
+        → ¬ (IsMonthNamed model.now days.now month.0 month.1) }
+{
+    let model = Model::from_text(model.as_bytes())?;
+    let days = day_of_text(days.as_bytes())?;
+    Some((model, days))
+}
+
+/// The command of a task, named `name`, with the arguments in `words`; `None` if one has a wrong value.
+fn task_with_files<'a>(name: &str, words: &ArgMatches<'a>) -> Option<NamedCommand<'a>>
+    requires table { name.now ≢ codes "table" }
+    requires sheet { name.now ≢ codes "sheet" }
+    requires look { name.now ≢ codes "look" }
+    requires send { name.now ≢ codes "send" }
+    requires receive { name.now ≢ codes "receive" }
+    ensures said { IfSome result (λ command.
+        IsCommandOf (name.now, rows_of (found_of words.now)) (unborrowed_command command)) }
+    ensures none { result ≡ None → (command : NamedCommand)
+        → ¬ (IsCommandOf (name.now, rows_of (found_of words.now)) command) }
+{
+    let machine = words.get_str("MACHINE")?;
+    let sheet = words.get_str("SHEET")?;
+    let task = task_of(name, words)?;
+    Some(Command::OnMachine {
+        machine,
+        sheet,
+        task,
+    })
+}
+
+/// The task of the command named `name`, with the days in `words`.
+fn task_of(name: &str, words: &ArgMatches<'_>) -> Option<Task>
+    ensures said { IfSome result (IsTaskOf (name.now, rows_of (found_of words.now))) }
+    ensures none { result ≡ None → (task : Task)
+        → ¬ (IsTaskOf (name.now, rows_of (found_of words.now)) task) }
+{
+    match name {
+        "page" => page_of(words),
+        "list" => list_of(words),
+        _ => None,
+    }
+}
+
+/// The task `page`, with the days in the argument DAYS; `None` if an argument has a wrong value.
+fn page_of(words: &ArgMatches<'_>) -> Option<Task>
+    ensures said { IfSome result (IsTaskOf (codes "page", rows_of (found_of words.now))) }
+    ensures none { result ≡ None → (task : Task)
+        → ¬ (IsTaskOf (codes "page", rows_of (found_of words.now)) task) }
+{
+    let days = days_asked(words).ok()?;
+    let language = language_asked(words).ok()?;
+    Some(Task::Page { days, language })
+}
+
+/// The task `list`, with the day in the argument DAY; `None` if it isn't a day.
+fn list_of(words: &ArgMatches<'_>) -> Option<Task>
+    ensures said { IfSome result (IsTaskOf (codes "list", rows_of (found_of words.now))) }
+    ensures none { result ≡ None → (task : Task)
+        → ¬ (IsTaskOf (codes "list", rows_of (found_of words.now)) task) }
+{
+    let day = day_asked(words)?;
+    Some(Task::List(day))
+}
+
+/// An argument has a value that it can't have.
+#[derive(Clone, Copy)]
+struct WrongValue;
+
+/// The days in the argument DAYS, if it is there.
+fn days_asked(words: &ArgMatches<'_>) -> Result<Option<Days>, WrongValue>
+    ensures said { IfOk result (HasDays (rows_of (found_of words.now))) }
+    ensures none { IsErr result → (days : Option (List ℕ))
+        → ¬ (HasDays (rows_of (found_of words.now)) days) }
+{
+    let Some(word) = words.get_str("DAYS") else {
+        return Ok(None);
+    };
+    match days_of_word(word) {
+        Some(days) => Ok(Some(days)),
+        None => Err(WrongValue),
+    }
+}
+
+/// The day in the argument DAY; `None` if it isn't there, or isn't a day.
+fn day_asked(words: &ArgMatches<'_>) -> Option<u8>
+    ensures said { IfSome result (HasDay (rows_of (found_of words.now))) }
+    ensures none { result ≡ None → (day : ℕ) → ¬ (HasDay (rows_of (found_of words.now)) day) }
+{
+    let word = words.get_str("DAY")?;
+    let day = day_of_text(word.as_bytes())?;
+    Some(day)
+}
+
+/// The language in the option `--in`, if it is used.
+fn language_asked(words: &ArgMatches<'_>) -> Result<Option<Language>, WrongValue>
+    ensures said { IfOk result (HasLanguage (rows_of (found_of words.now))) }
+    ensures none { IsErr result → (language : Option Language)
+        → ¬ (HasLanguage (rows_of (found_of words.now)) language) }
+{
+    let Some(code) = words.get_str("in") else {
+        return Ok(None);
+    };
+    match language_of_code(code) {
+        Some(language) => Ok(Some(language)),
+        None => Err(WrongValue),
+    }
+}

@@ -1,0 +1,29 @@
+//! The language that a computer is set to.
+ghost use Rattle.std.specs.Prelude.{◌≡◌, ◌≢◌, IfSome};
+ghost use Rattle.kd_curator_command.specs.Locale.{language_code, language_of};
+
+use kd_pictures::Language;
+
+/// The language of a locale, the value of the environment's `LANG`: German if it begins with `de`, otherwise English.
+#[tactic(auto, unfolding(crate::specs::Locale::language_of))]
+pub fn language_of(locale: &str) -> Language
+    ensures { result ≡ language_of locale.now }
+{
+    if locale.as_bytes().starts_with(b"de") {
+        Language::German
+    } else {
+        Language::English
+    }
+}
+
+/// The language with this code: `en` for English, `de` for German; `None` for another code.
+pub fn language_of_code(code: &str) -> Option<Language>
+    ensures said { IfSome result (λ language. language_code language ≡ code.now) }
+    ensures none { result ≡ None → (language : Language) → language_code language ≢ code.now }
+{
+    match code {
+        "en" => Some(Language::English),
+        "de" => Some(Language::German),
+        _ => None,
+    }
+}
