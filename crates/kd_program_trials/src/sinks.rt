@@ -38,6 +38,28 @@ static WORKS: [Work; 7] = [
     Work::Look,
 ];
 
+/// Makes a key sheet of `TABLE`.
+fn make_sheet(alloc: Global, sink: &mut MemorySink<32768>) -> Result<(), Refused> {
+    let options = TableOptions {
+        model: "Enigma I".as_bytes(),
+        reflector: "B".as_bytes(),
+        window: "AAA".as_bytes(),
+    };
+    let mut told = MemorySink::<64>::new(64);
+    run_sheet(alloc, TABLE.as_bytes(), &options, sink, &mut told)?;
+    Ok(())
+}
+
+/// Says what the machine file `ENIGMA` says.
+fn look(alloc: Global, sink: &mut MemorySink<32768>) -> Result<(), Refused> {
+    let file = NamedFile {
+        name: "m.toml",
+        bytes: ENIGMA.as_bytes(),
+    };
+    look_at(alloc, &[file], sink)?;
+    Ok(())
+}
+
 /// Carries `work` out on a sink that takes `room` bytes.
 fn carry_out(alloc: Global, work: Work, room: usize) -> (Result<(), Refused>, MemorySink<32768>) {
     let mut sink = MemorySink::new(room.min(32768));
@@ -77,28 +99,8 @@ fn carry_out(alloc: Global, work: Work, room: usize) -> (Result<(), Refused>, Me
             Ok(()) => Ok(()),
             Err(fault) => Err(Refused::from(fault)),
         },
-        Work::Sheet => {
-            let options = TableOptions {
-                model: "Enigma I".as_bytes(),
-                reflector: "B".as_bytes(),
-                window: "AAA".as_bytes(),
-            };
-            let mut told = MemorySink::<64>::new(64);
-            match run_sheet(alloc, TABLE.as_bytes(), &options, &mut sink, &mut told) {
-                Ok(()) => Ok(()),
-                Err(fault) => Err(Refused::from(fault)),
-            }
-        }
-        Work::Look => {
-            let file = NamedFile {
-                name: "m.toml",
-                bytes: machine,
-            };
-            match look_at(alloc, &[file], &mut sink) {
-                Ok(_) => Ok(()),
-                Err(fault) => Err(Refused::from(fault)),
-            }
-        }
+        Work::Sheet => make_sheet(alloc, &mut sink),
+        Work::Look => look(alloc, &mut sink),
     };
     (answer, sink)
 }
