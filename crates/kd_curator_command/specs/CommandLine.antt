@@ -3,13 +3,13 @@
 -- Code: `grammar` builds the grammar by calls of the library `clap`.
 -- Test: tests/cases/curator-words.toml
 use Rattle.std.specs.Prelude.{codes, decimal, ◌≡◌, ◌≢◌, ℕ, Bool, true, false, List, [], ◌∷◌, ◌++◌, Option, Some, None}
-use Rattle.std.specs.Prelude.{◌&&◌, ◌==◌, IsSomeAnd, IsTrue, length, option_map, unwrap_or}
+use Rattle.std.specs.Prelude.{◌&&◌, ◌==◌, IsSomeAnd, IsTrue, fold, length, map, option_map, unwrap_or}
 use Rattle.std.specs.Borrow.{Bor}
 use Rattle.clap.specs.declared.builder.command.Command.{Command as Grammar, out-Command}
 use Rattle.clap.specs.declared.error.kind.ErrorKind.{ErrorKind}
 use Rattle.clap.specs.declared.error.kind.ErrorKind.TheVariants.{DisplayHelp, DisplayVersion, OutOfMemory}
 use Rattle.clap.specs.Words.{App, app_of, IsAmong, Row, Rule, Shape, first_of, fault_of, new_rule, subcommand_of}
-use Rattle.clap.specs.Simple.{new_shape}
+use Rattle.clap.specs.Simple.{new_shape, with_subcommand}
 use Rattle.kd_state.specs.SheetDay.{IsDayNumber}
 use Rattle.kd_curator_command.specs.Days.{AreDays}
 use Rattle.kd_curator_command.specs.Locale.{language_code}
@@ -31,6 +31,10 @@ use Rattle.kd_curator_command.specs.declared.command.NoCommand.{NoCommand}
 use Rattle.kd_curator_command.specs.declared.command.NoCommand.TheVariants.{Asked, Usage, NoMemory}
 use Rattle.kd_curator_command.specs.declared.command.Task.{Task}
 use Rattle.kd_curator_command.specs.declared.command.Task.TheVariants as tasks
+use Rattle.kd_curator_command.specs.declared.grammar.Argument.{Argument}
+use Rattle.kd_curator_command.specs.declared.grammar.CommandWords.{CommandWords}
+use Rattle.kd_curator_command.specs.declared.grammar.Sort.{Sort}
+use Rattle.kd_curator_command.specs.declared.grammar.Sort.TheVariants as sorts
 
 -- an argument that each command line must have
 abbrev pub needed : List ℕ → Rule
@@ -59,9 +63,13 @@ page_shape = with_rule (command_shape (codes "page") (new_rule (codes "DAYS"))) 
 abbrev pub list_shape : Shape
 list_shape = command_shape (codes "list") (needed (codes "DAY"))
 
+-- an option without a value
+abbrev pub flag : List ℕ → Rule
+flag name = record (new_rule name) { long = Some name; action = Some SetTrue }
+
 -- the option `--csv`, which has no value
 abbrev pub csv_flag : Rule
-csv_flag = record (new_rule (codes "csv")) { long = Some (codes "csv"); action = Some SetTrue }
+csv_flag = flag (codes "csv")
 
 abbrev pub table_shape : Shape
 table_shape = record (new_shape (codes "table")) { rules = csv_flag ∷ needed (codes "SHEET") ∷ language_option ∷ [] }
@@ -289,6 +297,24 @@ HasNoCommand words (Usage text) = IsNoCommandLine words × ¬ (AsksForHelp words
 HasNoCommand words NoMemory = Unit {0}
 
 -- ---- What inner functions make of grammars and errors. No public contract cites these definitions.
+
+-- the rule of an argument, by its name
+abbrev pub rule_of_sort : List ℕ → Sort → Rule
+rule_of_sort name sorts.Needed = needed name
+rule_of_sort name sorts.Optional = new_rule name
+rule_of_sort name (sorts.Valued value) = option_rule name
+rule_of_sort name sorts.Flag = flag name
+
+abbrev pub rule_of_argument : Argument → Rule
+rule_of_argument argument = rule_of_sort argument.name.now argument.sort
+
+-- a command with a rule for each of its arguments
+abbrev pub shape_of : CommandWords → Shape
+shape_of words = record (new_shape words.name.now) { rules = map rule_of_argument words.arguments.now }
+
+-- the grammar `app` with these commands added
+abbrev pub with_commands : App → List CommandWords → App
+with_commands app commands = fold (λ a words. with_subcommand a (shape_of words)) app commands
 
 -- `grammar` is the command `shape`, and no argument is global.
 pub record IsMadeOf (grammar : Grammar) (shape : Shape) : Type 0 where

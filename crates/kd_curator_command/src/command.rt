@@ -1,6 +1,7 @@
 //! The commands, and the parser of the command line.
 ghost use Rattle.std.specs.Prelude.{◌≡◌, ◌≢◌, ℕ, List, Option, None, codes, map, IfErr, IfOk, IfSome, IsErr};
-ghost use Rattle.clap.specs.Words.{found_of, kind_of, rows_of, subcommand_rows_of};
+ghost use Rattle.clap.specs.Words.{app_of, found_of, kind_of, rows_of, subcommand_rows_of};
+ghost use Rattle.kd_curator_command.specs.CommandLine.{curator_grammar};
 ghost use Rattle.kd_table.specs.Options.{texts_of};
 ghost use Rattle.kd_curator_command.specs.CommandLine.{HasDay, HasDays, HasForm, HasLanguage, HasNoCommand, IsCommandLineOf};
 ghost use Rattle.kd_curator_command.specs.CommandLine.{IsCommandOf, IsFormNamed, IsMeant, IsMessageTask, IsMonthNamed, IsTaskOf};
@@ -146,13 +147,27 @@ pub fn parse_words<'a, S: AsStr>(
     ensures none { IfErr result (HasNoCommand (map S.text words.entry.now)) }
 {
     let mut grammar = grammar(alloc)?;
+    parse_by(alloc, &mut grammar, words)
+}
+
+/// Parses the command line `words` by the program's grammar.
+fn parse_by<'a, S: AsStr>(
+    alloc: Global,
+    grammar: &mut Grammar<'a>,
+    words: &'a [S],
+) -> Result<NamedCommand<'a>, NoCommand>
+    requires { app_of grammar.old ≡ curator_grammar }
+    ensures said { IfOk result
+        (λ command. IsCommandLineOf (map S.text words.entry.now) (unborrowed_command command)) }
+    ensures none { IfErr result (HasNoCommand (map S.text words.entry.now)) }
+{
     let matches = match grammar.try_get_matches_from_mut(words) {
         Ok(matches) => matches,
         Err(error) => return Err(no_command(alloc, &error)),
     };
     match meant_command(&matches) {
         Some(command) => Ok(command),
-        None => Err(no_days(alloc, &mut grammar, why_not(&matches))),
+        None => Err(no_days(alloc, grammar, why_not(&matches))),
     }
 }
 

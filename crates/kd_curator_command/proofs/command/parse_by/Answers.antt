@@ -2,21 +2,21 @@ use Rattle.kd_curator_command.proofs.Prelude.{map, Ok, Err, app_of, refl, subcom
 use Rattle.kd_curator_command.proofs.CommandLines.{no_command_said, other_days, parse_enters, parse_fails_by, refused_words}
 use Rattle.kd_curator_command.proofs.CommandLines.{said_command}
 use Rattle.clap.specs.declared.error.kind.ErrorKind.TheVariants.{InvalidValue}
-use Rattle.kd_curator_command.proofs.command.parse_words.Goals as goal
+use Rattle.kd_curator_command.proofs.command.parse_by.Goals as goal
 
 pub returns-in-Err-clause-none : goal.returns-in-Err-clause-none
 returns-in-Err-clause-none g c =
     let words = map g.S.AsStr.text c.args.words.now in
     refused_words words c.in-Err.error c.no_command.result
-    (parse_fails_by (app_of c.in_ok-grammar.grammar) words (Err c.in-Err.error) c.in_ok-grammar.ensures
+    (parse_fails_by (app_of c.args.grammar.now) words (Err c.in-Err.error) c.requires
     c.in-Err.ensures.kinds) c.no_command.ensures
 
 pub returns-in-Some-clause-said : goal.returns-in-Some-clause-said
 returns-in-Some-clause-said g c =
     let words = map g.S.AsStr.text c.args.words.now in
-    let taken = parse_fails_by (app_of c.in_ok-grammar.grammar) words (Ok c.in-Ok.matches) c.in_ok-grammar.ensures
+    let taken = parse_fails_by (app_of c.args.grammar.now) words (Ok c.in-Ok.matches) c.requires
     c.in-Ok.ensures.kinds in
-    let entered = parse_enters (app_of c.in_ok-grammar.grammar) words c.in-Ok.matches c.in_ok-grammar.ensures
+    let entered = parse_enters (app_of c.args.grammar.now) words c.in-Ok.matches c.requires
     c.in-Ok.ensures.ok.2 in
     said_command words (subcommand_rows_of c.in-Ok.matches) taken entered (unborrowed_command c.in-Some.command)
     c.in-Some.ensures.said
@@ -24,9 +24,9 @@ returns-in-Some-clause-said g c =
 pub returns-clause-none : goal.returns-clause-none
 returns-clause-none g c =
     let words = map g.S.AsStr.text c.args.words.now in
-    let taken = parse_fails_by (app_of c.in_ok-grammar.grammar) words (Ok c.in-Ok.matches) c.in_ok-grammar.ensures
+    let taken = parse_fails_by (app_of c.args.grammar.now) words (Ok c.in-Ok.matches) c.requires
     c.in-Ok.ensures.kinds in
-    let entered = parse_enters (app_of c.in_ok-grammar.grammar) words c.in-Ok.matches c.in_ok-grammar.ensures
+    let entered = parse_enters (app_of c.args.grammar.now) words c.in-Ok.matches c.requires
     c.in-Ok.ensures.ok.2 in
     other_days words InvalidValue c.no_days.result taken
     (no_command_said words (subcommand_rows_of c.in-Ok.matches) entered (c.in-None.ensures.none refl)) refl
