@@ -99,7 +99,6 @@ fn judge_box_letters(
 }
 
 /// Appends the faults of a rotor machine's file, after version and model.
-#[tactic(auto, using(std::proofs::Common::append_assoc), unfolding(crate::specs::Faults::rotor_file_faults))]
 fn judge_rotors(
     list: &mut Vec<Finding>,
     alloc: Global,

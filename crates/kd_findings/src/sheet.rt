@@ -96,7 +96,6 @@ fn check_day(alloc: Global, earlier: &[Value], table: &Table) -> Result<(), Slip
 }
 
 /// Appends the faults of a rotor machine's day, after day and model, up to the window letters.
-#[tactic(auto, using(std::proofs::Common::append_assoc), unfolding(crate::specs::SheetFaults::rotor_day_faults))]
 fn judge_rotors(
     list: &mut Vec<Finding>,
     alloc: Global,
@@ -145,7 +144,6 @@ fn judge_rotors(
 }
 
 /// Appends the faults of a Converter's day, after day and model.
-#[tactic(auto, using(std::proofs::Common::append_assoc), unfolding(crate::specs::SheetFaults::pin_day_faults))]
 fn judge_converter(
     list: &mut Vec<Finding>,
     alloc: Global,
@@ -209,7 +207,6 @@ fn judge_model(
 }
 
 /// Appends the faults of the entry `table`, which stands after the items `earlier`.
-#[tactic(auto, using(std::proofs::Common::append_assoc), unfolding(crate::specs::SheetFaults::table_faults))]
 fn judge_table(
     list: &mut Vec<Finding>,
     alloc: Global,

@@ -244,7 +244,6 @@ fn push_things(
 }
 
 /// Appends the line of the reflector, if the machine has one.
-#[tactic(auto, using(std::proofs::Common::append_assoc), unfolding(crate::specs::MachineWords::reflector_words))]
 fn push_reflector(text: &mut String, machine: &Machine) -> Result<(), AllocError>
     ensures { OnOk result (string_bytes text.new ≡ string_bytes text.old ++ reflector_words machine.now) }
 {
