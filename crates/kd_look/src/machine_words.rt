@@ -59,7 +59,8 @@ fn push_ring(text: &mut String, ring: Option<Letter>) -> Result<(), AllocError>
 /// Appends a wheel with its ring and its window letter.
 #[tactic(auto, using(std::proofs::Common::append_assoc), unfolding(crate::specs::MachineWords::wheel_words))]
 fn push_wheel(text: &mut String, machine: &Machine, wheel: Wheel) -> Result<(), AllocError>
-    ensures { OnOk result (string_bytes text.new ≡ string_bytes text.old ++ wheel_words machine.now wheel) }
+    ensures { OnOk result
+        (string_bytes text.new ≡ string_bytes text.old ++ wheel_words machine.now wheel) }
 {
     text.push_str("wheel ")?;
     text.push_str(wheel.text().as_str())?;
@@ -135,7 +136,8 @@ fn push_loose_cable(text: &mut String, cable: u8, letter: Letter) -> Result<(), 
 /// Appends the line of cable `cable`, if the machine has this cable and a letter is in it.
 #[tactic(auto, unfolding(crate::specs::MachineWords::cable_words))]
 fn push_cable(text: &mut String, machine: &Machine, cable: u8) -> Result<(), AllocError>
-    ensures { OnOk result (string_bytes text.new ≡ string_bytes text.old ++ cable_words machine.now cable) }
+    ensures { OnOk result
+        (string_bytes text.new ≡ string_bytes text.old ++ cable_words machine.now cable) }
 {
     match machine.cable(cable) {
         Some((one, other)) => push_cable_line(text, cable, one, other),
@@ -161,7 +163,8 @@ fn push_pin(
     wheel: u8,
     letter: Letter,
 ) -> Result<(), AllocError>
-    ensures { OnOk result (string_bytes text.new ≡ string_bytes text.old ++ pin_words machine.now wheel letter) }
+    ensures { OnOk result
+        (string_bytes text.new ≡ string_bytes text.old ++ pin_words machine.now wheel letter) }
 {
     match machine.pin_at(wheel, letter) {
         Some(true) => push_spaced_letter(text, letter),
@@ -183,7 +186,8 @@ fn push_pins(text: &mut String, machine: &Machine, wheel: u8) -> Result<(), Allo
 /// Appends the line of pin wheel `wheel`, if the machine has this wheel.
 #[tactic(auto, using(std::proofs::Common::append_assoc), unfolding(crate::specs::MachineWords::pin_wheel_words))]
 fn push_pin_wheel(text: &mut String, machine: &Machine, wheel: u8) -> Result<(), AllocError>
-    ensures { OnOk result (string_bytes text.new ≡ string_bytes text.old ++ pin_wheel_words machine.now wheel) }
+    ensures { OnOk result
+        (string_bytes text.new ≡ string_bytes text.old ++ pin_wheel_words machine.now wheel) }
 {
     let Some(shown) = machine.shown(wheel) else {
         return Ok(());
@@ -217,7 +221,8 @@ fn push_thing(
     thing: Thing,
     number: u8,
 ) -> Result<(), AllocError>
-    ensures { OnOk result (string_bytes text.new ≡ string_bytes text.old ++ thing_words machine.now thing number) }
+    ensures { OnOk result
+        (string_bytes text.new ≡ string_bytes text.old ++ thing_words machine.now thing number) }
 {
     match thing {
         Thing::Slot => push_slot(text, machine, number),
@@ -235,7 +240,8 @@ fn push_things(
     count: u8,
 ) -> Result<(), AllocError>
     requires { count < 255 }
-    ensures { OnOk result (string_bytes text.new ≡ string_bytes text.old ++ things_words machine.now thing count) }
+    ensures { OnOk result
+        (string_bytes text.new ≡ string_bytes text.old ++ things_words machine.now thing count) }
 {
     for index in 0..count {
         push_thing(text, machine, thing, index + 1)?;

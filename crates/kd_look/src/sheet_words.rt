@@ -46,7 +46,8 @@ fn has_day(sheet: &Sheet, sort: Sort, number: u8) -> bool
 /// Appends the start of a line: `title` and the line's first day.
 #[tactic(auto, using(std::proofs::Common::append_assoc), unfolding(crate::specs::SheetWords::day_words))]
 fn push_first_day(text: &mut String, title: &str, after: bool, number: u8) -> Result<(), AllocError>
-    ensures { OnOk result (string_bytes text.new ≡ string_bytes text.old ++ day_words title.now false after number) }
+    ensures { OnOk result
+        (string_bytes text.new ≡ string_bytes text.old ++ day_words title.now false after number) }
 {
     text.push_str(title)?;
     text.push_str(if after { ": days " } else { ": day " })?;
@@ -57,7 +58,8 @@ fn push_first_day(text: &mut String, title: &str, after: bool, number: u8) -> Re
 /// Appends the end of a line, the last day, unless the day after it is in the line, too.
 #[tactic(auto, using(std::proofs::Common::append_assoc), unfolding(crate::specs::SheetWords::day_words))]
 fn push_last_day(text: &mut String, title: &str, after: bool, number: u8) -> Result<(), AllocError>
-    ensures { OnOk result (string_bytes text.new ≡ string_bytes text.old ++ day_words title.now true after number) }
+    ensures { OnOk result
+        (string_bytes text.new ≡ string_bytes text.old ++ day_words title.now true after number) }
 {
     if after {
         return Ok(());
@@ -93,7 +95,8 @@ fn push_day(
 /// Appends the lines of all days of the sort `sort`, with the title `title`.
 #[tactic(auto, unfolding(crate::specs::SheetWords::sort_words))]
 fn push_sort(text: &mut String, sheet: &Sheet, title: &str, sort: Sort) -> Result<(), AllocError>
-    ensures { OnOk result (string_bytes text.new ≡ string_bytes text.old ++ sort_words sheet.now title.now sort) }
+    ensures { OnOk result
+        (string_bytes text.new ≡ string_bytes text.old ++ sort_words sheet.now title.now sort) }
 {
     for index in 0..31 {
         push_day(text, sheet, title, sort, index + 1)?;

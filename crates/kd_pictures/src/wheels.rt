@@ -127,7 +127,8 @@ fn draw_letter_words<W: Sink>(
     template: Text,
     letter: Option<Letter>,
 )
-    ensures { Draws W.taken W.has_failed sink.old sink.new (letter_words (in_language language template.entry.0.now template.entry.1.now) letter) }
+    ensures { Draws W.taken W.has_failed sink.old sink.new
+        (letter_words (in_language language template.entry.0.now template.entry.1.now) letter) }
 {
     match letter {
         None => draw(sink, ""),

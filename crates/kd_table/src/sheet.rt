@@ -81,7 +81,8 @@ pub fn run_sheet<W: Sink, N: Sink>(
         × Appends (W.taken sink.old) (W.taken sink.new) (sheet_text days)
         × (sheet_of (sheet_text days) ≡ Ok (month_of days))) }
     ensures refused { result ≡ Err faults.Refused → IsRefusedTable (texts_of options.now) table.now }
-    ensures device { result ≡ Err faults.Device → (days : List Day) × TableMeans (texts_of options.now) table.now days
+    ensures device { result ≡ Err faults.Device
+        → (days : List Day) × TableMeans (texts_of options.now) table.now days
         × TakesPrefix (W.taken sink.old) (W.taken sink.new) (sheet_text days) }
     ensures untouched { IsErr result → is_device result ≡ false → sink.new ≡ sink.old }
     ensures told { Tells (port N.taken N.has_failed notes.old notes.new) }
