@@ -9,7 +9,7 @@ use Rattle.kd_state.specs.Costs.{columns_of}
 use Rattle.kd_state.specs.Machine.{IsMachine}
 use Rattle.kd_state.specs.OnKey.{ReadsAs}
 use Rattle.kd_state.specs.Setting.{Leads}
-use Rattle.kd_state.specs.SheetDay.{Day, IsLegalDay, OfPins, OfRotors}
+use Rattle.kd_state.specs.SheetDay.{Day, IsLegalDay, Pin, Rotor}
 use Rattle.kd_state.proofs.Carrying.{leads_unique}
 use Rattle.kd_state.proofs.CostTable.{thirteen_columns}
 use Rattle.kd_card.proofs.Months.Shortest.{no_rotors}
@@ -28,22 +28,22 @@ use Rattle.kd_booklet.proofs.RotorMarks.{rotor_marked}
 planned_marked : (m n : Parts) (s : Day) (settings : List Setting) (prices : PriceParts) → IsMachine m → IsLegalDay s
     → (card : IsPlannedCard m s settings prices) → Leads m (planned_lines m s card.to) n → ReadsAs n s
     → All (Changes m n) (planned_lines m s card.to)
-planned_marked (Rotor m) (Rotor n) (OfRotors s) settings prices machine legal card leads reads =
+planned_marked (Rotor m) (Rotor n) (Rotor s) settings prices machine legal card leads reads =
     let count : length card.to ≡ 13 = card.all_rows ∙ length-map m.cables _ ∙ machine.legal.cables.count in
     let many = count ∙ sym (thirteen_columns s.pairs legal.pairs.few) in
     rotor_marked m s machine legal card.model card.to count
     (IsPermutation-assigned Nothing (columns_of s.pairs) card.to many card.one_to_one) n leads reads
-planned_marked (Pin m) (Pin n) (OfPins s) settings prices machine legal card leads reads =
+planned_marked (Pin m) (Pin n) (Pin s) settings prices machine legal card leads reads =
     let count : length card.to ≡ 27 = card.all_rows ∙ length-map m.bars _ ∙ machine.legal.bars in
     let many = count ∙ sym legal.count in
     pin_marked m s machine legal card.to count (all_within card.to (length s.rows) many card.one_to_one)
     (IsPermutation-assigned (0, 0) s.rows card.to many card.one_to_one) n leads reads
-planned_marked (Rotor m) n (OfPins s) settings prices machine legal card leads reads =
+planned_marked (Rotor m) n (Pin s) settings prices machine legal card leads reads =
     absurd (no_rotors m.model m.reflector card.model machine.legal.reflector)
-planned_marked (Pin m) n (OfRotors s) settings prices machine legal card leads reads =
+planned_marked (Pin m) n (Rotor s) settings prices machine legal card leads reads =
     absurd (no_rotors s.model s.reflector (sym card.model) legal.reflector)
-planned_marked (Rotor m) (Pin n) (OfRotors s) settings prices machine legal card leads reads = absurd reads.key
-planned_marked (Pin m) (Rotor n) (OfPins s) settings prices machine legal card leads reads = absurd reads.key
+planned_marked (Rotor m) (Pin n) (Rotor s) settings prices machine legal card leads reads = absurd reads.key
+planned_marked (Pin m) (Rotor n) (Pin s) settings prices machine legal card leads reads = absurd reads.key
 
 -- In an order for the hand, the planned settings lead to the same machine. So they have the same marks.
 pub day_settings_have_marks : DaySettingsChangeThings

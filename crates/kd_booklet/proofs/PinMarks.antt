@@ -21,7 +21,7 @@ use Rattle.kd_state.specs.Machine.{IsMachine}
 use Rattle.kd_state.specs.OnKey.{ReadsAs}
 use Rattle.kd_state.specs.Pins.{pin_at}
 use Rattle.kd_state.specs.Setting.{Leads, is_same_place}
-use Rattle.kd_state.specs.SheetDay.{IsLegalDay, OfPins, PinDay}
+use Rattle.kd_state.specs.SheetDay.{IsLegalDay, Pin, PinDay}
 use Rattle.kd_state.proofs.Carrying.{leads_unique}
 use Rattle.kd_state.proofs.Slots.{letters_have_places}
 use Rattle.kd_card.specs.Loose.{lines_from, loose_lines, pin_line, pin_wheel_turn_line, setting_unless, wheel_pin_lines}
@@ -50,7 +50,7 @@ pin_there pins k j letter list effective lists letters is =
     grind (arith, slice_get-map, get_or-range_with_len, letters, places, number, lt) in
     grind (arith, lists, placed, is)
 
-module _ (m n : PinParts) (s : PinDay) (reads : ReadsAs (Pin n) (OfPins s)) where
+module _ (m n : PinParts) (s : PinDay) (reads : ReadsAs (Pin n) (Pin s)) where
   abbrev P : Setting → Type 0
   P = Changes (Pin m) (Pin n)
 
@@ -72,7 +72,7 @@ module _ (m n : PinParts) (s : PinDay) (reads : ReadsAs (Pin n) (OfPins s)) wher
       All-unless P (nat_eq z.0 z.1) (Turn (suc k) z.1) (λ other.
       (λ so. absurd (grind (arith, parts.0, other, so)), ap (λ letters. slice_get letters k) reads.window ∙ parts.1)))
 
-  loose_marked : All P (loose_lines (Pin m) (OfPins s))
+  loose_marked : All P (loose_lines (Pin m) (Pin s))
   loose_marked = All-append P _ _ pins_marked letters_marked
 
 -- ---- lugs: afterwards each bar has its target
@@ -99,7 +99,7 @@ module _ (m a : PinParts) (zs : List BarRow) (begins : map (λ (z : BarRow). z.0
 
 -- ---- all settings
 
-module _ (m : PinParts) (s : PinDay) (machine : IsMachine (Pin m)) (legal : IsLegalDay (OfPins s)) (to : List ℕ)
+module _ (m : PinParts) (s : PinDay) (machine : IsMachine (Pin m)) (legal : IsLegalDay (Pin s)) (to : List ℕ)
     (count : length to ≡ 27) (within : AllByRecursion (λ j. j < length s.rows) to)
     (order : IsPermutation s.rows (map (λ j. get_or s.rows j (0, 0)) to)) where
   abbrev zs : List BarRow
@@ -113,15 +113,15 @@ module _ (m : PinParts) (s : PinDay) (machine : IsMachine (Pin m)) (legal : IsLe
   begins = firsts-zip m.bars (map (λ j. get_or s.rows j (0, 0)) to)
       (omega (arith, machine.legal.bars, count, length-map to (λ j. get_or s.rows j (0, 0))))
 
-  all_led : Led (Pin m) (planned_lines (Pin m) (OfPins s) to) (with_bars before (map to_stand zs))
+  all_led : Led (Pin m) (planned_lines (Pin m) (Pin s) to) (with_bars before (map to_stand zs))
   all_led =
       led_append _ _ (pins_led m s machine legal)
       (lugs_lead before zs begins (are_movable m s machine legal to count within order))
 
-  pub pin_marked : (n : PinParts) → Leads (Pin m) (planned_lines (Pin m) (OfPins s) to) (Pin n)
-      → ReadsAs (Pin n) (OfPins s) → All (Changes (Pin m) (Pin n)) (planned_lines (Pin m) (OfPins s) to)
+  pub pin_marked : (n : PinParts) → Leads (Pin m) (planned_lines (Pin m) (Pin s) to) (Pin n)
+      → ReadsAs (Pin n) (Pin s) → All (Changes (Pin m) (Pin n)) (planned_lines (Pin m) (Pin s) to)
   pin_marked n leads reads =
       let one = leads_unique (Pin m) (with_bars before (map to_stand zs)) (Pin n)
-      (planned_lines (Pin m) (OfPins s) to) all_led.leads leads in
+      (planned_lines (Pin m) (Pin s) to) all_led.leads leads in
       All-append (Changes (Pin m) (Pin n)) _ _ (loose_marked m n s reads)
       (subst (λ p. All (Changes (Pin m) p) (lines_from bar_moves 1 zs)) one (lugs_marked m before zs begins))

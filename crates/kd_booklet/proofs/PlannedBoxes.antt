@@ -26,7 +26,7 @@ use Rattle.kd_state.specs.declared.sheet_day.rotor_entry.SheetWheel.{SheetWheel}
 use Rattle.kd_state.specs.Costs.{columns_of}
 use Rattle.kd_state.specs.Machine.{IsMachine, model_of}
 use Rattle.kd_state.specs.SameParts.{same_reflector}
-use Rattle.kd_state.specs.SheetDay.{Day, IsLegalDay, OfRotors, OfPins, RotorDay, PinDay, day_model}
+use Rattle.kd_state.specs.SheetDay.{Day, IsLegalDay, Rotor, Pin, RotorDay, PinDay, day_model}
 use Rattle.kd_card.specs.Loose.{setting_unless, lines_from, slot_seat_line, slot_turn_line, wheel_ring_line}
 use Rattle.kd_card.specs.Loose.{pin_line, wheel_pin_lines, pin_wheel_turn_line}
 use Rattle.kd_card.proofs.Months.Shortest.{no_rotors}
@@ -351,7 +351,7 @@ not_converter M4 reflector has = refl
 not_converter M209 reflector has = absurd (no_rotors M209 reflector refl has)
 
 module _ (m : RotorParts) (s : RotorDay) (to : List ℕ) (legal : IsMachine (Rotor m))
-    (day : IsLegalDay (OfRotors s)) where
+    (day : IsLegalDay (Rotor s)) where
   abbrev cables : List ((Option ℕ × Option ℕ) × Option (ℕ × ℕ))
   cables = with_columns m.cables (columns_of s.pairs) Nothing to
 
@@ -419,14 +419,14 @@ module _ (m : RotorParts) (s : RotorDay) (to : List ℕ) (legal : IsMachine (Rot
       (ranked_lines row_of (slot_turn_line (Rotor m))
       (λ n w. all_are row_of n _ (turn_line (is_row n) (Rotor m) n w (λ l. same_row n))) 1 5 s.wheels few_wheels)
 
-  rotor_hand : in_hand_order (planned_lines (Rotor m) (OfRotors s) to)
+  rotor_hand : in_hand_order (planned_lines (Rotor m) (Rotor s) to)
       ≡ six_in_order seats reflector rings turns outs ins rotor_pieces
   rotor_hand =
-      let joined : planned_lines (Rotor m) (OfRotors s) to
+      let joined : planned_lines (Rotor m) (Rotor s) to
       ≡ seats ++ (reflector ++ (rings ++ (turns ++ (outs ++ ins)))) = simp append_assoc in
       ap in_hand_order joined ∙ six_by_hand seats reflector rings turns outs ins rotor_pieces
 
-  rotor_hand_order : IsRotorOrder (in_hand_order (planned_lines (Rotor m) (OfRotors s) to))
+  rotor_hand_order : IsRotorOrder (in_hand_order (planned_lines (Rotor m) (Rotor s) to))
   rotor_hand_order = subst IsRotorOrder (sym rotor_hand) rotor_order
 
 module _ (m : PinParts) (s : PinDay) (to : List ℕ) (legal : IsMachine (Pin m)) where
@@ -470,16 +470,16 @@ module _ (m : PinParts) (s : PinDay) (to : List ℕ) (legal : IsMachine (Pin m))
       (λ n z. all_are row_of n _ (wheel_turn_line (is_row n) n z (λ l. same_row n))) 1 7 (zip m.letters s.window)
       few_letters)
 
-  pin_hand_order : IsPinOrder (in_hand_order (planned_lines (Pin m) (OfPins s) to))
+  pin_hand_order : IsPinOrder (in_hand_order (planned_lines (Pin m) (Pin s) to))
   pin_hand_order = subst IsPinOrder (sym (three_by_hand pins wheel_turns lugs pin_pieces)) pin_order
 
 -- A planned list in an order for the hand is in the order of the page.
 pub page_order : (m : Parts) (s : Day) (to : List ℕ) → IsMachine m → IsLegalDay s → model_of m ≡ day_model s
     → IsPageOrder m (in_hand_order (planned_lines m s to))
-page_order (Rotor m) (OfRotors s) to legal day same = rotor_hand_order m s to legal day
-page_order (Pin m) (OfPins s) to legal day same = pin_hand_order m s to legal
-page_order (Rotor m) (OfPins s) to legal day same = absurd (no_rotors m.model m.reflector same legal.legal.reflector)
-page_order (Pin m) (OfRotors s) to legal day same =
+page_order (Rotor m) (Rotor s) to legal day same = rotor_hand_order m s to legal day
+page_order (Pin m) (Pin s) to legal day same = pin_hand_order m s to legal
+page_order (Rotor m) (Pin s) to legal day same = absurd (no_rotors m.model m.reflector same legal.legal.reflector)
+page_order (Pin m) (Rotor s) to legal day same =
     record { steps = tt; pins = tt; cells = λ wheel. tt; lugs = tt; turns = tt }
 
 -- The boxes of settings in the order of the page, read from the top, are these settings.

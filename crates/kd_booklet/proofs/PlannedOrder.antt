@@ -15,7 +15,7 @@ use Rattle.kd_state.specs.declared.setting.Setting.{Setting}
 use Rattle.kd_state.specs.declared.setting.Setting.TheVariants.{SeatReflector, Turn}
 use Rattle.kd_state.specs.Costs.{columns_of}
 use Rattle.kd_state.specs.SameParts.{same_reflector}
-use Rattle.kd_state.specs.SheetDay.{Day, OfRotors, OfPins, RotorDay, PinDay}
+use Rattle.kd_state.specs.SheetDay.{Day, Rotor, Pin, RotorDay, PinDay}
 use Rattle.kd_card.specs.declared.prices.PriceParts.{PriceParts}
 use Rattle.kd_card.specs.Loose.{setting_unless, lines_from, slot_seat_line, slot_turn_line, wheel_ring_line}
 use Rattle.kd_card.specs.Loose.{wheel_pin_lines, pin_wheel_turn_line}
@@ -41,7 +41,7 @@ skips (Turn slot letter ∷ xs) ys none before = absurd (cc)
 skips (_ ∷ xs) ys none before = skips xs ys none before
 
 rotor_turns_last : (m : RotorParts) (s : RotorDay) (to : List ℕ)
-    → seats_before_turning (planned_lines (Rotor m) (OfRotors s) to) ≡ true
+    → seats_before_turning (planned_lines (Rotor m) (Rotor s) to) ≡ true
 rotor_turns_last m s to =
     let cables = with_columns m.cables (columns_of s.pairs) Nothing to in
     let seats = lines_from slot_seat_line 1 (zip m.slots s.wheels) in
@@ -66,7 +66,7 @@ rotor_turns_last m s to =
     simp append_assoc first
 
 pin_turns_last : (m : PinParts) (s : PinDay) (to : List ℕ)
-    → seats_before_turning (planned_lines (Pin m) (OfPins s) to) ≡ true
+    → seats_before_turning (planned_lines (Pin m) (Pin s) to) ≡ true
 pin_turns_last m s to =
     let bars = with_columns m.bars s.rows (0, 0) to in
     let pins = lines_from wheel_pin_lines 1 (zip (pins_of m.pins) (pins_of s.pins)) in
@@ -81,10 +81,10 @@ pin_turns_last m s to =
     (all_lines no_seat bar_moves 1 bars (λ n z. lug_moves no_seat n z (λ lug place. refl))))
 
 pub planned_turns_last : (m : Parts) (s : Day) (to : List ℕ) → seats_before_turning (planned_lines m s to) ≡ true
-planned_turns_last (Rotor m) (OfRotors s) to = rotor_turns_last m s to
-planned_turns_last (Pin m) (OfPins s) to = pin_turns_last m s to
-planned_turns_last (Rotor m) (OfPins s) to = refl
-planned_turns_last (Pin m) (OfRotors s) to = refl
+planned_turns_last (Rotor m) (Rotor s) to = rotor_turns_last m s to
+planned_turns_last (Pin m) (Pin s) to = pin_turns_last m s to
+planned_turns_last (Rotor m) (Pin s) to = refl
+planned_turns_last (Pin m) (Rotor s) to = refl
 
 pub hand_list : (m : Parts) (s : Day) (planned settings : List Setting) (prices : PriceParts)
     → IsProvedPlannedCard m s planned prices → settings ≡ in_hand_order planned → IsHandList m s settings

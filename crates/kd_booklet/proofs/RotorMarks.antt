@@ -20,7 +20,7 @@ use Rattle.kd_state.specs.Machine.{IsMachine, cable_letters, machine_letter, mac
 use Rattle.kd_state.specs.OnKey.{ReadsAs, cable_of_column, pair_in_order}
 use Rattle.kd_state.specs.SameParts.{same_reflector, same_wheel}
 use Rattle.kd_state.specs.Setting.{Leads}
-use Rattle.kd_state.specs.SheetDay.{IsLegalDay, OfRotors, RotorDay}
+use Rattle.kd_state.specs.SheetDay.{IsLegalDay, Rotor, RotorDay}
 use Rattle.kd_state.proofs.Cables.{column_is}
 use Rattle.kd_state.proofs.Carrying.{leads_unique}
 use Rattle.kd_state.proofs.Wheels.{same_reflector-Decides, same_wheel-Decides, same_wheel_self}
@@ -45,7 +45,7 @@ use Rattle.kd_booklet.proofs.PlannedPieces.{pulls, puts}
 not_letter : (letter : ℕ) (item : Option ℕ) → option_map_or (nat_eq letter) item false ≡ false → item ≢ Some letter
 not_letter letter item other same = absurd (grind (arith, same, other))
 
-module _ (m n : RotorParts) (s : RotorDay) (reads : ReadsAs (Rotor n) (OfRotors s)) where
+module _ (m n : RotorParts) (s : RotorDay) (reads : ReadsAs (Rotor n) (Rotor s)) where
   abbrev P : Setting → Type 0
   P = Changes (Rotor m) (Rotor n)
 
@@ -87,7 +87,7 @@ module _ (m n : RotorParts) (s : RotorDay) (reads : ReadsAs (Rotor n) (OfRotors 
       reads.window at in
       rw one (not_letter w.letter shown other, due)))
 
-  loose_marked : All P (loose_lines (Rotor m) (OfRotors s))
+  loose_marked : All P (loose_lines (Rotor m) (Rotor s))
   loose_marked =
       All-append P _ _ (All-append P _ _ (All-append P _ _ seats_marked reflector_marked) rings_marked) turns_marked
 
@@ -138,7 +138,7 @@ module _ (m a : RotorParts) (zs : List CableColumn) (begins : map (λ (z : Cable
 
 -- ---- all settings
 
-module _ (m : RotorParts) (s : RotorDay) (machine : IsMachine (Rotor m)) (legal : IsLegalDay (OfRotors s))
+module _ (m : RotorParts) (s : RotorDay) (machine : IsMachine (Rotor m)) (legal : IsLegalDay (Rotor s))
     (same : m.model ≡ s.model) (to : List ℕ) (count : length to ≡ 13)
     (order : IsPermutation (columns_of s.pairs) (map (column_at s.pairs) to)) where
   abbrev zs : List CableColumn
@@ -155,17 +155,17 @@ module _ (m : RotorParts) (s : RotorDay) (machine : IsMachine (Rotor m)) (legal 
   abbrev last : Parts
   last = with_cables (turned_all m s machine legal same) (map once_put zs)
 
-  all_led : Led (Rotor m) (planned_lines (Rotor m) (OfRotors s) to) last
+  all_led : Led (Rotor m) (planned_lines (Rotor m) (Rotor s) to) last
   all_led =
       led_append _ _ (led_append _ _ (rotors_led m s machine legal same)
       (all_pulled (turned_all m s machine legal same) zs begins))
       (all_put (turned_all m s machine legal same) zs pluggable (wanted_once m s machine legal same to count order))
 
-  pub rotor_marked : (n : RotorParts) → Leads (Rotor m) (planned_lines (Rotor m) (OfRotors s) to) (Rotor n)
-      → ReadsAs (Rotor n) (OfRotors s) → All (Changes (Rotor m) (Rotor n)) (planned_lines (Rotor m) (OfRotors s) to)
+  pub rotor_marked : (n : RotorParts) → Leads (Rotor m) (planned_lines (Rotor m) (Rotor s) to) (Rotor n)
+      → ReadsAs (Rotor n) (Rotor s) → All (Changes (Rotor m) (Rotor n)) (planned_lines (Rotor m) (Rotor s) to)
   rotor_marked n leads reads =
       let P = Changes (Rotor m) (Rotor n) in
-      let one = leads_unique (Rotor m) last (Rotor n) (planned_lines (Rotor m) (OfRotors s) to) all_led.leads leads in
+      let one = leads_unique (Rotor m) last (Rotor n) (planned_lines (Rotor m) (Rotor s) to) all_led.leads leads in
       All-append P _ _ (All-append P _ _ (loose_marked m n s reads)
       (subst (λ p. All (Changes (Rotor m) p) (lines_from pulls 1 zs)) one
       (outs_marked m (turned_all m s machine legal same) zs begins pluggable)))

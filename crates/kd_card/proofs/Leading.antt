@@ -283,7 +283,7 @@ module _ (m : RotorParts) (s : RotorDay) (machine : IsMachine (Rotor m)) (legal 
       let left = kept m.letters front (place w) (AllPairs-before place front w back apart) in
       rw fold_push (grind (arith, led_unless, here, left, set_same, eqb-true)))
 
-  pub rotors_led : Led (Rotor m) (loose_lines (Rotor m) (OfRotors s)) (Rotor turned_all)
+  pub rotors_led : Led (Rotor m) (loose_lines (Rotor m) (Rotor s)) (Rotor turned_all)
   rotors_led =
       let reflector = reflector_led m (seats_of_wheels s.wheels) s.reflector
       (subst (λ model. Contains (reflectors_of model) s.reflector) (sym same) legal.reflector) in
@@ -399,7 +399,7 @@ module _ (m : PinParts) where
       turn_led _ _ z (rw length-map (on.each (suc (length fs)) z.1 at)))
 
 pub pins_led : (m : PinParts) (s : PinDay) → IsMachine (Pin m) → IsLegalPinDay s
-    → Led (Pin m) (loose_lines (Pin m) (OfPins s)) (Pin (record m { pins = s.pins; letters = s.window }))
+    → Led (Pin m) (loose_lines (Pin m) (Pin s)) (Pin (record m { pins = s.pins; letters = s.window }))
 pins_led m s machine legal =
     let turns = pin_turns_lead (record m { pins = s.pins }) s.window machine.legal.letters.count legal.window in
     led_append _ _ (pins_lead m s.pins machine.legal.pins legal.pins) turns

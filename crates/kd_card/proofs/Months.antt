@@ -93,7 +93,7 @@ renumbered cables others ws order size =
 abbrev machine_gap : RotorParts → RotorParts → ℕ
 machine_gap m n = gap_count m.rings n.rings + gap_count m.letters n.letters
 
-module _ (s : RotorDay) (legal : IsLegalRotorDay s) (o : RotorParts) (reads : ReadsAs (Rotor o) (OfRotors s)) where
+module _ (s : RotorDay) (legal : IsLegalRotorDay s) (o : RotorParts) (reads : ReadsAs (Rotor o) (Rotor s)) where
   -- `loose_for` counts what differs, except cables: slots and the reflector from the day, rings and window letters
   -- from machine `o`. `left_for` adds the cost of the cables at the columns `ws`.
   abbrev loose_for : Parts → ℕ
@@ -117,8 +117,8 @@ module _ (s : RotorDay) (legal : IsLegalRotorDay s) (o : RotorParts) (reads : Re
       → Carries (Rotor m) x after → with_others m slots reflector cables ≡ after
       → left_for ws (Rotor m) ≤ left_for ws after + 1
   falls_by_one ws m slots reflector cables x after same carries made =
-      let falls = subst (λ k. left_to_do ws [] (Rotor m) (OfRotors s) ≤ left_to_do ws [] k (OfRotors s) + 1) (sym made)
-      (left_to_do-lowered ws [] (Rotor m) (OfRotors s) x after legal same carries) in
+      let falls = subst (λ k. left_to_do ws [] (Rotor m) (Rotor s) ≤ left_to_do ws [] k (Rotor s) + 1) (sym made)
+      (left_to_do-lowered ws [] (Rotor m) (Rotor s) x after legal same carries) in
       subst (λ k. left_for ws (Rotor m) ≤ left_for ws k + 1) made (omega (arith, falls))
 
   left_for-changed : (ws : List Priced) (m : Parts) (x : Setting) (after : Parts) → model_of m ≡ s.model
@@ -150,28 +150,28 @@ module _ (s : RotorDay) (legal : IsLegalRotorDay s) (o : RotorParts) (reads : Re
 
   one_is_needed : (m : RotorParts) (slots : List (Option Wheel)) (reflector : Reflector)
       (cables : List (Option ℕ × Option ℕ)) (x : Setting) (after : Parts) → Carries (Rotor m) x after
-      → with_others m slots reflector cables ≡ after → IsSettingNeeded (Rotor m) (OfRotors s) x
+      → with_others m slots reflector cables ≡ after → IsSettingNeeded (Rotor m) (Rotor s) x
       → loose_for after + 1 ≤ loose_for (Rotor m) + cond (is_priced_setting x) 1 0
   one_is_needed m slots reflector cables x after carries made needed =
       let one = subst
-      (λ k. loose_count (Rotor m) (OfRotors s) + cond (is_priced_setting x) 1 0 ≡ loose_count k (OfRotors s) + 1)
-      (sym made) (needed_one (Rotor m) (OfRotors s) x (is_priced_setting x) after refl carries needed) in
+      (λ k. loose_count (Rotor m) (Rotor s) + cond (is_priced_setting x) 1 0 ≡ loose_count k (Rotor s) + 1)
+      (sym made) (needed_one (Rotor m) (Rotor s) x (is_priced_setting x) after refl carries needed) in
       subst (λ k. loose_for k + 1 ≤ loose_for (Rotor m) + cond (is_priced_setting x) 1 0) made (omega (arith, one))
 
   -- A needed setting lowers `loose_for` by at least one, unless it changes a cable.
   loose_for-needed : (m : Parts) (x : Setting) (after : Parts) → model_of m ≡ s.model → Carries m x after
-      → IsSettingNeeded m (OfRotors s) x → loose_for after + 1 ≤ loose_for m + cond (is_priced_setting x) 1 0
+      → IsSettingNeeded m (Rotor s) x → loose_for after + 1 ≤ loose_for m + cond (is_priced_setting x) 1 0
   loose_for-needed (Rotor m) (RingTo wheel letter) after same e needed =
       let fewer = gaps-fewer (λ w. place_in_box m.model w.wheel) (λ w. w.ring) o.rings m.rings
       (place_in_box m.model wheel) letter s.wheels (rw (reads.key.model ∙ sym same) at reads.key.rings) in
       let made = ring_made m wheel letter after e in
-      let one = if_carried (λ n. loose_count (Rotor m) (OfRotors s) ≡ loose_count n (OfRotors s) + 1) e (needed refl) in
+      let one = if_carried (λ n. loose_count (Rotor m) (Rotor s) ≡ loose_count n (Rotor s) + 1) e (needed refl) in
       subst (λ n. loose_for n + 1 ≤ loose_for (Rotor m) + 0) made (omega (arith, rw (← made) at one, fewer))
   loose_for-needed (Rotor m) (Turn slot letter) after same e needed =
       let (wheel, made) = turn_made m slot letter after e in
       let fewer = gaps-fewer (λ w. place_in_box m.model w.wheel) (λ w. w.letter) o.letters m.letters
       (place_in_box m.model wheel) letter s.wheels (rw (reads.key.model ∙ sym same) at reads.window) in
-      let one = if_carried (λ n. loose_count (Rotor m) (OfRotors s) ≡ loose_count n (OfRotors s) + 1) e (needed refl) in
+      let one = if_carried (λ n. loose_count (Rotor m) (Rotor s) ≡ loose_count n (Rotor s) + 1) e (needed refl) in
       subst (λ n. loose_for n + 1 ≤ loose_for (Rotor m) + 0) made (omega (arith, rw (← made) at one, fewer))
   loose_for-needed (Rotor m) (Pull cable letter) after same e needed =
       one_is_needed m m.slots m.reflector _ (Pull cable letter) after e (pulled m cable letter after e).made needed
@@ -185,11 +185,11 @@ module _ (s : RotorDay) (legal : IsLegalRotorDay s) (o : RotorParts) (reads : Re
   loose_for-needed (Pin m) x after same e needed = absurd (no_rotors s.model s.reflector (sym same) legal.reflector)
 
   loose_for-list : (m n : Parts) (xs : List Setting) → model_of m ≡ s.model → Leads m xs n
-      → AreSettingsNeeded m (OfRotors s) xs → loose_for n + length xs ≤ loose_for m + priced_count xs
+      → AreSettingsNeeded m (Rotor s) xs → loose_for n + length xs ≤ loose_for m + priced_count xs
   loose_for-list m n [] same leads needed = subst (λ n. loose_for n + 0 ≤ loose_for m + 0) (sym leads) (omega arith)
   loose_for-list m n (x ∷ xs) same leads needed =
       let rest = loose_for-list leads.0 n xs (model_of-changed m x leads.0 leads.1 ∙ same) leads.2
-      (if_carried (λ after. AreSettingsNeeded after (OfRotors s) xs) leads.1 needed.1) in
+      (if_carried (λ after. AreSettingsNeeded after (Rotor s) xs) leads.1 needed.1) in
       omega (arith, rest, loose_for-needed m x leads.0 same leads.1 needed.0, count_by-cons is_priced_setting x xs)
 
 -- ---- one day, and day after day
@@ -205,11 +205,11 @@ record AgreeButForLetters (g n : RotorParts) : Type 0 where
   count : length n.cables ≡ 13
 
 module _ (g n h o : RotorParts) (s : RotorDay) (card list : List Setting) (legal : IsLegalRotorDay s)
-    (near : AgreeButForLetters g n) (by_card : ReachesDay (Rotor g) (OfRotors s) card (Rotor h))
-    (by_list : ReachesDay (Rotor n) (OfRotors s) list (Rotor o)) where
+    (near : AgreeButForLetters g n) (by_card : ReachesDay (Rotor g) (Rotor s) card (Rotor h))
+    (by_list : ReachesDay (Rotor n) (Rotor s) list (Rotor o)) where
   -- A card is longer than the other list by at most as much as the two machines come nearer to each other in rings
   -- and window letters.
-  card-at_most : (prices : PriceParts) → ArePrices prices → ProvesByNumber (Rotor g) (OfRotors s) card prices
+  card-at_most : (prices : PriceParts) → ArePrices prices → ProvesByNumber (Rotor g) (Rotor s) card prices
       → length card + machine_gap h o ≤ length list + machine_gap g n
   card-at_most (Cables row column) are proves =
       let due = cables_paired o.cables s.pairs column legal.pairs.few are.1.count by_list.reads.key.cables in
@@ -218,7 +218,7 @@ module _ (g n h o : RotorParts) (s : RotorDay) (card list : List Setting) (legal
       let last = thirteen_cables o.cables s.pairs legal.pairs.few by_list.reads.key.cables in
       let there = renumbered g.cables n.cables due.beside near.cables (omega (arith, due.count, last, near.count)) in
       let order = IsPermutation-trans _ due.beside there.0 due.order there.1 in
-      let none = nothing_loose (Rotor o) (OfRotors s) by_list.reads in
+      let none = nothing_loose (Rotor o) (Rotor s) by_list.reads in
       let slots = ap (λ z. loose_slots z.1 s) near.same in
       let reflector = ap (λ z. one_unless (same_reflector z.2 s.reflector)) near.same in
       let first = length_permutation n.cables g.cables near.cables ∙ near.count in
@@ -245,17 +245,17 @@ sum_by-fewest : (days : List Day) (g n : RotorParts) (cards lists : List (List S
     → All IsLegalDay days → AgreeButForLetters g n → DayAfterDay IsProvedCard (Rotor g) days cards
     → DayAfterDay ReachesDay (Rotor n) days lists → sum_by length cards ≤ sum_by length lists + machine_gap g n
 sum_by-fewest [] g n [] [] rotor legal near are lead = omega arith
-sum_by-fewest (OfRotors s ∷ days) g n (card ∷ cards) (list ∷ lists) rotor legal near (Rotor h, to, rest)
+sum_by-fewest (Rotor s ∷ days) g n (card ∷ cards) (list ∷ lists) rotor legal near (Rotor h, to, rest)
     (Rotor o, by, more) =
-    let here = All-head IsLegalDay (OfRotors s) days legal in
+    let here = All-head IsLegalDay (Rotor s) days legal in
     let are : ArePrices to.proves.numbered = grind arith in
     let one = card-at_most g n h o s card list here near to.reaches by to.proves.numbered are to.proves.proves in
     let same = model_of-list (Rotor g) (Rotor h) card to.reaches.leads in
     let now = agree-next g n h o s card list here near to.reaches by in
-    let lawful = All-tail IsLegalDay (OfRotors s) days legal in
+    let lawful = All-tail IsLegalDay (Rotor s) days legal in
     let later = sum_by-fewest days h o cards lists (λ e. rotor (sym same ∙ e)) lawful now rest more in
     simp sum_by-cons (omega (arith, one, later))
-sum_by-fewest (OfPins s ∷ days) g n (card ∷ cards) (list ∷ lists) rotor legal near (Pin h, to, rest) lead =
+sum_by-fewest (Pin s ∷ days) g n (card ∷ cards) (list ∷ lists) rotor legal near (Pin h, to, rest) lead =
     absurd (rotor (sym (model_of-list (Rotor g) (Pin h) card to.reaches.leads)))
 sum_by-fewest days g n cards lists rotor legal near are lead = grind arith
 

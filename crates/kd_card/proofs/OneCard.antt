@@ -59,19 +59,19 @@ groups_said {R} {C} rows columns number line {bytes} x says =
 
 pub of_table : (version : Version) (table : CostTable) (line : ℕ) {bytes : List ℕ} (x : PriceParts × List ℕ)
     → IsTablePricesAnswer version table line bytes (Ok x) → AreAllPriceLines version bytes x.0 x.1
-of_table ByNumber OfCables line {bytes} x says =
+of_table ByNumber Cables line {bytes} x says =
     let lists = ThenNext-Ok says in
     let said = lists_said (codes "CABLES") (codes "PAIRS") 13 line lists.found lists.says in
     rw (Yields-Ok lists.next) (record { version = refl; text = said.0; are = (said.1, said.2) })
-of_table ByNumber OfBars line {bytes} x says =
+of_table ByNumber Bars line {bytes} x says =
     let lists = ThenNext-Ok says in
     let said = lists_said (codes "BARS") (codes "ROWS") 27 line lists.found lists.says in
     rw (Yields-Ok lists.next) (record { version = refl; text = said.0; are = (said.1, said.2) })
-of_table ByKind OfCables line {bytes} x says =
+of_table ByKind Cables line {bytes} x says =
     let groups = ThenNext-Ok says in
     let said = groups_said cable_format pair_format 13 line groups.found groups.says in
     rw (Yields-Ok groups.next) (record { version = refl; text = said.0; are = (said.1, said.2) })
-of_table ByKind OfBars line {bytes} x says =
+of_table ByKind Bars line {bytes} x says =
     let groups = ThenNext-Ok says in
     let said = groups_said bar_format row_format 27 line groups.found groups.says in
     rw (Yields-Ok groups.next) (record { version = refl; text = said.0; are = (said.1, said.2) })
@@ -224,10 +224,10 @@ groups_say {rows} {columns} row column differ number line xs ys rest some a b en
 
 only_of_table : (version : Version) (table : CostTable) (line : ℕ) (bytes : List ℕ)
     → HasOneAnswer (IsTablePricesAnswer version table line bytes)
-only_of_table ByNumber OfCables line bytes = search (rules, one_answer, only_price_line)
-only_of_table ByNumber OfBars line bytes = search (rules, one_answer, only_price_line)
-only_of_table ByKind OfCables line bytes = search (rules, one_answer, only_groups cables_are pairs_are)
-only_of_table ByKind OfBars line bytes = search (rules, one_answer, only_groups bars_are rows_are)
+only_of_table ByNumber Cables line bytes = search (rules, one_answer, only_price_line)
+only_of_table ByNumber Bars line bytes = search (rules, one_answer, only_price_line)
+only_of_table ByKind Cables line bytes = search (rules, one_answer, only_groups cables_are pairs_are)
+only_of_table ByKind Bars line bytes = search (rules, one_answer, only_groups bars_are rows_are)
 
 one_table : (word : List ℕ) (version : Version) (table other : CostTable) → word ≡ first_text version table
     → word ≡ first_text version other → table ≡ other
@@ -254,19 +254,19 @@ all_say : (prices : PriceParts) (line : ℕ) {bytes : List ℕ} (rest : List ℕ
 all_say (Cables row col) line rest are ends e =
     let say = lists_say {row_word = codes "CABLES"} {column_word = codes "PAIRS"} line row col rest
     (word_by_test _ _ refl) (word_by_test _ _ refl) are.0 are.1 e in
-    GoesOn OfCables (GoesOn _ (first_says say.0.has) refl) (GoesOn (row, col, rest) say.1 refl)
+    GoesOn Cables (GoesOn _ (first_says say.0.has) refl) (GoesOn (row, col, rest) say.1 refl)
 all_say (Bars row col) line rest are ends e =
     let say = lists_say {row_word = codes "BARS"} {column_word = codes "ROWS"} line row col rest (word_by_test _ _ refl)
     (word_by_test _ _ refl) are.0 are.1 e in
-    GoesOn OfBars (GoesOn _ (first_says say.0.has) refl) (GoesOn (row, col, rest) say.1 refl)
+    GoesOn Bars (GoesOn _ (first_says say.0.has) refl) (GoesOn (row, col, rest) say.1 refl)
 all_say (CableKinds row col) line rest are ends e =
     let say = groups_say cables_are pairs_are (grind arith) 13 line row.items col.items rest (omega arith) are.0 are.1
     (ends pair_format.word (grind arith)) e in
-    GoesOn OfCables (GoesOn _ (first_says say.0.has) refl) (GoesOn (row.items, col.items, rest) say.1 refl)
+    GoesOn Cables (GoesOn _ (first_says say.0.has) refl) (GoesOn (row.items, col.items, rest) say.1 refl)
 all_say (BarKinds row col) line rest are ends e =
     let say = groups_say bars_are rows_are (grind arith) 27 line row.items col.items rest (omega arith) are.0 are.1
     (ends row_format.word (grind arith)) e in
-    GoesOn OfBars (GoesOn _ (first_says say.0.has) refl) (GoesOn (row.items, col.items, rest) say.1 refl)
+    GoesOn Bars (GoesOn _ (first_says say.0.has) refl) (GoesOn (row.items, col.items, rest) say.1 refl)
 
 -- ---- the head, and a name and a value
 

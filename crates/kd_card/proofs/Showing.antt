@@ -12,7 +12,7 @@ use Rattle.kd_card.specs.Proving.{ShowShortest}
 use Rattle.kd_state.specs.Costs.{bar_cost, cable_cost, column_letters, columns_of, cost_table, costs_by, exactly_one}
 use Rattle.kd_state.specs.{Costs.loose_count, Machine.IsMachine, declared.setting.Setting.Setting}
 use Rattle.kd_state.specs.{Machine.cable_letters, OnKey.{cable_of_column, columns_in_order, pair_in_order}}
-use Rattle.kd_state.specs.SheetDay.{Day, IsLegalDay, OfPins, OfRotors}
+use Rattle.kd_state.specs.SheetDay.{Day, IsLegalDay, Pin, Rotor}
 use Rattle.kd_state.specs.declared.machine.parts.Parts.{Parts, TheVariants.{Pin, Rotor}}
 use Rattle.kd_tables.specs.{Pairs.has_letter, Permutation.alphabet, declared.place.Place.{TheVariants.One}}
 use Rattle.std.proofs.Common.{Bool, IsPermutation, List, None, Option, Some, ap, ap₂, arith, count_by, flat_map, get_or}
@@ -328,7 +328,7 @@ AreLikeNumbered m s prices numbered = KindPricesFit m s prices × (price_sum pri
 
 like_numbered : (m : Parts) (s : Day) (prices numbered : PriceParts) → ArePrices prices → ArePrices numbered
     → AreExpanded m s prices numbered → PricesFit (cost_table m s) numbered → AreLikeNumbered m s prices numbered
-like_numbered (Rotor m) (OfRotors s) (CableKinds row col) (Cables rows columns) are counts expanded fits =
+like_numbered (Rotor m) (Rotor s) (CableKinds row col) (Cables rows columns) are counts expanded fits =
     let first = prices_of_keys cable_format m.cables rows row.items expanded.0 in
     let second = prices_of_keys pair_format (columns_in_order s.pairs) columns col.items expanded.1 in
     let fit = subst (λ costs. PricesFit costs (Cables rows columns)) (sym (table_in_order m.cables (columns_of s.pairs)))
@@ -339,7 +339,7 @@ like_numbered (Rotor m) (OfRotors s) (CableKinds row col) (Cables rows columns) 
       sums_alike cable_format.kind pair_format.kind cable_cost (None, None) None m.cables (columns_in_order s.pairs)
           row.items col.items 13 rows columns first second,
     )
-like_numbered (Pin m) (OfPins s) (BarKinds row col) (Bars rows columns) are counts expanded fits =
+like_numbered (Pin m) (Pin s) (BarKinds row col) (Bars rows columns) are counts expanded fits =
     let first = prices_of_keys bar_format m.bars rows row.items expanded.0 in
     let second = prices_of_keys row_format s.rows columns col.items expanded.1 in (
       kinds_fit bar_format.kind row_format.kind bar_cost (One, One) (0, 0) m.bars s.rows row.items col.items 27
@@ -378,7 +378,7 @@ record HasNumbered (m : Parts) (s : Day) (prices : PriceParts) : Type 0 where
 
 has_numbered : (m : Parts) (s : Day) (prices : PriceParts) → IsMachine m → IsLegalDay s → KindPricesFit m s prices
     → HasNumbered m s prices
-has_numbered (Rotor m) (OfRotors s) (CableKinds row col) machine legal fit =
+has_numbered (Rotor m) (Rotor s) (CableKinds row col) machine legal fit =
     let thirteen = length-map (columns_of s.pairs) pair_in_order ∙ thirteen_columns s.pairs legal.pairs.few in
     let numbers = numbers_of_kinds cable_format.kind pair_format.kind cable_cost (None, None) None m.cables
     (columns_in_order s.pairs) row.items col.items 13 machine.legal.cables.count thirteen fit in
@@ -390,7 +390,7 @@ has_numbered (Rotor m) (OfRotors s) (CableKinds row col) machine legal fit =
           (table_in_order m.cables (columns_of s.pairs)) numbers.fit;
       sum = numbers.sum;
     }
-has_numbered (Pin m) (OfPins s) (BarKinds row col) machine legal fit =
+has_numbered (Pin m) (Pin s) (BarKinds row col) machine legal fit =
     let numbers = numbers_of_kinds bar_format.kind row_format.kind bar_cost (One, One) (0, 0) m.bars s.rows row.items
     col.items 27 machine.legal.bars legal.count fit in
     record {

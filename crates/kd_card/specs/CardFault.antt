@@ -1,5 +1,5 @@
 -- The result of reading bytes as a card: the card, or the first fault. Lines are counted from 1.
-use Rattle.kd_card.specs.declared.prices.CostTable.{CostTable, TheVariants.{OfBars, OfCables}}
+use Rattle.kd_card.specs.declared.prices.CostTable.{CostTable, TheVariants.{Bars, Cables}}
 use Rattle.kd_card.specs.Kinds.{KindFormat, cable_format, pair_format, bar_format, row_format, kind_words, kinds_text}
 use Rattle.kd_card.specs.Kinds.{total_count, IsKind, AreKinds, ComesAfter}
 use Rattle.kd_card.specs.declared.fault.CardFault.TheVariants.{BadHead, BadLine, TooMany, PriceMissing, CountWrong}
@@ -82,10 +82,10 @@ IsSettingsAnswer bytes (Err fault) =
 
 -- the first word of a card's first price line: `CABLES` or `BARS` in version 1, `CABLE` or `BAR` in version 2
 abbrev pub first_text : Version → CostTable → List ℕ
-first_text ByNumber OfCables = codes "CABLES"
-first_text ByNumber OfBars = codes "BARS"
-first_text ByKind OfCables = cable_format.word
-first_text ByKind OfBars = bar_format.word
+first_text ByNumber Cables = codes "CABLES"
+first_text ByNumber Bars = codes "BARS"
+first_text ByKind Cables = cable_format.word
+first_text ByKind Bars = bar_format.word
 
 -- The result of reading the first word of the first price line: what the prices are for, or a fault.
 abbrev pub IsTableAnswer : Version → ℕ → List ℕ → AnswerRule CardFault CostTable
@@ -180,16 +180,16 @@ IsGroupsAnswer row_format column_format number line bytes = do
 
 -- The result of reading the prices for one table of costs. The first price line is line `line` of the card.
 abbrev pub IsTablePricesAnswer : Version → CostTable → ℕ → List ℕ → AnswerRule CardFault (PriceParts × List ℕ)
-IsTablePricesAnswer ByNumber OfCables line bytes = do
+IsTablePricesAnswer ByNumber Cables line bytes = do
   lists ← IsListsAnswer (codes "CABLES") (codes "PAIRS") 13 line bytes
   Yields (Cables lists.0 lists.1, lists.2)
-IsTablePricesAnswer ByNumber OfBars line bytes = do
+IsTablePricesAnswer ByNumber Bars line bytes = do
   lists ← IsListsAnswer (codes "BARS") (codes "ROWS") 27 line bytes
   Yields (Bars lists.0 lists.1, lists.2)
-IsTablePricesAnswer ByKind OfCables line bytes = do
+IsTablePricesAnswer ByKind Cables line bytes = do
   groups ← IsGroupsAnswer cable_format pair_format 13 line bytes
   Yields (CableKinds (record { items = groups.0 }) (record { items = groups.1 }), groups.2)
-IsTablePricesAnswer ByKind OfBars line bytes = do
+IsTablePricesAnswer ByKind Bars line bytes = do
   groups ← IsGroupsAnswer bar_format row_format 27 line bytes
   Yields (BarKinds (record { items = groups.0 }) (record { items = groups.1 }), groups.2)
 

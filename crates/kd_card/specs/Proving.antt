@@ -7,7 +7,7 @@ use Rattle.kd_card.specs.declared.prices.Version.TheVariants.{ByNumber}
 use Rattle.kd_state.specs.{declared.setting.Setting.TheVariants.{Pull, Put, LugTo}, declared.machine.parts.Parts.Parts}
 use Rattle.kd_state.specs.{declared.machine.parts.Parts.TheVariants.{Rotor, Pin}, declared.setting.Setting.Setting}
 use Rattle.kd_state.specs.{Costs.{cost_table, cable_cost, bar_cost, loose_count}}
-use Rattle.kd_state.specs.SheetDay.{Day, OfRotors, OfPins, day_model}
+use Rattle.kd_state.specs.SheetDay.{Day, Rotor, Pin, day_model}
 use Rattle.kd_state.specs.{Setting.{Leads, outcome}, Machine.model_of, OnKey.{ReadsAs, columns_in_order}}
 use Rattle.std.specs.Prelude.{◌≡◌, ℕ, ◌+◌, ◌≤◌, Bool, true, false, List, [], ◌∷◌, length, pos, IfOk, IsFalse, count_by}
 use Rattle.std.specs.Prelude.{flat_map, replicate, All, IsPermutation, ◌+ℤ◌, ◌≤ℤ◌}
@@ -49,10 +49,10 @@ LeadsToTheDay machine day settings = (reached : Parts) × Leads machine settings
 
 -- The first prices' kinds count all cables and columns, or bars and rows. The second prices give each its kind's price.
 abbrev pub AreExpanded : Parts → Day → PriceParts → PriceParts → Type 0
-AreExpanded (Rotor machine) (OfRotors day) (CableKinds row col) (Cables rows columns) =
+AreExpanded (Rotor machine) (Rotor day) (CableKinds row col) (Cables rows columns) =
     AreKindsOf cable_format machine.cables rows row.items
     × AreKindsOf pair_format (columns_in_order day.pairs) columns col.items
-AreExpanded (Pin machine) (OfPins day) (BarKinds row col) (Bars rows columns) =
+AreExpanded (Pin machine) (Pin day) (BarKinds row col) (Bars rows columns) =
     AreKindsOf bar_format machine.bars rows row.items × AreKindsOf row_format day.rows columns col.items
 AreExpanded _ _ _ _ = ⊥
 
@@ -90,11 +90,11 @@ IsShortest machine day settings =
 -- Prices by kind fit. The kinds count exactly the machine's cables and the day's columns, or the machine's bars and the
 -- day's rows. The prices of a cable and a column, or of a bar and a row, add up to at most the cost of the two.
 abbrev pub KindPricesFit : Parts → Day → PriceParts → Type 0
-KindPricesFit (Rotor machine) (OfRotors day) (CableKinds cables columns) =
+KindPricesFit (Rotor machine) (Rotor day) (CableKinds cables columns) =
     IsPermutation machine.cables (flat_map (λ k. replicate k.count k.ends) cables.items)
     × IsPermutation (columns_in_order day.pairs) (flat_map (λ k. replicate k.count k.pair) columns.items)
     × All (λ k. All (λ c. (k.price +ℤ c.price) ≤ℤ pos (cable_cost k.ends c.pair)) columns.items) cables.items
-KindPricesFit (Pin machine) (OfPins day) (BarKinds bars rows) =
+KindPricesFit (Pin machine) (Pin day) (BarKinds bars rows) =
     IsPermutation machine.bars (flat_map (λ k. replicate k.count k.standing) bars.items)
     × IsPermutation day.rows (flat_map (λ k. replicate k.count k.reading) rows.items)
     × All (λ k. All (λ r. (k.price +ℤ r.price) ≤ℤ pos (bar_cost k.standing r.reading)) rows.items) bars.items

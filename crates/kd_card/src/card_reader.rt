@@ -122,22 +122,22 @@ fn read_table_prices(
         (λ fault. IsTablePricesAnswer version table line text.now (Err fault)) }
 {
     match (version, table) {
-        (Version::ByNumber, CostTable::OfCables) => read_lists(text, "CABLES", "PAIRS", line).map(|(
+        (Version::ByNumber, CostTable::Cables) => read_lists(text, "CABLES", "PAIRS", line).map(|(
             cables,
             pairs,
             rest,
         )| (PriceParts::Cables(cables, pairs), rest)),
-        (Version::ByNumber, CostTable::OfBars) => read_lists(text, "BARS", "ROWS", line).map(|(
+        (Version::ByNumber, CostTable::Bars) => read_lists(text, "BARS", "ROWS", line).map(|(
             bars,
             rows,
             rest,
         )| (PriceParts::Bars(bars, rows), rest)),
-        (Version::ByKind, CostTable::OfCables) => read_groups(text, line).map(|(
+        (Version::ByKind, CostTable::Cables) => read_groups(text, line).map(|(
             cables,
             pairs,
             rest,
         )| (PriceParts::CableKinds(cables, pairs), rest)),
-        (Version::ByKind, CostTable::OfBars) => read_groups(text, line).map(|(bars, rows, rest)| (
+        (Version::ByKind, CostTable::Bars) => read_groups(text, line).map(|(bars, rows, rest)| (
             PriceParts::BarKinds(bars, rows),
             rest,
         )),
@@ -150,10 +150,10 @@ fn read_table(text: &[u8], version: Version, line: usize) -> Result<CostTable, C
         MatchResult result (λ table. says (Ok table)) (λ fault. says (Err fault)) }
 {
     let (first, _, _) = split_first_word(text, line)?;
-    if is_word(first, version.first_word(CostTable::OfCables)) {
-        Ok(CostTable::OfCables)
-    } else if is_word(first, version.first_word(CostTable::OfBars)) {
-        Ok(CostTable::OfBars)
+    if is_word(first, version.first_word(CostTable::Cables)) {
+        Ok(CostTable::Cables)
+    } else if is_word(first, version.first_word(CostTable::Bars)) {
+        Ok(CostTable::Bars)
     } else {
         Err(CardFault::PriceMissing)
     }

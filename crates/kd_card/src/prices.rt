@@ -34,10 +34,10 @@ impl Version {
         ensures { result.now ≡ first_text self table }
     {
         match (self, table) {
-            (Version::ByNumber, CostTable::OfCables) => "CABLES",
-            (Version::ByNumber, CostTable::OfBars) => "BARS",
-            (Version::ByKind, CostTable::OfCables) => "CABLE",
-            (Version::ByKind, CostTable::OfBars) => "BAR",
+            (Version::ByNumber, CostTable::Cables) => "CABLES",
+            (Version::ByNumber, CostTable::Bars) => "BARS",
+            (Version::ByKind, CostTable::Cables) => "CABLE",
+            (Version::ByKind, CostTable::Bars) => "BAR",
         }
     }
 }
@@ -45,8 +45,8 @@ impl Version {
 /// What a card's prices are for: the rows and columns of the table of costs of cables, or of bars.
 #[derive(Clone, Copy)]
 pub(crate) enum CostTable {
-    OfCables,
-    OfBars,
+    Cables,
+    Bars,
 }
 
 /// The prices of a card: a list for the rows of the table of costs, and a list for its columns.

@@ -9,7 +9,7 @@ use Rattle.kd_state.specs.{Setting.Leads, SheetsMachine.IsSheetsMachine}
 use Rattle.{kd_card.proofs.Showing.proving_prices_show, kd_state.proofs.Carrying.lists_keep_machines}
 use Rattle.kd_card.specs.Proving.{Proves}
 use Rattle.kd_card.specs.declared.card.Card as declared
-use Rattle.kd_desk.specs.Headline as headline
+use Rattle.kd_desk.specs.EquallySet.{EquallySetDecipherOn}
 
 module _ (m : Parts) (s : Day) (is_machine : IsMachine m) (legal : IsLegalDay s) where
   leaves : (text settings : List _) (numbered prices : PriceParts) → IsProvedPlannedCard m s settings numbered
@@ -17,7 +17,7 @@ module _ (m : Parts) (s : Day) (is_machine : IsMachine m) (legal : IsLegalDay s)
       → (after : Parts) × Leads m settings after × IsSheetsMachine after s
   leaves text settings numbered prices plans card = grind (arith, lists_keep_machines, reading_ready, reading_cipher)
 
-  decipher : headline.EquallySetDecipherOn s
+  decipher : EquallySetDecipherOn s
   decipher one other text set are =
       equally_set one other s text set.machine set.other_machine legal set.on_key set.other_on_key set.letters are
 

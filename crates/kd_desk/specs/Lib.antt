@@ -7,7 +7,7 @@ pub mod Settings
 pub mod Stops
 pub mod FaultText
 pub mod Ending
-pub mod Headline
+pub mod EquallySet
 pub mod OnDay
 pub mod RunCard
 pub mod RunCheck

@@ -16,7 +16,7 @@ use Rattle.kd_plan.specs.Planned.{IsPlannedCard}
 use Rattle.kd_plan.specs.Spares.{SparesStayFree}
 use Rattle.kd_desk.specs.declared.fault.DeskFault.{DeskFault}
 use Rattle.kd_desk.specs.declared.fault.DeskFault.TheVariants.{Device, OtherModel}
-use Rattle.kd_desk.specs.Headline.{EquallySetDecipherOn}
+use Rattle.kd_desk.specs.EquallySet.{EquallySetDecipherOn}
 use Rattle.kd_tables.specs.Ports.{Port}
 use Rattle.kd_host.specs.Writing.{WritesText}
 

@@ -14,7 +14,7 @@ pub use Rattle.kd_form.proofs.Prelude.{IsFirstPart, line_of, words_of, texts_det
 pub use Rattle.kd_form.proofs.Prelude.{lines_split_into_words, parts_make_lines, fraction_text, indicator_words}
 pub use Rattle.kd_form.proofs.Prelude.{heading_words, length-map, append_cancel_right, take_all, get_or-map}
 pub use Rattle.kd_form.proofs.Prelude.{letters_text, AreFewLetters, IsFraction, IsLetterCount, IsHeading}
-pub use Rattle.kd_form.proofs.Prelude.{AreHeadingWords, HasFirstLine, IsLineText, Day, OfRotors, OfPins, Heading}
+pub use Rattle.kd_form.proofs.Prelude.{AreHeadingWords, HasFirstLine, IsLineText, Day, Rotor, Pin, Heading}
 pub use Rattle.kd_form.proofs.Prelude.{Indicator, HasIndicator, IsRotorDayWith, IsConverterDay, HasHeading, drop-cons}
 pub use Rattle.kd_form.proofs.Prelude.{map, word_by_bytes}
 use Rattle.std.proofs.lemmas.Fmt.{digits_decimal, decimal_injective, length-decimal-le, decimal_nonempty}
@@ -419,13 +419,13 @@ IsEndedHeading-line s found part line text (Some h) has cut told unbroken kept =
 one_end : (s : Day) (count found : ℕ) (i j : Option Indicator) → count < 2 ^ 64 → found < 2 ^ 64 → HasIndicator s i
     → HasIndicator s j → line_of (decimal count ∷ indicator_words i) ≡ line_of (decimal found ∷ indicator_words j)
     → (count ≡ found) × (i ≡ j)
-one_end (OfRotors s) count found (Some i) (Some j) small little has had same =
+one_end (Rotor s) count found (Some i) (Some j) small little has had same =
     let counts = one_number count found 32 _ _ small little (omega arith) same in
     let starts = same_word i.ground_setting j.ground_setting _ _ counts.1 in
     grind (arith, counts.0, starts.0, same_letters i.enciphered_key j.enciphered_key starts.1)
 one_end s count found None None small little has had same = (decimal_injective count found small little same, refl)
-one_end (OfRotors s) count found _ _ small little has had same = search
-one_end (OfPins s) count found _ _ small little has had same = search
+one_end (Rotor s) count found _ _ small little has had same = search
+one_end (Pin s) count found _ _ small little has had same = search
 
 -- ---- the line and the body
 

@@ -11,7 +11,7 @@ pub use Rattle.kd_form.proofs.Prelude.{replicate, append_assoc, length-drop, ◌
 pub use Rattle.kd_form.proofs.Prelude.{length-replicate, length-take-le, append-nil, All-nil, All-replicate, All-take}
 pub use Rattle.kd_form.proofs.Prelude.{All-drop, PatternFault, IsLineWithEnd, filled_pattern, blank_count, fits_mark}
 pub use Rattle.kd_form.proofs.Prelude.{letters_for_mark, IsFilledLine, IsPatternLine, AreLettersAppended}
-pub use Rattle.kd_form.proofs.Prelude.{IsPatternFault, Result, Ok, Err, MatchResult, OfRotors, OfPins, AreKeys}
+pub use Rattle.kd_form.proofs.Prelude.{IsPatternFault, Result, Ok, Err, MatchResult, Rotor, Pin, AreKeys}
 pub use Rattle.kd_form.proofs.Prelude.{blank_places, rotor_pattern, key_pattern, key_letters, IsAnyKeyLine, IsKeyLine}
 pub use Rattle.kd_form.proofs.Prelude.{BeginsWithKeys, nil_from_length, false≢true}
 
@@ -167,8 +167,8 @@ filled-places n letters count = simp append-nil at (filled_word n letters [] [] 
 
 pub key_line : (s : Day) (k : Keys) → AreKeys s k
     → filled_pattern (key_pattern s) (key_letters k) ≡ line_of (key_words k)
-key_line (OfRotors s) (Rotor k) are = grind (arith, common_steps, filled_word, filled-places)
-key_line (OfPins s) (Pin k) are =
+key_line (Rotor s) (Rotor k) are = grind (arith, common_steps, filled_word, filled-places)
+key_line (Pin s) (Pin k) are =
     ap (λ t. codes "PART " ++ (k.chosen + 65) ∷ 32 ∷ t) (filled-places 6 k.external are.external.count)
 key_line _ _ are = absurd are
 
@@ -187,7 +187,7 @@ letters_cut m n letters are = grind (arith, common_steps, length-take-le, length
 
 keys_exist : (s : Day) (letters : List ℕ) → AreLetters (blank_count (key_pattern s)) letters
     → (k : Keys) × AreKeys s k × (key_letters k ≡ letters)
-keys_exist (OfRotors s) letters are =
+keys_exist (Rotor s) letters are =
     let slots : ℕ = length s.wheels in
     let (start, others) = letters_cut slots (slots + (2 + 3)) letters (rw (rotor_blanks slots) at are) in
     let (key, last) = letters_cut slots (2 + 3) (drop slots letters) others in
@@ -196,8 +196,8 @@ keys_exist (OfRotors s) letters are =
       record { ground_setting = start; message_key = key; fillers = fillers; group = group },
       simp take-append-drop,
     )
-keys_exist (OfPins s) [] are = absurd (omega (arith, are.count))
-keys_exist (OfPins s) (l ∷ letters) are =
+keys_exist (Pin s) [] are = absurd (omega (arith, are.count))
+keys_exist (Pin s) (l ∷ letters) are =
     (Pin (record { chosen = l; external = letters }), grind (arith, letters_cut 1 6 (l ∷ letters), All-head), refl)
 
 pub as_key_line : (s : Day) (line : List ℕ) → IsPatternLine (key_pattern s) line → IsAnyKeyLine s line

@@ -1,7 +1,7 @@
 -- How a part of a form is made: ciphers and their letters, the internal key, and the letters in groups.
 pub use Rattle.kd_form.proofs.Prelude.{common_steps, ◌≡◌, ◌∙◌, ℕ, ◌<◌, List, [], ◌∷◌, length, get_or, arith, All}
 pub use Rattle.kd_form.proofs.Prelude.{slice_index, enumerate_from, get_or-eq_default, cases_lt, length-map, All-get_or}
-pub use Rattle.kd_form.proofs.Prelude.{All-from_get_or, All-map, Day, OfRotors, OfPins, cipher_from, ◌≢◌, suc, ◌+◌, ◌≤◌}
+pub use Rattle.kd_form.proofs.Prelude.{All-from_get_or, All-map, Day, Rotor, Pin, cipher_from, ◌≢◌, suc, ◌+◌, ◌≤◌}
 pub use Rattle.kd_form.proofs.Prelude.{inl, inr, ◌++◌, map, refl, ap, subst, append_assoc, length-append, slice_get}
 pub use Rattle.kd_form.proofs.Prelude.{Some, Contains, cases_eq, append-nil, map_push, PrecedesOrEquals, ArePicked}
 pub use Rattle.kd_form.proofs.Prelude.{IsInternalKey, HaveNoInternalKey, IsTakenInTurn, OnWheel, OffWheel, ◌-◌, ◌%◌}
@@ -17,7 +17,7 @@ pub use Rattle.kd_form.proofs.Prelude.{list_of_body, text_of_body, IsLettersAnsw
 pub use Rattle.kd_form.proofs.Prelude.{All-replicate, twice_on_key, IsFraction, IsHeading, sent_letters, AreKeys}
 pub use Rattle.kd_form.proofs.Prelude.{nat_tests, AreRising, GoesOn}
 use Rattle.{kd_enigma.specs.Cipher.{path, product}}
-use Rattle.{kd_state.specs.TwoCiphers.{EngineKey, engine_key_after, key_with_window}}
+use Rattle.{kd_state.specs.EngineKey.{EngineKey, engine_key_after, key_with_window}}
 use Rattle.kd_form.specs.PartMaking.{IsKeyOfDaysMachine}
 use Rattle.kd_tables.specs.{Permutation.{alphabet, followed_by}, Rings.ring_of}
 use Rattle.std.proofs.lemmas.List.FromFn.{get_or-range_with_len, length-enumerate_from, length-range_with_len}
@@ -42,9 +42,9 @@ product_letters (p ∷ ps) =
 
 pub enciphered_letters : (s : Day) (window text : List ℕ) → All (λ letter. letter < 26) (cipher_from s window text)
 unfolding path
-enciphered_letters (OfRotors s) window text =
+enciphered_letters (Rotor s) window text =
     All-map (λ letter. letter < 26) _ (enumerate_from 1 text) (λ k d inside. letter_read _ _ (product_letters _))
-enciphered_letters (OfPins s) window text =
+enciphered_letters (Pin s) window text =
     All-map (λ letter. letter < 26) _ (enumerate_from 0 text) (λ k d inside. omega arith)
 
 pub ruleset stay_letters = (common_steps, enciphered_letters)
@@ -52,13 +52,13 @@ pub ruleset stay_letters = (common_steps, enciphered_letters)
 -- ---- the day's own machine stays on the day's key, whatever is enciphered on it
 
 pub new_has_days_key : (s : Day) (key : EngineKey) → key ≡ sheet_key s → IsKeyOfDaysMachine s key
-new_has_days_key (OfRotors s) key is = (_, is)
-new_has_days_key (OfPins s) key is = (_, is)
+new_has_days_key (Rotor s) key is = (_, is)
+new_has_days_key (Pin s) key is = (_, is)
 
 pub run_keeps_days_key : (s : Day) (key left : EngineKey) (window : List ℕ) (count : ℕ) → IsKeyOfDaysMachine s key
     → left ≡ engine_key_after (key_with_window key window) count → IsKeyOfDaysMachine s left
-run_keeps_days_key (OfRotors s) key left window count (shown, is) left_is = grind arith
-run_keeps_days_key (OfPins s) key left window count (shown, is) left_is = grind arith
+run_keeps_days_key (Rotor s) key left window count (shown, is) left_is = grind arith
+run_keeps_days_key (Pin s) key left window count (shown, is) left_is = grind arith
 
 -- -------- skipping letters finds the first rising places, letter by letter and wheel by wheel
 
@@ -289,8 +289,8 @@ pin_places k _ _ text is six two = absurd (omega arith)
 pub part_gives_back : (s : Day) (part parts : ℕ) (k : Keys) (piece : List ℕ) (made : Part) → IsLegalDay s → AreKeys s k
     → IsKeysAnswer s part k (Ok tt) → IsFraction part parts → IsPiece s piece
     → IsPartMade s part parts k piece made → GivesBack s part parts (sent_letters s piece) made
-part_gives_back (OfRotors s) part parts (Rotor k) piece made legal are suits fraction is makes =
-    let day : Day = OfRotors s in
+part_gives_back (Rotor s) part parts (Rotor k) piece made legal are suits fraction is makes =
+    let day : Day = Rotor s in
     let enciphered : List ℕ = cipher_from day k.message_key piece in
     let count : length (rotor_letters day k piece) ≡ 5 + length piece =
     simp length-append (omega (arith, enciphered_length day k.message_key piece, are.fillers, are.group)) in
@@ -308,8 +308,8 @@ part_gives_back (OfRotors s) part parts (Rotor k) piece made legal are suits fra
       counted = refl;
       read = GoesOn tt (rw (placed.0) suits) (grind (arith, placed, key, text));
     })
-part_gives_back (OfPins s) part parts (Pin k) piece made legal are suits fraction is (internal, first, makes) =
-    let day : Day = OfPins s in
+part_gives_back (Pin s) part parts (Pin k) piece made legal are suits fraction is (internal, first, makes) =
+    let day : Day = Pin s in
     let indicators : List ℕ = pin_indicators day k in
     let enciphered : List ℕ = cipher_from day internal (fill_last_group piece) in
     let more : ℕ = (5 - length piece % 5) % 5 in

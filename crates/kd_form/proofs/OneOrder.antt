@@ -2,7 +2,7 @@
 pub use Rattle.kd_form.proofs.Prelude.{◌≡◌, ℕ, ◌+◌, List, [], ◌∷◌, ◌++◌, length, refl, sym, ap, subst, ◌∙◌}
 pub use Rattle.kd_form.proofs.Prelude.{append_assoc, arith, Err, Ok, drop, ◌≤◌, codes, All, IsTrue, append_cancel_right}
 pub use Rattle.kd_form.proofs.Prelude.{append-nil, All-cons, All-nil, All-map, letters_text, is_text_byte, line_of, Day}
-pub use Rattle.kd_form.proofs.Prelude.{OfRotors, OfPins, Keys, Rotor, Pin, PrecedesOrEquals, IsInternalKey, key_words}
+pub use Rattle.kd_form.proofs.Prelude.{Rotor, Pin, Keys, PrecedesOrEquals, IsInternalKey, key_words}
 pub use Rattle.kd_form.proofs.Prelude.{AreKeys, IsLineWithEnd, BeginsWithKeys, IsOrder, IsOrderHead, IsOrderHeadFault}
 pub use Rattle.kd_form.proofs.Prelude.{IsPartTextMade, enciphered_choice, ArePartTextsMade, FormFault, nil_from_length}
 pub use Rattle.kd_form.proofs.Prelude.{length-append, IsKeysAnswer, IsBytesAnswer, IsDividedAnswer, IsHeadAnswer}
@@ -63,8 +63,8 @@ same_keys s (Rotor k) (Rotor other) are also same =
     grind (arith, same_word k.ground_setting, same_word k.message_key, same_word k.fillers, same_letters k.group)
 same_keys s (Pin k) (Pin other) are also same =
     grind (arith, same_word (k.chosen ∷ []) (other.chosen ∷ []), same_letters k.external)
-same_keys (OfRotors s) _ _ are also same = search
-same_keys (OfPins s) _ _ are also same = search
+same_keys (Rotor s) _ _ are also same = search
+same_keys (Pin s) _ _ are also same = search
 
 -- ---- one order
 

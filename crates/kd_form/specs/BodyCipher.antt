@@ -4,8 +4,9 @@ use Rattle.std.specs.Prelude.{◌≡◌, ℕ, ◌-◌, List, length, take, drop,
 use Rattle.std.specs.List.{slice_range}
 use Rattle.kd_state.specs.Machine.{AreLetters}
 use Rattle.kd_state.specs.AnswerRules.{AnswerRule, ◌>>=◌, Yields, Finds, Demands}
-use Rattle.kd_state.specs.SheetDay.{Day, OfRotors, OfPins, AreADaysGroup}
-use Rattle.kd_state.specs.TwoCiphers.{sheet_key, IsWindow}
+use Rattle.kd_state.specs.SheetDay.{Day, Rotor, Pin, AreADaysGroup}
+use Rattle.kd_state.specs.EngineKey.{IsWindow}
+use Rattle.kd_state.specs.TwoCiphers.{sheet_key}
 use Rattle.kd_form.specs.declared.fault.FormFault.{FormFault}
 use Rattle.kd_form.specs.declared.fault.FormFault.TheVariants.{KeyNotOnWheel, WrongGroup, IndicatorSpent}
 use Rattle.kd_form.specs.declared.fault.FormFault.TheVariants.{IndicatorsDiffer}
@@ -71,11 +72,11 @@ IsPinAnswer s part letters = do
 -- The indicator is valid for the day's model. On a rotor machine, its ground setting and its enciphered key have a
 -- letter for each slot. On the Converter M-209, there is no indicator.
 abbrev pub HasIndicator : Day → Option Indicator → Type 0
-HasIndicator (OfRotors s) (Some i) = AreLetters (length s.wheels) i.ground_setting
+HasIndicator (Rotor s) (Some i) = AreLetters (length s.wheels) i.ground_setting
     × AreLetters (length s.wheels) i.enciphered_key
-HasIndicator (OfPins s) None = Unit {0}
-HasIndicator (OfRotors s) None = ⊥
-HasIndicator (OfPins s) (Some i) = ⊥
+HasIndicator (Pin s) None = Unit {0}
+HasIndicator (Rotor s) None = ⊥
+HasIndicator (Pin s) (Some i) = ⊥
 
 -- The answer for the letters of a body: as on a rotor machine if the heading has an indicator, otherwise as on
 -- the Converter M-209.

@@ -5,7 +5,7 @@
 use Rattle.std.specs.Prelude.{codes, ◌≡◌, ◌≢◌, ◌⊎◌, ℕ, ◌%◌, ◌≤◌, ◌==◌, ◌&&◌, nat_le, Bool, IsTrue, if◌then◌else◌}
 use Rattle.std.specs.Prelude.{List, [], ◌∷◌, ◌++◌, take, slice_index}
 use Rattle.std.specs.Str.{bytes_eq}
-use Rattle.kd_state.specs.SheetDay.{Day, OfRotors, OfPins}
+use Rattle.kd_state.specs.SheetDay.{Day, Rotor, Pin}
 use Rattle.kd_state.specs.LineWords.{IsFirstPart, IsWithout}
 use Rattle.kd_form.specs.declared.heading.Heading.{Heading}
 use Rattle.kd_form.specs.BodyCipher.{HasIndicator}
@@ -35,8 +35,8 @@ parts_of form = (cut_at_headings form).0 ∷ (cut_at_headings form).1
 -- How many letters a body may have. On rotor machines: two fillers, a group of three, and 1 to 245 letters of text.
 -- On the Converter M-209: ten letters of indicators twice, and 1 to 100 groups of five letters.
 abbrev pub IsLetterCount : Day → ℕ → Type 0
-IsLetterCount (OfRotors s) count = (6 ≤ count) × (count ≤ 250)
-IsLetterCount (OfPins s) count = (25 ≤ count) × (count ≤ 520) × (count % 5 ≡ 0)
+IsLetterCount (Rotor s) count = (6 ≤ count) × (count ≤ 250)
+IsLetterCount (Pin s) count = (25 ≤ count) × (count ≤ 520) × (count % 5 ≡ 0)
 
 -- The part's number `part` is at least 1, and at most `parts`, the number of all parts. `parts` is at most 99.
 pub record IsFraction (part parts : ℕ) : Type 0 where

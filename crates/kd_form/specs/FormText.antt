@@ -4,7 +4,7 @@
 use Rattle.std.specs.Prelude.{◌≡◌, ◌⊎◌, ℕ, ◌+◌, ◌==◌, List, [], ◌∷◌, ◌++◌, length, map, Option, Some, None}
 use Rattle.std.specs.Prelude.{if◌then◌else◌, Result, Ok, Err}
 use Rattle.kd_state.specs.AnswerRules.{AnswerRule, Demands}
-use Rattle.kd_state.specs.SheetDay.{Day, OfRotors, OfPins}
+use Rattle.kd_state.specs.SheetDay.{Day, Rotor, Pin}
 use Rattle.kd_state.specs.LineWords.{IsFirstPart}
 use Rattle.kd_form.specs.declared.fault.FormFault.{FormFault}
 use Rattle.kd_form.specs.declared.fault.FormFault.TheVariants.{BadHeading, PartOrder}
@@ -128,8 +128,8 @@ form_message s = record {
 -- The letters that are enciphered for a text: its own letters. On the Converter M-209, X is appended until the last
 -- group of five is full.
 abbrev pub sent_letters : Day → List ℕ → List ℕ
-sent_letters (OfRotors s) letters = letters
-sent_letters (OfPins s) letters = fill_last_group letters
+sent_letters (Rotor s) letters = letters
+sent_letters (Pin s) letters = fill_last_group letters
 
 -- `given` is the text that the receiver of the order's form must get.
 pub record IsPlaintextOf (s : Day) (order given : List ℕ) : Type 0 where

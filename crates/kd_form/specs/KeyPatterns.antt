@@ -1,7 +1,7 @@
 -- The pattern of a line of keys, and the letters that fill it. No public contract cites this file.
 use Rattle.std.specs.Prelude.{codes, ◌≡◌, ◌⊎◌, ℕ, List, [], ◌∷◌, ◌++◌, length, replicate}
 use Rattle.kd_state.specs.LineWords.{line_of}
-use Rattle.kd_state.specs.SheetDay.{Day, RotorDay, PinDay, OfRotors, OfPins}
+use Rattle.kd_state.specs.SheetDay.{Day, RotorDay, PinDay, Rotor, Pin}
 use Rattle.kd_form.specs.declared.keys.Keys.{Keys}
 use Rattle.kd_form.specs.declared.keys.Keys.TheVariants.{Rotor, Pin}
 use Rattle.kd_form.specs.Keys.{AreKeys}
@@ -23,8 +23,8 @@ pin_pattern = line_of (codes "PART" ∷ blank_places 1 ∷ blank_places 6 ∷ []
 
 -- the pattern of a line of keys for the day's model
 abbrev pub key_pattern : Day → List ℕ
-key_pattern (OfRotors s) = rotor_pattern (length s.wheels)
-key_pattern (OfPins s) = pin_pattern
+key_pattern (Rotor s) = rotor_pattern (length s.wheels)
+key_pattern (Pin s) = pin_pattern
 
 -- the letters of `k`, in the order in which a line of keys has them
 abbrev pub key_letters : Keys → List ℕ
@@ -40,11 +40,11 @@ pub record IsAnyKeyLine (s : Day) (bytes : List ℕ) : Type 0 where
 -- The day is for a rotor machine with `slots` slots, three or four.
 pub record IsRotorDayWith (s : Day) (slots : ℕ) : Type 0 where
   pub day : RotorDay
-  pub is : s ≡ OfRotors day
+  pub is : s ≡ Rotor day
   pub count : slots ≡ length day.wheels
   pub either : (slots ≡ 3) ⊎ (slots ≡ 4)
 
 -- The day is for a Converter M-209.
 pub record IsConverterDay (s : Day) : Type 0 where
   pub day : PinDay
-  pub is : s ≡ OfPins day
+  pub is : s ≡ Pin day

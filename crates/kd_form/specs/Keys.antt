@@ -3,7 +3,7 @@
 use Rattle.std.specs.Prelude.{codes, ℕ, ◌<◌, List, [], ◌∷◌, length}
 use Rattle.kd_tables.specs.Text.{letters_text}
 use Rattle.kd_state.specs.Machine.{AreLetters}
-use Rattle.kd_state.specs.SheetDay.{Day, OfRotors, OfPins}
+use Rattle.kd_state.specs.SheetDay.{Day, Rotor, Pin}
 use Rattle.kd_form.specs.declared.keys.Keys.{Keys}
 use Rattle.kd_form.specs.declared.keys.Keys.TheVariants.{Rotor, Pin}
 use Rattle.kd_form.specs.declared.keys.RotorKeys.{RotorKeys}
@@ -31,7 +31,7 @@ pub record ArePinKeys (k : PinKeys) : Type 0 where
 
 -- The keys are for the day's model.
 abbrev pub AreKeys : Day → Keys → Type 0
-AreKeys (OfRotors s) (Rotor k) = AreRotorKeys (length s.wheels) k
-AreKeys (OfPins s) (Pin k) = ArePinKeys k
-AreKeys (OfRotors s) (Pin k) = ⊥
-AreKeys (OfPins s) (Rotor k) = ⊥
+AreKeys (Rotor s) (Rotor k) = AreRotorKeys (length s.wheels) k
+AreKeys (Pin s) (Pin k) = ArePinKeys k
+AreKeys (Rotor s) (Pin k) = ⊥
+AreKeys (Pin s) (Rotor k) = ⊥

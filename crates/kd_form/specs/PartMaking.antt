@@ -1,9 +1,10 @@
 -- The cipher of a day's own machine (a machine set as the day says), and the size of a part.
 -- Code: `DayMachine` has one engine, and sets its windows anew for each text.
 use Rattle.std.specs.Prelude.{◌≡◌, ℕ, ◌-◌, ◌%◌, List, [], ◌∷◌, ◌++◌, length, Option, Some, None, replicate}
-use Rattle.kd_state.specs.SheetDay.{Day, OfRotors, OfPins, AreADaysGroup}
+use Rattle.kd_state.specs.SheetDay.{Day, Rotor, Pin, AreADaysGroup}
 use Rattle.kd_state.specs.AnswerRules.{AnswerRule, ◌>>=◌, Yields, Finds, Demands}
-use Rattle.kd_state.specs.TwoCiphers.{EngineKey, IsWindow, cipher, key_with_window, sheet_key}
+use Rattle.kd_state.specs.EngineKey.{EngineKey, IsWindow, cipher, key_with_window}
+use Rattle.kd_state.specs.TwoCiphers.{sheet_key}
 use Rattle.kd_form.specs.declared.fault.FormFault.{FormFault}
 use Rattle.kd_form.specs.declared.fault.FormFault.TheVariants.{KeyNotOnWheel, WrongGroup, IndicatorSpent}
 use Rattle.kd_form.specs.declared.keys.Keys.{Keys}
@@ -24,13 +25,13 @@ IsKeyOfDaysMachine s key = (window : List ℕ) × (key ≡ key_with_window (shee
 
 -- the two letters of the day's key list on the Converter M-209; no letters on a rotor machine
 abbrev pub list_letters : Day → List ℕ
-list_letters (OfRotors s) = []
-list_letters (OfPins s) = s.list
+list_letters (Rotor s) = []
+list_letters (Pin s) = s.list
 
 -- how many letters of text a part can have
 abbrev pub part_size : Day → ℕ
-part_size (OfRotors s) = 245
-part_size (OfPins s) = 500
+part_size (Rotor s) = 245
+part_size (Pin s) = 500
 
 -- part number `part` of `parts`, with `letters` as its body
 abbrev pub part_of : ℕ → ℕ → Option Indicator → List ℕ → Part

@@ -4,7 +4,7 @@ use Rattle.std.specs.Prelude.{IsTrue, Option, Some, None, if◌then◌else◌}
 use Rattle.std.specs.Int.{div_ceil}
 use Rattle.kd_tables.specs.Text.{is_capital, is_text_byte}
 use Rattle.kd_state.specs.AnswerRules.{AnswerRule, ◌>>=◌, Yields, Demands, FindsAlways}
-use Rattle.kd_state.specs.SheetDay.{Day, OfRotors, OfPins}
+use Rattle.kd_state.specs.SheetDay.{Day, Rotor, Pin}
 use Rattle.kd_form.specs.declared.fault.FormFault.{FormFault}
 use Rattle.kd_form.specs.declared.fault.FormFault.TheVariants.{BadByte, EmptyText, PartKeys}
 use Rattle.kd_form.specs.declared.keys.Keys.{Keys}
@@ -18,8 +18,8 @@ use Rattle.kd_form.specs.Order.{IsOrder, IsOrderHeadFault}
 
 -- the letter that is sent for a space: Z on the Converter M-209; none on a rotor machine
 abbrev pub space_letter : Day → Option ℕ
-space_letter (OfRotors s) = None
-space_letter (OfPins s) = Some 25
+space_letter (Rotor s) = None
+space_letter (Pin s) = Some 25
 
 -- the letter that a byte gives: a capital letter gives itself, a space gives `for_space`, other bytes give none
 abbrev pub letter_of_byte : Option ℕ → ℕ → Option ℕ

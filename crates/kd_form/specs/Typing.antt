@@ -6,7 +6,8 @@ use Rattle.std.specs.Prelude.{IsFalse, None, Result, Ok, Err}
 use Rattle.kd_tables.specs.Text.{is_text_byte, letters_text}
 use Rattle.kd_tables.specs.Ports.{Port}
 use Rattle.kd_state.specs.declared.machine.parts.Parts.{Parts}
-use Rattle.kd_state.specs.TwoCiphers.{EngineKey, IsReady, cipher, engine_key_after, physical_cipher}
+use Rattle.kd_state.specs.EngineKey.{EngineKey, cipher, engine_key_after}
+use Rattle.kd_state.specs.TwoCiphers.{IsReady, physical_cipher}
 use Rattle.kd_form.specs.declared.fault.FormFault.{FormFault}
 use Rattle.kd_form.specs.declared.fault.FormFault.TheVariants.{NotReady}
 use Rattle.kd_form.specs.declared.typing.Typist.{Typist}

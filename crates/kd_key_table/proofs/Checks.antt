@@ -3,8 +3,9 @@ use Rattle.std.proofs.Common.{arith, ◌≡◌, ◌↔◌, ◌∙◌, ℕ, Bool,
 use Rattle.std.specs.Bool.{OnTrue}
 unfoldable use Rattle.kd_tables.specs.Rings.{ring_of}
 use Rattle.kd_state.specs.Machine.{AreOnWheels}
-use Rattle.kd_state.specs.SheetDay.{Day, OfPins, PinDay}
-use Rattle.kd_state.specs.TwoCiphers.{EngineKey, IsWindow, cipher, key_with_window, sheet_key}
+use Rattle.kd_state.specs.SheetDay.{Day, Pin, PinDay}
+use Rattle.kd_state.specs.EngineKey.{EngineKey, IsWindow, cipher, key_with_window}
+use Rattle.kd_state.specs.TwoCiphers.{sheet_key}
 use Rattle.kd_sheet.proofs.ReadBack.Described.KeyValues.{AreOnWheels-by_test}
 unfoldable use Rattle.kd_key_table.specs.KeyList.{check_of}
 
@@ -15,7 +16,7 @@ first_letters = AreOnWheels-by_test (replicate 6 0) refl refl
 
 -- The day's machine, turned to A on each wheel, enciphers 26 times A.
 pub check_is : (values : PinDay) (day : Day) (before after : EngineKey) (turned : Bool) (text : List ℕ)
-    → day ≡ OfPins values → before ≡ sheet_key day → (IsTrue turned ↔ IsWindow before (replicate 6 0))
+    → day ≡ Pin values → before ≡ sheet_key day → (IsTrue turned ↔ IsWindow before (replicate 6 0))
     → OnTrue turned (after ≡ key_with_window before (replicate 6 0)) → text ≡ cipher after (replicate 26 0)
     → text ≡ check_of values
 unfolding check_of

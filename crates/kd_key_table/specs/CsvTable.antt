@@ -9,7 +9,7 @@ use Rattle.kd_tables.specs.Text.{letters_text}
 use Rattle.kd_tables.specs.declared.model.Model.TheVariants.{M209}
 use Rattle.kd_pins.specs.declared.pin_set.PinSet.{PinSet}
 use Rattle.kd_pins.specs.PinWheels.{pin_wheels, pins_of, pins_on}
-use Rattle.kd_state.specs.SheetDay.{Day, OfRotors, OfPins, PinDay, RotorDay}
+use Rattle.kd_state.specs.SheetDay.{Day, Rotor, Pin, PinDay, RotorDay}
 use Rattle.kd_sheet.specs.Sheet.{day_of}
 use Rattle.kd_pictures.specs.Template.{letter_text}
 use Rattle.kd_key_table.specs.declared.days.TheConstants.{DAYS}
@@ -63,8 +63,8 @@ pin_line day =
 
 abbrev pub day_line : Bool → Option Day → List ℕ
 day_line has_lists None = []
-day_line has_lists (Some (OfRotors values)) = rotor_line has_lists values
-day_line has_lists (Some (OfPins values)) = pin_line values
+day_line has_lists (Some (Rotor values)) = rotor_line has_lists values
+day_line has_lists (Some (Pin values)) = pin_line values
 
 -- whether the month has a Converter's day
 unfoldable pub has_lists : List (Option Day) → Bool

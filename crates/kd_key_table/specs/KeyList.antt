@@ -10,7 +10,7 @@ use Rattle.kd_tables.specs.Text.{letters_text}
 use Rattle.kd_pins.specs.declared.pin_set.PinSet.{PinSet}
 use Rattle.kd_pins.specs.PinWheel.{is_effective}
 use Rattle.kd_pins.specs.PinWheels.{pin_wheels, pins_of, pins_on}
-use Rattle.kd_state.specs.SheetDay.{Day, OfRotors, OfPins, PinDay}
+use Rattle.kd_state.specs.SheetDay.{Day, Rotor, Pin, PinDay}
 use Rattle.kd_state.specs.TwoCiphers.{sheet_cipher}
 use Rattle.kd_pictures.specs.declared.language.Language.{Language}
 use Rattle.kd_pictures.specs.Fives.{fives_from}
@@ -50,7 +50,7 @@ bar_line pins numbered = bar_head (numbered.0 + 1) numbered.1 ++ pin_cells pins 
 
 -- the 26-letter check: what the machine makes of 26 times A on the day's key, but with A on each of its wheels
 unfoldable pub check_of : PinDay → List ℕ
-check_of day = sheet_cipher (OfPins (record day { window = replicate 6 0 })) (replicate 26 0)
+check_of day = sheet_cipher (Pin (record day { window = replicate 6 0 })) (replicate 26 0)
 
 unfoldable pub key_list : Language → PinDay → List ℕ
 key_list l day =
@@ -62,5 +62,5 @@ key_list l day =
 -- the key list of a Converter's day
 abbrev pub key_list_of : Language → Option Day → List ℕ
 key_list_of l None = []
-key_list_of l (Some (OfRotors values)) = []
-key_list_of l (Some (OfPins values)) = key_list l values
+key_list_of l (Some (Rotor values)) = []
+key_list_of l (Some (Pin values)) = key_list l values

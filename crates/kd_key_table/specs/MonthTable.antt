@@ -5,7 +5,7 @@ use Rattle.kd_tables.specs.declared.model.Model.{Model}
 use Rattle.kd_tables.specs.declared.model.Model.TheVariants.{EnigmaI, M3, M4, M209}
 use Rattle.kd_tables.specs.Tables.{reflector_text, slots_of}
 use Rattle.kd_state.specs.declared.sheet_day.rotor_entry.SheetWheel.{SheetWheel}
-use Rattle.kd_state.specs.SheetDay.{Day, OfRotors, OfPins, RotorDay}
+use Rattle.kd_state.specs.SheetDay.{Day, Rotor, Pin, RotorDay}
 use Rattle.kd_sheet.specs.Sheet.{day_of}
 use Rattle.kd_pictures.specs.declared.language.Language.{Language}
 use Rattle.kd_pictures.specs.Language.{text_in}
@@ -48,8 +48,8 @@ row_text day = setting_cells day ++ word_cells day
 -- the row of a rotor machine's day
 abbrev pub row_of : Option Day → List ℕ
 row_of None = []
-row_of (Some (OfRotors values)) = row_text values
-row_of (Some (OfPins values)) = []
+row_of (Some (Rotor values)) = row_text values
+row_of (Some (Pin values)) = []
 
 -- ---- The table.
 

@@ -5,7 +5,7 @@ ghost use Rattle.kd_pins.specs.PinWheel.{is_effective};
 ghost use Rattle.kd_pictures.specs.Drawing.{Draws};
 ghost use Rattle.kd_sheet.specs.Sheet.{day_of};
 ghost use Rattle.kd_state.specs.Entry.{pin_values, values_of};
-ghost use Rattle.kd_state.specs.SheetDay.{OfPins};
+ghost use Rattle.kd_state.specs.SheetDay.{Pin};
 ghost use Rattle.kd_key_table.specs.KeyList.{bar_head, bar_line, check_of, key_list, key_list_of, pin_cells, pin_shown};
 
 use crate::texts::{
@@ -147,7 +147,7 @@ fn draw_letter_cell<W: Sink>(sink: &mut W, language: Language, letter: Letter, e
 
 /// The 26-letter check of the day with these values: 26 times A enciphered, with A on each wheel.
 fn check_of(day: &SheetDay, entry: &PinEntry) -> [Letter; 26]
-    requires { day.now ≡ OfPins (pin_values entry.now) }
+    requires { day.now ≡ Pin (pin_values entry.now) }
     ensures { result ≡ check_of (pin_values entry.now) }
 {
     let mut engine = own_engine(day);

@@ -2,8 +2,8 @@
 use Rattle.std.proofs.Common.{◌≡◌, ◌∙◌, ℕ, zero, suc, ◌+◌, List, [], ◌∷◌, map, refl, sym, ap, arith, Option, Some, None}
 use Rattle.std.proofs.Common.{slice_get}
 use Rattle.std.specs.List.{enumerate_from}
-use Rattle.kd_state.specs.SheetDay.{Day, OfRotors, OfPins}
-use Rattle.kd_state.specs.TwoCiphers.{OfWheels, OfDrum}
+use Rattle.kd_state.specs.SheetDay.{Day, Rotor, Pin}
+use Rattle.kd_state.specs.EngineKey.{Rotor, Pin}
 use Rattle.kd_form.specs.PartMaking.{cipher_from}
 use Rattle.kd_lost.specs.Laws.{CiphersAgreeWhereTextsDo}
 use Rattle.kd_lost.specs.Lost.{Completes, covered, filled}
@@ -20,8 +20,8 @@ agree_from f start (x ∷ text) (y ∷ other) zero same = grind (arith)
 agree_from f start (x ∷ text) (y ∷ other) (suc place) same = grind (arith, agree_from f (start + 1) text other place)
 
 pub ciphers_agree : CiphersAgreeWhereTextsDo
-ciphers_agree (OfWheels key) text other place same = agree_from _ 1 text other place same
-ciphers_agree (OfDrum key) text other place same = agree_from _ 0 text other place same
+ciphers_agree (Rotor key) text other place same = agree_from _ 1 text other place same
+ciphers_agree (Pin key) text other place same = agree_from _ 0 text other place same
 
 -- two completions of the same letters, enciphered letter by letter, agree wherever no letter was lost
 covered_alike : (f : ℕ × ℕ → ℕ) (start : ℕ) (received : List (Option ℕ)) (whole other : List ℕ)
@@ -40,8 +40,8 @@ covered_alike f start (Some got ∷ received) (x ∷ whole) (y ∷ other) a b =
 pub ciphers_covered_alike : (s : Day) (window : List ℕ) (received : List (Option ℕ)) (whole other : List ℕ)
     → Completes received whole → Completes received other
     → covered received (cipher_from s window whole) ≡ covered received (cipher_from s window other)
-ciphers_covered_alike (OfRotors s) window received whole other a b = covered_alike _ 1 received whole other a b
-ciphers_covered_alike (OfPins s) window received whole other a b = covered_alike _ 0 received whole other a b
+ciphers_covered_alike (Rotor s) window received whole other a b = covered_alike _ 1 received whole other a b
+ciphers_covered_alike (Pin s) window received whole other a b = covered_alike _ 0 received whole other a b
 
 pub filled_completes : (received : List (Option ℕ)) → Completes received (filled received)
 filled_completes [] = tt

@@ -7,8 +7,9 @@ use Rattle.std.proofs.lemmas.Bool.{false≢true}
 use Rattle.std.proofs.lemmas.List.{drop_at, length-take-le, take-append-drop, take-take, take_at}
 use Rattle.std.specs.Prelude.{IfOk}
 use Rattle.kd_state.specs.LineWords.{IsWithout, IsFirstPart, line_of}
-use Rattle.kd_state.specs.SheetDay.{Day, OfRotors, OfPins}
-use Rattle.kd_state.specs.TwoCiphers.{IsWindow, sheet_key}
+use Rattle.kd_state.specs.SheetDay.{Day, Rotor, Pin}
+use Rattle.kd_state.specs.EngineKey.{IsWindow}
+use Rattle.kd_state.specs.TwoCiphers.{sheet_key}
 use Rattle.kd_state.proofs.OneAnswer.{ThenNext-Ok, Yields-Ok}
 use Rattle.kd_form.specs.declared.{heading.{Heading.{Heading}, Indicator.{Indicator}}, keys.PinKeys.{PinKeys}}
 use Rattle.kd_form.specs.BodyCipher.{HasIndicator, deciphered_key, keys_of_body, text_of_body}
@@ -196,9 +197,9 @@ whole_split part line body whole first kept completes =
 
 pub least_count : (s : Day) (count : ℕ) (i : Option Indicator) → IsLetterCount s count → HasIndicator s i
     → (0 < count) × (i ≡ None → 20 ≤ count)
-least_count (OfRotors s) count (Some i) is has = (omega (arith, is), λ none. absurd (cc))
-least_count (OfRotors s) count None is has = absurd has
-least_count (OfPins s) count i is has = (omega (arith, is), λ none. omega (arith, is))
+least_count (Rotor s) count (Some i) is has = (omega (arith, is), λ none. absurd (cc))
+least_count (Rotor s) count None is has = absurd has
+least_count (Pin s) count i is has = (omega (arith, is), λ none. omega (arith, is))
 
 -- what a part of two lines shows, from what is known of its lines
 two_lines : (s : Day) (part line body : List ℕ) (h : Heading) (shown : DamagedText) → IsFirstPart 10 part line body

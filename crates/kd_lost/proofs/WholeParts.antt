@@ -11,8 +11,9 @@ use Rattle.std.proofs.lemmas.Fmt.{digits_decimal}
 use Rattle.std.specs.List.{cons_option, slice_range}
 use Rattle.kd_tables.specs.Text.{is_text_byte, letters_text}
 use Rattle.kd_state.specs.LineWords.{IsFirstPart, line_of}
-use Rattle.kd_state.specs.SheetDay.{AreADaysGroup, Day, OfRotors, OfPins}
-use Rattle.kd_state.specs.TwoCiphers.{IsWindow, sheet_key}
+use Rattle.kd_state.specs.SheetDay.{AreADaysGroup, Day, Rotor, Pin}
+use Rattle.kd_state.specs.EngineKey.{IsWindow}
+use Rattle.kd_state.specs.TwoCiphers.{sheet_key}
 use Rattle.kd_state.proofs.Lines.{IsNumeralModel-digits}
 use Rattle.kd_state.proofs.OneAnswer.{ThenNext-Ok, Yields-Ok}
 use Rattle.kd_form.specs.declared.{heading.{Heading.{Heading}, Indicator.{Indicator}}}
@@ -80,11 +81,11 @@ firm_text body allowed = All-weaker (λ b. IsTrue (is_text_byte b)) IsFirm (λ b
 firm_end : (s : Day) (count : ℕ) (i : Option Indicator) → count < 2 ^ 64 → HasIndicator s i
     → AreFirm (line_of (decimal count ∷ indicator_words i))
 firm_end s count None small has = firm_number count small
-firm_end (OfRotors s) count (Some i) small has =
+firm_end (Rotor s) count (Some i) small has =
     firm_then 32 (decimal count) _ (refl, refl) (firm_number count small)
     (firm_then 32 (letters_text i.ground_setting) (letters_text i.enciphered_key) (refl, refl)
     (firm_letters i.ground_setting has.0.within) (firm_letters i.enciphered_key has.1.within))
-firm_end (OfPins s) count (Some i) small has = absurd has
+firm_end (Pin s) count (Some i) small has = absurd has
 
 firm_word : AreFirm (codes "PART")
 firm_word =
@@ -160,8 +161,8 @@ pub record IsWholePart (s : Day) (p : PartStart) (part : List ℕ) (read : ReadP
   pub parts : read.parts ≡ h.parts
 
 least_letters : (s : Day) (h : Heading) → IsHeading s h → 0 < h.letters
-least_letters (OfRotors s) h is = omega (arith, is.letters)
-least_letters (OfPins s) h is = omega (arith, is.letters)
+least_letters (Rotor s) h is = omega (arith, is.letters)
+least_letters (Pin s) h is = omega (arith, is.letters)
 
 whole_lines : (s : Day) (p : PartStart) (part : List ℕ) (read : ReadPart) (h : Heading) (body : List ℕ) → IsHeading s h
     → HasFirstLine part (line_of (heading_words h)) body → HasDueNumbers p.number p.expected h

@@ -2,7 +2,7 @@
 use Rattle.std.specs.Prelude.{◌≡◌, ℕ, false, List, [], ◌∷◌, ◌++◌, All, map, slice_get, Option, Some, None}
 use Rattle.std.specs.Prelude.{Result, Ok}
 use Rattle.kd_state.specs.SheetDay.{Day}
-use Rattle.kd_state.specs.TwoCiphers.{EngineKey, cipher}
+use Rattle.kd_state.specs.EngineKey.{EngineKey, cipher}
 use Rattle.kd_form.specs.FormParts.{parts_of}
 use Rattle.kd_form.specs.FormText.{IsTextOf}
 use Rattle.kd_form.specs.PartReading.{IsPartAnswer, PartStart, ReadPart}

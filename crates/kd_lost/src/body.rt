@@ -1,7 +1,8 @@
 //! Deciphers the letters of a body in which letters were lost.
 ghost use Rattle.std.specs.Prelude.{◌≡◌, ◌≤◌, ◌-◌, ◌+◌, ◌++◌, ◌<◌, ℕ, List, length, map, drop, take, Some, None, Ok};
 ghost use Rattle.std.specs.Prelude.{MatchOption};
-ghost use Rattle.kd_state.specs.TwoCiphers.{IsWindow, sheet_key};
+ghost use Rattle.kd_state.specs.EngineKey.{IsWindow};
+ghost use Rattle.kd_state.specs.TwoCiphers.{sheet_key};
 ghost use Rattle.kd_form.specs.BodyCipher.{HasIndicator};
 ghost use Rattle.kd_form.specs.InternalKey.{IsInternalKey, HaveNoInternalKey};
 ghost use Rattle.kd_form.specs.KeyPatterns.{IsConverterDay};

@@ -6,7 +6,7 @@ use Rattle.std.proofs.lemmas.Bool.{false≢true}
 use Rattle.std.proofs.lemmas.List.Elements.{All-cons, All-head, All-nil, All-tail}
 use Rattle.std.specs.List.{range_with_len}
 use Rattle.std.specs.Prelude.{IfOk}
-use Rattle.kd_state.specs.SheetDay.{Day, OfPins, OfRotors}
+use Rattle.kd_state.specs.SheetDay.{Day, Pin, Rotor}
 use Rattle.kd_state.proofs.OneAnswer.{ThenNext-Ok}
 use Rattle.kd_form.specs.declared.heading.Indicator.{Indicator}
 use Rattle.kd_form.specs.BodyCipher.{HasIndicator}
@@ -70,9 +70,9 @@ shown_holds P place number (one ∷ parts) part all is =
 keys_showable : (s : Day) (i : Option Indicator) (received : List (Option ℕ)) (keys : TextKeys) → HasIndicator s i
     → AreTextKeys s i received keys → AreShowable s keys
 keys_showable s (Some i) received keys has (is_key, is) = rw is is_key
-keys_showable (OfPins s) None received keys has (pin, is, copies, window, internal) =
+keys_showable (Pin s) None received keys has (pin, is, copies, window, internal) =
     rw is (window, internal.picked.on_wheels)
-keys_showable (OfRotors s) None received keys has are = absurd has
+keys_showable (Rotor s) None received keys has are = absurd has
 
 text_showable : (s : Day) (part : List ℕ) (text : Result DamagedText PartDamage) → IsDamagedTextAnswer s part text
     → IfOk text (λ shown. AreShowable s shown.keys)

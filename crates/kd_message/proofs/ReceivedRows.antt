@@ -2,7 +2,7 @@
 use Rattle.std.proofs.Common.{◌≡◌, ◌∙◌, ℕ, suc, ◌-◌, ◌≤◌, List, [], ◌∷◌, ◌++◌, length, map, take, drop, arith, refl}
 use Rattle.std.proofs.Common.{sym, subst, ap, append-nil, Option, Some, None, true}
 use Rattle.std.proofs.lemmas.List.Elements.{filter-append}
-use Rattle.kd_state.specs.SheetDay.{Day, OfPins, OfRotors}
+use Rattle.kd_state.specs.SheetDay.{Day, Pin, Rotor}
 use Rattle.kd_state.proofs.OneAnswer.{ThenNext-Ok}
 use Rattle.kd_form.specs.declared.heading.Indicator.{Indicator}
 use Rattle.kd_form.specs.BodyCipher.{HasIndicator}
@@ -81,33 +81,33 @@ record HasTextRows (s : Day) (i : Option Indicator) (received : List (Option ℕ
 
 text_rows : (s : Day) (i : Option Indicator) (received : List (Option ℕ)) (shown : DamagedText) → HasIndicator s i
     → IsTextShown s i received shown → HasTextRows s i received shown
-text_rows (OfRotors s) (Some i) received shown has is =
+text_rows (Rotor s) (Some i) received shown has is =
     let letters = shown.letters.items in
     let cells = received_cells None (drop 5 shown.received.items) letters in record {
       cells =
-          ap (λ k. pressed_of (work_with (OfRotors s) k shown).body) is.keys.1
+          ap (λ k. pressed_of (work_with (Rotor s) k shown).body) is.keys.1
           ∙ pressed_after (take 5 shown.received.items) cells
           (received_pressed None (drop 5 shown.received.items) letters)
           ∙ ap (λ l. received_cells None (drop 5 l) letters) is.as_received;
       start =
-          ap (λ k. (work_with (OfRotors s) k shown).start) is.keys.1
-          ∙ sym (ap (text_window (OfRotors s)) is.keys.1);
+          ap (λ k. (work_with (Rotor s) k shown).start) is.keys.1
+          ∙ sym (ap (text_window (Rotor s)) is.keys.1);
     }
-text_rows (OfPins s) None received shown has is =
+text_rows (Pin s) None received shown has is =
     let all = shown.received.items in
     let letters = shown.letters.items in
     let cells = received_cells (Some 25) (text_part None all) letters in record {
       cells =
-          ap (λ k. pressed_of (work_with (OfPins s) k shown).body) is.keys.1
+          ap (λ k. pressed_of (work_with (Pin s) k shown).body) is.keys.1
           ∙ pressed_between (take 10 all) (drop (length all - 10) all) cells
           (received_pressed (Some 25) (text_part None all) letters)
           ∙ ap (λ l. received_cells (Some 25) (text_part None l) letters) is.as_received;
       start =
-          ap (λ k. (work_with (OfPins s) k shown).start) is.keys.1
-          ∙ sym (ap (text_window (OfPins s)) is.keys.1);
+          ap (λ k. (work_with (Pin s) k shown).start) is.keys.1
+          ∙ sym (ap (text_window (Pin s)) is.keys.1);
     }
-text_rows (OfRotors s) None received shown has is = absurd has
-text_rows (OfPins s) (Some i) received shown has is = absurd has
+text_rows (Rotor s) None received shown has is = absurd has
+text_rows (Pin s) (Some i) received shown has is = absurd has
 
 -- what stands below the letters, for each choice of keys
 below_keys : (s : Day) (i : Option Indicator) (received : List (Option ℕ)) (shown : DamagedText) (keys : List ℕ)

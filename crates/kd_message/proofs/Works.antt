@@ -1,7 +1,8 @@
 -- What is worked for a received part: its cells, and its ground setting.
 use Rattle.std.proofs.Common.{◌≡◌, ℕ, ◌≤◌, List, [], ◌∷◌, length, arith, Option, Some, map}
-use Rattle.kd_state.specs.SheetDay.{Day, OfPins, OfRotors}
-use Rattle.kd_state.specs.TwoCiphers.{IsWindow, sheet_key}
+use Rattle.kd_state.specs.SheetDay.{Day, Pin, Rotor}
+use Rattle.kd_state.specs.EngineKey.{IsWindow}
+use Rattle.kd_state.specs.TwoCiphers.{sheet_key}
 use Rattle.kd_form.specs.declared.heading.Indicator.{Indicator}
 use Rattle.kd_form.specs.BodyCipher.{HasIndicator}
 use Rattle.std.proofs.lemmas.List.{length-map}
@@ -18,5 +19,5 @@ skipped_few letters = grind (arith, length-map)
 
 -- the ground setting can show in the windows
 pub ground_is_window : (s : Day) (i : Indicator) → HasIndicator s (Some i) → IsWindow (sheet_key s) i.ground_setting
-ground_is_window (OfRotors s) i has = grind (arith, length-map)
-ground_is_window (OfPins s) i has = absurd has
+ground_is_window (Rotor s) i has = grind (arith, length-map)
+ground_is_window (Pin s) i has = absurd has

@@ -1,8 +1,9 @@
 -- What is worked for a part: its cells, and its internal key.
 use Rattle.std.proofs.Common.{◌≡◌, ℕ, ◌≤◌, List, [], ◌∷◌, length, arith, Option, None, Some, MatchOption, IsSome, map}
 use Rattle.std.proofs.Common.{refl}
-use Rattle.kd_state.specs.SheetDay.{Day, OfPins, OfRotors}
-use Rattle.kd_state.specs.TwoCiphers.{IsWindow, sheet_key}
+use Rattle.kd_state.specs.SheetDay.{Day, Pin, Rotor}
+use Rattle.kd_state.specs.EngineKey.{IsWindow}
+use Rattle.kd_state.specs.TwoCiphers.{sheet_key}
 use Rattle.kd_form.specs.declared.keys.Keys.TheVariants.{Pin}
 use Rattle.kd_form.specs.declared.keys.PinKeys.{PinKeys}
 use Rattle.kd_form.specs.Keys.{AreKeys}
@@ -35,6 +36,6 @@ picked_key letters items found key is same = rw same at is
 pub pin_workable : (s : Day) (k : PinKeys) (internal text letters : List ℕ) (work : Work) → AreKeys s (Pin k)
     → IsWindow (sheet_key s) k.external → IsInternalKey letters internal → work ≡ pin_work s k internal text
     → IsWorkable s work
-pin_workable (OfPins s) k internal text letters work are window is same =
+pin_workable (Pin s) k internal text letters work are window is same =
     rw same (record { ground = window; start = is.picked.on_wheels })
-pin_workable (OfRotors s) k internal text letters work are window is same = absurd are
+pin_workable (Rotor s) k internal text letters work are window is same = absurd are

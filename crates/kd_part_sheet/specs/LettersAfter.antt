@@ -4,12 +4,13 @@ use Rattle.kd_pins.specs.PinWheels.{pins_of}
 use Rattle.kd_drum.specs.Converter.{pin_key_after}
 use Rattle.kd_state.specs.declared.sheet_day.pin_entry.PinEntry.{PinEntry}
 use Rattle.kd_state.specs.SheetDay.{Day}
-use Rattle.kd_state.specs.TwoCiphers.{EngineKey, OfWheels, OfDrum, engine_key_after, key_with_window, sheet_key}
+use Rattle.kd_state.specs.EngineKey.{EngineKey, Rotor, Pin, engine_key_after, key_with_window}
+use Rattle.kd_state.specs.TwoCiphers.{sheet_key}
 
 -- the letters in the windows, or on the pin wheels, of a machine with this key
 abbrev pub letters_shown : EngineKey → List ℕ
-letters_shown (OfWheels key) = key.window
-letters_shown (OfDrum key) = key.letters
+letters_shown (Rotor key) = key.window
+letters_shown (Pin key) = key.letters
 
 -- The letters that a machine set as the day says shows after `presses` letters were pressed. Before them, it shows the
 -- letters `start`.

@@ -3,7 +3,7 @@ use Rattle.std.specs.Prelude.{decimal, ℕ, Bool, if◌then◌else◌, List, [],
 use Rattle.kd_tables.specs.declared.model.Model.{Model}
 use Rattle.kd_tables.specs.declared.model.Model.TheVariants.{EnigmaI, M3, M4, M209}
 use Rattle.kd_tables.specs.Tables.{reflector_text}
-use Rattle.kd_state.specs.SheetDay.{Day, OfPins, OfRotors, RotorDay}
+use Rattle.kd_state.specs.SheetDay.{Day, Pin, Rotor, RotorDay}
 use Rattle.kd_pictures.specs.Template.{filled, letter_text}
 use Rattle.kd_pictures.specs.Words.{is_converter, model_name}
 use Rattle.kd_part_sheet.specs.declared.cells.Cell.{Cell}
@@ -37,8 +37,8 @@ rotor_key_text texts s =
 
 -- the key of the day that the machine has to be on
 abbrev pub day_key_text : MessageTexts → Day → List ℕ
-day_key_text texts (OfRotors s) = rotor_key_text texts s
-day_key_text texts (OfPins s) = filled texts.day_key.list.now (map letter_text s.list)
+day_key_text texts (Rotor s) = rotor_key_text texts s
+day_key_text texts (Pin s) = filled texts.day_key.list.now (map letter_text s.list)
 
 -- the step in which nothing was pressed yet
 abbrev pub beginning : Progress

@@ -1,7 +1,8 @@
 -- What is pressed for a part, and what has to light up: by the machine of the day, from the windows that are set.
 use Rattle.std.specs.Prelude.{◌≡◌, ℕ, List, ◌++◌, map}
 use Rattle.kd_state.specs.SheetDay.{Day}
-use Rattle.kd_state.specs.TwoCiphers.{IsWindow, sheet_key}
+use Rattle.kd_state.specs.EngineKey.{IsWindow}
+use Rattle.kd_state.specs.TwoCiphers.{sheet_key}
 use Rattle.kd_form.specs.declared.keys.Keys.{Keys}
 use Rattle.kd_form.specs.declared.keys.Keys.TheVariants as keys
 use Rattle.kd_form.specs.declared.keys.PinKeys.{PinKeys}

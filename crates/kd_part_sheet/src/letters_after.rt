@@ -1,7 +1,8 @@
 //! The letters that a machine shows after some letters were pressed.
 ghost use Rattle.std.specs.Prelude.{◌≡◌, ◌≤◌, ◌⊎◌, length, map};
 ghost use Rattle.kd_step.specs.Stepper.{window_after};
-ghost use Rattle.kd_state.specs.TwoCiphers.{IsWindow, sheet_key};
+ghost use Rattle.kd_state.specs.EngineKey.{IsWindow};
+ghost use Rattle.kd_state.specs.TwoCiphers.{sheet_key};
 ghost use Rattle.kd_state.specs.Machine.{AreOnWheels};
 ghost use Rattle.kd_part_sheet.specs.LettersAfter.{letters_after, wheels_after};
 

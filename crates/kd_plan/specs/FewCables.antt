@@ -2,7 +2,7 @@
 use Rattle.std.specs.Prelude.{ℕ, ◌<◌, ◌≤◌, All, List, length}
 use Rattle.kd_state.specs.declared.machine.parts.Parts.{Parts, TheVariants.{Pin, Rotor}}
 use Rattle.kd_state.specs.{Setting.Leads, declared.setting.Setting.{Setting, TheVariants.{Pull, Put}}}
-use Rattle.kd_state.specs.SheetDay.{Day, OfPins, OfRotors}
+use Rattle.kd_state.specs.SheetDay.{Day, Pin, Rotor}
 use Rattle.kd_plan.specs.Spares.{IsSpareCable, SparesStayFree}
 
 -- All cables with numbers above `number` are spare: they have no letter.
@@ -12,8 +12,8 @@ UsesNoneAbove number (Pin machine) = Unit {0}
 
 -- The day has at most `number` pairs.
 abbrev pub HasPairsUpTo : ℕ → Day → Type 0
-HasPairsUpTo number (OfRotors day) = length day.pairs ≤ number
-HasPairsUpTo number (OfPins day) = Unit {0}
+HasPairsUpTo number (Rotor day) = length day.pairs ≤ number
+HasPairsUpTo number (Pin day) = Unit {0}
 
 -- The setting names no cable with a number above `number`.
 abbrev pub NamesNoneAbove : ℕ → Setting → Type 0

@@ -3,7 +3,7 @@ ghost use Rattle.std.specs.Prelude.{◌≡◌, ◌≢◌, ◌≤◌, ◌*◌, �
 ghost use Rattle.std.specs.Prelude.{All, length, pos, replicate, unsigned_abs};
 ghost use Rattle.kd_card.specs.Prices.{ArePrices};
 ghost use Rattle.kd_plan.specs.{Planned.{IsPlannedCard, IsProvedPlannedCard}, Spares.SparesStayFree};
-ghost use Rattle.kd_state.specs.SheetDay.{OfRotors, OfPins, IsLegalDay, day_model};
+ghost use Rattle.kd_state.specs.SheetDay.{Rotor, Pin, IsLegalDay, day_model};
 ghost use Rattle.kd_state.specs.{Entry.{rotor_values, pin_values}, Machine.{IsMachine, model_of}};
 
 use super::bar_lines::push_lugs;
@@ -43,10 +43,10 @@ fn rotor_card(machine: &Machine, parts: &RotorParts, entry: &RotorEntry) -> Card
     requires parts { machine.now ≡ Parts.Rotor parts.now }
     requires model { parts.now.model ≡ entry.now.model }
     requires machine { IsMachine (Parts.Rotor parts.now) }
-    requires legal { IsLegalDay (OfRotors (rotor_values entry.now)) }
-    ensures planned { let day = OfRotors (rotor_values entry.now) in
+    requires legal { IsLegalDay (Rotor (rotor_values entry.now)) }
+    ensures planned { let day = Rotor (rotor_values entry.now) in
         IsPlannedCard (Parts.Rotor parts.now) day result.settings.items result.prices }
-    ensures spares { let day = OfRotors (rotor_values entry.now) in
+    ensures spares { let day = Rotor (rotor_values entry.now) in
         SparesStayFree (Parts.Rotor parts.now) day result.settings.items }
     ensures prices { ArePrices result.prices }
 {
@@ -70,7 +70,7 @@ fn rotor_card(machine: &Machine, parts: &RotorParts, entry: &RotorEntry) -> Card
 /// Plans a card for a Converter M-209: settings for loose things, and then all LUG settings.
 #[tactic(auto, using(crate::proofs::Planning::is_planned_card, crate::proofs::Planning::two_at_most, crate::proofs::Planning::all_within))]
 fn pin_card(parts: &PinParts, entry: &PinEntry) -> Card
-    ensures planned { let day = OfPins (pin_values entry.now) in
+    ensures planned { let day = Pin (pin_values entry.now) in
         IsPlannedCard (Parts.Pin parts.now) day result.settings.items result.prices }
     ensures prices { ArePrices result.prices }
 {

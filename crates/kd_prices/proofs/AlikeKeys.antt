@@ -8,7 +8,7 @@ use Rattle.kd_prices.proofs.Prelude.{IsPairInOrder, cable_in_order, columns_in_o
 use Rattle.kd_prices.proofs.Prelude.{NoLetterTwice, Option, get_or_default, pair_in_order, smaller_first}
 use Rattle.kd_prices.proofs.Prelude.{IsLegalDay, RotorParts, columns_of, get_or-map, get_or-zip, length-map}
 use Rattle.kd_prices.proofs.Prelude.{IsMachine, ReadAlike, Some, eqb-false, length-zip, nat_tests, replicate, slice_get}
-use Rattle.kd_prices.proofs.Prelude.{Contains, OfRotors, RotorDay, arith, false, get_or, length, price_at, ℕ}
+use Rattle.kd_prices.proofs.Prelude.{Contains, Rotor, RotorDay, arith, false, get_or, length, price_at, ℕ}
 use Rattle.kd_prices.proofs.Prelude.{All, List, None, Parts, Pin, Rotor, eqb, inl, inr, map, refl, subst, zero, ℤ, ◌++◌}
 use Rattle.kd_prices.proofs.Prelude.{[], ap, pos, suc, sym, zip, ◌-◌, ◌<◌, ◌↔◌, ◌∙◌, ◌∷◌, ◌≡◌, ◌≤◌, ◌⊎◌}
 use Rattle.std.{proofs.lemmas.List.Elements.Contains-get_or, specs.List.IsDistinct}
@@ -52,7 +52,7 @@ unfolding IsDistinct
 pairs_in_form n [] within apart = nothings_in_form n
 pairs_in_form n ((a, b) ∷ pairs) within apart = grind (arith, eqb-false, pairs_in_form n pairs within.1.1 apart.1.1)
 
-pub columns_are_in_form : (s : RotorDay) → IsLegalDay (OfRotors s) → All IsPairInOrder (columns_in_order s.pairs)
+pub columns_are_in_form : (s : RotorDay) → IsLegalDay (Rotor s) → All IsPairInOrder (columns_in_order s.pairs)
 columns_are_in_form s legal =
     let pairs = legal.pairs in
     All-from_recursion IsPairInOrder (columns_in_order s.pairs) (pairs_in_form (13 - length s.pairs) s.pairs
@@ -91,8 +91,8 @@ each_told keys d i k inside within = (
   λ alike. same_at keys i k d alike,
 )
 
-pub columns_told : (s : RotorDay) → IsLegalDay (OfRotors s)
-    → AreTold (columns_in_order s.pairs) None (ReadAlike (OfRotors s))
+pub columns_told : (s : RotorDay) → IsLegalDay (Rotor s)
+    → AreTold (columns_in_order s.pairs) None (ReadAlike (Rotor s))
 columns_told s legal i k inside within =
     let columns = columns_of s.pairs in
     let size = length-map columns pair_in_order in

@@ -1,10 +1,10 @@
 -- In a card by number that proves itself, equal keys have equal prices. For equal rows have equal costs in each
 -- column, and each row has a column where the two prices add up to the cost; likewise for equal columns.
-use Rattle.kd_prices.proofs.Prelude.{OfRotors, columns_are_the_pairs, proving_prices_are_tight}
+use Rattle.kd_prices.proofs.Prelude.{Rotor, columns_are_the_pairs, proving_prices_are_tight}
 use Rattle.kd_prices.proofs.Prelude.{AlikePricesAreEqual, AreEqualWhereAlike, ap, thirteen_columns, unwrap_or-slice_get}
 use Rattle.kd_prices.proofs.Prelude.{ArePricesTight, PriceParts, StandAlike, cable_cost, slice_get_past}
 use Rattle.kd_prices.proofs.Prelude.{PricesFit, ReadAlike, columns_of, get_or-map, no_rotors, slice_get, table_size, ℕ}
-use Rattle.kd_prices.proofs.Prelude.{Cables, OfPins, Parts, Rotor, arith, bar_cost, cost_at, get_or, length, unwrap_or}
+use Rattle.kd_prices.proofs.Prelude.{Cables, Pin, Parts, Rotor, arith, bar_cost, cost_at, get_or, length, unwrap_or}
 use Rattle.kd_prices.proofs.Prelude.{Bars, Day, List, None, One, Pin, ints, map, sym, ◌<◌, ◌∙◌, ◌≡◌, ◌≤◌}
 
 -- Prices that fit a table of costs. Each row has a column, and each column has a row, where the two prices add up
@@ -45,20 +45,20 @@ pub nothing_at : (pairs : List (ℕ × ℕ)) (place : ℕ) → length pairs ≤ 
 nothing_at pairs place past = columns_are_the_pairs pairs place ∙ slice_get_past pairs place past
 
 pub alike_prices_are_equal : AlikePricesAreEqual
-alike_prices_are_equal (Rotor m) (OfRotors s) settings (Cables row column) machine legal are_prices h =
-    equal_where_alike cable_cost m.cables (columns_of s.pairs) (None, None) None (Rotor m) (OfRotors s)
+alike_prices_are_equal (Rotor m) (Rotor s) settings (Cables row column) machine legal are_prices h =
+    equal_where_alike cable_cost m.cables (columns_of s.pairs) (None, None) None (Rotor m) (Rotor s)
     (Cables row column) machine.legal.cables.count (thirteen_columns s.pairs legal.pairs.few) h.fits
-    (proving_prices_are_tight (Rotor m) (OfRotors s) settings (Cables row column) machine legal are_prices h)
+    (proving_prices_are_tight (Rotor m) (Rotor s) settings (Cables row column) machine legal are_prices h)
     (λ i k alike column. ap (λ cable. cable_cost cable column) (same_at m.cables i k (None, None) alike))
     (λ j k alike. nothing_at s.pairs j alike.0 ∙ sym (nothing_at s.pairs k alike.1))
-alike_prices_are_equal (Pin m) (OfPins s) settings (Bars row column) machine legal are_prices h =
-    equal_where_alike bar_cost m.bars s.rows (One, One) (0, 0) (Pin m) (OfPins s)
+alike_prices_are_equal (Pin m) (Pin s) settings (Bars row column) machine legal are_prices h =
+    equal_where_alike bar_cost m.bars s.rows (One, One) (0, 0) (Pin m) (Pin s)
     (Bars row column) machine.legal.bars legal.count h.fits
-    (proving_prices_are_tight (Pin m) (OfPins s) settings (Bars row column) machine legal are_prices h)
+    (proving_prices_are_tight (Pin m) (Pin s) settings (Bars row column) machine legal are_prices h)
     (λ i k alike column. ap (λ bar. bar_cost bar column) (same_at m.bars i k (One, One) alike))
     (λ j k alike. same_at s.rows j k (0, 0) alike)
-alike_prices_are_equal (Rotor m) (OfPins s) settings prices machine legal are_prices h =
+alike_prices_are_equal (Rotor m) (Pin s) settings prices machine legal are_prices h =
     absurd (no_rotors m.model m.reflector h.model machine.legal.reflector)
-alike_prices_are_equal (Pin m) (OfRotors s) settings prices machine legal are_prices h =
+alike_prices_are_equal (Pin m) (Rotor s) settings prices machine legal are_prices h =
     absurd (no_rotors s.model s.reflector (sym h.model) legal.reflector)
 alike_prices_are_equal m s settings prices machine legal are_prices h = absurd h.kind

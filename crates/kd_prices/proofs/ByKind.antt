@@ -2,14 +2,14 @@
 use Rattle.kd_prices.proofs.{AlikeKeys.{AreTold, each_told}, Taking.size}
 use Rattle.kd_prices.proofs.AlikeKeys.{cables_are_in_form, columns_are_in_form, columns_told, one_price_is}
 use Rattle.kd_prices.proofs.{Prelude.{All, Day, One, Pin, map, sym, zip, ◌<◌, ◌↔◌, ◌∙◌, ◌≡◌}, Runs.one_price}
-use Rattle.kd_prices.proofs.Prelude.{AreKinds, BarKinds, Expanded, OfRotors, PairKind, PinParts, RotorDay, model_of, ℤ}
+use Rattle.kd_prices.proofs.Prelude.{AreKinds, BarKinds, Expanded, Rotor, PairKind, PinParts, RotorDay, model_of, ℤ}
 use Rattle.kd_prices.proofs.Prelude.{AreKindsOf, CanBeByKind, MatchOption, cable_format, pair_format, pair_in_order, ℕ}
 use Rattle.kd_prices.proofs.Prelude.{AreModelPrices, IsPermutation, column_prices, columns_in_order, thirteen_columns}
 use Rattle.kd_prices.proofs.Prelude.{ArePrices, CableKind, IsMachine, List, ReadAlike, day_model, expansion, version_of}
 use Rattle.kd_prices.proofs.Prelude.{ArePricesInRange, Bars, Contains-permutation, HaveOnePriceEach, length_permutation}
 use Rattle.kd_prices.proofs.Prelude.{BarKind, ByKind, Cables, Expands, IfSome, IsGroup, None, RowKind, price_at}
 use Rattle.kd_prices.proofs.Prelude.{CableKinds, IsLegalDay, KindFormat, PriceParts, RotorParts, StandAlike, bar_format}
-use Rattle.kd_prices.proofs.Prelude.{IsSome, IsValidKeyAndPrice, OfPins, Option, Parts, PinDay, Rotor, Some, arith}
+use Rattle.kd_prices.proofs.Prelude.{IsSome, IsValidKeyAndPrice, Pin, Option, Parts, PinDay, Rotor, Some, arith}
 use Rattle.kd_prices.proofs.Prelude.{length, refl, subst, columns_of, get_or-zip, length-map, length-zip, row_format}
 use Rattle.kd_prices.proofs.Prelude.{row_prices, table_size}
 
@@ -92,36 +92,36 @@ module _ {R X C Y : Type 0} (rows : KindFormat R X) (columns : KindFormat C Y) (
       }
 
 pub cables_by_kind : (m : RotorParts) (s : RotorDay) (rows columns : List ℤ) (row : List CableKind)
-    (col : List PairKind) → IsMachine (Rotor m) → IsLegalDay (OfRotors s) → ArePrices (Cables rows columns)
-    → model_of (Rotor m) ≡ day_model (OfRotors s) → AreGrouped cable_format m.cables rows row
+    (col : List PairKind) → IsMachine (Rotor m) → IsLegalDay (Rotor s) → ArePrices (Cables rows columns)
+    → model_of (Rotor m) ≡ day_model (Rotor s) → AreGrouped cable_format m.cables rows row
     → AreGrouped pair_format (columns_in_order s.pairs) columns col → (result : Option PriceParts)
     → MatchOption result (¬ (ArePrices (CableKinds (record { items = row }) (record { items = col }))))
     (λ made. made ≡ CableKinds (record { items = row }) (record { items = col })) → IfSome result ArePrices
-    → ArePricesByKind (Rotor m) (OfRotors s) (Cables rows columns) result
+    → ArePricesByKind (Rotor m) (Rotor s) (Cables rows columns) result
 cables_by_kind m s rows columns row col machine legal are same first second =
     let thirteen : length (columns_in_order s.pairs) ≡ 13 = length-map (columns_of s.pairs) pair_in_order
     ∙ thirteen_columns s.pairs legal.pairs.few in
-    made_by_kind cable_format pair_format (Rotor m) (OfRotors s) (Cables rows columns)
+    made_by_kind cable_format pair_format (Rotor m) (Rotor s) (Cables rows columns)
     (CableKinds (record { items = row }) (record { items = col })) m.cables (columns_in_order s.pairs) row col
     same tt refl
     (are_kinds_for cable_format m.cables (None, None) (StandAlike (Rotor m)) (each_told m.cables (None, None))
     (cables_are_in_form m machine) 13 machine.legal.cables.count rows are.0.count are.0.in_range row first)
-    (are_kinds_for pair_format (columns_in_order s.pairs) None (ReadAlike (OfRotors s)) (columns_told s legal)
+    (are_kinds_for pair_format (columns_in_order s.pairs) None (ReadAlike (Rotor s)) (columns_told s legal)
     (columns_are_in_form s legal) 13 thirteen columns are.1.count are.1.in_range col second)
     (λ good. good, λ good. good) (λ good of also. Expanded good are (of, also))
 
 pub bars_by_kind : (m : PinParts) (s : PinDay) (rows columns : List ℤ) (row : List BarKind) (col : List RowKind)
-    → IsMachine (Pin m) → IsLegalDay (OfPins s) → ArePrices (Bars rows columns)
-    → model_of (Pin m) ≡ day_model (OfPins s) → AreGrouped bar_format m.bars rows row
+    → IsMachine (Pin m) → IsLegalDay (Pin s) → ArePrices (Bars rows columns)
+    → model_of (Pin m) ≡ day_model (Pin s) → AreGrouped bar_format m.bars rows row
     → AreGrouped row_format s.rows columns col → (result : Option PriceParts)
     → MatchOption result (¬ (ArePrices (BarKinds (record { items = row }) (record { items = col }))))
     (λ made. made ≡ BarKinds (record { items = row }) (record { items = col })) → IfSome result ArePrices
-    → ArePricesByKind (Pin m) (OfPins s) (Bars rows columns) result
+    → ArePricesByKind (Pin m) (Pin s) (Bars rows columns) result
 bars_by_kind m s rows columns row col machine legal are same first second =
-    made_by_kind bar_format row_format (Pin m) (OfPins s) (Bars rows columns)
+    made_by_kind bar_format row_format (Pin m) (Pin s) (Bars rows columns)
     (BarKinds (record { items = row }) (record { items = col })) m.bars s.rows row col same tt refl
     (are_kinds_for bar_format m.bars (One, One) (StandAlike (Pin m)) (each_told m.bars (One, One)) machine.legal.apart
     27 machine.legal.bars rows are.0.count are.0.in_range row first)
-    (are_kinds_for row_format s.rows (0, 0) (ReadAlike (OfPins s)) (each_told s.rows (0, 0)) legal.rows 27 legal.count
+    (are_kinds_for row_format s.rows (0, 0) (ReadAlike (Pin s)) (each_told s.rows (0, 0)) legal.rows 27 legal.count
     columns are.1.count are.1.in_range col second)
     (λ good. good, λ good. good) (λ good of also. Expanded good are (of, also))

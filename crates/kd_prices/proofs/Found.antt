@@ -2,8 +2,8 @@
 use Rattle.kd_prices.proofs.Prelude.{AreModelPrices, ArePricesInRange, IsCheckedAnswer, PriceMissing, column_prices, ℤ}
 use Rattle.kd_prices.proofs.Prelude.{AreExpanded, AreKindsOf, MatchOption, Parts, cable_format, pair_format, version_of}
 use Rattle.kd_prices.proofs.Prelude.{ArePrices, CableKinds, KindFormat, PriceParts, bar_format, row_format, row_prices}
-use Rattle.kd_prices.proofs.Prelude.{BarKinds, ByNumber, Expanded, HasFault, OfRotors, Setting, day_model, model_of}
-use Rattle.kd_prices.proofs.Prelude.{Bars, Cables, Doubt, Expands, GoesOn, OfPins, Option, Result, Rotor, arith, subst}
+use Rattle.kd_prices.proofs.Prelude.{BarKinds, ByNumber, Expanded, HasFault, Rotor, Setting, day_model, model_of}
+use Rattle.kd_prices.proofs.Prelude.{Bars, Cables, Doubt, Expands, GoesOn, Pin, Option, Result, Rotor, arith, subst}
 use Rattle.kd_prices.proofs.Prelude.{Day, Err, List, None, Pin, Same, Some, refl, sym, ◌∙◌, ◌≡◌}
 use Rattle.kd_prices.{proofs.{Prelude.{Ok, PricesSuitMachine, ap}, Runs.prices_alike}}
 use Rattle.kd_prices.{specs.Doubt.{ArePricesFound, IsByNumberAnswer}}
@@ -13,11 +13,11 @@ use Rattle.std.specs.{Option.{ok_or, option_zip}, Result.MatchResult}
 
 same_lists : (m : Parts) (s : Day) (prices numbered other : PriceParts) → ArePrices prices
     → AreExpanded m s prices numbered → AreExpanded m s prices other → numbered ≡ other
-same_lists (Rotor m) (OfRotors s) (CableKinds row col) (Cables a b) (Cables c d) are one two =
+same_lists (Rotor m) (Rotor s) (CableKinds row col) (Cables a b) (Cables c d) are one two =
     let rows = prices_alike cable_format _ row.items a c are.0.in_order one.0 two.0 in
     let columns = prices_alike pair_format _ col.items b d are.1.in_order one.1 two.1 in
     cc
-same_lists (Pin m) (OfPins s) (BarKinds row col) (Bars a b) (Bars c d) are one two =
+same_lists (Pin m) (Pin s) (BarKinds row col) (Bars a b) (Bars c d) are one two =
     let rows = prices_alike bar_format _ row.items a c are.0.in_order one.0 two.0 in
     let columns = prices_alike row_format _ col.items b d are.1.in_order one.1 two.1 in
     cc

@@ -26,7 +26,7 @@ pub use Rattle.kd_state.proofs.OneAnswer.{HasOneAnswer-Demands, HasOneAnswer-Fin
 pub use Rattle.kd_state.specs.Machine.{IsMachine, cable_in_order, letters_in_cables, model_of}
 pub use Rattle.kd_state.specs.declared.setting.{Setting.Setting, why.Why.Why}
 pub use Rattle.kd_state.specs.Setting.{Leads, Refuses, outcome}
-pub use Rattle.kd_state.specs.SheetDay.{Day, IsLegalDay, OfPins, OfRotors, PinDay, RotorDay, day_model}
+pub use Rattle.kd_state.specs.SheetDay.{Day, IsLegalDay, Pin, Rotor, PinDay, RotorDay, day_model}
 pub use Rattle.kd_state.specs.declared.machine.parts.Parts.{Parts, TheVariants.{Pin, Rotor}}
 pub use Rattle.kd_state.specs.declared.machine.{pin_parts.PinParts.PinParts, rotor_parts.RotorParts.RotorParts}
 pub use Rattle.kd_tables.specs.{Places.smaller_first, declared.place.Place.TheVariants.One}

@@ -1,6 +1,6 @@
 -- Equal rows and equal columns of a table of costs. Places are counted from 0.
 use Rattle.std.specs.Prelude.{◌≡◌, ℕ, ◌≤◌, length, slice_get}
-use Rattle.kd_state.specs.SheetDay.{Day, OfPins, OfRotors}
+use Rattle.kd_state.specs.SheetDay.{Day, Pin, Rotor}
 use Rattle.kd_state.specs.declared.machine.parts.Parts.{Parts, TheVariants.{Pin, Rotor}}
 
 -- The cables at `place` and `other`, counted from 0, are equal: they have the same letters. On a Converter, the bars
@@ -12,5 +12,5 @@ StandAlike (Pin machine) place other = slice_get machine.bars place ≡ slice_ge
 -- The day's columns at `place` and `other`, counted from 0, are both empty; on a Converter, the day's rows there are
 -- equal.
 abbrev pub ReadAlike : Day → ℕ → ℕ → Type 0
-ReadAlike (OfRotors day) place other = (length day.pairs ≤ place) × (length day.pairs ≤ other)
-ReadAlike (OfPins day) place other = slice_get day.rows place ≡ slice_get day.rows other
+ReadAlike (Rotor day) place other = (length day.pairs ≤ place) × (length day.pairs ≤ other)
+ReadAlike (Pin day) place other = slice_get day.rows place ≡ slice_get day.rows other

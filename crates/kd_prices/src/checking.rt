@@ -1,7 +1,7 @@
 //! Checks whether a card proves itself, or finds the first doubt about the card.
 ghost use Rattle.std.specs.Prelude.{◌≡◌, ◌↔◌, ◌≤◌, length, IsOk, IfOk, IfErr, MatchResult, Err};
 ghost use Rattle.kd_state.specs.{Costs.{cost_table}, Entry.{rotor_values, pin_values}};
-ghost use Rattle.kd_state.specs.{Machine.{IsMachine, model_of}, SheetDay.{day_model, IsLegalDay, OfRotors, OfPins}};
+ghost use Rattle.kd_state.specs.{Machine.{IsMachine, model_of}, SheetDay.{day_model, IsLegalDay, Rotor, Pin}};
 ghost use Rattle.kd_state.specs.declared.machine.parts.Parts.TheVariants.{Rotor, Pin};
 ghost use Rattle.kd_card.specs.{Proving.Proves, declared.prices.PriceParts.TheVariants.{Bars, Cables}};
 ghost use Rattle.kd_card.specs.Prices.{ArePrices, ArePricesInRange};
@@ -62,7 +62,7 @@ fn cable_prices(
     prices: PriceParts,
 ) -> Result<([i16; 13], [i16; 13]), Doubt>
     requires prices { ArePrices prices }
-    ensures found { ArePricesFound (Rotor parts.now) (OfRotors (rotor_values entry.now)) prices
+    ensures found { ArePricesFound (Rotor parts.now) (Rotor (rotor_values entry.now)) prices
         Cables result }
     ensures reach { IfOk result (λ found. ArePricesInRange found.0 × ArePricesInRange found.1) }
 {
@@ -84,7 +84,7 @@ fn bar_prices(
     prices: PriceParts,
 ) -> Result<([i16; 27], [i16; 27]), Doubt>
     requires prices { ArePrices prices }
-    ensures found { ArePricesFound (Pin parts.now) (OfPins (pin_values entry.now)) prices Bars result }
+    ensures found { ArePricesFound (Pin parts.now) (Pin (pin_values entry.now)) prices Bars result }
     ensures reach { IfOk result (λ found. ArePricesInRange found.0 × ArePricesInRange found.1) }
 {
     match prices {

@@ -4,7 +4,7 @@ use Rattle.kd_sheet.proofs.ReadBack.{text_written, texts_written, model_plain, r
 use Rattle.kd_sheet.proofs.ReadBack.{Bool, List, Option, Some, None, ℕ, [], ◌∷◌, ◌++◌, ◌≡◌, ◌∙◌, ◌≤◌, ◌<◌, ◌==◌, true, false, refl, sym, ap, rules, arith}
 use Rattle.kd_sheet.proofs.ReadBack.{map, pos, integer, Data, Members, AllByRecursion, list_all, list_any, Ok, ok_or, as_table, bind-step, le-leb}
 use Rattle.kd_sheet.proofs.ReadBack.{day_for, day_in, model_in, read_at, number_up_to, model_found, key_name, slot_text, pin_texts, model_text, reflector_text, letters_text, seats_of_wheels, M209, IsReading, nat_tests, SheetWheel, letters_below, Result, SheetFault}
-use Rattle.kd_sheet.proofs.ReadBack.{Day, OfRotors, OfPins, RotorDay, PinDay, day_number, IsLegalDay, IsLegalRotorDay, IsLegalPinDay, IsDayNumber, reading_text}
+use Rattle.kd_sheet.proofs.ReadBack.{Day, Rotor, Pin, RotorDay, PinDay, day_number, IsLegalDay, IsLegalRotorDay, IsLegalPinDay, IsDayNumber, reading_text}
 use Rattle.kd_sheet.proofs.ReadBack.{BadValue, UnknownModel, Model, read_items, no_nodes, close, append_assoc, append-nil, reflectors_of, has_reflector-Decides}
 use Rattle.kd_sheet.specs.declared.key.Key.TheVariants as keys
 use Rattle.kd_sheet.specs.SheetText.{day_lines, AreSheetDays}
@@ -57,8 +57,8 @@ pin_entries s =
     ∷ []
 
 abbrev pub day_entries : Day → List FileEntry
-day_entries (OfRotors s) = rotor_entries s
-day_entries (OfPins s) = pin_entries s
+day_entries (Rotor s) = rotor_entries s
+day_entries (Pin s) = pin_entries s
 
 -- the nodes that hold just these members
 abbrev pub nodes_of : Members → Nodes
@@ -66,25 +66,25 @@ nodes_of no_members = no_nodes
 nodes_of (member key d rest) = node key (value d) (nodes_of rest)
 
 abbrev pub day_table : Day → Members
-day_table (OfRotors s) = rotor_day_table s
-day_table (OfPins s) = pin_day_table s
+day_table (Rotor s) = rotor_day_table s
+day_table (Pin s) = pin_day_table s
 
 pub made : (day : Day) → put_all (day_entries day) no_nodes ≡ Some (nodes_of (day_table day))
 unfolding along_dots at_key
-made (OfRotors s) = refl
-made (OfPins s) = refl
+made (Rotor s) = refl
+made (Pin s) = refl
 
 closes : (day : Day) → close (nodes_of (day_table day)) ≡ day_table day
-closes (OfRotors s) = refl
-closes (OfPins s) = refl
+closes (Rotor s) = refl
+closes (Pin s) = refl
 
 wheel_names : (wheels : List SheetWheel) → map slot_text (seats_of_wheels wheels) ≡ map (λ w. wheel_text w.wheel) wheels
 wheel_names [] = refl
 wheel_names (w ∷ wheels) = ap (λ rest. wheel_text w.wheel ∷ rest) (wheel_names wheels)
 
 same_lines : (day : Day) → map line_of (day_entries day) ≡ day_lines day
-same_lines (OfRotors s) = rw (wheel_names s.wheels) refl
-same_lines (OfPins s) = refl
+same_lines (Rotor s) = rw (wheel_names s.wheels) refl
+same_lines (Pin s) = refl
 
 -- a day that no earlier day has the number of is read as if it were the first
 pub day_after : (earlier : List Day) (number : ℕ) (model : Model) (entry : Members) (item : Data) (day : Day)
@@ -99,13 +99,13 @@ day_again_after : (earlier : List Day) (day : Day) → IsLegalDay day
     → list_any (λ other. day_number other == day_number day) earlier ≡ false
     → day_for earlier (table (day_table day)) ≡ Ok day
 unfolding model_in day_in
-day_again_after earlier (OfRotors s) legal free =
+day_again_after earlier (Rotor s) legal free =
     let has = (has_reflector-Decides (reflectors_of s.model) s.reflector).1 legal.reflector in
-    day_after earlier s.day s.model (rotor_day_table s) (table (rotor_day_table s)) (OfRotors s) refl
+    day_after earlier s.day s.model (rotor_day_table s) (table (rotor_day_table s)) (Rotor s) refl
     (grind (arith, le-leb, legal.day)) free (rw (model_found s.model) refl)
-    (day_by_model s.day s.model s.reflector (rotor_day_table s) (OfRotors s) has (rotor_again s legal))
-day_again_after earlier (OfPins s) legal free =
-    day_after earlier s.day M209 (pin_day_table s) (table (pin_day_table s)) (OfPins s) refl
+    (day_by_model s.day s.model s.reflector (rotor_day_table s) (Rotor s) has (rotor_again s legal))
+day_again_after earlier (Pin s) legal free =
+    day_after earlier s.day M209 (pin_day_table s) (table (pin_day_table s)) (Pin s) refl
     (grind (arith, le-leb, legal.day)) free (ap (λ found. ok_or found UnknownModel) (model_found M209)) (pin_again s legal)
 
 days_again : (earlier days : List Day) (parse : List Day → Data → Result Day SheetFault)
@@ -144,7 +144,7 @@ wheel_letters part low [] all = tt
 wheel_letters part low (w ∷ wheels) all = (low w all.0, wheel_letters part low wheels all.1)
 
 written : (day : Day) → IsLegalDay day → AllByRecursion IsWritten (day_entries day)
-written (OfRotors s) legal =
+written (Rotor s) legal =
     let letters = recursion_from_All HasWheelLetters s.wheels legal.letters in (
       number_written s.day legal.day.last,
       (
@@ -170,7 +170,7 @@ written (OfRotors s) legal =
         ),
       ),
     )
-written (OfPins s) legal =
+written (Pin s) legal =
     let all_pins : AllByRecursion IsPlain (pin_texts s.pins) = grind (arith, pins_plain, recursion_from_All, ring_letters) in (
       number_written s.day legal.day.last,
       (

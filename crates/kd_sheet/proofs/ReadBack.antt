@@ -185,7 +185,7 @@ parts_are s legal part low = record {
   within = All-map (λ letter. letter < 26) _ s.wheels (All-weaker HasWheelLetters _ low s.wheels legal.letters);
 }
 
-pub rotor_again : (s : RotorDay) → IsLegalRotorDay s → rotor_day_in s.day s.model (rotor_day_table s) ≡ Ok (OfRotors s)
+pub rotor_again : (s : RotorDay) → IsLegalRotorDay s → rotor_day_in s.day s.model (rotor_day_table s) ≡ Ok (Rotor s)
 unfolding rotor_day_in reflector_in letters_at
 rotor_again s legal =
     let has = (has_reflector-Decides (reflectors_of s.model) s.reflector).1 legal.reflector in
@@ -202,23 +202,23 @@ rows_in_again s legal =
     let is = All-slice_get IsReading s.rows k row legal.rows at in
     grind (arith, le-leb, cases_eq, eq-eqb, is.equal, or-true, ne_eqb)) (eq-eqb _ _ (sym legal.count))
 
-pub pin_again : (s : PinDay) → IsLegalPinDay s → pin_day_in s.day (pin_day_table s) ≡ Ok (OfPins s)
+pub pin_again : (s : PinDay) → IsLegalPinDay s → pin_day_in s.day (pin_day_table s) ≡ Ok (Pin s)
 unfolding pin_day_in letters_at
 pin_again s legal = grind (arith, bind-step, rows_in_again, pins_in_again, window_again, capitals_again)
 
 pub legal_is_described : (day : Day) → IsLegalDay day → (item : Data) × (day_for [] item ≡ Ok day)
 unfolding model_in day_in
-legal_is_described (OfRotors s) legal =
+legal_is_described (Rotor s) legal =
     let has = (has_reflector-Decides (reflectors_of s.model) s.reflector).1 legal.reflector in (
       toml.table (rotor_day_table s),
-      day_again s.day s.model (rotor_day_table s) (toml.table (rotor_day_table s)) (OfRotors s) refl
+      day_again s.day s.model (rotor_day_table s) (toml.table (rotor_day_table s)) (Rotor s) refl
           (grind (arith, le-leb, legal.day)) (rw (model_found s.model) refl)
-          (day_by_model s.day s.model s.reflector (rotor_day_table s) (OfRotors s) has (rotor_again s legal)),
+          (day_by_model s.day s.model s.reflector (rotor_day_table s) (Rotor s) has (rotor_again s legal)),
     )
-legal_is_described (OfPins s) legal =
+legal_is_described (Pin s) legal =
     let model = ap (λ found. ok_or found UnknownModel) (model_found M209) in (
       toml.table (pin_day_table s),
-      day_again s.day M209 (pin_day_table s) (toml.table (pin_day_table s)) (OfPins s) refl
+      day_again s.day M209 (pin_day_table s) (toml.table (pin_day_table s)) (Pin s) refl
           (grind (arith, le-leb, legal.day)) model (pin_again s legal),
     )
 
@@ -445,14 +445,14 @@ rotor_table m =
     (member (key_name keys.Slots) (array_of_texts (map slot_text m.slots))
     (member (key_name keys.Version) (integer (pos (file_version m.model))) no_members))))))
 
-rotor_read : (m : RotorParts) → IsLegalRotor m → document_of (machine_text (Rotor m)) ≡ Ok (rotor_table m)
+rotor_read : (m : RotorParts) → AreLegalRotorParts m → document_of (machine_text (Rotor m)) ≡ Ok (rotor_table m)
 unfolding machine_text define along_header along_dots at_key
 rotor_read m legal =
     let all : AllByRecursion IsWritten (rotor_entries m) =
     search (rules, are_plain, legal.rings.within, legal.letters.within, legal.cables.within) in
     file_read (rotor_entries m) (rotor_table m) all refl
 
-rotor_parts_again : (m : RotorParts) → IsLegalRotor m
+rotor_parts_again : (m : RotorParts) → AreLegalRotorParts m
     → rotor_parts_in m.model (rotor_table m) ≡ Ok (record m { cables = map single_first m.cables })
 unfolding rotor_parts_in reflector_in letters_at cables_in
 rotor_parts_again m legal =
@@ -482,7 +482,7 @@ pin_table m =
     (member (key_name keys.Pins) (array_of_texts (pin_texts m.pins))
     (member (key_name keys.Version) (integer (pos (file_version M209))) no_members))))
 
-pin_read : (m : PinParts) → IsLegalPin m → document_of (machine_text (Pin m)) ≡ Ok (pin_table m)
+pin_read : (m : PinParts) → AreLegalPinParts m → document_of (machine_text (Pin m)) ≡ Ok (pin_table m)
 unfolding machine_text define along_header along_dots at_key
 pin_read m legal =
     let all_pins : AllByRecursion IsPlain (pin_texts m.pins) =
@@ -491,7 +491,7 @@ pin_read m legal =
     search (rules, are_plain, all_pins, letters_below, legal.letters) in
     file_read (pin_entries m) (pin_table m) all refl
 
-bars_again : (m : PinParts) → IsLegalPin m → bars_in (pin_table m) ≡ Ok m.bars
+bars_again : (m : PinParts) → AreLegalPinParts m → bars_in (pin_table m) ≡ Ok m.bars
 unfolding bars_in
 bars_again m legal =
     read_array-texts keys.Bars (nat_eq 27) standing_text m.bars (or_bad_row (find_by_text standing_text standings))
@@ -499,7 +499,7 @@ bars_again m legal =
     rw (standing_again bar (All-slice_get (λ bar. IsBefore bar.0 bar.1) m.bars k bar legal.apart at)) refl)
     (eq-eqb _ _ (sym legal.bars))
 
-pin_parts_again : (m : PinParts) → IsLegalPin m → pin_parts_in (pin_table m) ≡ Ok m
+pin_parts_again : (m : PinParts) → AreLegalPinParts m → pin_parts_in (pin_table m) ≡ Ok m
 unfolding pin_parts_in
 pin_parts_again m legal = grind (arith, bind-step, window_again, pins_in_again, bars_again)
 

@@ -9,7 +9,7 @@ use Rattle.kd_tables.specs.Tables.{slots_of}
 use Rattle.kd_tables.specs.declared.model.Model.{Model}
 use Rattle.kd_tables.specs.declared.model.Model.TheVariants.{M209}
 use Rattle.kd_tables.specs.declared.wheel.Wheel.{Wheel}
-use Rattle.kd_state.specs.SheetDay.{Day, OfRotors, OfPins, day_number}
+use Rattle.kd_state.specs.SheetDay.{Day, Rotor, Pin, day_number}
 use Rattle.kd_state.specs.declared.sheet_day.rotor_entry.SheetWheel.{SheetWheel}
 use Rattle.kd_sheet.specs.Cables.{pairs_in}
 use Rattle.kd_sheet.specs.Document.{◌>>=◌, ◌>>◌, demand, document_of, read_items, read_at, from_text}
@@ -53,7 +53,7 @@ rotor_day_in number model table = do
   pairs ← pairs_in table
   groups ← groups_in table
   wheels ← Ok (sheet_wheels slots rings window)
-  Ok (OfRotors
+  Ok (Rotor
       (record { day = number; model = model; reflector = reflector; wheels = wheels; pairs = pairs; groups = groups }))
 
 unfoldable pub pin_day_in : ℕ → Members → Result Day SheetFault
@@ -62,7 +62,7 @@ pin_day_in number table = do
   pins ← pins_in table
   window ← shown_letters_in keys.Window table
   list ← letters_at keys.List 2 table
-  Ok (OfPins (record { day = number; rows = rows; pins = pins; window = window; list = list }))
+  Ok (Pin (record { day = number; rows = rows; pins = pins; window = window; list = list }))
 
 unfoldable pub day_in : ℕ → Model → Members → Result Day SheetFault
 day_in number M209 table = pin_day_in number table

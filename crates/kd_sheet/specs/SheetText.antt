@@ -7,7 +7,7 @@ use Rattle.kd_tables.specs.Tables.{model_text, reflector_text, wheel_text}
 use Rattle.kd_tables.specs.Text.{letters_text}
 use Rattle.kd_tables.specs.declared.model.Model.{Model}
 use Rattle.kd_tables.specs.declared.model.Model.TheVariants.{M209}
-use Rattle.kd_state.specs.SheetDay.{Day, OfRotors, OfPins, RotorDay, PinDay, IsLegalDay, day_number}
+use Rattle.kd_state.specs.SheetDay.{Day, Rotor, Pin, RotorDay, PinDay, IsLegalDay, day_number}
 use Rattle.kd_sheet.specs.MachineText.{quoted_text, array_text, key_line, pin_texts}
 use Rattle.kd_sheet.specs.declared.key.Key.TheVariants as keys
 
@@ -61,8 +61,8 @@ abbrev pub pin_day_lines : PinDay → List (List ℕ)
 pin_day_lines s = day_head_lines s.day M209 ++ converter_lines s
 
 abbrev pub day_lines : Day → List (List ℕ)
-day_lines (OfRotors s) = rotor_day_lines s
-day_lines (OfPins s) = pin_day_lines s
+day_lines (Rotor s) = rotor_day_lines s
+day_lines (Pin s) = pin_day_lines s
 
 -- the text of a key sheet that has these days, at least one
 unfoldable pub sheet_text : List Day → List ℕ

@@ -2,7 +2,7 @@
 ghost use Rattle.std.specs.{Prelude.{◌≡◌, ◌≤◌, ◌||◌, is_err, Ok}, List.{concat}};
 ghost use Rattle.arrayvec.specs.ArrayString.{array_string_len};
 ghost use Rattle.kd_tables.specs.{Places.{digit_text}, Writing.{Writes}};
-ghost use Rattle.kd_state.specs.Machine.{IsLegalRotor, IsLegalPin};
+ghost use Rattle.kd_state.specs.Machine.{AreLegalRotorParts, AreLegalPinParts};
 ghost use Rattle.kd_sheet.specs.{MachineFile.{machine_of}, MachineText.{file_version, head_file_lines, machine_text}};
 
 use crate::Key;
@@ -32,7 +32,7 @@ fn head_text(model: Model) -> FileString
 /// Writes the file of a rotor machine.
 #[tactic(auto, unfolding(crate::specs::MachineText::machine_text))]
 fn rotor_machine_text(parts: &RotorParts) -> FileString
-    requires { IsLegalRotor parts.now }
+    requires { AreLegalRotorParts parts.now }
     ensures { result.bytes ≡ machine_text (Parts.Rotor parts.now) }
 {
     let mut text = head_text(parts.model);
@@ -47,7 +47,7 @@ fn rotor_machine_text(parts: &RotorParts) -> FileString
 /// Writes the file of a Converter M-209.
 #[tactic(auto, unfolding(crate::specs::MachineText::machine_text))]
 fn pin_machine_text(parts: &PinParts) -> FileString
-    requires { IsLegalPin parts.now }
+    requires { AreLegalPinParts parts.now }
     ensures { result.bytes ≡ machine_text (Parts.Pin parts.now) }
 {
     let mut text = head_text(Model::M209);

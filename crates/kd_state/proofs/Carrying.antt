@@ -1,6 +1,6 @@
 -- Lemmas on carrying out settings: a machine stays a machine, and a list of settings has one result.
 use Rattle.kd_state.proofs.Prelude.{numbered_item, place_in_box, SettingsKeepMachines, IsSettingInRange, AreLegalSeats}
-use Rattle.kd_state.proofs.Prelude.{AreLetters, AreOnWheels, IsLegalPin, IsLegalRotor, IsMachine, IsSeatedAt}
+use Rattle.kd_state.proofs.Prelude.{AreLetters, AreOnWheels, AreLegalPinParts, AreLegalRotorParts, IsMachine, IsSeatedAt}
 use Rattle.kd_state.proofs.Prelude.{with_cables_in_order, cable_in_order, letters_in_cables, pin_set, wheel_pins}
 use Rattle.kd_state.proofs.Prelude.{with_pin, cable_with, cable_without, seat_without, Parts, Pin, Rotor, PinParts}
 use Rattle.kd_state.proofs.Prelude.{RotorParts, Setting, LugTo, PinTo, Pull, Put, RingTo, Seat, SeatReflector, Turn}
@@ -54,10 +54,10 @@ pub all_ordered-same : (m : RotorParts) → with_cables_in_order (Rotor m) ≡ R
 all_ordered-same m e =
     let same : record m { cables = all_ordered m.cables } ≡ m = cc in ap (λ (k : RotorParts). k.cables) same
 
-rotor_machine : (m : RotorParts) → IsLegalRotor m → all_ordered m.cables ≡ m.cables → IsMachine (Rotor m)
+rotor_machine : (m : RotorParts) → AreLegalRotorParts m → all_ordered m.cables ≡ m.cables → IsMachine (Rotor m)
 rotor_machine m legal e = record { legal = legal; cables = ap (λ cs. Rotor (record m { cables = cs })) e }
 
-pin_machine : (m : PinParts) → IsLegalPin m → IsMachine (Pin m)
+pin_machine : (m : PinParts) → AreLegalPinParts m → IsMachine (Pin m)
 pin_machine m legal = record { legal = legal; cables = refl }
 
 -- ---- cables
@@ -77,7 +77,7 @@ with_cable : (m : RotorParts) (cable : ℕ) (new : Option ℕ × Option ℕ) →
 with_cable m cable new h o free = grind (arith, length-set, rotor_machine, map-set, cable_in_order, all_ordered-same)
 
 -- legal parts are a machine's once the letters of each cable are in order
-pub ordered_parts : (m : RotorParts) → IsLegalRotor m → IsMachine (with_cables_in_order (Rotor m))
+pub ordered_parts : (m : RotorParts) → AreLegalRotorParts m → IsMachine (with_cables_in_order (Rotor m))
 ordered_parts m l =
     let free =
     moved_free _ _ (all_ordered_move m.cables) (record { within = l.cables.within; apart = l.cables.apart }) in

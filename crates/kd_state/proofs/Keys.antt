@@ -1,7 +1,7 @@
 -- Lemmas on machines on a day's key: they are ready, and encipher as the day asks.
 use Rattle.kd_state.proofs.Prelude.{AreCables, Bool, CipherOfChunks, Day, EngineEnciphersAsMachine, EngineKey}
 use Rattle.kd_state.proofs.Prelude.{EquallySetDecipher, IsLegalDay, IsLegalRotorDay, IsMachine, IsPermutation}
-use Rattle.kd_state.proofs.Prelude.{IsRotorOnKey, KeyAfterChunks, List, OfDrum, OfPins, OfRotors, OfWheels, OnKey}
+use Rattle.kd_state.proofs.Prelude.{IsRotorOnKey, KeyAfterChunks, List, Pin, Rotor, OnKey}
 use Rattle.kd_state.proofs.Prelude.{OnKeyEnciphersByDaysKey, OnKeyIsReady, Parts, Pin, Place, ReadsAsDayEnciphersAsDay}
 use Rattle.kd_state.proofs.Prelude.{ReadsAsDayIsReady, Rotor, RotorDay, RotorParts, SheetWheel, Some}
 use Rattle.kd_state.proofs.Prelude.{DaysEngineDeciphersItself, TurnedEngineEnciphersAsMachine}
@@ -40,10 +40,10 @@ engine_cipher (Pin m) text =
 
 -- machines on the day's key are ready
 pub on_key_ready : OnKeyIsReady
-on_key_ready (Rotor m) (OfRotors s) machine legal h =
+on_key_ready (Rotor m) (Rotor s) machine legal h =
     (all_seated m.slots s.wheels h.slots, whole_cables m.cables s.pairs h.cables)
 on_key_ready (Pin m) s machine legal h = tt
-on_key_ready (Rotor m) (OfPins s) machine legal h = absurd h
+on_key_ready (Rotor m) (Pin s) machine legal h = absurd h
 
 pub reading_ready : ReadsAsDayIsReady
 reading_ready m s machine legal h = on_key_ready m s machine legal h.key
@@ -54,7 +54,7 @@ own_window m = grind arith
 -- the key of a machine on the day's key is the day's key, if both keys get the same window letters
 rotor_key : (m : RotorParts) (s : RotorDay) (window : List ℕ) → AreCables m.cables → IsLegalRotorDay s
     → IsRotorOnKey m s
-    → key_with_window (physical_key (Rotor m)) window ≡ key_with_window (sheet_key (OfRotors s)) window
+    → key_with_window (physical_key (Rotor m)) window ≡ key_with_window (sheet_key (Rotor s)) window
 rotor_key m s window cables legal h =
     let wheels = wheels_of_slots m s.wheels h.slots in
     let rings =
@@ -75,7 +75,7 @@ converter_alike pins letters rows others text moved = grind (arith, sum_by-IsPer
 
 key_on_key : (m : Parts) (s : Day) (window text : List ℕ) → IsMachine m → IsLegalDay s → OnKey m s
     → cipher (key_with_window (physical_key m) window) text ≡ cipher (key_with_window (sheet_key s) window) text
-key_on_key (Rotor m) (OfRotors s) window text machine legal h =
+key_on_key (Rotor m) (Rotor s) window text machine legal h =
     ap (λ key. cipher key text) (rotor_key m s window machine.legal.cables legal h)
 key_on_key m s window text machine legal h = grind (arith, converter_alike)
 
@@ -85,15 +85,15 @@ on_key_cipher m s text machine legal h =
     ∙ key_on_key m s (window_of m) text machine legal h
 
 pub reading_cipher : ReadsAsDayEnciphersAsDay
-reading_cipher (Rotor m) (OfRotors s) text machine legal h =
+reading_cipher (Rotor m) (Rotor s) text machine legal h =
     let shows = ap (filter_map (letter_at m)) (wheels_of_slots m s.wheels h.key.slots)
     ∙ read_all (letter_at m) (λ w. w.letter) s.wheels
     (recursion_from_All (λ (w : SheetWheel). letter_at m w.wheel ≡ Some w.letter) s.wheels h.window) in
-    on_key_cipher (Rotor m) (OfRotors s) text machine legal h.key
-    ∙ ap (λ window. cipher (key_with_window (sheet_key (OfRotors s)) window) text) shows
-reading_cipher (Pin m) (OfPins s) text machine legal h =
-    on_key_cipher (Pin m) (OfPins s) text machine legal h.key
-    ∙ ap (λ window. cipher (key_with_window (sheet_key (OfPins s)) window) text) h.window
+    on_key_cipher (Rotor m) (Rotor s) text machine legal h.key
+    ∙ ap (λ window. cipher (key_with_window (sheet_key (Rotor s)) window) text) shows
+reading_cipher (Pin m) (Pin s) text machine legal h =
+    on_key_cipher (Pin m) (Pin s) text machine legal h.key
+    ∙ ap (λ window. cipher (key_with_window (sheet_key (Pin s)) window) text) h.window
 reading_cipher m s text machine legal h = absurd h.key
 
 -- an engine set as the day says that enciphers a text twice, each time from the same letters, gives the text
@@ -132,5 +132,5 @@ pub cipher_in_turn : CipherOfChunks
 cipher_in_turn = grind (arith, enigma.cipher_in_turn, drum.cipher_in_turn)
 
 pub key_in_turn : KeyAfterChunks
-key_in_turn (OfWheels key) m n = ap OfWheels (enigma.key_in_turn key m n)
-key_in_turn (OfDrum key) m n = ap OfDrum (starts.key_in_turn key m n)
+key_in_turn (Rotor key) m n = ap Rotor (enigma.key_in_turn key m n)
+key_in_turn (Pin key) m n = ap Pin (starts.key_in_turn key m n)

@@ -13,7 +13,7 @@ pub use Rattle.kd_state.specs.Line.{BeginsWithSettingLines, BeginsWithSettingLin
 pub use Rattle.kd_state.specs.Line.{IsSettingInRange, IsListText, IsSettingOfWords, list_text, on_off_text}
 pub use Rattle.kd_state.specs.Line.{setting_line, setting_words}
 pub use Rattle.kd_state.specs.Machine.{AreLegalSeats, AreCables, AreLetters, AreOnWheels, HasAllPins}
-pub use Rattle.kd_state.specs.Machine.{IsLegalPin, IsLegalRotor, IsMachine, IsSeatedAt, cable_letters}
+pub use Rattle.kd_state.specs.Machine.{AreLegalPinParts, AreLegalRotorParts, IsMachine, IsSeatedAt, cable_letters}
 pub use Rattle.kd_state.specs.Machine.{with_cables_in_order, letter_at, machine_letter, model_of, cable_in_order}
 pub use Rattle.kd_state.specs.Machine.{letters_in_cables, ring_at, machine_ring, machine_slot, machine_standing}
 pub use Rattle.kd_state.specs.OnKey.{IsRotorOnKey, OnKey, ShowsWindow, cable_of_column, cables_of}
@@ -21,9 +21,10 @@ pub use Rattle.kd_state.specs.Pins.{pin_at, pin_set, wheel_pins, with_pin}
 pub use Rattle.kd_state.specs.FirstFault.{◌>>=◌, ◌>>◌, demand}
 pub use Rattle.kd_state.specs.Setting.{Carries, Leads, Refuses, outcome, cable_with, cable_without, has_loose_end}
 pub use Rattle.kd_state.specs.Setting.{is_same_place, with_lug, seat_without}
-pub use Rattle.kd_state.specs.SheetDay.{Day, HasWheelLetters, IsLegalDay, IsLegalRotorDay, OfPins, OfRotors, PinDay}
+pub use Rattle.kd_state.specs.SheetDay.{Day, HasWheelLetters, IsLegalDay, IsLegalRotorDay, Pin, Rotor, PinDay}
 pub use Rattle.kd_state.specs.SheetDay.{RotorDay, seats_of_wheels}
-pub use Rattle.kd_state.specs.TwoCiphers.{EngineKey, IsReady, OfDrum, OfWheels, cipher, key_with_window}
+pub use Rattle.kd_state.specs.EngineKey.{EngineKey, Pin, Rotor, cipher, key_with_window}
+pub use Rattle.kd_state.specs.TwoCiphers.{IsReady}
 pub use Rattle.kd_state.specs.TwoCiphers.{physical_cipher, physical_key, seated_wheels, sheet_key, window_of}
 pub use Rattle.kd_state.specs.declared.machine.parts.Parts.{Parts, TheVariants.Pin, TheVariants.Rotor}
 pub use Rattle.kd_state.specs.declared.machine.{pin_parts.PinParts.PinParts, rotor_parts.RotorParts.RotorParts}

@@ -1,6 +1,6 @@
 -- Lemmas on which wheels and reflectors are the same, and on the slots and places that wheels have.
 use Rattle.kd_state.proofs.Prelude.{place_in_box, same_reflector, same_wheel, AreLegalSeats, IsSeatedAt, ShowsWindow}
-use Rattle.kd_state.proofs.Prelude.{Day, OfPins, PinDay, AllByRecursion, All-from_recursion, recursion_from_All}
+use Rattle.kd_state.proofs.Prelude.{Day, Pin, PinDay, AllByRecursion, All-from_recursion, recursion_from_All}
 use Rattle.kd_state.proofs.Prelude.{seats_of_wheels, Parts, Pin, PinParts, SheetWheel, box_of, reflector_text, slots_of}
 use Rattle.kd_state.proofs.Prelude.{wheel_text, wheels_for, Model, Reflector, Wheel, I, cases_Bool, eqb-true}
 use Rattle.kd_state.proofs.Prelude.{false_from_ne_true, leb-true, Contains-append_left, Contains-append_right}
@@ -155,6 +155,6 @@ pub all_tested : {X : Type 0} (P : X → Type 0) (xs ys : List X) (b : Bool) →
 all_tested P xs ys b d e = grind (arith, All-from_recursion, recursion_from_All)
 
 -- a Converter shows the day's letters exactly if its letters are the day's window
-pub pin_letters_show : (p : Parts) (m : PinParts) (s : Day) (r : PinDay) → p ≡ Pin m → s ≡ OfPins r
+pub pin_letters_show : (p : Parts) (m : PinParts) (s : Day) (r : PinDay) → p ≡ Pin m → s ≡ Pin r
     → (m.letters ≡ r.window) ↔ ShowsWindow p s
 pin_letters_show p m s r is day = grind arith

@@ -1,6 +1,6 @@
 -- Lemmas on the wheels in the slots: their rings and letters, and turning them to any window.
-use Rattle.kd_state.proofs.Prelude.{place_in_box, MachinesCanBeTurned, AreLetters, IsLegalRotor, IsSeatedAt, letter_at}
-use Rattle.kd_state.proofs.Prelude.{ring_at, seats_of_wheels, IsReady, OfWheels, physical_key, seated_wheels, Pin}
+use Rattle.kd_state.proofs.Prelude.{place_in_box, MachinesCanBeTurned, AreLetters, AreLegalRotorParts, IsSeatedAt, letter_at}
+use Rattle.kd_state.proofs.Prelude.{ring_at, seats_of_wheels, IsReady, Rotor, physical_key, seated_wheels, Pin}
 use Rattle.kd_state.proofs.Prelude.{Rotor, RotorParts, SheetWheel, exchange, box_of, Model, Wheel, false≢true}
 use Rattle.kd_state.proofs.Prelude.{get_or-map, length-map, All-map, recursion_from_All, none-some, slice_get-get_or}
 use Rattle.kd_state.proofs.Prelude.{All, AllByRecursion, cons_option, IsSome, Contains, List, None, Option, Some, []}
@@ -64,19 +64,19 @@ pub wheels_of_slots : (m : RotorParts) (wheels : List SheetWheel) → m.slots �
 wheels_of_slots m wheels e = grind (arith, wheels_seated)
 
 pub key_of_seats : (m : RotorParts) (wheels : List SheetWheel) → AreSeats m m.slots wheels
-    → physical_key (Rotor m) ≡ OfWheels (key_of_wheels wheels m.reflector (exchange (pairs_of m.cables)))
+    → physical_key (Rotor m) ≡ Rotor (key_of_wheels wheels m.reflector (exchange (pairs_of m.cables)))
 key_of_seats m wheels h = grind (arith, wheels_of_slots, filter_map, read_all)
 
 -- if `wheels` are in the slots with their rings and letters, the machine's key has them, and no slot is empty
 pub of_seated : (m : RotorParts) (wheels : List SheetWheel) → map Some wheels ≡ map (wheel_in_seat m) m.slots
-    → (physical_key (Rotor m) ≡ OfWheels (key_of_wheels wheels m.reflector (exchange (pairs_of m.cables))))
+    → (physical_key (Rotor m) ≡ Rotor (key_of_wheels wheels m.reflector (exchange (pairs_of m.cables))))
     × All (λ seated. IsSome seated) m.slots
 of_seated m wheels e =
     let seats = are_seats m m.slots wheels e in
     (key_of_seats m wheels seats, all_seated m.slots wheels seats.slots)
 
 -- a wheel in a slot of a legal machine has a ring and a letter
-filled_seat : (m : RotorParts) → IsLegalRotor m → (place : ℕ) (seat : Option Wheel)
+filled_seat : (m : RotorParts) → AreLegalRotorParts m → (place : ℕ) (seat : Option Wheel)
     → slice_get m.slots place ≡ Some seat → IsSome seat → wheel_in_seat m seat ≢ None
 filled_seat m legal place None at there none = false≢true there
 filled_seat m legal place (Some wheel) at there none =
@@ -89,7 +89,7 @@ filled_seat m legal place (Some wheel) at there none =
     slice_get-get_or m.letters box 0 (omega (arith, within, legal.letters.count)) in
     none-some _ (sym (rw (ring, letter) at none))
 
-pub not_ready : (m : RotorParts) → IsLegalRotor m → Contains (map (wheel_in_seat m) m.slots) None → IsReady (Rotor m)
+pub not_ready : (m : RotorParts) → AreLegalRotorParts m → Contains (map (wheel_in_seat m) m.slots) None → IsReady (Rotor m)
     → ⊥
 not_ready m legal h ready =
     let k = h.0 in

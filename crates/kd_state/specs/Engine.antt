@@ -2,13 +2,13 @@
 use Rattle.std.specs.Prelude.{◌≡◌, length}
 use Rattle.kd_state.specs.declared.engine.Mechanism.{Mechanism}
 use Rattle.kd_state.specs.declared.engine.Mechanism.TheVariants.{ThreeWheels, FourWheels, Drum}
-use Rattle.kd_state.specs.TwoCiphers.{EngineKey, OfWheels, OfDrum}
+use Rattle.kd_state.specs.EngineKey.{EngineKey, Rotor, Pin}
 
 -- the key of the Enigma or of the Converter that is in an engine
 abbrev pub mechanism_key : Mechanism → EngineKey
-mechanism_key (ThreeWheels key) = OfWheels key
-mechanism_key (FourWheels key) = OfWheels key
-mechanism_key (Drum key) = OfDrum key
+mechanism_key (ThreeWheels key) = Rotor key
+mechanism_key (FourWheels key) = Rotor key
+mechanism_key (Drum key) = Pin key
 
 -- The key of `ThreeWheels` has three wheels, and the key of `FourWheels` has four.
 abbrev pub HasKeyWheelCount : Mechanism → Type 0

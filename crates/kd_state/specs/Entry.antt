@@ -3,7 +3,7 @@ use Rattle.kd_state.specs.declared.sheet_day.rotor_entry.RotorEntry.{RotorEntry}
 use Rattle.kd_state.specs.declared.sheet_day.pin_entry.PinEntry.{PinEntry}
 use Rattle.kd_state.specs.declared.sheet_day.entry.Entry.{Entry}
 use Rattle.kd_state.specs.declared.sheet_day.entry.Entry.TheVariants.{Rotor, Pin}
-use Rattle.kd_state.specs.SheetDay.{RotorDay, PinDay, Day, OfRotors, OfPins}
+use Rattle.kd_state.specs.SheetDay.{RotorDay, PinDay, Day, Rotor, Pin}
 
 -- the values of a rotor machine's day
 abbrev pub rotor_values : RotorEntry → RotorDay
@@ -20,7 +20,7 @@ rotor_values e = record {
 abbrev pub pin_values : PinEntry → PinDay
 pin_values e = record { day = e.day; rows = e.rows; pins = e.pins; window = e.window; list = e.list }
 
--- the values of a day, of a rotor machine or of a Converter
+-- the values of a day, of a rotor machine or of a Converter: left of `=` is an `Entry`, right of it a `Day`
 abbrev pub values_of : Entry → Day
-values_of (Rotor e) = OfRotors (rotor_values e)
-values_of (Pin e) = OfPins (pin_values e)
+values_of (Rotor e) = Rotor (rotor_values e)
+values_of (Pin e) = Pin (pin_values e)

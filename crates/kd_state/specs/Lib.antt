@@ -13,6 +13,7 @@ pub mod SheetDay
 pub mod Entry
 pub mod OneModel
 pub mod OnKey
+pub mod EngineKey
 pub mod TwoCiphers
 pub mod SheetsMachine
 pub mod SeatedWheels

@@ -66,7 +66,7 @@ HasAllPins pins = (wheel : ℕ) → length (wheel_pins pins wheel) ≡ length (r
 -- The parts make a rotor machine. Each slot is empty or has a wheel that the model allows there, no wheel is in two
 -- slots, and the reflector is one of the model's. Each wheel of the box has a ring and a window letter. There are 13
 -- cables, and no letter is in them twice.
-pub record IsLegalRotor (machine : RotorParts) : Type 0 where
+pub record AreLegalRotorParts (machine : RotorParts) : Type 0 where
   pub seats : AreLegalSeats machine.model machine.slots
   pub reflector : Contains (reflectors_of machine.model) machine.reflector
   pub rings : AreLetters (length (box_of machine.model)) machine.rings
@@ -75,7 +75,7 @@ pub record IsLegalRotor (machine : RotorParts) : Type 0 where
 
 -- The parts make a Converter. Each pin wheel has a pin for each of its letters, and shows one of its letters. On each
 -- of the 27 bars, the left lug is left of the right lug.
-pub record IsLegalPin (machine : PinParts) : Type 0 where
+pub record AreLegalPinParts (machine : PinParts) : Type 0 where
   pub pins : HasAllPins machine.pins
   pub letters : AreOnWheels machine.letters
   pub bars : length machine.bars ≡ 27
@@ -83,8 +83,8 @@ pub record IsLegalPin (machine : PinParts) : Type 0 where
 
 -- The parts make a rotor machine or a Converter.
 abbrev pub IsLegal : Parts → Type 0
-IsLegal (Rotor machine) = IsLegalRotor machine
-IsLegal (Pin machine) = IsLegalPin machine
+IsLegal (Rotor machine) = AreLegalRotorParts machine
+IsLegal (Pin machine) = AreLegalPinParts machine
 
 -- a cable with these letters in alphabetical order; a single letter is at the cable's first end
 abbrev pub cable_in_order : Option ℕ → Option ℕ → Option ℕ × Option ℕ

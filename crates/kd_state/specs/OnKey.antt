@@ -9,7 +9,7 @@ use Rattle.kd_state.specs.declared.machine.parts.Parts.{Parts}
 use Rattle.kd_state.specs.declared.machine.parts.Parts.TheVariants.{Rotor, Pin}
 use Rattle.kd_state.specs.Costs.{columns_of}
 use Rattle.kd_state.specs.Machine.{cable_in_order, ring_at, letter_at}
-use Rattle.kd_state.specs.SheetDay.{RotorDay, Day, OfRotors, OfPins, seats_of_wheels}
+use Rattle.kd_state.specs.SheetDay.{RotorDay, Day, Rotor, Pin, seats_of_wheels}
 
 -- a column with the letters of its pair in alphabetical order
 abbrev pub pair_in_order : Option (ℕ × ℕ) → Option (ℕ × ℕ)
@@ -34,14 +34,14 @@ pub record IsRotorOnKey (machine : RotorParts) (day : RotorDay) : Type 0 where
 
 -- The machine is set as the day says, whatever letters it shows. Its bars have the day's readings, in any order.
 abbrev pub OnKey : Parts → Day → Type 0
-OnKey (Rotor machine) (OfRotors day) = IsRotorOnKey machine day
-OnKey (Pin machine) (OfPins day) = (machine.pins ≡ day.pins) × IsPermutation (map reading_of machine.bars) day.rows
+OnKey (Rotor machine) (Rotor day) = IsRotorOnKey machine day
+OnKey (Pin machine) (Pin day) = (machine.pins ≡ day.pins) × IsPermutation (map reading_of machine.bars) day.rows
 OnKey _ _ = ⊥
 
 -- Each of the day's wheels has the day's window letter; on a Converter, the six pin wheels show the day's letters.
 abbrev pub ShowsWindow : Parts → Day → Type 0
-ShowsWindow (Rotor machine) (OfRotors day) = All (λ w. letter_at machine w.wheel ≡ Some w.letter) day.wheels
-ShowsWindow (Pin machine) (OfPins day) = machine.letters ≡ day.window
+ShowsWindow (Rotor machine) (Rotor day) = All (λ w. letter_at machine w.wheel ≡ Some w.letter) day.wheels
+ShowsWindow (Pin machine) (Pin day) = machine.letters ≡ day.window
 ShowsWindow _ _ = ⊥
 
 -- The machine is set as the day says, and shows the day's letters.

@@ -5,13 +5,13 @@ use Rattle.kd_state.specs.declared.machine.parts.Parts.{Parts}
 use Rattle.kd_state.specs.declared.machine.parts.Parts.TheVariants as parts
 use Rattle.kd_state.specs.declared.machine.one_model.OneModel.{OneModel}
 use Rattle.kd_state.specs.declared.machine.one_model.OneModel.TheVariants.{Rotor, Pin}
-use Rattle.kd_state.specs.SheetDay.{Day, OfRotors, OfPins}
+use Rattle.kd_state.specs.SheetDay.{Day, Rotor, Pin}
 use Rattle.kd_state.specs.Entry.{rotor_values, pin_values}
 
 -- The `OneModel` has the parts of the machine and the entry of the day. Machine and day are of the same rotor
 -- model, or both of the Converter M-209.
 abbrev pub IsOneModelOf : Parts → Day → OneModel → Type 0
 IsOneModelOf machine day (Rotor m_parts entry) =
-    (machine ≡ parts.Rotor m_parts.now) × (day ≡ OfRotors (rotor_values entry.now))
+    (machine ≡ parts.Rotor m_parts.now) × (day ≡ Rotor (rotor_values entry.now))
     × (m_parts.now.model ≡ entry.now.model)
-IsOneModelOf machine day (Pin m_parts entry) = (machine ≡ parts.Pin m_parts.now) × (day ≡ OfPins (pin_values entry.now))
+IsOneModelOf machine day (Pin m_parts entry) = (machine ≡ parts.Pin m_parts.now) × (day ≡ Pin (pin_values entry.now))

@@ -49,8 +49,8 @@ pin_day_of day rows pins window list = record { day = day; rows = rows; pins = p
 
 -- A day's values: a rotor machine's or a Converter's.
 pub data Day : Type 0 where
-  OfRotors : RotorDay → Day
-  OfPins : PinDay → Day
+  Rotor : RotorDay → Day
+  Pin : PinDay → Day
 
 -- ---- Which values a day can have.
 -- Code: a day keeps its pairs and groups in lists of bounded length.
@@ -97,41 +97,41 @@ pub record IsLegalPinDay (values : PinDay) : Type 0 where
 
 -- The values of the day are legal: a key sheet can have them.
 abbrev pub IsLegalDay : Day → Type 0
-IsLegalDay (OfRotors values) = IsLegalRotorDay values
-IsLegalDay (OfPins values) = IsLegalPinDay values
+IsLegalDay (Rotor values) = IsLegalRotorDay values
+IsLegalDay (Pin values) = IsLegalPinDay values
 
 -- ---- What the getters of a day show.
 -- Test: kd_trials/src/state.rt
 
 -- the day of the month
 abbrev pub day_number : Day → ℕ
-day_number (OfRotors values) = values.day
-day_number (OfPins values) = values.day
+day_number (Rotor values) = values.day
+day_number (Pin values) = values.day
 
 -- the model that the day is for
 abbrev pub day_model : Day → Model
-day_model (OfRotors values) = values.model
-day_model (OfPins values) = M209
+day_model (Rotor values) = values.model
+day_model (Pin values) = M209
 
 -- the values of a rotor machine's day; `None` for a Converter's day
 abbrev pub rotor_day : Day → Option RotorDay
-rotor_day (OfRotors values) = Some values
-rotor_day (OfPins values) = None
+rotor_day (Rotor values) = Some values
+rotor_day (Pin values) = None
 
 -- the values of a Converter's day; `None` for a rotor machine's day
 abbrev pub pin_day : Day → Option PinDay
-pin_day (OfRotors values) = None
-pin_day (OfPins values) = Some values
+pin_day (Rotor values) = None
+pin_day (Pin values) = Some values
 
 -- the wheel for a slot, with its ring and its window letter; `None` if the day's model lacks the slot
 abbrev pub day_wheel : Day → ℕ → Option SheetWheel
-day_wheel (OfRotors values) slot = numbered_item values.wheels slot
-day_wheel (OfPins values) slot = None
+day_wheel (Rotor values) slot = numbered_item values.wheels slot
+day_wheel (Pin values) slot = None
 
 -- the day's letter for the window of a slot, or for a pin wheel; `None` if the model lacks the slot or wheel
 abbrev pub day_window_letter : Day → ℕ → Option ℕ
-day_window_letter (OfRotors values) slot = option_map (λ w. w.letter) (numbered_item values.wheels slot)
-day_window_letter (OfPins values) wheel = numbered_item values.window wheel
+day_window_letter (Rotor values) slot = option_map (λ w. w.letter) (numbered_item values.wheels slot)
+day_window_letter (Pin values) wheel = numbered_item values.window wheel
 
 -- The letters are the letters of one of the groups, in any order.
 abbrev pub AreOneOfGroups : List (List ℕ) → List ℕ → Type 0
@@ -139,5 +139,5 @@ AreOneOfGroups groups letters = Any (λ group. IsPermutation group letters) grou
 
 -- The letters are the letters of one of the day's groups, in any order. A Converter's day has no groups.
 abbrev pub AreADaysGroup : Day → List ℕ → Type 0
-AreADaysGroup (OfRotors values) letters = AreOneOfGroups values.groups letters
-AreADaysGroup (OfPins values) letters = ⊥
+AreADaysGroup (Rotor values) letters = AreOneOfGroups values.groups letters
+AreADaysGroup (Pin values) letters = ⊥

@@ -1,4 +1,4 @@
--- The cipher of a machine, and the cipher of a day; and the keys of engines, for a rotor machine or a Converter.
+-- The cipher of a machine, and the cipher of a day, by the keys of engines.
 -- Code: one type, `Engine`, serves all models.
 -- Test: tests/refusals
 use Rattle.std.specs.Prelude.{◌≡◌, ◌≢◌, ℕ, List, length, map, All, IsSome}
@@ -9,40 +9,15 @@ use Rattle.kd_tables.specs.declared.wheel.Wheel.{Wheel}
 use Rattle.kd_tables.specs.Permutation.{exchange}
 use Rattle.kd_tables.specs.Places.{place_number, reading_of}
 use Rattle.kd_pins.specs.PinWheels.{pins_of}
-use Rattle.kd_enigma.specs.Cipher.{RotorKey, enigma_cipher, key_after, key_turned}
-use Rattle.kd_drum.specs.Converter.{PinKey, converter_cipher, pin_key_after, pin_key_turned}
+use Rattle.kd_enigma.specs.Cipher.{RotorKey, enigma_cipher}
+use Rattle.kd_drum.specs.Converter.{PinKey, converter_cipher}
 use Rattle.kd_state.specs.declared.machine.rotor_parts.RotorParts.{RotorParts}
 use Rattle.kd_state.specs.declared.machine.parts.Parts.{Parts}
 use Rattle.kd_state.specs.declared.machine.parts.Parts.TheVariants.{Rotor, Pin}
-use Rattle.kd_state.specs.Machine.{cable_letters, ring_at, letter_at, AreLetters, AreOnWheels}
+use Rattle.kd_state.specs.EngineKey.{EngineKey, Rotor, Pin}
+use Rattle.kd_state.specs.Machine.{cable_letters, ring_at, letter_at}
 use Rattle.kd_state.specs.SeatedWheels.{key_of_wheels}
-use Rattle.kd_state.specs.SheetDay.{PinDay, Day, OfRotors, OfPins}
-
--- An engine's key: for wheels, reflector and plugboard, or for a Converter's drum.
-pub data EngineKey : Type 0 where
-  OfWheels : RotorKey → EngineKey
-  OfDrum : PinKey → EngineKey
-
--- the ciphertext of a text by an engine with this key, for letters below 26
-abbrev pub cipher : EngineKey → List ℕ → List ℕ
-cipher (OfWheels key) text = enigma_cipher key text
-cipher (OfDrum key) text = converter_cipher key text
-
--- the key of an engine after this many letters were enciphered
-abbrev pub engine_key_after : EngineKey → ℕ → EngineKey
-engine_key_after (OfWheels key) n = OfWheels (key_after key n)
-engine_key_after (OfDrum key) n = OfDrum (pin_key_after key n)
-
--- the key after the wheels or the pin wheels were turned until they show these letters
-abbrev pub key_with_window : EngineKey → List ℕ → EngineKey
-key_with_window (OfWheels key) window = OfWheels (key_turned key window)
-key_with_window (OfDrum key) window = OfDrum (pin_key_turned key window)
-
--- A machine with this key can show these letters. On a rotor machine, there is one letter for each slot. On a
--- Converter, there is one letter for each pin wheel, and each letter is on its wheel.
-abbrev pub IsWindow : EngineKey → List ℕ → Type 0
-IsWindow (OfWheels key) window = AreLetters (length key.wheels) window
-IsWindow (OfDrum key) window = AreOnWheels window
+use Rattle.kd_state.specs.SheetDay.{PinDay, Day, Rotor, Pin}
 
 -- ---- When a machine is ready, and which wheels and letters it has.
 
@@ -66,8 +41,8 @@ window_of (Pin machine) = machine.letters
 -- Code: bars are counted by their readings, not by their lugs.
 
 -- the key to which a rotor machine is set; only cables with two letters count
-abbrev pub key_of_rotors : RotorParts → RotorKey
-key_of_rotors machine = record {
+abbrev pub key_of_rotor_parts : RotorParts → RotorKey
+key_of_rotor_parts machine = record {
   wheels = seated_wheels machine;
   rings = filter_map (ring_at machine) (seated_wheels machine);
   window = filter_map (letter_at machine) (seated_wheels machine);
@@ -76,27 +51,27 @@ key_of_rotors machine = record {
 }
 
 -- the key that a Converter's day asks for, with the day's letters on the pin wheels
-abbrev pub key_of_pins : PinDay → PinKey
-key_of_pins day = record { pins = pins_of day.pins; letters = day.window; rows = day.rows }
+abbrev pub key_of_pin_day : PinDay → PinKey
+key_of_pin_day day = record { pins = pins_of day.pins; letters = day.window; rows = day.rows }
 
 -- the ciphertext that a ready machine makes: a rotor machine by its key, a Converter by its pins, letters and lugs
 abbrev pub physical_cipher : Parts → List ℕ → List ℕ
-physical_cipher (Rotor machine) text = enigma_cipher (key_of_rotors machine) text
+physical_cipher (Rotor machine) text = enigma_cipher (key_of_rotor_parts machine) text
 physical_cipher (Pin machine) text =
     let rows = map (λ (bar : Place × Place). (place_number bar.0, place_number bar.1)) machine.bars in
     converter_cipher (record { pins = pins_of machine.pins; letters = machine.letters; rows = rows }) text
 
 -- the ciphertext that a day asks for
 abbrev pub sheet_cipher : Day → List ℕ → List ℕ
-sheet_cipher (OfRotors day) text = enigma_cipher (key_of_wheels day.wheels day.reflector (exchange day.pairs)) text
-sheet_cipher (OfPins day) text = converter_cipher (key_of_pins day) text
+sheet_cipher (Rotor day) text = enigma_cipher (key_of_wheels day.wheels day.reflector (exchange day.pairs)) text
+sheet_cipher (Pin day) text = converter_cipher (key_of_pin_day day) text
 
--- ---- The engine's key for a machine and for a day.
+-- ---- The engine's key for a machine and for a day. Right of `=`, `Rotor` and `Pin` make an `EngineKey`.
 
 -- the key to which a machine is set
 abbrev pub physical_key : Parts → EngineKey
-physical_key (Rotor machine) = OfWheels (key_of_rotors machine)
-physical_key (Pin machine) = OfDrum (record {
+physical_key (Rotor machine) = Rotor (key_of_rotor_parts machine)
+physical_key (Pin machine) = Pin (record {
   pins = pins_of machine.pins;
   letters = machine.letters;
   rows = map reading_of machine.bars;
@@ -104,8 +79,8 @@ physical_key (Pin machine) = OfDrum (record {
 
 -- the key that a day asks for, with the day's letters in the windows or on the pin wheels
 abbrev pub sheet_key : Day → EngineKey
-sheet_key (OfRotors day) = OfWheels (key_of_wheels day.wheels day.reflector (exchange day.pairs))
-sheet_key (OfPins day) = OfDrum (key_of_pins day)
+sheet_key (Rotor day) = Rotor (key_of_wheels day.wheels day.reflector (exchange day.pairs))
+sheet_key (Pin day) = Pin (key_of_pin_day day)
 
 -- The second machine is the first, turned until it shows these letters. The window letters of wheels in the box
 -- may differ.

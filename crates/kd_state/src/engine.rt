@@ -34,7 +34,7 @@ enum Mechanism {
 }
 
 impl Model for Engine {
-    ghost use Rattle.kd_state.specs.TwoCiphers.{EngineKey};
+    ghost use Rattle.kd_state.specs.EngineKey.{EngineKey};
 
     ghost Value = { EngineKey };
 
@@ -49,7 +49,7 @@ impl Engine {
     ghost use Rattle.std.specs.Prelude.{◌⊎◌, length};
     ghost use Rattle.kd_pins.specs.PinWheels.{pins_of};
     ghost use Rattle.kd_state.specs.SeatedWheels.{key_of_wheels};
-    ghost use Rattle.kd_state.specs.TwoCiphers.{OfWheels, OfDrum, cipher, engine_key_after, key_with_window, IsWindow};
+    ghost use Rattle.kd_state.specs.EngineKey.{Rotor, Pin, cipher, engine_key_after, key_with_window, IsWindow};
 
     /// Enciphers or deciphers `text` in place. The wheels step on with each letter.
     pub fn run(&mut self, text: &mut [Letter])
@@ -82,7 +82,7 @@ impl Engine {
     /// Creates the engine of a rotor machine. `wheels` are its three or four wheels, from the left.
     fn from_wheels(wheels: &[SheetWheel], reflector: Reflector, plugs: Plugs) -> Engine
         requires { (length wheels.now ≡ 3) ⊎ (length wheels.now ≡ 4) }
-        ensures { result ≡ OfWheels (key_of_wheels wheels.now reflector plugs) }
+        ensures { result ≡ Rotor (key_of_wheels wheels.now reflector plugs) }
     {
         let mechanism = match wheels {
             [left, middle, right] => Mechanism::ThreeWheels(Enigma::new(EnigmaKey {
@@ -108,7 +108,7 @@ impl Engine {
     #[tactic(auto, using(crate::proofs::Slots::stand_on_wheels))]
     fn from_drum(pins: PinSet, letters: [Letter; 6], rows: [Reading; 27]) -> Engine
         requires { AreOnWheels letters }
-        ensures { result ≡ OfDrum (record { pins = pins_of pins; letters = letters; rows = rows }) }
+        ensures { result ≡ Pin (record { pins = pins_of pins; letters = letters; rows = rows }) }
     {
         Engine {
             mechanism: Mechanism::Drum(Converter::new(pins, letters, rows).unwrap()),

@@ -40,7 +40,7 @@ impl std::marker::Model for Machine {
 
 impl Machine {
     ghost use Rattle.std.specs.Prelude.{◌≡◌, ◌↔◌, IsSome, IfSome, OnOk, OnErr, IfErr};
-    ghost use Rattle.kd_state.specs.Machine.{IsLegalRotor, IsLegalPin, IsMachine, with_cables_in_order};
+    ghost use Rattle.kd_state.specs.Machine.{AreLegalRotorParts, AreLegalPinParts, IsMachine, with_cables_in_order};
     ghost use Rattle.kd_state.specs.Setting.{Carries, Refuses};
 
     /// Creates a rotor machine, or `None` if `parts` aren't legal.
@@ -49,7 +49,7 @@ impl Machine {
     /// and a letter for each wheel of the model's box. Each wheel is allowed in its slot, no wheel is in two slots, and
     /// all letters in the cables are different. A cable's letters may come in either order.
     pub fn rotor(parts: RotorParts) -> Option<Machine>
-        ensures exists { IsSome result ↔ IsLegalRotor parts }
+        ensures exists { IsSome result ↔ AreLegalRotorParts parts }
         ensures value { IfSome result (λ machine. machine ≡ with_cables_in_order (Parts.Rotor parts)) }
     {
         if !parts.is_legal() {
@@ -62,7 +62,7 @@ impl Machine {
 
     /// Creates a Converter M-209, or `None` if one of the six letters isn't on its pin wheel.
     pub fn pin(parts: PinParts) -> Option<Machine>
-        ensures exists { IsSome result ↔ IsLegalPin parts }
+        ensures exists { IsSome result ↔ AreLegalPinParts parts }
         ensures value { IfSome result (λ machine. machine ≡ Parts.Pin parts) }
     {
         if !parts.is_legal() {

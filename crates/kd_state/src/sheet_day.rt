@@ -33,7 +33,7 @@ impl std::marker::Model for SheetDay {
 impl SheetDay {
     ghost use Rattle.std.specs.Prelude.{◌≡◌, ◌↔◌, ◌≤◌, length, IsTrue, IfSome};
     ghost use Rattle.std.specs.Option.{IsSome, option_copied, option_map};
-    ghost use Rattle.kd_state.specs.SheetDay.{OfRotors, OfPins, rotor_day_of, pin_day_of, IsLegalDay, IsLegalRotorDay};
+    ghost use Rattle.kd_state.specs.SheetDay.{Rotor, Pin, rotor_day_of, pin_day_of, IsLegalDay, IsLegalRotorDay};
     ghost use Rattle.kd_state.specs.SheetDay.{IsLegalPinDay, IsDayNumber, AreADaysGroup};
     ghost use Rattle.kd_state.specs.SheetDay.{day_number, day_model, rotor_day, pin_day, day_wheel, day_window_letter};
     ghost use Rattle.kd_state.specs.Entry.{values_of};
@@ -54,7 +54,7 @@ impl SheetDay {
         ensures exists { IsSome result
             ↔ IsLegalRotorDay (rotor_day_of day model reflector wheels.now pairs.now groups.now) }
         ensures value { IfSome result (λ sheet_day. sheet_day
-            ≡ OfRotors (rotor_day_of day model reflector wheels.now pairs.now groups.now)) }
+            ≡ Rotor (rotor_day_of day model reflector wheels.now pairs.now groups.now)) }
     {
         let entry = RotorEntry {
             day,
@@ -87,7 +87,7 @@ impl SheetDay {
     ) -> Option<SheetDay>
         ensures exists { IsSome result ↔ IsLegalPinDay (pin_day_of day rows pins window list) }
         ensures value { IfSome result
-            (λ sheet_day. sheet_day ≡ OfPins (pin_day_of day rows pins window list)) }
+            (λ sheet_day. sheet_day ≡ Pin (pin_day_of day rows pins window list)) }
     {
         let entry = PinEntry {
             day,

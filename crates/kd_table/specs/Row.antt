@@ -5,7 +5,7 @@ use Rattle.std.specs.List.{list_all}
 use Rattle.std.specs.Option.{option_map}
 use Rattle.kd_tables.specs.declared.model.Model.{Model}
 use Rattle.kd_tables.specs.declared.model.Model.TheVariants.{M209}
-use Rattle.kd_state.specs.SheetDay.{Day, OfRotors, OfPins, IsLegalDay}
+use Rattle.kd_state.specs.SheetDay.{Day, Rotor, Pin, IsLegalDay}
 use Rattle.kd_table.specs.Columns.{cell_at, cell_or}
 use Rattle.kd_table.specs.Items.{is_blank}
 use Rattle.kd_table.specs.Names.{model_named}
@@ -28,8 +28,8 @@ is_blank_row columns row =
 
 -- the values of a row's day of this model
 abbrev pub values_of_model : OptionTexts → Columns → List (List ℕ) → Model → Option Day
-values_of_model options columns row M209 = option_map OfPins (pin_values options columns row)
-values_of_model options columns row model = option_map OfRotors (rotor_values options columns row model)
+values_of_model options columns row M209 = option_map Pin (pin_values options columns row)
+values_of_model options columns row model = option_map Rotor (rotor_values options columns row model)
 
 -- the values of a row's day
 abbrev pub row_values : OptionTexts → Columns → List (List ℕ) → Option Day

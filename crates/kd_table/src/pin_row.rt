@@ -1,7 +1,7 @@
 //! Reads a row as a Converter's day.
 ghost use Rattle.std.specs.Prelude.{◌≡◌, MatchOption, Some, option_map};
 ghost use Rattle.csv.specs.Records.{fields_of};
-ghost use Rattle.kd_state.specs.SheetDay.{OfPins};
+ghost use Rattle.kd_state.specs.SheetDay.{Pin};
 ghost use Rattle.kd_table.specs.PinRow.{pins_at, pins_in, pin_values};
 ghost use Rattle.kd_table.specs.Options.{texts_of};
 ghost use Rattle.kd_table.specs.Row.{IsNoDay};
@@ -51,8 +51,8 @@ pub fn pin_day(
     row: &ByteRecord,
 ) -> Option<SheetDay>
     ensures { MatchOption result
-        (IsNoDay (option_map OfPins (pin_values (texts_of options.now) columns.now (fields_of row.now))))
-        (λ day. option_map OfPins (pin_values (texts_of options.now) columns.now (fields_of row.now))
+        (IsNoDay (option_map Pin (pin_values (texts_of options.now) columns.now (fields_of row.now))))
+        (λ day. option_map Pin (pin_values (texts_of options.now) columns.now (fields_of row.now))
         ≡ Some day) }
 {
     let number = number_in(cell_at(row, columns.day))?;

@@ -1,7 +1,7 @@
 //! Reads a row as a day of a rotor machine.
 ghost use Rattle.std.specs.Prelude.{◌≡◌, ◌≤◌, ◌+◌, ◌++◌, MatchOption, Some, option_map, length};
 ghost use Rattle.csv.specs.Records.{fields_of};
-ghost use Rattle.kd_state.specs.SheetDay.{OfRotors};
+ghost use Rattle.kd_state.specs.SheetDay.{Rotor};
 ghost use Rattle.kd_table.specs.Options.{texts_of};
 ghost use Rattle.kd_table.specs.Row.{IsNoDay};
 ghost use Rattle.kd_table.specs.RotorRow.{wheels_with, rotor_values};
@@ -68,9 +68,9 @@ pub fn rotor_day(
     model: Model,
 ) -> Option<SheetDay>
     ensures { MatchOption result
-        (IsNoDay (option_map OfRotors
+        (IsNoDay (option_map Rotor
         (rotor_values (texts_of options.now) columns.now (fields_of row.now) model)))
-        (λ day. option_map OfRotors
+        (λ day. option_map Rotor
         (rotor_values (texts_of options.now) columns.now (fields_of row.now) model) ≡ Some day) }
 {
     let number = number_in(cell_at(row, columns.day))?;

@@ -26,7 +26,7 @@ pub use Rattle.kd_state.specs.declared.machine.{parts.Parts.TheVariants.Rotor, r
 pub use Rattle.kd_state.specs.{Costs.{exactly_one, loose_count}, declared.sheet_day.rotor_entry.SheetWheel.SheetWheel}
 pub use Rattle.kd_state.specs.Machine.{AreLegalSeats, AreOnWheels, HasAllPins, IsMachine, IsSeatedAt, model_of, ring_at}
 pub use Rattle.kd_state.specs.SheetDay.{Day, day_model, IsLegalDay, IsLegalRotorDay, PinDay, seats_of_wheels}
-pub use Rattle.kd_state.specs.{Setting.Carries, SheetDay.{IsLegalPinDay, OfPins, OfRotors, RotorDay}}
+pub use Rattle.kd_state.specs.{Setting.Carries, SheetDay.{IsLegalPinDay, Pin, Rotor, RotorDay}}
 pub use Rattle.{kd_state.specs.Setting.{Leads, seat_without}, kd_tables.specs.Pairs.has_letter}
 pub use Rattle.{kd_pins.specs.{declared.pin_set.PinSet.PinSet, PinWheels.pins_of}, kd_tables.specs.Rings.ring_of}
 pub use Rattle.kd_tables.specs.{declared.model.Model.Model, Rings.place_on, Tables.{box_of, reflectors_of, wheels_for}}
@@ -121,7 +121,7 @@ module _ (m : RotorParts) (s : RotorDay) where
       (λ n wheel. grind (arith, counted_loose)) (box_of m.model) 1))
 
   rotor_counted : AreLegalSeats m.model (seats_of_wheels s.wheels)
-      → AreCounted (loose_lines (Rotor m) (OfRotors s)) (loose_count (Rotor m) (OfRotors s)) 0
+      → AreCounted (loose_lines (Rotor m) (Rotor s)) (loose_count (Rotor m) (Rotor s)) 0
   rotor_counted seated =
       let there = in_box m.model s.wheels seated in
       let found = found_once wrong m.model s.wheels
@@ -148,7 +148,7 @@ module _ (m : PinParts) (s : PinDay) (machine : HasAllPins m.pins) (legal : HasA
       let each = beside_each differs (ring_of number) pins (omega (arith, size, machine number, legal number)) in
       rw (lines_of_each (pin_line number) (zip (ring_of number) pins) 1, ← each) all
 
-  pin_counted : AreCounted (loose_lines (Pin m) (OfPins s)) (loose_count (Pin m) (OfPins s)) 0
+  pin_counted : AreCounted (loose_lines (Pin m) (Pin s)) (loose_count (Pin m) (Pin s)) 0
   pin_counted =
       let none : AreCounted [] 0 0 = record { count = refl; priced = refl } in
       let pins = counted-append _ _ (counted_wheel 1) (counted-append _ _ (counted_wheel 2) (counted-append _ _
@@ -162,9 +162,9 @@ module _ (m : PinParts) (s : PinDay) (machine : HasAllPins m.pins) (legal : HasA
 
 pub all_counted : (m : Parts) (s : Day) → IsMachine m → IsLegalDay s → model_of m ≡ day_model s
     → AreCounted (loose_lines m s) (loose_count m s) 0
-all_counted (Rotor m) (OfRotors s) machine legal same =
+all_counted (Rotor m) (Rotor s) machine legal same =
     rotor_counted m s (subst (λ model. AreLegalSeats model (seats_of_wheels s.wheels)) (sym same) legal.wheels)
-all_counted (Pin m) (OfPins s) machine legal same = pin_counted m s machine.legal.pins legal.pins
+all_counted (Pin m) (Pin s) machine legal same = pin_counted m s machine.legal.pins legal.pins
 all_counted m s machine legal same = record { count = refl; priced = refl }
 
 pub loose_things_are_counted : LooseThingsAreCounted

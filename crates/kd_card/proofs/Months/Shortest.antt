@@ -201,20 +201,20 @@ HasCounts-prices m prices are kind = absurd kind
 pub AreBounds-prices : (m n : Parts) (s : Day) (prices : PriceParts) (settings : List Setting) → IsMachine m → IsLegalDay s
     → HasCounts prices → AreModelPrices m prices → PricesFit (cost_table m s) prices → Leads m settings n → ReadsAs n s
     → AreBounds (cost_table m s) prices (loose_count m s) (length settings)
-AreBounds-prices (Rotor m) (Rotor n) (OfRotors s) (Cables row column) settings machine legal are kind fits leads reads =
+AreBounds-prices (Rotor m) (Rotor n) (Rotor s) (Cables row column) settings machine legal are kind fits leads reads =
     let pairing = cables_paired n.cables s.pairs column legal.pairs.few are.1 reads.key.cables in
     let same = sym (model_of-list (Rotor m) (Rotor n) settings leads) ∙ reads.key.model in
-    let falling = list_lowers pairing.beside [] (OfRotors s) legal (Rotor m) (Rotor n) settings same leads in
+    let falling = list_lowers pairing.beside [] (Rotor s) legal (Rotor m) (Rotor n) settings same leads in
     bounded (None, None) None cable_cost m.cables (columns_of s.pairs) (Cables row column) _ _
     machine.legal.cables.count (thirteen_columns s.pairs legal.pairs.few) are.0 are.1 fits pairing.beside
-    pairing.order (omega (arith, falling, pairing.free, nothing_loose (Rotor n) (OfRotors s) reads))
-AreBounds-prices (Pin m) (Pin n) (OfPins s) (Bars row column) settings machine legal are kind fits leads reads =
+    pairing.order (omega (arith, falling, pairing.free, nothing_loose (Rotor n) (Rotor s) reads))
+AreBounds-prices (Pin m) (Pin n) (Pin s) (Bars row column) settings machine legal are kind fits leads reads =
     let stand = list_keeps (Pin m) (Pin n) settings leads machine.legal.apart in
     let pairing = bars_paired n.bars s.rows column stand (legal.count ∙ sym are.1) reads.key.1 in
-    let falling = list_lowers [] pairing.beside (OfPins s) legal (Pin m) (Pin n) settings refl leads in
+    let falling = list_lowers [] pairing.beside (Pin s) legal (Pin m) (Pin n) settings refl leads in
     bounded (One, One) (0, 0) bar_cost m.bars s.rows (Bars row column) _ _ machine.legal.bars legal.count
     are.0 are.1 fits pairing.beside pairing.order
-    (omega (arith, falling, pairing.free, nothing_loose (Pin n) (OfPins s) reads))
+    (omega (arith, falling, pairing.free, nothing_loose (Pin n) (Pin s) reads))
 AreBounds-prices m n s prices settings machine legal are kind fits leads reads =
     grind (arith, common_steps, no_rotors, model_of-list)
 

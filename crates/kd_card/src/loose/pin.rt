@@ -2,7 +2,7 @@
 ghost use Rattle.arrayvec.specs.ArrayVec.{array_vec_len};
 ghost use Rattle.kd_card.specs.Loose.{lines_from, pin_line, wheel_pin_lines, pin_wheel_turn_line, loose_lines};
 ghost use Rattle.kd_pins.specs.PinWheels.{pins_of};
-ghost use Rattle.kd_state.specs.{declared.machine.parts.Parts.TheVariants.Pin, Entry.pin_values, SheetDay.OfPins};
+ghost use Rattle.kd_state.specs.{declared.machine.parts.Parts.TheVariants.Pin, Entry.pin_values, SheetDay.Pin};
 ghost use Rattle.std.specs.Prelude.{◌≡◌, ◌+◌, ◌<◌, ◌≤◌, ◌++◌, flat_map, length, zip};
 
 use super::push_unless;
@@ -15,7 +15,7 @@ use kd_tables::{Letter, Ring, ring1, ring2, ring3, ring4, ring5, ring6};
 ///
 /// Pins come first, then letters. No setting changes a bar.
 pub fn pin_settings(parts: &PinParts, entry: &PinEntry) -> Settings
-    ensures lines { result.items ≡ loose_lines (Pin parts.now) (OfPins (pin_values entry.now)) }
+    ensures lines { result.items ≡ loose_lines (Pin parts.now) (Pin (pin_values entry.now)) }
     ensures few { length result.items ≤ 137 }
 {
     let mut settings = ArrayVec::new();

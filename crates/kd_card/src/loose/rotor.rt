@@ -2,7 +2,7 @@
 ghost use Rattle.arrayvec.specs.ArrayVec.{array_vec_len};
 ghost use Rattle.kd_card.specs.Loose.{lines_from, slot_seat_line, wheel_ring_line, slot_turn_line, loose_lines};
 ghost use Rattle.kd_state.specs.{declared.machine.parts.Parts.TheVariants.Rotor, SameParts.same_wheel};
-ghost use Rattle.kd_state.specs.{Entry.rotor_values, SheetDay.OfRotors};
+ghost use Rattle.kd_state.specs.{Entry.rotor_values, SheetDay.Rotor};
 ghost use Rattle.std.specs.Prelude.{◌≡◌, ◌+◌, ◌<◌, ◌≤◌, ◌++◌, length, find, flat_map, zip};
 
 use super::push_unless;
@@ -18,7 +18,7 @@ use kd_tables::Wheel;
 pub fn rotor_settings(machine: &Machine, parts: &RotorParts, entry: &RotorEntry) -> Settings
     requires { machine.now ≡ Rotor parts.now }
     ensures lines { result.items
-        ≡ loose_lines (Rotor parts.now) (OfRotors (rotor_values entry.now)) }
+        ≡ loose_lines (Rotor parts.now) (Rotor (rotor_values entry.now)) }
     ensures few { length result.items ≤ 19 }
 {
     let wheels = entry.wheels.as_slice();

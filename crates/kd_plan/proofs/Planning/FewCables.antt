@@ -44,16 +44,16 @@ HasFewInUse number _ _ = ⊥
 
 SparesStayFree-tail : (m : Parts) (s : Day) (x : Setting) (settings : List Setting) → SparesStayFree m s (x ∷ settings)
     → SparesStayFree m s settings
-SparesStayFree-tail (Rotor m) (OfRotors s) x settings free = λ cable letter there.
+SparesStayFree-tail (Rotor m) (Rotor s) x settings free = λ cable letter there.
     free cable letter (suc there.0, omega (arith, there.1), there.2)
-SparesStayFree-tail (Pin m) (OfPins s) x settings free = tt
+SparesStayFree-tail (Pin m) (Pin s) x settings free = tt
 SparesStayFree-tail m s x settings free = absurd free
 
 one_step : (number : ℕ) (start : Parts) (s : Day) (m : Parts) (x : Setting) (settings : List Setting)
     → UsesNoneAbove number start → HasPairsUpTo number s → HasFewInUse number start m
     → SparesStayFree start s (x ∷ settings) → (after : Parts) → Carries m x after
     → NamesNoneAbove number x × HasFewInUse number start after
-one_step number (Rotor start) (OfRotors s) (Rotor m) (Put cable letter) settings none few now free after carries =
+one_step number (Rotor start) (Rotor s) (Rotor m) (Put cable letter) settings none few now free after carries =
     let p = was_put m cable letter after carries in
     let within = put_within number start s none few cable letter (omega (arith, p.there.last, now.0))
     (free cable letter (0, omega arith, refl)) in (

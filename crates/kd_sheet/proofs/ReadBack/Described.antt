@@ -72,14 +72,14 @@ letters_shown key table = SucceedsWith-bind _ _ _ _ (letters_at_are key 6 table)
 
 -- ---- machines
 
-pub rotor_parts_legal : (model : Model) (table : Members) → SucceedsWith (rotor_parts_in model table) IsLegalRotor
+pub rotor_parts_legal : (model : Model) (table : Members) → SucceedsWith (rotor_parts_in model table) AreLegalRotorParts
 unfolding rotor_parts_in
 rotor_parts_legal model table =
     SucceedsWith-bind _ _ _ _ (reflector_there model table) (λ reflector there.
     SucceedsWith-bind _ _ _ _ (slots_in_fill keys.Slots model table) (λ slots fill.
     SucceedsWith-bind _ _ _ _ (letters_at_are keys.Rings (length (box_of model)) table) (λ rings are_rings.
     SucceedsWith-bind _ _ _ _ (letters_at_are keys.Letters (length (box_of model)) table) (λ letters are_letters.
-    SucceedsWith-bind _ _ _ _ (are_cables table) (λ cables are. SucceedsWith-Ok IsLegalRotor _ (record {
+    SucceedsWith-bind _ _ _ _ (are_cables table) (λ cables are. SucceedsWith-Ok AreLegalRotorParts _ (record {
       seats = record { count = fill.0; allowed = fill.1.allowed; apart = fill.1.apart };
       reflector = there;
       rings = are_rings;
@@ -87,13 +87,13 @@ rotor_parts_legal model table =
       cables = are;
     }))))))
 
-pub pin_parts_legal : (table : Members) → SucceedsWith (pin_parts_in table) IsLegalPin
+pub pin_parts_legal : (table : Members) → SucceedsWith (pin_parts_in table) AreLegalPinParts
 unfolding pin_parts_in
 pin_parts_legal table =
     SucceedsWith-bind _ _ _ _ (letters_shown keys.Letters table) (λ letters shown.
     SucceedsWith-bind _ _ _ _ (pins_in_fit table) (λ pins fit.
     SucceedsWith-bind _ _ _ _ (bars_in_bars table) (λ bars are.
-    SucceedsWith-Ok IsLegalPin _ (record { pins = fit; letters = shown; bars = are.0; apart = are.1 }))))
+    SucceedsWith-Ok AreLegalPinParts _ (record { pins = fit; letters = shown; bars = are.0; apart = are.1 }))))
 
 -- ---- days
 

@@ -6,7 +6,7 @@ ghost use Rattle.arrayvec.specs.ArrayVec.{array_vec_len};
 ghost use Rattle.kd_tables.specs.Permutation.{exchange};
 ghost use Rattle.kd_tables.specs.Refusals.{refusal_name};
 ghost use Rattle.kd_tables.specs.Tables.{box_of};
-ghost use Rattle.kd_state.specs.Machine.{cable_letters, AreCables, IsLegalRotor};
+ghost use Rattle.kd_state.specs.Machine.{cable_letters, AreCables, AreLegalRotorParts};
 ghost use Rattle.kd_state.specs.SeatedWheels.{wheel_in_seat};
 ghost use Rattle.kd_state.specs.TwoCiphers.{IsReady, physical_key};
 
@@ -75,7 +75,7 @@ impl Machine {
 /// Creates the engine of a rotor machine, if the machine is ready.
 #[tactic(auto, using(crate::proofs::WheelsInSlots::not_ready))]
 fn rotor_engine(parts: &RotorParts) -> Option<Engine>
-    requires { IsLegalRotor parts.now }
+    requires { AreLegalRotorParts parts.now }
     ensures ready { IsSome result ↔ IsReady (Parts.Rotor parts.now) }
     ensures key { IfSome result (λ engine. engine ≡ physical_key (Parts.Rotor parts.now)) }
 {
@@ -86,7 +86,7 @@ fn rotor_engine(parts: &RotorParts) -> Option<Engine>
 
 /// The wheels in the slots, with their rings and window letters. `None` if a slot is empty.
 fn seated_wheels(parts: &RotorParts) -> Option<ArrayVec<SheetWheel, 4>>
-    requires { IsLegalRotor parts.now }
+    requires { AreLegalRotorParts parts.now }
     ensures { MatchOption result (Contains (map (wheel_in_seat parts.now) parts.now.slots) None)
         (λ wheels. map Some wheels.items ≡ map (wheel_in_seat parts.now) parts.now.slots) }
 {

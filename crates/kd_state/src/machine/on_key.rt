@@ -3,7 +3,7 @@ ghost use Rattle.std.specs.Prelude.{◌≡◌, ◌≤◌, ◌↔◌, IsTrue, IsP
 ghost use Rattle.std.specs.List.{AllByRecursion};
 ghost use Rattle.kd_state.specs.Entry.{rotor_values};
 ghost use Rattle.kd_tables.specs.Tables.{box_of};
-ghost use Rattle.kd_state.specs.Machine.{IsLegalRotor};
+ghost use Rattle.kd_state.specs.Machine.{AreLegalRotorParts};
 ghost use Rattle.kd_state.specs.OnKey.{IsRotorOnKey, cable_of_column, cables_of};
 ghost use Rattle.kd_state.specs.SameParts.{place_in_box};
 
@@ -60,7 +60,7 @@ impl Machine {
 
 /// Whether a rotor machine has the day's model, wheels, rings and reflector, and the day's cables in any order.
 fn is_rotor_on_key(parts: &RotorParts, entry: &RotorEntry) -> bool
-    requires { IsLegalRotor parts.now }
+    requires { AreLegalRotorParts parts.now }
     ensures { IsTrue result ↔ IsRotorOnKey parts.now (rotor_values entry.now) }
 {
     if parts.model != entry.model || parts.reflector != entry.reflector {

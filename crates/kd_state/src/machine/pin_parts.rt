@@ -1,7 +1,7 @@
 //! The parts of a Converter M-209.
 ghost use Rattle.std.specs.Prelude.{◌≡◌, ◌↔◌, IsTrue, map};
 ghost use Rattle.kd_tables.specs.Places.{reading_of};
-ghost use Rattle.kd_state.specs.Machine.{IsLegalPin, AreOnWheels};
+ghost use Rattle.kd_state.specs.Machine.{AreLegalPinParts, AreOnWheels};
 
 use crate::machine::pins::is_on_wheel;
 use crate::prover_facts::{learn_pins, learn_standings};
@@ -22,7 +22,7 @@ pub struct PinParts {
 impl PinParts {
     /// Whether the parts are legal: each of the six letters must be on its pin wheel.
     pub(crate) fn is_legal(&self) -> bool
-        ensures { IsTrue result ↔ IsLegalPin self.now }
+        ensures { IsTrue result ↔ AreLegalPinParts self.now }
     {
         learn_pins(self.pins);
         learn_standings(&self.bars);

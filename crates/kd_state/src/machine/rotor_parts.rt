@@ -1,7 +1,7 @@
 //! The parts of a rotor machine.
 ghost use Rattle.std.specs.Prelude.{◌≡◌, ◌↔◌, IsTrue, length};
 ghost use Rattle.kd_tables.specs.Tables.{box_of};
-ghost use Rattle.kd_state.specs.Machine.{IsLegalRotor, AreLetters, with_cables_in_order};
+ghost use Rattle.kd_state.specs.Machine.{AreLegalRotorParts, AreLetters, with_cables_in_order};
 
 use crate::machine::cable::{self, Cable};
 use crate::machine::parts::Parts;
@@ -29,7 +29,7 @@ pub struct RotorParts {
 impl RotorParts {
     /// Whether the parts are legal, by the rules that `Machine::rotor` lists.
     pub(crate) fn is_legal(&self) -> bool
-        ensures { IsTrue result ↔ IsLegalRotor self.now }
+        ensures { IsTrue result ↔ AreLegalRotorParts self.now }
     {
         learn_cable_letters(&self.cables);
         seats::are_legal_seats(self.model, &self.slots)

@@ -1,7 +1,7 @@
 //! Carries settings out on a rotor machine.
 //!
 //! A setting that is refused changes nothing. The error is the first reason to refuse it.
-ghost use Rattle.kd_state.specs.Machine.{IsLegalRotor};
+ghost use Rattle.kd_state.specs.Machine.{AreLegalRotorParts};
 ghost use Rattle.kd_state.specs.Setting.{IsCarryAnswer};
 
 use crate::machine::cable::{cable_in_order, cable_without, lies_in, lies_in_any};
@@ -16,7 +16,7 @@ use kd_tables::{Letter, Reflector, Wheel, allowed, allowed_reflector};
 impl RotorParts {
     /// Carries `setting` out on a rotor machine.
     pub(crate) fn carry(&mut self, setting: Setting) -> Result<(), Why>
-        requires { IsLegalRotor self.old }
+        requires { AreLegalRotorParts self.old }
         ensures { IsCarryAnswer (Parts.Rotor self.old) setting (Parts.Rotor self.new) result }
     {
         match setting {
@@ -66,7 +66,7 @@ impl RotorParts {
     /// The wheel leaves the slot that it was in, and the wheel that was in `slot` goes to the box.
     #[tactic(auto, using(crate::proofs::Wheels::lacks_wheel, std::proofs::lemmas::Bool::iff_false))]
     fn seat(&mut self, slot: u8, wheel: Wheel) -> Result<(), Why>
-        requires { IsLegalRotor self.old }
+        requires { AreLegalRotorParts self.old }
         ensures { IsCarryAnswer (Parts.Rotor self.old) (Setting.Seat slot wheel)
             (Parts.Rotor self.new) result }
     {
@@ -93,7 +93,7 @@ impl RotorParts {
     /// Sets the ring of `wheel` to `letter`. The wheel's window letter stays.
     #[tactic(auto, using(crate::proofs::Wheels::lacks_wheel))]
     fn ring_to(&mut self, wheel: Wheel, letter: Letter) -> Result<(), Why>
-        requires { IsLegalRotor self.old }
+        requires { AreLegalRotorParts self.old }
         ensures { IsCarryAnswer (Parts.Rotor self.old) (Setting.RingTo wheel letter)
             (Parts.Rotor self.new) result }
     {
@@ -104,7 +104,7 @@ impl RotorParts {
 
     /// Turns the wheel in slot `slot` until `letter` shows.
     fn turn(&mut self, slot: u8, letter: Letter) -> Result<(), Why>
-        requires { IsLegalRotor self.old }
+        requires { AreLegalRotorParts self.old }
         ensures { IsCarryAnswer (Parts.Rotor self.old) (Setting.Turn slot letter)
             (Parts.Rotor self.new) result }
     {

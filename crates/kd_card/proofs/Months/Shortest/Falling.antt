@@ -150,9 +150,9 @@ HaveTheirPlaces model wheels =
 -- what is left to do: loose things, and the cost of turning the cables into these columns or the bars into
 -- these rows
 abbrev pub left_to_do : List (Option (ℕ × ℕ) × ℤ) → List ((ℕ × ℕ) × ℤ) → Parts → Day → ℕ
-left_to_do columns rows (Rotor m) (OfRotors s) = loose_count (Rotor m) (OfRotors s)
+left_to_do columns rows (Rotor m) (Rotor s) = loose_count (Rotor m) (Rotor s)
     + pairing_cost cable_cost m.cables columns
-left_to_do columns rows (Pin m) (OfPins s) = loose_count (Pin m) (OfPins s) + pairing_cost bar_cost m.bars rows
+left_to_do columns rows (Pin m) (Pin s) = loose_count (Pin m) (Pin s) + pairing_cost bar_cost m.bars rows
 left_to_do columns rows m s = 0
 
 -- Each setting of a rotor machine lowers what is left to do by at most one.
@@ -162,7 +162,7 @@ module _ (columns : List (Option (ℕ × ℕ) × ℤ)) (rows : List ((ℕ × ℕ
   place w = place_in_box m.model w.wheel
 
   abbrev LowersByOne : Parts → Type 0
-  LowersByOne after = left_to_do columns rows (Rotor m) (OfRotors s) ≤ left_to_do columns rows after (OfRotors s) + 1
+  LowersByOne after = left_to_do columns rows (Rotor m) (Rotor s) ≤ left_to_do columns rows after (Rotor s) + 1
 
   rotor_lowers : (x : Setting) (after : Parts) → Carries (Rotor m) x after → LowersByOne after
   rotor_lowers (Pull cable letter) after e =
@@ -218,18 +218,18 @@ pin_lowers m s (suc wheel) letter effective e =
 
 pin_machine_lowers : (columns : List (Option (ℕ × ℕ) × ℤ)) (rows : List ((ℕ × ℕ) × ℤ)) (m : PinParts) (s : PinDay)
     (x : Setting) (after : Parts) → Carries (Pin m) x after
-    → left_to_do columns rows (Pin m) (OfPins s) ≤ left_to_do columns rows after (OfPins s) + 1
+    → left_to_do columns rows (Pin m) (Pin s) ≤ left_to_do columns rows after (Pin s) + 1
 pin_machine_lowers columns rows m s (LugTo bar lug place) after e =
     let moved = lug_moved m bar lug place after e in
-    subst (λ n. left_to_do columns rows (Pin m) (OfPins s) ≤ left_to_do columns rows n (OfPins s) + 1) moved.made
+    subst (λ n. left_to_do columns rows (Pin m) (Pin s) ≤ left_to_do columns rows n (Pin s) + 1) moved.made
     (omega (arith, bars_fall m rows bar lug place moved.old moved.there))
 pin_machine_lowers columns rows m s (PinTo wheel letter effective) after e =
     let (has, made) = pin_made m wheel letter effective after e in
-    subst (λ n. left_to_do columns rows (Pin m) (OfPins s) ≤ left_to_do columns rows n (OfPins s) + 1) made
+    subst (λ n. left_to_do columns rows (Pin m) (Pin s) ≤ left_to_do columns rows n (Pin s) + 1) made
     (omega (arith, pin_lowers m s wheel letter effective has))
 pin_machine_lowers columns rows m s (Turn wheel letter) after e =
     let (was, there, has, made) = wheel_turn_made m wheel letter after e in
-    subst (λ n. left_to_do columns rows (Pin m) (OfPins s) ≤ left_to_do columns rows n (OfPins s) + 1) made
+    subst (λ n. left_to_do columns rows (Pin m) (Pin s) ≤ left_to_do columns rows n (Pin s) + 1) made
     (grind (arith, zip_set_lowers))
 pin_machine_lowers columns rows m s x after e = absurd (cc)
 
@@ -237,10 +237,10 @@ pin_machine_lowers columns rows m s x after e = absurd (cc)
 pub left_to_do-lowered : (columns : List (Option (ℕ × ℕ) × ℤ)) (rows : List ((ℕ × ℕ) × ℤ)) (m : Parts) (s : Day)
     (x : Setting) (after : Parts) → IsLegalDay s → model_of m ≡ day_model s → Carries m x after
     → left_to_do columns rows m s ≤ left_to_do columns rows after s + 1
-left_to_do-lowered columns rows (Rotor m) (OfRotors s) x after h same e =
+left_to_do-lowered columns rows (Rotor m) (Rotor s) x after h same e =
     rotor_lowers columns rows m s (subst (λ model. HaveTheirPlaces model s.wheels) (sym same)
     (days_wheels_have_their_places s.model s.wheels h.wheels)) x after e
-left_to_do-lowered columns rows (Pin m) (OfPins s) x after h same e = pin_machine_lowers columns rows m s x after e
+left_to_do-lowered columns rows (Pin m) (Pin s) x after h same e = pin_machine_lowers columns rows m s x after e
 left_to_do-lowered columns rows m s x after h same e = omega arith
 
 -- No setting changes the model. A setting that changes a cable or a bar doesn't change the number of loose things.
@@ -284,8 +284,8 @@ none_wrong seen wanted [] h = refl
 none_wrong seen wanted (w ∷ wheels) h =
     grind (arith, common_steps, count_by-cons, eq-eqb, none_wrong seen wanted wheels h.1)
 
-rotor_not_loose : (n : RotorParts) (s : RotorDay) → ReadsAs (Rotor n) (OfRotors s)
-    → loose_count (Rotor n) (OfRotors s) ≡ 0
+rotor_not_loose : (n : RotorParts) (s : RotorDay) → ReadsAs (Rotor n) (Rotor s)
+    → loose_count (Rotor n) (Rotor s) ≡ 0
 rotor_not_loose n s h =
     let slots : loose_slots n.slots s ≡ 0 = ap (λ slots. count_by wrong_slot (zip slots s.wheels)) h.key.slots
     ∙ zip_none (λ slot. cond (wrong_slot slot) 1 0) (λ w. Some w.wheel)
@@ -300,7 +300,7 @@ rotor_not_loose n s h =
 no_pin_wrong : (pins : List Bool) → differing_pins (pins, pins) ≡ 0
 no_pin_wrong pins = grind (arith, common_steps, self_none, not_differing)
 
-pin_not_loose : (n : PinParts) (s : PinDay) → ReadsAs (Pin n) (OfPins s) → loose_count (Pin n) (OfPins s) ≡ 0
+pin_not_loose : (n : PinParts) (s : PinDay) → ReadsAs (Pin n) (Pin s) → loose_count (Pin n) (Pin s) ≡ 0
 pin_not_loose n s h = grind (arith, common_steps, sum-map, self_none, no_pin_wrong, nat_eq, eq-eqb)
 
 pub nothing_loose : (n : Parts) (s : Day) → ReadsAs n s → loose_count n s ≡ 0

@@ -1,4 +1,4 @@
-use Rattle.kd_card.proofs.OneCard.{GoesOn, HasFault, MatchResult-err, OfBars, OfCables, not_from_false, refl, sym, ◌∙◌}
+use Rattle.kd_card.proofs.OneCard.{GoesOn, HasFault, MatchResult-err, Bars, Cables, not_from_false, refl, sym, ◌∙◌}
 use Rattle.kd_card.proofs.card_reader.read_table.Goals as goal
 
 pub returns-in_err-first : goal.returns-in_err-first
@@ -15,8 +15,8 @@ returns-then-is_word-2 c = GoesOn _ c.in_ok-first.ensures
 pub returns-else-is_word-2 : goal.returns-else-is_word-2
 returns-else-is_word-2 c = GoesOn _ c.in_ok-first.ensures (
   elim [
-    | OfCables ↦ λ is. not_from_false c.is_word.ensures c.if-is_word.false (is ∙ sym c.first_word.ensures)
-    | OfBars ↦ λ is. not_from_false c.is_word-else-is_word.ensures c.if-is_word-2.false
+    | Cables ↦ λ is. not_from_false c.is_word.ensures c.if-is_word.false (is ∙ sym c.first_word.ensures)
+    | Bars ↦ λ is. not_from_false c.is_word-else-is_word.ensures c.if-is_word-2.false
         (is ∙ sym c.first_word-else-is_word.ensures)
   ],
   refl,

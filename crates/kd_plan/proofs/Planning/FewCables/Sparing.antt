@@ -177,12 +177,12 @@ spare_at m number place e spare =
     ∙ spare_found (slice_get m.cables place) (rw e at spare)
 
 pub SparesStayFree-planned : (m : RotorParts) (s : RotorDay) (to : List ℕ) → IsMachine (Rotor m)
-    → IsLegalDay (OfRotors s) → m.model ≡ s.model → length to ≡ 13 → IsOneToOne to
+    → IsLegalDay (Rotor s) → m.model ≡ s.model → length to ≡ 13 → IsOneToOne to
     → SparesComeLast m.cables (length s.pairs) to
-    → SparesStayFree (Rotor m) (OfRotors s) (planned_lines (Rotor m) (OfRotors s) to)
+    → SparesStayFree (Rotor m) (Rotor s) (planned_lines (Rotor m) (Rotor s) to)
 SparesStayFree-planned m s to machine legal same size once last cable letter (k, lt, e) =
-    let loose = All-unpriced (LeavesSpares m s) (λ x e. grind arith) (loose_lines (Rotor m) (OfRotors s))
-    (all_counted (Rotor m) (OfRotors s) machine legal same).priced in
+    let loose = All-unpriced (LeavesSpares m s) (λ x e. grind arith) (loose_lines (Rotor m) (Rotor s))
+    (all_counted (Rotor m) (Rotor s) machine legal same).priced in
     let pulls = all_moves (LeavesSpares m s) Out s.pairs m.cables to 1 (λ k n cable e lt.
     All-map (LeavesSpares m s) (λ letter. Pull n letter) _ (λ i d lt'. tt)) in
     let puts = all_moves (LeavesSpares m s) In s.pairs m.cables to 1 (λ k n cable e lt.

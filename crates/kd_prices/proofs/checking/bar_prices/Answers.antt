@@ -1,5 +1,5 @@
 use Rattle.kd_prices.proofs.{Found.kinds_found, Prelude.{GoesOn, HasFault, OtherModel, Same, arith, refl, rules}}
-use Rattle.kd_prices.proofs.Prelude.{Bars, OfPins, Pin, bar_format, length, row_format, ◌≡◌}
+use Rattle.kd_prices.proofs.Prelude.{Bars, Pin, bar_format, length, row_format, ◌≡◌}
 use Rattle.kd_state.specs.Entry.{pin_values}
 use Rattle.kd_prices.proofs.checking.bar_prices.Goals as goal
 
@@ -14,7 +14,7 @@ returns-in-BarKinds-clause-found c =
     let rows : length day.rows ≡ 27 = search rules in
     rw (c.in-BarKinds.is, c.ok_or.ensures.value, c.zip.ensures)
     (kinds_found bar_format row_format c.args.parts.now.bars day.rows c.in-BarKinds.rows.items
-    c.in-BarKinds.columns.items (Pin c.args.parts.now) (OfPins day) _ Bars tt (λ found one two. grind arith)
+    c.in-BarKinds.columns.items (Pin c.args.parts.now) (Pin day) _ Bars tt (λ found one two. grind arith)
     (λ found expands. grind arith) c.prices_of-rows.result c.prices_of-columns.result c.prices_of-rows.ensures
     c.prices_of-columns.ensures)
 

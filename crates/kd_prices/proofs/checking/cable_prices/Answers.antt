@@ -1,6 +1,6 @@
 use Rattle.kd_prices.proofs.{Found.kinds_found, Prelude.{GoesOn, HasFault, OtherModel, Same, arith, refl, rules}}
 use Rattle.kd_state.specs.Entry.{rotor_values}
-use Rattle.kd_prices.proofs.Prelude.{Cables, OfRotors, Rotor, cable_format, columns_in_order, length, pair_format, ◌≡◌}
+use Rattle.kd_prices.proofs.Prelude.{Cables, Rotor, cable_format, columns_in_order, length, pair_format, ◌≡◌}
 use Rattle.kd_prices.proofs.checking.cable_prices.Goals as goal
 
 pub returns-in-Cables-clause-found : goal.returns-in-Cables-clause-found
@@ -14,7 +14,7 @@ returns-in-CableKinds-clause-found c =
     let columns = rw (c.columns_of.ensures.value, c.as_slice.ensures.value) at c.columns_of.ensures.number in
     rw (c.in-CableKinds.is, c.ok_or.ensures.value, c.zip.ensures)
     (kinds_found cable_format pair_format c.args.parts.now.cables (columns_in_order day.pairs)
-    c.in-CableKinds.rows.items c.in-CableKinds.columns.items (Rotor c.args.parts.now) (OfRotors day) _ Cables tt
+    c.in-CableKinds.rows.items c.in-CableKinds.columns.items (Rotor c.args.parts.now) (Rotor day) _ Cables tt
     (λ found one two. grind arith) (λ found expands. grind arith) c.prices_of-rows.result c.prices_of-columns.result
     c.prices_of-rows.ensures
     (rw (c.as_slice-in-CableKinds.ensures.value, c.columns_of.ensures.value, c.as_slice.ensures.value)

@@ -28,7 +28,7 @@ pub use Rattle.kd_card.specs.CardFault.{IsRestAnswer, EndsGroup, HasLineWords, I
 pub use Rattle.kd_card.specs.CardFault.{IsValueAnswer, BeginsWithHead, IsCardAnswer, IsSettingsAnswer}
 pub use Rattle.kd_card.specs.CardFault.{IsTablePricesAnswer, AtOther, HasNoNext, IsGroupAnswer, IsListsAnswer}
 pub use Rattle.kd_card.specs.CardFault.{IsNumeral}
-pub use Rattle.kd_card.specs.declared.prices.CostTable.{CostTable, TheVariants.{OfBars, OfCables}}
+pub use Rattle.kd_card.specs.declared.prices.CostTable.{CostTable, TheVariants.{Bars, Cables}}
 pub use Rattle.kd_state.specs.LineWords.{line_then}
 pub use Rattle.kd_card.specs.CardText.{card_text, head_words, IsCard, lines_text, price_lines}
 pub use Rattle.kd_card.specs.declared.prices.PriceParts.{PriceParts, TheVariants.{BarKinds, Bars, CableKinds, Cables}}

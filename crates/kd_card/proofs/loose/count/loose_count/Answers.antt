@@ -1,5 +1,5 @@
 use Rattle.kd_state.specs.{declared.machine.parts.Parts.TheVariants.Rotor, Entry.{rotor_values, values_of}}
-use Rattle.{kd_state.specs.SheetDay.OfRotors, std.proofs.Common.{ap, arith, sym, ◌∙◌, ◌≡◌}}
+use Rattle.{kd_state.specs.SheetDay.Rotor, std.proofs.Common.{ap, arith, sym, ◌∙◌, ◌≡◌}}
 use Rattle.kd_card.proofs.loose.count.loose_count.Goals as goal
 
 pub returns-in-Rotor-Rotor-clause-value : goal.returns-in-Rotor-Rotor-clause-value
@@ -7,7 +7,7 @@ returns-in-Rotor-Rotor-clause-value c =
     let m = c.in-Rotor-Rotor.parts in
     let s = rotor_values c.in-Rotor-Rotor.entry in
     let machine : c.args.machine.now ≡ Rotor m = sym c.parts.ensures.parts ∙ c.in-Rotor-Rotor.is-0 in
-    let day : c.args.day.now ≡ OfRotors s = sym c.entry.ensures.value ∙ ap values_of c.in-Rotor-Rotor.is-1 in
+    let day : c.args.day.now ≡ Rotor s = sym c.entry.ensures.value ∙ ap values_of c.in-Rotor-Rotor.is-1 in
     let wheels = c.as_slice-wheels.ensures.value in
     let slots = rw (c.as_slice.ensures.value, wheels) at c.loose_slots-slots.ensures.value in
     let rings = rw (machine, wheels) at c.loose_rings.ensures.value in

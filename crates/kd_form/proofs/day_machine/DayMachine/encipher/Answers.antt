@@ -1,4 +1,4 @@
-use Rattle.{kd_form.proofs.MadeParts.{run_keeps_days_key, ◌∙◌, ap, length}, kd_state.specs.TwoCiphers.engine_key_after}
+use Rattle.{kd_form.proofs.MadeParts.{run_keeps_days_key, ◌∙◌, ap, length}, kd_state.specs.EngineKey.engine_key_after}
 use Rattle.kd_form.proofs.day_machine.DayMachine.encipher.Goals as goal
 
 pub invariant_of-self : goal.invariant_of-self

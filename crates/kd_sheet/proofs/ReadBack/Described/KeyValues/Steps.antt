@@ -6,7 +6,7 @@ pub use Rattle.kd_sheet.specs.MachineText.{cable_text, key_line, array_text, pin
 pub use Rattle.kd_sheet.specs.MachineText.{slot_text}
 pub use Rattle.kd_state.proofs.Slots.{all_pins, are_on_wheels as on_all_wheels, has_letter-Decides, numbered_here}
 pub use Rattle.kd_state.specs.Machine.{AreLegalSeats, AreCables, AreLetters, AreOnWheels, HasAllPins}
-pub use Rattle.kd_state.specs.Machine.{IsLegalPin}
+pub use Rattle.kd_state.specs.Machine.{AreLegalPinParts}
 pub use Rattle.kd_state.specs.SheetDay.{ArePairs, Day, HasWheelLetters, IsDayNumber, IsLegalDay}
 pub use Rattle.kd_state.specs.SheetDay.{IsLegalPinDay}
 pub use Rattle.kd_tables.specs.Tables.{box_of, letters_of, model_text, reflector_text, reflectors_of}
@@ -34,11 +34,11 @@ pub use Rattle.kd_sheet.specs.declared.fault.SheetFault.{TheVariants.{BadValue, 
 pub use Rattle.kd_state.proofs.{FirstFault.demand-Ok, Slots.numbered_other}
 pub use Rattle.kd_tables.proofs.DistinctLetters.{eqb_flips, new_tells, IsDistinct-nil}
 pub use Rattle.kd_state.proofs.Wheels.{has_reflector-Decides, has_wheel-Decides, same_wheel-Decides}
-pub use Rattle.kd_state.specs.Machine.{IsLegalRotor, IsSeatedAt, cable_letters, with_cables_in_order, cable_in_order}
+pub use Rattle.kd_state.specs.Machine.{AreLegalRotorParts, IsSeatedAt, cable_letters, with_cables_in_order, cable_in_order}
 pub use Rattle.kd_state.specs.Machine.{letters_in_cables}
 pub use Rattle.kd_tables.specs.Pairs.{are_new_and_distinct, has_letter}
 pub use Rattle.kd_state.specs.{declared.sheet_day.rotor_entry.SheetWheel.SheetWheel}
-pub use Rattle.kd_state.specs.SheetDay.{IsLegalRotorDay, OfPins, OfRotors, PinDay, RotorDay, day_number}
+pub use Rattle.kd_state.specs.SheetDay.{IsLegalRotorDay, Pin, Rotor, PinDay, RotorDay, day_number}
 pub use Rattle.kd_state.specs.SheetDay.{seats_of_wheels}
 pub use Rattle.{kd_state.specs.SameParts.same_reflector, std.proofs.Math.Bool.{and-false, or-true}}
 pub use Rattle.kd_state.specs.declared.machine.parts.Parts.{TheVariants.{Pin, Rotor}, Parts}

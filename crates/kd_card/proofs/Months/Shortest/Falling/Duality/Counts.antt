@@ -47,7 +47,7 @@ pub use Rattle.kd_state.specs.declared.{machine.parts.Parts.{Parts, TheVariants.
 pub use Rattle.kd_state.specs.declared.machine.{pin_parts.PinParts.PinParts, rotor_parts.RotorParts.RotorParts}
 pub use Rattle.kd_state.specs.Machine.{IsMachine, letter_at, model_of, ring_at}
 pub use Rattle.kd_state.specs.{Machine.cable_letters, OnKey.{ReadsAs, cable_of_column, cables_of}}
-pub use Rattle.kd_state.specs.SheetDay.{Day, day_model, IsLegalDay, IsLegalRotorDay, OfPins, OfRotors, PinDay, RotorDay}
+pub use Rattle.kd_state.specs.SheetDay.{Day, day_model, IsLegalDay, IsLegalRotorDay, Pin, Rotor, PinDay, RotorDay}
 pub use borrow.Author.Differences.{up, down}
 
 pub at_most_one : (b : Bool) → cond b 1 0 ≤ 1
