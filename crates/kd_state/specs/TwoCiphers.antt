@@ -1,4 +1,4 @@
--- The cipher of a machine, and the cipher of a day, by the keys of engines.
+-- The cipher of a machine, and the cipher of a day.
 -- Code: one type, `Engine`, serves all models.
 -- Test: tests/refusals
 use Rattle.std.specs.Prelude.{◌≡◌, ◌≢◌, ℕ, List, length, map, All, IsSome}
