@@ -2,9 +2,10 @@
 -- as the day says. Cables and bars don't count as loose things.
 use Rattle.kd_pins.specs.PinWheels.{pins_of}
 use Rattle.kd_state.specs.declared.setting.Setting.TheVariants.{Seat, SeatReflector, RingTo, Turn, PinTo}
-use Rattle.kd_state.specs.{declared.machine.parts.Parts.TheVariants.{Rotor, Pin}, declared.machine.parts.Parts.Parts}
+use Rattle.kd_state.specs.{declared.machine.parts.Parts.TheVariants.Rotor, declared.machine.parts.Parts.Parts}
 use Rattle.kd_state.specs.{declared.sheet_day.rotor_entry.SheetWheel.SheetWheel, Machine.{machine_ring, machine_letter}}
-use Rattle.kd_state.specs.{SameParts.{same_wheel, same_reflector}, SheetDay.{Day, Rotor, Pin}, Costs.exactly_one}
+use Rattle.kd_state.specs.ByModel.{by_model}
+use Rattle.kd_state.specs.{SameParts.{same_wheel, same_reflector}, SheetDay.Day, Costs.exactly_one}
 use Rattle.kd_state.specs.declared.setting.Setting.{Setting}
 use Rattle.kd_tables.specs.{declared.wheel.Wheel.Wheel, Rings.ring_of, Tables.box_of}
 use Rattle.std.specs.Prelude.{ℕ, nat_eq, Bool, false, not, List, [], ◌∷◌, ◌++◌, ◌+◌, flat_map, find, zip, Option}
@@ -49,12 +50,10 @@ pin_wheel_turn_line wheel z = setting_unless (nat_eq z.0 z.1) (Turn wheel z.1)
 
 -- the settings for all loose things of a machine, in a fixed order; rings come in the order of the wheels in the box
 abbrev pub loose_lines : Parts → Day → List Setting
-loose_lines (Rotor machine) (Rotor day) =
-    lines_from slot_seat_line 1 (zip machine.slots day.wheels)
+loose_lines = by_model []
+    (λ machine day. lines_from slot_seat_line 1 (zip machine.slots day.wheels)
     ++ setting_unless (same_reflector machine.reflector day.reflector) (SeatReflector day.reflector)
     ++ flat_map (wheel_ring_line (Rotor machine) day.wheels) (box_of machine.model)
-    ++ lines_from (slot_turn_line (Rotor machine)) 1 day.wheels
-loose_lines (Pin machine) (Pin day) =
-    lines_from wheel_pin_lines 1 (zip (pins_of machine.pins) (pins_of day.pins))
-    ++ lines_from pin_wheel_turn_line 1 (zip machine.letters day.window)
-loose_lines _ _ = []
+    ++ lines_from (slot_turn_line (Rotor machine)) 1 day.wheels)
+    (λ machine day. lines_from wheel_pin_lines 1 (zip (pins_of machine.pins) (pins_of day.pins))
+    ++ lines_from pin_wheel_turn_line 1 (zip machine.letters day.window))

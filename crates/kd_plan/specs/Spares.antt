@@ -1,8 +1,9 @@
 -- Spare cables, and settings that leave them free.
 use Rattle.std.specs.Prelude.{ℕ, ◌-◌, ◌<◌, ◌≤◌, nat_lt, not, ◌&&◌, ◌||◌, Bool, IsTrue, List, length, count_by, take}
 use Rattle.std.specs.Prelude.{Contains, IfSome, Option, None, is_none, slice_index, slice_index_or}
-use Rattle.kd_state.specs.declared.machine.parts.Parts.{Parts, TheVariants.{Pin, Rotor}}
-use Rattle.kd_state.specs.{SheetDay.{Day, Pin, Rotor}, declared.setting.Setting.{Setting, TheVariants.Put}}
+use Rattle.kd_state.specs.declared.machine.parts.Parts.{Parts}
+use Rattle.kd_state.specs.{SheetDay.Day, declared.setting.Setting.{Setting, TheVariants.Put}}
+use Rattle.kd_state.specs.ByModel.{by_model}
 use Rattle.kd_state.specs.SameParts.{numbered_item}
 
 -- whether the cable is spare, that is, has no letter; all other cables are in use
@@ -16,12 +17,11 @@ IsSpareCable cables number = IfSome (numbered_item cables number) (λ cable. IsT
 -- Letters are put only into cables in use, and into the first spare cables. If there are more pairs than cables in use,
 -- the difference is the number of spare cables that may get letters; otherwise none may.
 abbrev pub SparesStayFree : Parts → Day → List Setting → Type 0
-SparesStayFree (Rotor machine) (Rotor day) settings =
-    (cable letter : ℕ) → Contains settings (Put cable letter) → IsSpareCable machine.cables cable
+SparesStayFree = by_model (λ settings. ⊥)
+    (λ machine day settings. (cable letter : ℕ) → Contains settings (Put cable letter) → IsSpareCable machine.cables cable
     → count_by is_spare (take cable machine.cables)
-    ≤ length day.pairs - count_by (λ cable. not (is_spare cable)) machine.cables
-SparesStayFree (Pin machine) (Pin day) settings = Unit {0}
-SparesStayFree _ _ settings = ⊥
+    ≤ length day.pairs - count_by (λ cable. not (is_spare cable)) machine.cables)
+    (λ machine day settings. Unit {0})
 
 -- ---- Assignments that give pairs to cables in use first. No public contract cites these definitions.
 

@@ -12,11 +12,11 @@ use Rattle.kd_tables.specs.Permutation.{alphabet}
 use Rattle.kd_tables.specs.Places.{standings, place_rank, reading_of}
 use Rattle.kd_pins.specs.PinWheels.{pins_of}
 use Rattle.kd_state.specs.declared.machine.parts.Parts.{Parts}
-use Rattle.kd_state.specs.declared.machine.parts.Parts.TheVariants.{Rotor, Pin}
+use Rattle.kd_state.specs.ByModel.{by_model}
 use Rattle.kd_state.specs.SameParts.{same_wheel, same_reflector}
 use Rattle.kd_state.specs.Machine.{cable_letters, ring_at, letter_at}
 use Rattle.kd_state.specs.Setting.{is_same_place}
-use Rattle.kd_state.specs.SheetDay.{Day, Rotor, Pin}
+use Rattle.kd_state.specs.SheetDay.{Day}
 
 -- whether one of the two is true and the other false
 abbrev pub exactly_one : Bool → Bool → Bool
@@ -65,25 +65,22 @@ costs_by cost rows columns = map (λ row. map (cost row) columns) rows
 
 -- the costs for a machine and a day of the same model: of each cable with each column, or of each bar with each row
 abbrev pub cost_table : Parts → Day → List (List ℕ)
-cost_table (Rotor machine) (Rotor day) = costs_by cable_cost machine.cables (columns_of day.pairs)
-cost_table (Pin machine) (Pin day) = costs_by bar_cost machine.bars day.rows
-cost_table _ _ = []
+cost_table = by_model [] (λ machine day. costs_by cable_cost machine.cables (columns_of day.pairs))
+    (λ machine day. costs_by bar_cost machine.bars day.rows)
 
 -- ---- Loose things: all things that differ from the day, except cables and bars.
 
--- How many things, except cables and bars, differ from the day. On a rotor machine: slots, the reflector, and rings and
--- letters of the day's wheels, added in this order. On a Converter: pins, and letters shown.
+-- how many things, cables and bars aside, differ from the day: slots, reflector, rings and letters; or pins and letters
 abbrev pub loose_count : Parts → Day → ℕ
-loose_count (Rotor machine) (Rotor day) =
+loose_count = by_model 0
+    (λ machine day.
     count_by (λ both. not (option_map_or (same_wheel both.1.wheel) both.0 false)) (zip machine.slots day.wheels)
     + one_unless (same_reflector machine.reflector day.reflector)
     + count_by (λ w. not (option_map_or (nat_eq w.ring) (ring_at machine w.wheel) false)) day.wheels
-    + count_by (λ w. not (option_map_or (nat_eq w.letter) (letter_at machine w.wheel) false)) day.wheels
-loose_count (Pin machine) (Pin day) =
-    sum (map (λ both. count_by (λ pin. exactly_one pin.0 pin.1) (zip both.0 both.1))
+    + count_by (λ w. not (option_map_or (nat_eq w.letter) (letter_at machine w.wheel) false)) day.wheels)
+    (λ machine day. sum (map (λ both. count_by (λ pin. exactly_one pin.0 pin.1) (zip both.0 both.1))
     (zip (pins_of machine.pins) (pins_of day.pins)))
-    + count_by (λ letter. not (nat_eq letter.0 letter.1)) (zip machine.letters day.window)
-loose_count _ _ = 0
+    + count_by (λ letter. not (nat_eq letter.0 letter.1)) (zip machine.letters day.window))
 
 -- ---- How the standings for a row are found. No public contract cites these definitions.
 

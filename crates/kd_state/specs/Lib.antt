@@ -11,6 +11,7 @@ pub mod AnswerRules
 pub mod Line
 pub mod SheetDay
 pub mod Entry
+pub mod ByModel
 pub mod OneModel
 pub mod OnKey
 pub mod EngineKey

@@ -6,10 +6,10 @@ use Rattle.std.specs.Option.{option_map, option_map_or}
 use Rattle.kd_tables.specs.Places.{reading_of, smaller_first}
 use Rattle.kd_state.specs.declared.machine.rotor_parts.RotorParts.{RotorParts}
 use Rattle.kd_state.specs.declared.machine.parts.Parts.{Parts}
-use Rattle.kd_state.specs.declared.machine.parts.Parts.TheVariants.{Rotor, Pin}
+use Rattle.kd_state.specs.ByModel.{by_model}
 use Rattle.kd_state.specs.Costs.{columns_of}
 use Rattle.kd_state.specs.Machine.{cable_in_order, ring_at, letter_at}
-use Rattle.kd_state.specs.SheetDay.{RotorDay, Day, Rotor, Pin, seats_of_wheels}
+use Rattle.kd_state.specs.SheetDay.{RotorDay, Day, seats_of_wheels}
 
 -- a column with the letters of its pair in alphabetical order
 abbrev pub pair_in_order : Option (ℕ × ℕ) → Option (ℕ × ℕ)
@@ -34,15 +34,13 @@ pub record IsRotorOnKey (machine : RotorParts) (day : RotorDay) : Type 0 where
 
 -- The machine is set as the day says, whatever letters it shows. Its bars have the day's readings, in any order.
 abbrev pub OnKey : Parts → Day → Type 0
-OnKey (Rotor machine) (Rotor day) = IsRotorOnKey machine day
-OnKey (Pin machine) (Pin day) = (machine.pins ≡ day.pins) × IsPermutation (map reading_of machine.bars) day.rows
-OnKey _ _ = ⊥
+OnKey = by_model ⊥ IsRotorOnKey
+    (λ machine day. (machine.pins ≡ day.pins) × IsPermutation (map reading_of machine.bars) day.rows)
 
 -- Each of the day's wheels has the day's window letter; on a Converter, the six pin wheels show the day's letters.
 abbrev pub ShowsWindow : Parts → Day → Type 0
-ShowsWindow (Rotor machine) (Rotor day) = All (λ w. letter_at machine w.wheel ≡ Some w.letter) day.wheels
-ShowsWindow (Pin machine) (Pin day) = machine.letters ≡ day.window
-ShowsWindow _ _ = ⊥
+ShowsWindow = by_model ⊥ (λ machine day. All (λ w. letter_at machine w.wheel ≡ Some w.letter) day.wheels)
+    (λ machine day. machine.letters ≡ day.window)
 
 -- The machine is set as the day says, and shows the day's letters.
 pub record ReadsAs (machine : Parts) (day : Day) : Type 0 where

@@ -8,11 +8,6 @@ use Rattle.kd_state.specs.declared.machine.one_model.OneModel.TheVariants.{Rotor
 use Rattle.kd_state.specs.SheetDay.{Day, Rotor, Pin}
 use Rattle.kd_state.specs.Entry.{rotor_values, pin_values}
 
--- A definition that compares a machine with a day has two cases for one model, and a last one for unlike models: then
--- no relation holds, lists are empty and counts 0, and no promise of a card speaks of them. Settings lead from one
--- machine to others, which are all compared with one day; so a definition on a pair of one model would need a pair for
--- each of these machines.
-
 -- The `OneModel` has the parts of the machine and the entry of the day. Machine and day are of the same rotor
 -- model, or both of the Converter M-209.
 abbrev pub IsOneModelOf : Parts → Day → OneModel → Type 0
