@@ -18,7 +18,8 @@ IsSpareCable cables number = IfSome (numbered_item cables number) (λ cable. IsT
 -- the difference is the number of spare cables that may get letters; otherwise none may.
 abbrev pub SparesStayFree : Parts → Day → List Setting → Type 0
 SparesStayFree = by_model (λ settings. ⊥)
-    (λ machine day settings. (cable letter : ℕ) → Contains settings (Put cable letter) → IsSpareCable machine.cables cable
+    (λ machine day settings. (cable letter : ℕ) → Contains settings (Put cable letter)
+    → IsSpareCable machine.cables cable
     → count_by is_spare (take cable machine.cables)
     ≤ length day.pairs - count_by (λ cable. not (is_spare cable)) machine.cables)
     (λ machine day settings. Unit {0})

@@ -1,11 +1,12 @@
--- What is said of a machine and a day, by their sort. Of unlike ones, no promise of a card says anything.
+-- What is said of a machine and a day, by their sort.
+-- `f = by_model u r p` means `f machine day = by_model u r p machine day`. No promise of a card speaks of unlike ones.
 use Rattle.kd_state.specs.declared.machine.rotor_parts.RotorParts.{RotorParts}
 use Rattle.kd_state.specs.declared.machine.pin_parts.PinParts.{PinParts}
 use Rattle.kd_state.specs.declared.machine.parts.Parts.{Parts}
 use Rattle.kd_state.specs.declared.machine.parts.Parts.TheVariants.{Rotor, Pin}
 use Rattle.kd_state.specs.SheetDay.{RotorDay, PinDay, Day, Rotor, Pin}
 
--- `rotor` of a rotor machine and a day for one, `pin` of a Converter and its day, and `unlike` of unlike ones
+-- `unlike` of unlike ones, `rotor` of a rotor machine and a rotor machine's day, `pin` of a Converter and its day
 abbrev pub by_model {ℓ} : {X : Type ℓ} → X → (RotorParts → RotorDay → X) → (PinParts → PinDay → X) → Parts → Day → X
 by_model unlike rotor pin (Rotor machine) (Rotor day) = rotor machine day
 by_model unlike rotor pin (Pin machine) (Pin day) = pin machine day

@@ -70,7 +70,7 @@ cost_table = by_model [] (λ machine day. costs_by cable_cost machine.cables (co
 
 -- ---- Loose things: all things that differ from the day, except cables and bars.
 
--- how many things, cables and bars aside, differ from the day: slots, reflector, rings and letters; or pins and letters
+-- how many loose things there are: slots, reflector, rings and letters of the day's wheels; or pins and letters shown
 abbrev pub loose_count : Parts → Day → ℕ
 loose_count = by_model 0
     (λ machine day.
