@@ -411,7 +411,8 @@ fn work_message<W: Sink>(
 
 /// Writes `text`, which the words ask for.
 fn show<W: Sink>(text: &str, sink: &mut W) -> Result<(), Refused>
-    ensures written { WritesText refused_device text.now (port W.taken W.has_failed sink.old sink.new) result }
+    ensures written { WritesText refused_device text.now
+        (port W.taken W.has_failed sink.old sink.new) result }
     ensures failed { W.has_failed sink.new ≡ (W.has_failed sink.old || is_device result) }
 {
     put_all(sink, text.as_bytes())?;

@@ -1,4 +1,4 @@
--- What is said of a machine and a day, by their sort.
+-- One case for rotor machines, and one for the Converter.
 -- `f = by_model u r p` means `f machine day = by_model u r p machine day`. No promise of a card speaks of unlike ones.
 use Rattle.kd_state.specs.declared.machine.rotor_parts.RotorParts.{RotorParts}
 use Rattle.kd_state.specs.declared.machine.pin_parts.PinParts.{PinParts}
