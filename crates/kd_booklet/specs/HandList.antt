@@ -3,7 +3,7 @@ use Rattle.std.specs.Prelude.{◌≡◌, List, IsPermutation}
 use Rattle.kd_state.specs.declared.machine.parts.Parts.{Parts}
 use Rattle.kd_state.specs.declared.setting.Setting.{Setting}
 use Rattle.kd_state.specs.SheetDay.{Day}
-use Rattle.kd_card.specs.Proving.{IsShortest, LeadsToTheDay}
+use Rattle.kd_card.specs.Shortest.{IsShortest, LeadsToTheDay}
 use Rattle.kd_card.specs.declared.prices.PriceParts.{PriceParts}
 use Rattle.kd_plan.specs.Planned.{IsProvedPlannedCard}
 use Rattle.kd_booklet.specs.HandOrder.{in_hand_order}

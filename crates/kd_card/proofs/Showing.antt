@@ -7,8 +7,8 @@ use Rattle.kd_card.specs.declared.{kinds.KindOf.KindOf, prices.Version.TheVarian
 use Rattle.kd_card.specs.Kinds.{AreKindsOf, IsGroup, IsKind, KindFormat, bar_format, cable_format}
 use Rattle.kd_card.specs.{Kinds.{pair_format, row_format}, Laws.{ProvingPricesShow, ShownListsAreShortest}}
 use Rattle.kd_card.specs.Prices.{ArePrices, PricesFit, cost_at, price_at, price_sum, version_of}
-use Rattle.kd_card.specs.Proving.{AreExpanded, AreModelPrices, Expanded, Expands, KindPricesFit, ProvesByNumber, Same}
-use Rattle.kd_card.specs.Proving.{ShowShortest}
+use Rattle.kd_card.specs.Proving.{AreExpanded, AreModelPrices, Expanded, Expands, ProvesByNumber, Same}
+use Rattle.kd_card.specs.Shortest.{KindPricesFit, ShowShortest}
 use Rattle.kd_state.specs.Costs.{bar_cost, cable_cost, column_letters, columns_of, cost_table, costs_by, exactly_one}
 use Rattle.kd_state.specs.{Costs.loose_count, Machine.IsMachine, declared.setting.Setting.Setting}
 use Rattle.kd_state.specs.{Machine.cable_letters, OnKey.{cable_of_column, columns_in_order, pair_in_order}}

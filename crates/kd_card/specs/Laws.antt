@@ -1,6 +1,7 @@
 -- What the laws on cards promise.
-use Rattle.kd_card.specs.Proving.{AreSettingsNeeded, AreModelPrices, ProvesByNumber, Proves, IsShortest, LeadsToTheDay}
-use Rattle.kd_card.specs.Proving.{priced_count, ShowShortest}
+use Rattle.kd_card.specs.Proving.{AreSettingsNeeded, AreModelPrices, ProvesByNumber, Proves}
+use Rattle.kd_card.specs.Proving.{priced_count}
+use Rattle.kd_card.specs.Shortest.{IsShortest, LeadsToTheDay, ShowShortest}
 use Rattle.kd_card.specs.declared.prices.Version.TheVariants.{ByKind}
 use Rattle.kd_card.specs.{Prices.{PricesFit, price_sum, version_of, ArePrices, ArePricesTight}, declared.fault.CardFault.CardFault}
 use Rattle.kd_card.specs.{CardFault.{IsCardAnswer, IsCardFault}, declared.prices.PriceParts.PriceParts, CardText.IsCard}

@@ -16,18 +16,18 @@ version_of (BarKinds row col) = ByKind
 version_of _ = ByNumber
 
 -- a price for each cable or bar, in order; by kind, each price as often as its kind's count says
-abbrev pub row_prices : PriceParts → List ℤ
-row_prices (Cables cables columns) = cables
-row_prices (Bars bars rows) = bars
-row_prices (CableKinds cables columns) = flat_map (λ k. replicate k.count k.price) cables.items
-row_prices (BarKinds bars rows) = flat_map (λ k. replicate k.count k.price) bars.items
+abbrev pub machine_prices : PriceParts → List ℤ
+machine_prices (Cables cables columns) = cables
+machine_prices (Bars bars rows) = bars
+machine_prices (CableKinds cables columns) = flat_map (λ k. replicate k.count k.price) cables.items
+machine_prices (BarKinds bars rows) = flat_map (λ k. replicate k.count k.price) bars.items
 
 -- a price for each column of a rotor machine's day, or for each row of a Converter's day, in the same way
-abbrev pub column_prices : PriceParts → List ℤ
-column_prices (Cables cables columns) = columns
-column_prices (Bars bars rows) = rows
-column_prices (CableKinds cables columns) = flat_map (λ k. replicate k.count k.price) columns.items
-column_prices (BarKinds bars rows) = flat_map (λ k. replicate k.count k.price) rows.items
+abbrev pub day_prices : PriceParts → List ℤ
+day_prices (Cables cables columns) = columns
+day_prices (Bars bars rows) = rows
+day_prices (CableKinds cables columns) = flat_map (λ k. replicate k.count k.price) columns.items
+day_prices (BarKinds bars rows) = flat_map (λ k. replicate k.count k.price) rows.items
 
 -- the number of rows of the table of costs, which is also its number of columns
 abbrev pub table_size : PriceParts → ℕ
@@ -62,7 +62,7 @@ price_at prices i = slice_index_or prices i (pos 0)
 -- The prices of row `i` and column `j` add up to at most the cost in their cell.
 abbrev pub PricesFitAt : List (List ℕ) → PriceParts → ℕ → ℕ → Type 0
 PricesFitAt costs prices i j =
-    (price_at (row_prices prices) i +ℤ price_at (column_prices prices) j) ≤ℤ pos (cost_at costs i j)
+    (price_at (machine_prices prices) i +ℤ price_at (day_prices prices) j) ≤ℤ pos (cost_at costs i j)
 
 -- In each cell of the table, the prices of its row and column add up to at most the cost.
 abbrev pub PricesFit : List (List ℕ) → PriceParts → Type 0
@@ -70,12 +70,12 @@ PricesFit costs prices = (i j : ℕ) → i < table_size prices → j < table_siz
 
 -- the sum of all prices, of rows and columns
 abbrev pub price_sum : PriceParts → ℤ
-price_sum prices = fold (λ sum price. sum +ℤ price) (pos 0) (row_prices prices ++ column_prices prices)
+price_sum prices = fold (λ sum price. sum +ℤ price) (pos 0) (machine_prices prices ++ day_prices prices)
 
 -- The prices of row `i` and column `j` add up to exactly the cost in their cell.
 abbrev pub IsPriceTightAt : List (List ℕ) → PriceParts → ℕ → ℕ → Type 0
 IsPriceTightAt costs prices i j =
-    (price_at (row_prices prices) i +ℤ price_at (column_prices prices) j) ≡ pos (cost_at costs i j)
+    (price_at (machine_prices prices) i +ℤ price_at (day_prices prices) j) ≡ pos (cost_at costs i j)
 
 -- Each row and each column of the table of costs has a cell where the prices of row and column add up to the cost.
 pub record ArePricesTight (costs : List (List ℕ)) (prices : PriceParts) : Type 0 where

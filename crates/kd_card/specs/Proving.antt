@@ -6,11 +6,11 @@ use Rattle.kd_card.specs.{Prices.{version_of, price_sum, PricesFit, ArePrices}, 
 use Rattle.kd_card.specs.declared.prices.Version.TheVariants.{ByNumber}
 use Rattle.kd_state.specs.{declared.setting.Setting.TheVariants.{Pull, Put, LugTo}, declared.machine.parts.Parts.Parts}
 use Rattle.kd_state.specs.{declared.machine.parts.Parts.TheVariants.{Rotor, Pin}, declared.setting.Setting.Setting}
-use Rattle.kd_state.specs.{Costs.{cost_table, cable_cost, bar_cost, loose_count}}
+use Rattle.kd_state.specs.{Costs.{cost_table, loose_count}}
 use Rattle.kd_state.specs.SheetDay.{Day, Rotor, Pin, day_model}
-use Rattle.kd_state.specs.{Setting.{Leads, outcome}, Machine.model_of, OnKey.{ReadsAs, columns_in_order}}
-use Rattle.std.specs.Prelude.{◌≡◌, ℕ, ◌+◌, ◌≤◌, Bool, true, false, List, [], ◌∷◌, length, pos, IfOk, IsFalse, count_by}
-use Rattle.std.specs.Prelude.{flat_map, replicate, All, IsPermutation, ◌+ℤ◌, ◌≤ℤ◌}
+use Rattle.kd_state.specs.{Setting.outcome, Machine.model_of, OnKey.columns_in_order}
+use Rattle.kd_card.specs.Shortest.{LeadsToTheDay}
+use Rattle.std.specs.Prelude.{◌≡◌, ℕ, ◌+◌, Bool, true, false, List, [], ◌∷◌, pos, IfOk, IsFalse, count_by}
 
 -- The prices are by number: one for each cable and each column (rotor machine), or each bar and each row (Converter).
 abbrev pub AreModelPrices : Parts → PriceParts → Type 0
@@ -40,10 +40,6 @@ abbrev pub AreSettingsNeeded : Parts → Day → List Setting → Type 0
 AreSettingsNeeded machine day [] = Unit {0}
 AreSettingsNeeded machine day (setting ∷ rest) = IsSettingNeeded machine day setting
     × IfOk (outcome machine setting) (λ after. AreSettingsNeeded after day rest)
-
--- After the settings are carried out in turn, the machine reads as the day.
-abbrev pub LeadsToTheDay : Parts → Day → List Setting → Type 0
-LeadsToTheDay machine day settings = (reached : Parts) × Leads machine settings reached × ReadsAs reached day
 
 -- ---- prices by kind mean prices by number
 
@@ -79,29 +75,3 @@ pub record Proves (machine : Parts) (day : Day) (settings : List Setting) (price
   pub numbered : PriceParts
   pub expands : Expands machine day prices numbered
   pub proves : ProvesByNumber machine day settings numbered
-
--- No list that leads the machine to the day is shorter than `settings`.
-abbrev pub IsShortest : Parts → Day → List Setting → Type 0
-IsShortest machine day settings =
-    (others : List Setting) → LeadsToTheDay machine day others → length settings ≤ length others
-
--- ---- prices by kind show that no list is shorter
-
--- Prices by kind fit. The kinds count exactly the machine's cables and the day's columns, or the machine's bars and the
--- day's rows. The prices of a cable and a column, or of a bar and a row, add up to at most the cost of the two.
-abbrev pub KindPricesFit : Parts → Day → PriceParts → Type 0
-KindPricesFit (Rotor machine) (Rotor day) (CableKinds cables columns) =
-    IsPermutation machine.cables (flat_map (λ k. replicate k.count k.ends) cables.items)
-    × IsPermutation (columns_in_order day.pairs) (flat_map (λ k. replicate k.count k.pair) columns.items)
-    × All (λ k. All (λ c. (k.price +ℤ c.price) ≤ℤ pos (cable_cost k.ends c.pair)) columns.items) cables.items
-KindPricesFit (Pin machine) (Pin day) (BarKinds bars rows) =
-    IsPermutation machine.bars (flat_map (λ k. replicate k.count k.standing) bars.items)
-    × IsPermutation day.rows (flat_map (λ k. replicate k.count k.reading) rows.items)
-    × All (λ k. All (λ r. (k.price +ℤ r.price) ≤ℤ pos (bar_cost k.standing r.reading)) rows.items) bars.items
-KindPricesFit _ _ _ = ⊥
-
--- Prices by kind show that no list that reaches the day is shorter than `settings`: they fit, and the number of
--- settings is the number of loose things plus the sum of the prices.
-pub record ShowShortest (machine : Parts) (day : Day) (settings : List Setting) (prices : PriceParts) : Type 0 where
-  pub fit : KindPricesFit machine day prices
-  pub as_many : pos (length settings) ≡ (pos (loose_count machine day) +ℤ price_sum prices)

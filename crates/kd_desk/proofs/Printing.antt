@@ -1,6 +1,6 @@
 -- What the contracts promise of a card that was planned and written.
 use Rattle.kd_desk.proofs.Prelude.{Day, DeskFault, IsCard, IsLegalDay, IsMachine, List, Parts, Port, PriceParts, Result}
-use Rattle.{kd_desk.proofs.Prelude.{arith, day_number, subst, sym, ℕ, ◌≡◌}, kd_prices.specs.KindCards.IsByKind}
+use Rattle.{kd_desk.proofs.Prelude.{IsErr, IsTrue, arith, day_number, subst, sym, ℕ, ◌≡◌}, kd_prices.specs.KindCards.IsByKind}
 use Rattle.kd_desk.specs.RunCard.{Card, Different, IsChosenCard, IsShortestCard, Prints}
 use Rattle.kd_plan.specs.Planned.{IsProvedPlannedCard}
 use Rattle.{kd_host.specs.Writing.WritesText, kd_desk.specs.declared.fault.DeskFault.TheVariants.Device}
@@ -29,8 +29,9 @@ module _ (m : Parts) (s : Day) (is_machine : IsMachine m) (legal : IsLegalDay s)
 
     pub printed : (text : List ℕ) (day : ℕ) (sink : Port) (answer : Result (Unit {0}) DeskFault) → day ≡ day_number s
         → IsCard text day card.settings.items card.prices → WritesText Device text sink answer
+        → (IsErr answer → IsTrue sink.has_failed)
         → Prints (IsChosenCard m s (day_number s)) m s (day_number s) sink answer
-    printed text day sink answer number is_card takes =
+    printed text day sink answer number is_card takes failure =
         let dated = subst (λ d. IsCard text d card.settings.items card.prices) number is_card in
         let proves : Proves m s card.settings.items card.prices =
         record { numbered = planned.prices; expands = kinds.expands; proves = same.proves } in
@@ -50,6 +51,7 @@ module _ (m : Parts) (s : Day) (is_machine : IsMachine m) (legal : IsLegalDay s)
             spares = same.spares;
           };
           written = subst (λ bytes. WritesText Device bytes sink answer) dated.text takes;
+          failure = failure;
         })
 
 -- a card that the planner chooses is a shortest card
@@ -61,4 +63,5 @@ shortest_printed m s day sink answer (Card c) = Card (record {
   prices = c.prices;
   promise = c.promise.shortest;
   written = c.written;
+  failure = c.failure;
 })

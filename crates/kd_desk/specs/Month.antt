@@ -8,7 +8,7 @@ use Rattle.kd_state.specs.declared.machine.parts.Parts.{Parts}
 use Rattle.kd_state.specs.declared.setting.Setting.{Setting}
 use Rattle.kd_state.specs.SheetDay.{Day}
 use Rattle.kd_card.specs.Months.{IsProvedCard}
-use Rattle.kd_card.specs.Proving.{IsShortest}
+use Rattle.kd_card.specs.Shortest.{IsShortest}
 use Rattle.kd_plan.specs.Spares.{SparesStayFree}
 use Rattle.kd_sheet.specs.MachineFile.{machine_of}
 use Rattle.kd_sheet.specs.Sheet.{day_of}

@@ -2,7 +2,7 @@
 -- Code: `print_card` plans the card with `plan`, gives it prices by kind with `by_kind`, and writes it with
 -- `write_card`.
 -- Test: tests/cases/desk-cards.toml
-use Rattle.std.specs.Prelude.{◌≡◌, ◌≢◌, ℕ, List, Result, Err}
+use Rattle.std.specs.Prelude.{◌≡◌, ◌≢◌, ℕ, List, Result, Err, IsErr, IsTrue}
 use Rattle.kd_state.specs.declared.machine.parts.Parts.{Parts}
 use Rattle.kd_state.specs.declared.setting.Setting.{Setting}
 use Rattle.kd_state.specs.Machine.{model_of}
@@ -11,7 +11,8 @@ use Rattle.kd_state.specs.SheetsMachine.{IsSheetsMachine}
 use Rattle.kd_state.specs.SheetDay.{Day, day_model}
 use Rattle.kd_card.specs.declared.prices.PriceParts.{PriceParts}
 use Rattle.kd_card.specs.CardText.{IsCard, card_text}
-use Rattle.kd_card.specs.Proving.{Proves, ShowShortest, IsShortest}
+use Rattle.kd_card.specs.Proving.{Proves}
+use Rattle.kd_card.specs.Shortest.{ShowShortest, IsShortest}
 use Rattle.kd_plan.specs.Planned.{IsPlannedCard}
 use Rattle.kd_plan.specs.Spares.{SparesStayFree}
 use Rattle.kd_desk.specs.declared.fault.DeskFault.{DeskFault}
@@ -20,21 +21,22 @@ use Rattle.kd_desk.specs.EquallySet.{EquallySetDecipherOn}
 use Rattle.kd_tables.specs.Ports.{Port}
 use Rattle.kd_host.specs.Writing.{WritesText}
 
--- A shortest card: its settings lead the machine to the day's machine. No list that reaches the day is shorter, and the
--- prices, one for each kind, show it. Machines that are equally set for the day decipher each other's texts.
+-- A shortest card: its settings lead the machine to the day's machine, no list that reaches the day is shorter, and the
+-- prices, one for each kind, show it. Whatever the card: equally set machines decipher each other's texts.
 pub record IsShortestCard (machine : Parts) (day : Day) (settings : List Setting) (prices : PriceParts) : Type 0 where
   pub leaves : (after : Parts) × Leads machine settings after × IsSheetsMachine after day
   pub shortest : IsShortest machine day settings
   pub shown : ShowShortest machine day settings prices
   pub deciphers : EquallySetDecipherOn day
 
--- A card of which `Promise` holds was written for day `number`, or a prefix of its text if the device failed.
+-- A card of which `Promise` holds was written for day `number`; or, since the sink failed, only a prefix of its text.
 pub record WritesCard (Promise : List Setting → PriceParts → Type 0) (number : ℕ) (sink : Port)
     (answer : Result (Unit {0}) DeskFault) : Type 0 where
   pub settings : List Setting
   pub prices : PriceParts
   pub promise : Promise settings prices
   pub written : WritesText Device (card_text number settings prices) sink answer
+  pub failure : IsErr answer → IsTrue sink.has_failed
 
 -- The machine and the day are of different models, or a card was written of which `Promise` holds.
 pub data Prints (Promise : List Setting → PriceParts → Type 0) (machine : Parts) (day : Day) (number : ℕ) (sink : Port)

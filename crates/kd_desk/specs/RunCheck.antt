@@ -8,7 +8,8 @@ use Rattle.kd_card.specs.declared.fault.CardFault.{CardFault}
 use Rattle.kd_card.specs.declared.prices.PriceParts.{PriceParts}
 use Rattle.kd_card.specs.CardFault.{IsCardFault}
 use Rattle.kd_card.specs.CardText.{IsCard}
-use Rattle.kd_card.specs.Proving.{Proves, IsShortest}
+use Rattle.kd_card.specs.Proving.{Proves}
+use Rattle.kd_card.specs.Shortest.{IsShortest}
 use Rattle.kd_prices.specs.declared.doubt.Doubt.{Doubt}
 use Rattle.kd_prices.specs.Doubt.{IsDoubt}
 use Rattle.kd_desk.specs.declared.fault.DeskFault.{DeskFault}

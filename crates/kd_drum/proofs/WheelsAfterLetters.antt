@@ -85,7 +85,7 @@ pub count_alike : {X : Type 0} (p q : X → Bool) (xs : List X) → ((x : X) →
 count_alike p q xs same = grind (arith, sum_by-le-sum_by, p, q, same)
 
 pub bars_met_sum : (key : PinKey) (m n : ℕ) → bars_met (pin_key_after key m) n ≡ bars_met key (m + n)
-bars_met_sum key m n = λ i. count_by (λ row. acts_after_sum key m n row.0 i || acts_after_sum key m n row.1 i) key.rows
+bars_met_sum key m n = λ i. count_by (λ bar. acts_after_sum key m n bar.0 i || acts_after_sum key m n bar.1 i) key.bars
 
 -- ---- the wheels in the Converter
 

@@ -12,11 +12,11 @@ use Rattle.kd_pins.specs.PinWheel.{is_effective}
 use Rattle.kd_pins.specs.PinWheels.{pin_wheels, pins_on, acting_offset}
 
 -- A key of the Converter. `pins`: which pins of its six wheels are effective. `letters`: the letters that the wheels show.
--- `rows`: for each bar, the numbers of the wheels at its two lugs; 0 where there is no wheel.
+-- `bars`: for each bar, the numbers of the wheels at its two lugs, in any order; 0 where there is no wheel.
 pub record PinKey : Type 0 where
   pub pins : List (List Bool)
   pub letters : List ℕ
-  pub rows : List (ℕ × ℕ)
+  pub bars : List (ℕ × ℕ)
 
 -- `key` with other letters shown on the wheels
 abbrev pub pin_key_turned : PinKey → List ℕ → PinKey
@@ -40,7 +40,7 @@ is_acting_after pins letters count wheel =
 -- how many bars are met after `count` letters; a bar is met if it has a lug at a wheel with an effective acting pin
 abbrev pub bars_met : PinKey → ℕ → ℕ
 bars_met key count =
-    let acts = is_acting_after key.pins key.letters count in count_by (λ row. acts row.0 || acts row.1) key.rows
+    let acts = is_acting_after key.pins key.letters count in count_by (λ bar. acts bar.0 || acts bar.1) key.bars
 
 -- The ciphertext of `text`: each letter is reversed (A becomes Z), and then moved on by the number of bars met.
 abbrev pub converter_cipher : PinKey → List ℕ → List ℕ

@@ -20,13 +20,13 @@ pub record AreSixWheels (w1 w2 w3 w4 w5 w6 : TurnedWheel) : Type 0 where
   pub fifth : IsPinWheel 5 19 w5
   pub sixth : IsPinWheel 6 17 w6
 
--- the key of a Converter with these six wheels, and with bars that have the readings `rows`
+-- the key of a Converter with these six wheels, and with bars that read as `bars`
 abbrev pub converter_key : TurnedWheel → TurnedWheel → TurnedWheel → TurnedWheel → TurnedWheel → TurnedWheel
     → List (ℕ × ℕ)
     → PinKey
-converter_key w1 w2 w3 w4 w5 w6 rows = record {
+converter_key w1 w2 w3 w4 w5 w6 bars = record {
   pins = w1.pins ∷ w2.pins ∷ w3.pins ∷ w4.pins ∷ w5.pins ∷ w6.pins ∷ [];
   letters =
       letter_shown w1 ∷ letter_shown w2 ∷ letter_shown w3 ∷ letter_shown w4 ∷ letter_shown w5 ∷ letter_shown w6 ∷ [];
-  rows = rows;
+  bars = bars;
 }

@@ -21,7 +21,7 @@ pub struct Converter {
     w4: PinWheel<21>,
     w5: PinWheel<19>,
     w6: PinWheel<17>,
-    rows: [Reading; 27],
+    bars: [Reading; 27],
     counts: [u8; 64],
 }
 
@@ -32,23 +32,23 @@ impl Model for Converter {
 
     ghost Value = { PinKey };
 
-    ghost view = { λ c. converter_key c.w1 c.w2 c.w3 c.w4 c.w5 c.w6 c.rows };
+    ghost view = { λ c. converter_key c.w1 c.w2 c.w3 c.w4 c.w5 c.w6 c.bars };
 
-    ghost invariant = { λ c. AreSixWheels c.w1 c.w2 c.w3 c.w4 c.w5 c.w6 × AreCounts c.rows c.counts };
+    ghost invariant = { λ c. AreSixWheels c.w1 c.w2 c.w3 c.w4 c.w5 c.w6 × AreCounts c.bars c.counts };
 }
 
 impl Converter {
-    /// Sets up a Converter with the pins `pins`, the shown letters `letters`, and bars with the readings `rows`.
+    /// Sets up a Converter with the pins `pins`, the shown letters `letters`, and bars that read as `bars`.
     ///
     /// Returns `NotOnWheel` if one of `letters` isn't on its wheel.
     pub fn new(
         pins: PinSet,
         letters: [Letter; 6],
-        rows: [Reading; 27],
+        bars: [Reading; 27],
     ) -> Result<Converter, NotOnWheel>
         ensures ok { IsOk result ↔ IsEachOnItsWheel letters }
         ensures value { IfOk result (λ converter.
-            converter ≡ record { pins = pins_of pins; letters = letters; rows = rows }) }
+            converter ≡ record { pins = pins_of pins; letters = letters; bars = bars }) }
     {
         let mut converter = Converter {
             w1: PinWheel::new(ring1(), 15, pins.w1),
@@ -57,8 +57,8 @@ impl Converter {
             w4: PinWheel::new(ring4(), 12, pins.w4),
             w5: PinWheel::new(ring5(), 11, pins.w5),
             w6: PinWheel::new(ring6(), 10, pins.w6),
-            counts: count_bars_met(&rows),
-            rows,
+            counts: count_bars_met(&bars),
+            bars,
         };
         converter.turn_to(letters)?;
         Ok(converter)

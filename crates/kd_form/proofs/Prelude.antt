@@ -80,7 +80,8 @@ pub use Rattle.kd_state.proofs.OneAnswer.{HasOneAnswer-Demands, HasOneAnswer-Fin
 pub use Rattle.kd_state.proofs.OneAnswer.{HasOneAnswer-Yields, ThenNext-Ok, Yields-Ok}
 pub use Rattle.kd_state.specs.SheetDay.{Day, IsLegalDay, Pin, Rotor, pin_day}
 pub use Rattle.kd_state.specs.EngineKey.{IsWindow, cipher}
-pub use Rattle.kd_state.specs.TwoCiphers.{physical_cipher, sheet_key}
+pub use Rattle.kd_state.specs.OwnKeys.{sheet_key}
+pub use Rattle.kd_state.specs.TwoCiphers.{physical_cipher}
 pub use Rattle.kd_state.specs.LineWords.{IsFirstPart, IsWithout, line_of, line_then, words_of}
 pub use Rattle.kd_tables.proofs.Failing.{err_is}
 pub use Rattle.kd_tables.specs.{Ports.EndAgrees, Ports.FailureAgrees, Ports.KeepsFailureFlag, Ports.Port, Ports.port}

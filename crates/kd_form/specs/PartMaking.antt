@@ -4,7 +4,7 @@ use Rattle.std.specs.Prelude.{◌≡◌, ℕ, ◌-◌, ◌%◌, List, [], ◌∷
 use Rattle.kd_state.specs.SheetDay.{Day, Rotor, Pin, AreADaysGroup}
 use Rattle.kd_state.specs.AnswerRules.{AnswerRule, ◌>>=◌, Yields, Finds, Demands}
 use Rattle.kd_state.specs.EngineKey.{EngineKey, IsWindow, cipher, key_with_window}
-use Rattle.kd_state.specs.TwoCiphers.{sheet_key}
+use Rattle.kd_state.specs.OwnKeys.{sheet_key}
 use Rattle.kd_form.specs.declared.fault.FormFault.{FormFault}
 use Rattle.kd_form.specs.declared.fault.FormFault.TheVariants.{KeyNotOnWheel, WrongGroup, IndicatorSpent}
 use Rattle.kd_form.specs.declared.keys.Keys.{Keys}

@@ -2,7 +2,7 @@
 ghost use Rattle.std.specs.Prelude.{◌≡◌, ◌↔◌, ◌≤◌, ◌<◌, length, All, IsTrue, MatchOption};
 ghost use Rattle.std.specs.Bool.{OnTrue};
 ghost use Rattle.kd_state.specs.EngineKey.{IsWindow};
-ghost use Rattle.kd_state.specs.TwoCiphers.{sheet_key};
+ghost use Rattle.kd_state.specs.OwnKeys.{sheet_key};
 ghost use Rattle.kd_form.specs.KeyPatterns.{IsRotorDayWith, IsConverterDay};
 ghost use Rattle.kd_form.specs.PartMaking.{cipher_from};
 

@@ -1,7 +1,7 @@
 //! Picks the internal key of the Converter M-209 from twelve enciphered letters.
 ghost use Rattle.std.specs.Prelude.{◌≡◌, ◌<◌, ◌+◌, MatchOption};
 ghost use Rattle.kd_state.specs.EngineKey.{IsWindow};
-ghost use Rattle.kd_state.specs.TwoCiphers.{sheet_key};
+ghost use Rattle.kd_state.specs.OwnKeys.{sheet_key};
 ghost use Rattle.kd_form.specs.InternalKey.{IsInternalKey, HaveNoInternalKey, IsTakenInTurn};
 ghost use Rattle.kd_form.specs.PartMaking.{enciphered_choice};
 

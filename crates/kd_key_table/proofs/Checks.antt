@@ -5,7 +5,7 @@ unfoldable use Rattle.kd_tables.specs.Rings.{ring_of}
 use Rattle.kd_state.specs.Machine.{AreOnWheels}
 use Rattle.kd_state.specs.SheetDay.{Day, Pin, PinDay}
 use Rattle.kd_state.specs.EngineKey.{EngineKey, IsWindow, cipher, key_with_window}
-use Rattle.kd_state.specs.TwoCiphers.{sheet_key}
+use Rattle.kd_state.specs.OwnKeys.{sheet_key}
 use Rattle.kd_sheet.proofs.ReadBack.Described.KeyValues.{AreOnWheels-by_test}
 unfoldable use Rattle.kd_key_table.specs.KeyList.{check_of}
 

@@ -9,7 +9,7 @@ use Rattle.std.specs.Prelude.{IfOk}
 use Rattle.kd_state.specs.LineWords.{IsWithout, IsFirstPart, line_of}
 use Rattle.kd_state.specs.SheetDay.{Day, Rotor, Pin}
 use Rattle.kd_state.specs.EngineKey.{IsWindow}
-use Rattle.kd_state.specs.TwoCiphers.{sheet_key}
+use Rattle.kd_state.specs.OwnKeys.{sheet_key}
 use Rattle.kd_state.proofs.OneAnswer.{ThenNext-Ok, Yields-Ok}
 use Rattle.kd_form.specs.declared.{heading.{Heading.{Heading}, Indicator.{Indicator}}, keys.PinKeys.{PinKeys}}
 use Rattle.kd_form.specs.BodyCipher.{HasIndicator, deciphered_key, keys_of_body, text_of_body}

@@ -13,7 +13,7 @@ use Rattle.kd_tables.specs.Text.{is_text_byte, letters_text}
 use Rattle.kd_state.specs.LineWords.{IsFirstPart, line_of}
 use Rattle.kd_state.specs.SheetDay.{AreADaysGroup, Day, Rotor, Pin}
 use Rattle.kd_state.specs.EngineKey.{IsWindow}
-use Rattle.kd_state.specs.TwoCiphers.{sheet_key}
+use Rattle.kd_state.specs.OwnKeys.{sheet_key}
 use Rattle.kd_state.proofs.Lines.{IsNumeralModel-digits}
 use Rattle.kd_state.proofs.OneAnswer.{ThenNext-Ok, Yields-Ok}
 use Rattle.kd_form.specs.declared.{heading.{Heading.{Heading}, Indicator.{Indicator}}}

@@ -6,7 +6,7 @@ use Rattle.std.specs.List.{slice_range}
 use Rattle.kd_state.specs.AnswerRules.{AnswerRule, ◌>>=◌, Finds, Demands, FindsAlways}
 use Rattle.kd_state.specs.SheetDay.{Day, AreADaysGroup}
 use Rattle.kd_state.specs.EngineKey.{IsWindow}
-use Rattle.kd_state.specs.TwoCiphers.{sheet_key}
+use Rattle.kd_state.specs.OwnKeys.{sheet_key}
 use Rattle.kd_form.specs.declared.heading.Indicator.{Indicator}
 use Rattle.kd_form.specs.BodyCipher.{HasIndicator, deciphered_key}
 use Rattle.kd_form.specs.InternalKey.{IsInternalKey}

@@ -4,7 +4,7 @@ use Rattle.std.specs.Prelude.{◌≡◌, ℕ, ◌-◌, List, length, take, drop,
 use Rattle.kd_tables.specs.Text.{is_text_byte}
 use Rattle.kd_state.specs.SheetDay.{Day}
 use Rattle.kd_state.specs.EngineKey.{IsWindow}
-use Rattle.kd_state.specs.TwoCiphers.{sheet_key}
+use Rattle.kd_state.specs.OwnKeys.{sheet_key}
 use Rattle.kd_form.specs.declared.heading.{Heading.{Heading}, Indicator.{Indicator}}
 use Rattle.kd_form.specs.BodyCipher.{deciphered_key, keys_of_body, text_of_body}
 use Rattle.kd_form.specs.InternalKey.{IsInternalKey}

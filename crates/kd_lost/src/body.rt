@@ -2,7 +2,7 @@
 ghost use Rattle.std.specs.Prelude.{◌≡◌, ◌≤◌, ◌-◌, ◌+◌, ◌++◌, ◌<◌, ℕ, List, length, map, drop, take, Some, None, Ok};
 ghost use Rattle.std.specs.Prelude.{MatchOption};
 ghost use Rattle.kd_state.specs.EngineKey.{IsWindow};
-ghost use Rattle.kd_state.specs.TwoCiphers.{sheet_key};
+ghost use Rattle.kd_state.specs.OwnKeys.{sheet_key};
 ghost use Rattle.kd_form.specs.BodyCipher.{HasIndicator};
 ghost use Rattle.kd_form.specs.InternalKey.{IsInternalKey, HaveNoInternalKey};
 ghost use Rattle.kd_form.specs.KeyPatterns.{IsConverterDay};

@@ -9,5 +9,5 @@ use Rattle.kd_message.specs.Laws.{RowsAreEnciphered}
 pub rows_are_enciphered : RowsAreEnciphered
 rows_are_enciphered (Rotor s) start before row = enigma.cipher_in_turn _ before row
 rows_are_enciphered (Pin s) start before row =
-    let key : PinKey = record { pins = pins_of s.pins; letters = s.window; rows = s.rows } in
+    let key : PinKey = record { pins = pins_of s.pins; letters = s.window; bars = s.rows } in
     drum.cipher_in_turn (pin_key_turned key start) before row

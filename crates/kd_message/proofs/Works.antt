@@ -2,7 +2,7 @@
 use Rattle.std.proofs.Common.{◌≡◌, ℕ, ◌≤◌, List, [], ◌∷◌, length, arith, Option, Some, map}
 use Rattle.kd_state.specs.SheetDay.{Day, Pin, Rotor}
 use Rattle.kd_state.specs.EngineKey.{IsWindow}
-use Rattle.kd_state.specs.TwoCiphers.{sheet_key}
+use Rattle.kd_state.specs.OwnKeys.{sheet_key}
 use Rattle.kd_form.specs.declared.heading.Indicator.{Indicator}
 use Rattle.kd_form.specs.BodyCipher.{HasIndicator}
 use Rattle.std.proofs.lemmas.List.{length-map}

@@ -3,7 +3,7 @@ use Rattle.std.specs.Prelude.{ℕ, ◌-◌, List, ◌++◌, length, map, take, d
 use Rattle.std.specs.List.{slice_range}
 use Rattle.kd_state.specs.SheetDay.{Day}
 use Rattle.kd_state.specs.EngineKey.{IsWindow}
-use Rattle.kd_state.specs.TwoCiphers.{sheet_key}
+use Rattle.kd_state.specs.OwnKeys.{sheet_key}
 use Rattle.kd_form.specs.declared.heading.Indicator.{Indicator}
 use Rattle.kd_form.specs.BodyCipher.{HasIndicator}
 use Rattle.kd_form.specs.PartMaking.{cipher_from, enciphered_choice}

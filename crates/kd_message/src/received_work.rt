@@ -1,7 +1,7 @@
 //! What the sheet of a received part shows.
 ghost use Rattle.std.specs.Prelude.{◌≡◌};
 ghost use Rattle.kd_state.specs.EngineKey.{IsWindow};
-ghost use Rattle.kd_state.specs.TwoCiphers.{sheet_key};
+ghost use Rattle.kd_state.specs.OwnKeys.{sheet_key};
 ghost use Rattle.kd_form.specs.BodyCipher.{HasIndicator};
 ghost use Rattle.kd_part_sheet.specs.PartWork.{IsWorkable};
 ghost use Rattle.kd_message.specs.ReceivedWork.{AreShowable, pin_received, received_work, rotor_received};

@@ -5,7 +5,7 @@ use Rattle.kd_drum.specs.Converter.{pin_key_after}
 use Rattle.kd_state.specs.declared.sheet_day.pin_entry.PinEntry.{PinEntry}
 use Rattle.kd_state.specs.SheetDay.{Day}
 use Rattle.kd_state.specs.EngineKey.{EngineKey, Rotor, Pin, engine_key_after, key_with_window}
-use Rattle.kd_state.specs.TwoCiphers.{sheet_key}
+use Rattle.kd_state.specs.OwnKeys.{sheet_key}
 
 -- the letters in the windows, or on the pin wheels, of a machine with this key
 abbrev pub letters_shown : EngineKey → List ℕ
@@ -23,4 +23,4 @@ letters_after s start presses =
 -- the letters on the pin wheels of a Converter after `presses` letters were enciphered
 abbrev pub wheels_after : PinEntry → List ℕ → ℕ → List ℕ
 wheels_after entry start presses =
-    (pin_key_after (record { pins = pins_of entry.pins; letters = start; rows = entry.rows }) presses).letters
+    (pin_key_after (record { pins = pins_of entry.pins; letters = start; bars = entry.rows }) presses).letters

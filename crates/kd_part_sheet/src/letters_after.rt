@@ -2,7 +2,7 @@
 ghost use Rattle.std.specs.Prelude.{◌≡◌, ◌≤◌, ◌⊎◌, length, map};
 ghost use Rattle.kd_step.specs.Stepper.{window_after};
 ghost use Rattle.kd_state.specs.EngineKey.{IsWindow};
-ghost use Rattle.kd_state.specs.TwoCiphers.{sheet_key};
+ghost use Rattle.kd_state.specs.OwnKeys.{sheet_key};
 ghost use Rattle.kd_state.specs.Machine.{AreOnWheels};
 ghost use Rattle.kd_part_sheet.specs.LettersAfter.{letters_after, wheels_after};
 

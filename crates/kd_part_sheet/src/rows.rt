@@ -1,7 +1,7 @@
 //! The rows of a step: ten groups of five letters a row; at a row's end the letters so far, and after presses the windows.
 ghost use Rattle.std.specs.Prelude.{◌≡◌, ◌+◌, ◌≤◌, ◌∷◌, flat_map, length};
 ghost use Rattle.kd_state.specs.EngineKey.{IsWindow};
-ghost use Rattle.kd_state.specs.TwoCiphers.{sheet_key};
+ghost use Rattle.kd_state.specs.OwnKeys.{sheet_key};
 ghost use Rattle.kd_pictures.specs.Drawing.{Draws};
 ghost use Rattle.kd_part_sheet.specs.Cells.{place_text};
 ghost use Rattle.kd_part_sheet.specs.Rows.{above_text, group_text, has_below, has_marks, is_skipped, line_if, pieces, pressed_count};

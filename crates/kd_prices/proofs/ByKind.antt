@@ -4,14 +4,14 @@ use Rattle.kd_prices.proofs.AlikeKeys.{cables_are_in_form, columns_are_in_form, 
 use Rattle.kd_prices.proofs.{Prelude.{All, Day, One, Pin, map, sym, zip, ◌<◌, ◌↔◌, ◌∙◌, ◌≡◌}, Runs.one_price}
 use Rattle.kd_prices.proofs.Prelude.{AreKinds, BarKinds, Expanded, Rotor, PairKind, PinParts, RotorDay, model_of, ℤ}
 use Rattle.kd_prices.proofs.Prelude.{AreKindsOf, CanBeByKind, MatchOption, cable_format, pair_format, pair_in_order, ℕ}
-use Rattle.kd_prices.proofs.Prelude.{AreModelPrices, IsPermutation, column_prices, columns_in_order, thirteen_columns}
+use Rattle.kd_prices.proofs.Prelude.{AreModelPrices, IsPermutation, day_prices, columns_in_order, thirteen_columns}
 use Rattle.kd_prices.proofs.Prelude.{ArePrices, CableKind, IsMachine, List, ReadAlike, day_model, expansion, version_of}
 use Rattle.kd_prices.proofs.Prelude.{ArePricesInRange, Bars, Contains-permutation, HaveOnePriceEach, length_permutation}
 use Rattle.kd_prices.proofs.Prelude.{BarKind, ByKind, Cables, Expands, IfSome, IsGroup, None, RowKind, price_at}
 use Rattle.kd_prices.proofs.Prelude.{CableKinds, IsLegalDay, KindFormat, PriceParts, RotorParts, StandAlike, bar_format}
 use Rattle.kd_prices.proofs.Prelude.{IsSome, IsValidKeyAndPrice, Pin, Option, Parts, PinDay, Rotor, Some, arith}
 use Rattle.kd_prices.proofs.Prelude.{length, refl, subst, columns_of, get_or-zip, length-map, length-zip, row_format}
-use Rattle.kd_prices.proofs.Prelude.{row_prices, table_size}
+use Rattle.kd_prices.proofs.Prelude.{machine_prices, table_size}
 
 -- what `kinds_of` ensures of the kinds of `keys` with `prices`
 abbrev pub AreGrouped : {K X : Type 0} → KindFormat K X → List X → List ℤ → List K → Type 0
@@ -63,11 +63,11 @@ ArePricesByKind m s prices result = record {
 module _ {R X C Y : Type 0} (rows : KindFormat R X) (columns : KindFormat C Y) (m : Parts) (s : Day)
     (prices made : PriceParts) (xs : List X) (ys : List Y) (row : List R) (col : List C) where
   made_by_kind : model_of m ≡ day_model s → AreModelPrices m prices → version_of made ≡ ByKind
-      → AreKindsFor rows xs (table_size prices) (StandAlike m) (row_prices prices) row
-      → AreKindsFor columns ys (table_size prices) (ReadAlike s) (column_prices prices) col
+      → AreKindsFor rows xs (table_size prices) (StandAlike m) (machine_prices prices) row
+      → AreKindsFor columns ys (table_size prices) (ReadAlike s) (day_prices prices) col
       → ArePrices made ↔ (IsGroup rows (table_size prices) row × IsGroup columns (table_size prices) col)
-      → (ArePrices made → AreKindsOf rows xs (row_prices prices) row
-      → AreKindsOf columns ys (column_prices prices) col → Expands m s made prices) → (result : Option PriceParts)
+      → (ArePrices made → AreKindsOf rows xs (machine_prices prices) row
+      → AreKindsOf columns ys (day_prices prices) col → Expands m s made prices) → (result : Option PriceParts)
       → MatchOption result (¬ (ArePrices made)) (λ prices. prices ≡ made) → IfSome result ArePrices
       → ArePricesByKind m s prices result
   made_by_kind model kind version a b groups expands None none are = record {

@@ -1,7 +1,7 @@
 -- If a result is right for the prices that were found for rows and columns, it is right for the check of the card.
-use Rattle.kd_prices.proofs.Prelude.{AreModelPrices, ArePricesInRange, IsCheckedAnswer, PriceMissing, column_prices, ℤ}
+use Rattle.kd_prices.proofs.Prelude.{AreModelPrices, ArePricesInRange, IsCheckedAnswer, PriceMissing, day_prices, ℤ}
 use Rattle.kd_prices.proofs.Prelude.{AreExpanded, AreKindsOf, MatchOption, Parts, cable_format, pair_format, version_of}
-use Rattle.kd_prices.proofs.Prelude.{ArePrices, CableKinds, KindFormat, PriceParts, bar_format, row_format, row_prices}
+use Rattle.kd_prices.proofs.Prelude.{ArePrices, CableKinds, KindFormat, PriceParts, bar_format, row_format, machine_prices}
 use Rattle.kd_prices.proofs.Prelude.{BarKinds, ByNumber, Expanded, HasFault, Rotor, Setting, day_model, model_of}
 use Rattle.kd_prices.proofs.Prelude.{Bars, Cables, Doubt, Expands, GoesOn, Pin, Option, Result, Rotor, arith, subst}
 use Rattle.kd_prices.proofs.Prelude.{Day, Err, List, None, Pin, Same, Some, refl, sym, ◌∙◌, ◌≡◌}
@@ -58,13 +58,13 @@ module _ (m : Parts) (s : Day) (settings : List Setting) (prices : PriceParts) (
       GoesOn tt model (GoesOn x belong (GoesOn (make found.0 found.1) expands says))
 
   by_fault : ((numbered : PriceParts) → AreModelPrices m numbered
-      → make (row_prices numbered) (column_prices numbered) ≡ numbered) → (doubt : Doubt)
+      → make (machine_prices numbered) (day_prices numbered) ≡ numbered) → (doubt : Doubt)
       → ArePricesFound m s prices make (Err doubt) → IsCheckedAnswer m s settings prices (Err doubt)
   by_fault made doubt (HasFault fault none e) = GoesOn tt model (HasFault fault none (cc))
   by_fault made doubt (GoesOn x belong none) =
       GoesOn tt model (GoesOn x belong (HasFault PriceMissing (
         (λ numbered expands.
-            none.0 (row_prices numbered, column_prices numbered)
+            none.0 (machine_prices numbered, day_prices numbered)
             (subst (Expands m s prices) (sym (made numbered (are_numbered m s prices numbered expands belong)))
             expands)),
         refl,
@@ -72,7 +72,7 @@ module _ (m : Parts) (s : Day) (settings : List Setting) (prices : PriceParts) (
 
   -- what is right once the prices were found, or once they weren't, is right for the check of the card
   pub by_prices : ((numbered : PriceParts) → AreModelPrices m numbered
-      → make (row_prices numbered) (column_prices numbered) ≡ numbered) → (found : Result (List ℤ × List ℤ) Doubt)
+      → make (machine_prices numbered) (day_prices numbered) ≡ numbered) → (found : Result (List ℤ × List ℤ) Doubt)
       → (answer : Result (Unit {0}) Doubt) → ArePricesFound m s prices make found
       → MatchResult found (λ lists. IsByNumberAnswer m s settings (make lists.0 lists.1) answer)
       (λ doubt. answer ≡ Err doubt)

@@ -4,7 +4,7 @@ pub use Rattle.kd_card.specs.{Kinds.IsGroup, Proving.{Expanded, Expands, Proves,
 pub use Rattle.kd_card.specs.Kinds.{AreEnds, AreKinds, IsKind, expansion, row_format, AreKindsOf, IsPairInOrder}
 pub use Rattle.kd_card.specs.Kinds.{KindFormat, bar_format, cable_format, pair_format}
 pub use Rattle.kd_card.specs.Prices.{ArePrices, PricesFit, cost_at, price_sum, table_size, version_of, ArePricesInRange}
-pub use Rattle.kd_card.specs.Prices.{ArePricesTight, PricesFitAt, column_prices, price_at, row_prices}
+pub use Rattle.kd_card.specs.Prices.{ArePricesTight, PricesFitAt, day_prices, price_at, machine_prices}
 pub use Rattle.kd_card.specs.Proving.{AreExpanded, AreModelPrices, AreSettingsNeeded, IsSettingNeeded}
 pub use Rattle.kd_state.specs.OnKey.{columns_in_order, pair_in_order}
 pub use Rattle.kd_card.specs.declared.kinds.{BarKind.BarKind, CableKind.CableKind, PairKind.PairKind, RowKind.RowKind}

@@ -4,7 +4,7 @@ use Rattle.std.specs.Prelude.{◌≡◌, ◌⊎◌, ℕ, ◌+◌, ◌<◌, List,
 use Rattle.kd_state.specs.{AnswerRules.{AnswerRule, Demands, Finds, ◌>>=◌}, Setting.{IsFirstIllegal, Leads}}
 use Rattle.kd_state.specs.declared.{machine.parts.Parts.{Parts, TheVariants.{Pin, Rotor}}, setting.Setting.Setting}
 use Rattle.kd_state.specs.{Costs.cost_table, Machine.model_of, OnKey.ReadsAs, SheetDay.{Day, day_model}}
-use Rattle.kd_card.specs.Prices.{PricesFit, PricesFitAt, column_prices, price_sum, row_prices, table_size}
+use Rattle.kd_card.specs.Prices.{PricesFit, PricesFitAt, day_prices, price_sum, machine_prices, table_size}
 use Rattle.kd_card.specs.declared.prices.PriceParts.{PriceParts, TheVariants.{BarKinds, Bars, CableKinds, Cables}}
 use Rattle.kd_card.specs.Proving.{AreSettingsNeeded, Expands, IsSettingNeeded, priced_count}
 use Rattle.kd_prices.specs.declared.doubt.Doubt.TheVariants.{NeedlessLine, NotTheSheet, PriceMissing, PriceTooHigh}
@@ -93,7 +93,7 @@ IsDoubt machine day settings prices doubt = IsCheckedAnswer machine day settings
 -- first doubt.
 abbrev pub IsByPricesAnswer : Parts → Day → List Setting → ℕ → List ℤ → List ℤ → AnswerRule Doubt (Unit {0})
 IsByPricesAnswer machine day settings number rows columns answer =
-    (prices : PriceParts) → row_prices prices ≡ rows → column_prices prices ≡ columns → table_size prices ≡ number
+    (prices : PriceParts) → machine_prices prices ≡ rows → day_prices prices ≡ columns → table_size prices ≡ number
     → IsByNumberAnswer machine day settings prices answer
 
 -- The result of finding a price for each row and each column of the table of costs: both lists of prices, or the first

@@ -3,8 +3,9 @@ use Rattle.std.specs.Prelude.{◌≡◌, ℕ, ◌-◌, ◌<◌, ◌≤◌, List,
 use Rattle.kd_state.specs.{SheetDay.{Day, IsLegalDay}, declared.{machine.parts.Parts.Parts, setting.Setting.Setting}}
 use Rattle.kd_state.specs.{Machine.IsMachine, Setting.Leads}
 use Rattle.kd_card.specs.declared.prices.PriceParts.{PriceParts}
-use Rattle.kd_card.specs.Prices.{row_prices, column_prices, table_size, price_at, ArePrices}
-use Rattle.kd_card.specs.Proving.{LeadsToTheDay, ProvesByNumber, Proves, IsShortest}
+use Rattle.kd_card.specs.Prices.{machine_prices, day_prices, table_size, price_at, ArePrices}
+use Rattle.kd_card.specs.Proving.{ProvesByNumber, Proves}
+use Rattle.kd_card.specs.Shortest.{LeadsToTheDay, IsShortest}
 use Rattle.kd_prices.specs.Alike.{ReadAlike, StandAlike}
 use Rattle.kd_prices.specs.Doubt.{IsDoubt}
 use Rattle.kd_prices.specs.declared.doubt.Doubt.{Doubt}
@@ -43,10 +44,10 @@ RestIsShortest =
 pub record AreEqualWhereAlike (machine : Parts) (day : Day) (prices : PriceParts) : Type 0 where
   pub rows :
       (place other : ℕ) → place < table_size prices → other < table_size prices → StandAlike machine place other
-      → price_at (row_prices prices) place ≡ price_at (row_prices prices) other
+      → price_at (machine_prices prices) place ≡ price_at (machine_prices prices) other
   pub columns :
       (place other : ℕ) → place < table_size prices → other < table_size prices → ReadAlike day place other
-      → price_at (column_prices prices) place ≡ price_at (column_prices prices) other
+      → price_at (day_prices prices) place ≡ price_at (day_prices prices) other
 
 -- If a card with prices by number proves itself, equal cables, columns, bars or rows have equal prices. By number
 -- means that each cable and column, or each bar and row, has its own price.

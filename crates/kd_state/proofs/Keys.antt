@@ -66,12 +66,12 @@ rotor_key m s window cables legal h =
     (pairs_joined m.cables s.pairs h.cables) in
     grind (arith, wheels, rings, h.reflector, plugs)
 
--- the order of the rows doesn't matter to the ciphertext
-converter_alike : (pins : List (List Bool)) (letters : List ℕ) (rows others : List (ℕ × ℕ)) (text : List ℕ)
-    → IsPermutation rows others
-    → converter_cipher (record { pins = pins; letters = letters; rows = rows }) text
-    ≡ converter_cipher (record { pins = pins; letters = letters; rows = others }) text
-converter_alike pins letters rows others text moved = grind (arith, sum_by-IsPermutation, moved)
+-- the order of the bars doesn't matter to the ciphertext
+converter_alike : (pins : List (List Bool)) (letters : List ℕ) (bars others : List (ℕ × ℕ)) (text : List ℕ)
+    → IsPermutation bars others
+    → converter_cipher (record { pins = pins; letters = letters; bars = bars }) text
+    ≡ converter_cipher (record { pins = pins; letters = letters; bars = others }) text
+converter_alike pins letters bars others text moved = grind (arith, sum_by-IsPermutation, moved)
 
 key_on_key : (m : Parts) (s : Day) (window text : List ℕ) → IsMachine m → IsLegalDay s → OnKey m s
     → cipher (key_with_window (physical_key m) window) text ≡ cipher (key_with_window (sheet_key s) window) text

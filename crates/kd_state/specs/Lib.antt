@@ -16,6 +16,7 @@ pub mod OneModel
 pub mod OnKey
 pub mod EngineKey
 pub mod TwoCiphers
+pub mod OwnKeys
 pub mod SheetsMachine
 pub mod SeatedWheels
 pub mod Engine

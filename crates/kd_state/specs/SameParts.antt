@@ -9,11 +9,11 @@ use Rattle.kd_tables.specs.declared.wheel.Wheel.{Wheel}
 use Rattle.kd_tables.specs.declared.reflector.Reflector.{Reflector}
 use Rattle.kd_tables.specs.Tables.{box_of}
 
--- whether two wheels are the same, by the derived `==`: true exactly if they are equal (law `SamePartsAreEqual`)
+-- whether two wheels are the same, by the derived `==`: true exactly if they are equal (law `SamePartsAreEqual` in `Laws.antt`)
 abbrev pub same_wheel : Wheel → Wheel → Bool
 same_wheel = (wheel_eq.ghosts).eq
 
--- whether two reflectors are the same, by the derived `==`: true exactly if they are equal (law `SamePartsAreEqual`)
+-- whether two reflectors are the same, by the derived `==`: true exactly if they are equal (law `SamePartsAreEqual` in `Laws.antt`)
 abbrev pub same_reflector : Reflector → Reflector → Bool
 same_reflector = (reflector_eq.ghosts).eq
 

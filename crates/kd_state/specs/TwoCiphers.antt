@@ -1,20 +1,18 @@
 -- The cipher of a machine, and the cipher of a day.
--- Code: one type, `Engine`, serves all models.
 -- Test: tests/refusals
-use Rattle.std.specs.Prelude.{◌≡◌, ◌≢◌, ℕ, List, length, map, All, IsSome}
+use Rattle.std.specs.Prelude.{◌≢◌, ℕ, List, length, map, All, IsSome}
 use Rattle.std.specs.List.{filter_map}
 use Rattle.std.specs.Option.{option_zip}
 use Rattle.kd_tables.specs.declared.place.Place.{Place}
 use Rattle.kd_tables.specs.declared.wheel.Wheel.{Wheel}
 use Rattle.kd_tables.specs.Permutation.{exchange}
-use Rattle.kd_tables.specs.Places.{place_number, reading_of}
+use Rattle.kd_tables.specs.Places.{place_number}
 use Rattle.kd_pins.specs.PinWheels.{pins_of}
 use Rattle.kd_enigma.specs.Cipher.{RotorKey, enigma_cipher}
 use Rattle.kd_drum.specs.Converter.{PinKey, converter_cipher}
 use Rattle.kd_state.specs.declared.machine.rotor_parts.RotorParts.{RotorParts}
 use Rattle.kd_state.specs.declared.machine.parts.Parts.{Parts}
 use Rattle.kd_state.specs.declared.machine.parts.Parts.TheVariants.{Rotor, Pin}
-use Rattle.kd_state.specs.EngineKey.{EngineKey, Rotor, Pin}
 use Rattle.kd_state.specs.Machine.{cable_letters, ring_at, letter_at}
 use Rattle.kd_state.specs.SeatedWheels.{key_of_wheels}
 use Rattle.kd_state.specs.SheetDay.{PinDay, Day, Rotor, Pin}
@@ -52,40 +50,16 @@ key_of_rotor_parts machine = record {
 
 -- the key that a Converter's day asks for, with the day's letters on the pin wheels
 abbrev pub key_of_pin_day : PinDay → PinKey
-key_of_pin_day day = record { pins = pins_of day.pins; letters = day.window; rows = day.rows }
+key_of_pin_day day = record { pins = pins_of day.pins; letters = day.window; bars = day.rows }
 
 -- the ciphertext that a ready machine makes: a rotor machine by its key, a Converter by its pins, letters and lugs
 abbrev pub physical_cipher : Parts → List ℕ → List ℕ
 physical_cipher (Rotor machine) text = enigma_cipher (key_of_rotor_parts machine) text
 physical_cipher (Pin machine) text =
-    let rows = map (λ (bar : Place × Place). (place_number bar.0, place_number bar.1)) machine.bars in
-    converter_cipher (record { pins = pins_of machine.pins; letters = machine.letters; rows = rows }) text
+    let bars = map (λ (bar : Place × Place). (place_number bar.0, place_number bar.1)) machine.bars in
+    converter_cipher (record { pins = pins_of machine.pins; letters = machine.letters; bars = bars }) text
 
 -- the ciphertext that a day asks for
 abbrev pub sheet_cipher : Day → List ℕ → List ℕ
 sheet_cipher (Rotor day) text = enigma_cipher (key_of_wheels day.wheels day.reflector (exchange day.pairs)) text
 sheet_cipher (Pin day) text = converter_cipher (key_of_pin_day day) text
-
--- ---- The engine's key for a machine and for a day. Right of `=`, `Rotor` and `Pin` make an `EngineKey`.
-
--- the key to which a machine is set
-abbrev pub physical_key : Parts → EngineKey
-physical_key (Rotor machine) = Rotor (key_of_rotor_parts machine)
-physical_key (Pin machine) = Pin (record {
-  pins = pins_of machine.pins;
-  letters = machine.letters;
-  rows = map reading_of machine.bars;
-})
-
--- the key that a day asks for, with the day's letters in the windows or on the pin wheels
-abbrev pub sheet_key : Day → EngineKey
-sheet_key (Rotor day) = Rotor (key_of_wheels day.wheels day.reflector (exchange day.pairs))
-sheet_key (Pin day) = Pin (key_of_pin_day day)
-
--- The second machine is the first, turned until it shows these letters. The window letters of wheels in the box
--- may differ.
-abbrev pub IsTurnedTo : Parts → List ℕ → Parts → Type 0
-IsTurnedTo (Rotor machine) window (Rotor turned) =
-    (turned ≡ record machine { letters = turned.letters }) × (window_of (Rotor turned) ≡ window)
-IsTurnedTo (Pin machine) window (Pin turned) = turned ≡ record machine { letters = window }
-IsTurnedTo _ _ _ = ⊥

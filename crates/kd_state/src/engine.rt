@@ -7,7 +7,7 @@ ghost use Rattle.std.specs.Bool.{OnTrue, OnFalse};
 ghost use Rattle.kd_enigma.specs.Cipher.{key_turned};
 ghost use Rattle.kd_drum.specs.Converter.{pin_key_turned};
 ghost use Rattle.kd_state.specs.Machine.{AreLetters, AreOnWheels};
-ghost use Rattle.kd_state.specs.TwoCiphers.{sheet_key};
+ghost use Rattle.kd_state.specs.OwnKeys.{sheet_key};
 
 use crate::prover_facts::learn_letters;
 use crate::sheet_day::SheetDay;
@@ -108,7 +108,7 @@ impl Engine {
     #[tactic(auto, using(crate::proofs::Slots::stand_on_wheels))]
     fn from_drum(pins: PinSet, letters: [Letter; 6], rows: [Reading; 27]) -> Engine
         requires { AreOnWheels letters }
-        ensures { result ≡ Pin (record { pins = pins_of pins; letters = letters; rows = rows }) }
+        ensures { result ≡ Pin (record { pins = pins_of pins; letters = letters; bars = rows }) }
     {
         Engine {
             mechanism: Mechanism::Drum(Converter::new(pins, letters, rows).unwrap()),

@@ -19,10 +19,10 @@ pub record Stepping : Type 0 where
 abbrev pub next_letter : ℕ → ℕ
 next_letter letter = (letter + 1) % 26
 
--- whether a wheel is at one of its notches: at `place` 0 the right wheel, at 1 the middle wheel
+-- whether a wheel is at one of its notches, the right wheel if `from_right` is 0, the middle wheel if it is 1
 abbrev pub stands_at_notch : List Wheel → List ℕ → ℕ → Bool
-stands_at_notch wheels window place =
-    let index = length window - (place + 1) in
+stands_at_notch wheels window from_right =
+    let index = length window - (from_right + 1) in
     option_map_or (λ wheel. is_notch wheel (slice_index window index)) (slice_get wheels index) false
 
 -- `window` with each of its last `count` letters replaced by the next letter

@@ -114,16 +114,16 @@ pub record AreBounds (costs : List (List ℕ)) (prices : PriceParts) (loose line
 
 module _ {A B : Type 0} (a : A) (b : B) (cost : A → B → ℕ) (rows : List A) (columns : List B) (prices : PriceParts)
     (loose lines : ℕ) (rows_count : length rows ≡ table_size prices)
-    (columns_count : length columns ≡ table_size prices) (row_count : length (row_prices prices) ≡ table_size prices)
-    (column_count : length (column_prices prices) ≡ table_size prices)
+    (columns_count : length columns ≡ table_size prices) (row_count : length (machine_prices prices) ≡ table_size prices)
+    (column_count : length (day_prices prices) ≡ table_size prices)
     (fits : PricesFit (map (λ row. map (cost row) columns) rows) prices) (beside : List (B × ℤ))
-    (order : IsPermutation (zip columns (column_prices prices)) beside)
+    (order : IsPermutation (zip columns (day_prices prices)) beside)
     (enough : loose + pairing_cost cost rows beside ≤ lines) where
   abbrev costs : List (List ℕ)
   costs = map (λ row. map (cost row) columns) rows
 
   abbrev priced : List (B × ℤ)
-  priced = zip columns (column_prices prices)
+  priced = zip columns (day_prices prices)
 
   zipped : length priced ≡ table_size prices
   zipped = grind (arith, length-zip)
@@ -132,28 +132,28 @@ module _ {A B : Type 0} (a : A) (b : B) (cost : A → B → ℕ) (rows : List A)
   size = length_permutation priced beside order ∙ zipped
 
   column : (j : ℕ) → j < table_size prices
-      → get_or priced j (b, pos 0) ≡ (get_or columns j b, price_at (column_prices prices) j)
-  column j lt = get_or-zip columns (column_prices prices) j (b, pos 0) (omega arith) (omega arith)
+      → get_or priced j (b, pos 0) ≡ (get_or columns j b, price_at (day_prices prices) j)
+  column j lt = get_or-zip columns (day_prices prices) j (b, pos 0) (omega arith) (omega arith)
 
   at : (i j : ℕ) → i < table_size prices → j < table_size prices
       → cost_at costs i j ≡ cost (get_or rows i a) (get_or columns j b)
   at i j lt lt' = grind (arith, get_or-map)
 
-  fit : FitAll cost a rows (row_prices prices) beside
+  fit : FitAll cost a rows (machine_prices prices) beside
   fit i lt =
-      let fits_here = FitTogether cost (get_or rows i a) (get_or (row_prices prices) i (pos 0)) in
+      let fits_here = FitTogether cost (get_or rows i a) (get_or (machine_prices prices) i (pos 0)) in
       let inside : i < table_size prices = omega arith in
       All-permutation fits_here priced beside order (All-from_get_or fits_here priced (b, pos 0) (λ j lt'.
       let within : j < table_size prices = omega (arith, zipped) in
       rw (column j within, ← at i j inside within) (fits i j inside within)))
 
-  sums : price_sum prices ≡ (sum_of (row_prices prices) +ℤ prices_with beside)
-  sums = grind (arith, ints, prices_moved columns (column_prices prices) beside, fold_of_both)
+  sums : price_sum prices ≡ (sum_of (machine_prices prices) +ℤ prices_with beside)
+  sums = grind (arith, ints, prices_moved columns (day_prices prices) beside, fold_of_both)
 
   below : (pos loose +ℤ price_sum prices) ≤ℤ pos lines
   below =
       let many = rows_count ∙ sym row_count in
-      let fitting = fitting_prices cost a rows (row_prices prices) beside (rows_count ∙ sym size) many fit in
+      let fitting = fitting_prices cost a rows (machine_prices prices) beside (rows_count ∙ sym size) many fit in
       omega (arith, ints, sums)
 
   module _ (exact : pos lines ≡ (pos loose +ℤ price_sum prices)) where
@@ -161,10 +161,10 @@ module _ {A B : Type 0} (a : A) (b : B) (cost : A → B → ℕ) (rows : List A)
     tight_where : (i j : ℕ) → i < table_size prices → j < table_size prices
         → get_or beside i (b, pos 0) ≡ get_or priced j (b, pos 0) → IsPriceTightAt costs prices i j
     tight_where i j lt lt' e =
-        let all = sum_of (row_prices prices) +ℤ prices_with beside in
+        let all = sum_of (machine_prices prices) +ℤ prices_with beside in
         let due : pos (pairing_cost cost rows beside) ≤ℤ all = omega (arith, ints, sums) in
         let tight =
-        tight_at cost a rows (row_prices prices) beside i (b, pos 0) (rows_count ∙ sym size)
+        tight_at cost a rows (machine_prices prices) beside i (b, pos 0) (rows_count ∙ sym size)
         (rows_count ∙ sym row_count) fit due (omega arith) in
         rw (at i j lt lt') (rw (e ∙ column j lt') at tight)
 
@@ -191,7 +191,7 @@ no_rotors model reflector e h = grind (arith, common_steps)
 
 -- There is a price for each row and each column of the table of costs.
 abbrev pub HasCounts : PriceParts → Type 0
-HasCounts prices = (length (row_prices prices) ≡ table_size prices) × (length (column_prices prices) ≡ table_size prices)
+HasCounts prices = (length (machine_prices prices) ≡ table_size prices) × (length (day_prices prices) ≡ table_size prices)
 
 HasCounts-prices : (m : Parts) (prices : PriceParts) → ArePrices prices → AreModelPrices m prices → HasCounts prices
 HasCounts-prices (Rotor m) (Cables row column) are kind = (are.0.count, are.1.count)

@@ -50,7 +50,7 @@ pub kind_price_list : {K X : Type 0} (format : KindFormat K X) (number : ℕ) (k
 kind_price_list format number kinds group = grind (arith, length_of_kinds, kinds_in_range)
 
 both_lists : (prices : PriceParts) → ArePrices prices
-    → IsPriceList (table_size prices) (row_prices prices) × IsPriceList (table_size prices) (column_prices prices)
+    → IsPriceList (table_size prices) (machine_prices prices) × IsPriceList (table_size prices) (day_prices prices)
 both_lists (CableKinds rows columns) are =
     (kind_price_list cable_format 13 rows.items are.0, kind_price_list pair_format 13 columns.items are.1)
 both_lists (BarKinds rows columns) are =

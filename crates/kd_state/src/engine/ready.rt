@@ -8,7 +8,8 @@ ghost use Rattle.kd_tables.specs.Refusals.{refusal_name};
 ghost use Rattle.kd_tables.specs.Tables.{box_of};
 ghost use Rattle.kd_state.specs.Machine.{cable_letters, AreCables, AreLegalRotorParts};
 ghost use Rattle.kd_state.specs.SeatedWheels.{wheel_in_seat};
-ghost use Rattle.kd_state.specs.TwoCiphers.{IsReady, physical_key};
+ghost use Rattle.kd_state.specs.OwnKeys.{physical_key};
+ghost use Rattle.kd_state.specs.TwoCiphers.{IsReady};
 
 use super::Engine;
 use crate::machine::Machine;

@@ -1,6 +1,6 @@
 use Rattle.std.proofs.Common.{◌∙◌, sym, subst}
 use Rattle.kd_state.specs.EngineKey.{IsWindow}
-use Rattle.kd_state.specs.TwoCiphers.{sheet_key}
+use Rattle.kd_state.specs.OwnKeys.{sheet_key}
 use Rattle.kd_form.proofs.MadeParts.{key_is_window}
 use Rattle.kd_message.proofs.Works.{ground_is_window}
 use Rattle.kd_message.proofs.received_work.rotor_received.Goals as goal

@@ -1,6 +1,6 @@
-use Rattle.kd_prices.proofs.Prelude.{GoesOn, List, SFits, arith, price_sum, row_prices, table_size, to_z-of_z, to_z_pos}
+use Rattle.kd_prices.proofs.Prelude.{GoesOn, List, SFits, arith, price_sum, machine_prices, table_size, to_z-of_z, to_z_pos}
 use Rattle.kd_prices.proofs.Prelude.{HasFault, ListsFitAt, NotTheSheet, PriceParts, PricesFitAt, SumDiffers, false≢true}
-use Rattle.kd_prices.proofs.Prelude.{IsFirstWithout, PriceTooHigh, ap, column_prices, err_from_is_err_and, priced_count}
+use Rattle.kd_prices.proofs.Prelude.{IsFirstWithout, PriceTooHigh, ap, day_prices, err_from_is_err_and, priced_count}
 use Rattle.kd_prices.proofs.Prelude.{of_z, pos, refl, rules, sym, to_z, w32, ℕ, ℤ, ◌+◌, ◌<◌, ◌^◌, ◌∙◌, ◌≡◌, ◌≢◌}
 use Rattle.kd_prices.proofs.checking.check_by_prices.Goals as goal
 
@@ -17,7 +17,7 @@ returns-then-not-reads_as g c = rw c.in_ok-rows.was (λ prices row column many.
     refl))
 
 too_high : (prices : PriceParts) (costs : List (List ℕ)) (rows columns : List ℤ) (n i j : ℕ) → table_size prices ≡ n
-    → row_prices prices ≡ rows → column_prices prices ≡ columns → IsFirstWithout (ListsFitAt costs rows columns) n i j
+    → machine_prices prices ≡ rows → day_prices prices ≡ columns → IsFirstWithout (ListsFitAt costs rows columns) n i j
     → IsFirstWithout (PricesFitAt costs prices) (table_size prices) i j
 too_high prices costs rows columns n i j many row column first = grind (arith, first.here, first.before)
 

@@ -37,8 +37,8 @@ pub use Rattle.kd_card.specs.declared.fault.CardFault.{CardFault, TheVariants.{B
 pub use Rattle.kd_card.specs.Laws.{CardsHaveNoFault, NoCardBeginsAnother, OneCardFault, ReadingGivesCards}
 pub use Rattle.kd_card.specs.{Laws.TextsDetermineCards, Reading.{EndsKindsAt, head_prefix, IsBadKindAt}}
 pub use Rattle.kd_card.specs.Reading.{IsKindOfWords, IsPriceText}
-pub use Rattle.kd_card.specs.Prices.{ArePrices, column_prices, IsPriceList, price_sum, table_size, version_of}
-pub use Rattle.{kd_card.specs.Prices.{ArePricesInRange, row_prices}, kd_state.specs.SheetDay.IsDayNumber}
+pub use Rattle.kd_card.specs.Prices.{ArePrices, day_prices, IsPriceList, price_sum, table_size, version_of}
+pub use Rattle.{kd_card.specs.Prices.{ArePricesInRange, machine_prices}, kd_state.specs.SheetDay.IsDayNumber}
 pub use Rattle.kd_state.specs.AnswerRules.{HasOneAnswer, Demands, GoesOn, HasFault, ThenNext, Yields}
 pub use Rattle.kd_state.proofs.OneAnswer.{HasOneAnswer-Demands, HasOneAnswer-Finds, HasOneAnswer-Yields}
 pub use Rattle.kd_state.proofs.OneAnswer.{HasOneAnswer-FindsAlways, HasOneAnswer-ThenNext, ThenNext-Ok, Yields-Ok}

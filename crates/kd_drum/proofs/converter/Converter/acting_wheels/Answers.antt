@@ -9,7 +9,7 @@ pub returns-clause-each : goal.returns-clause-each
 returns-clause-each c =
     let inside = c.self.inside in
     let stands = c.self.invariant.0 in
-    let key = converter_key inside.w1 inside.w2 inside.w3 inside.w4 inside.w5 inside.w6 inside.rows in
+    let key = converter_key inside.w1 inside.w2 inside.w3 inside.w4 inside.w5 inside.w6 inside.bars in
     rw (c.from.ensures, c.from-2.ensures, c.from-3.ensures, c.from-4.ensures, c.from-5.ensures, c.from-6.ensures)
     (subst (λ (k : PinKey). (wheel : ℕ)
     → is_in_set (set_of c.acting.result c.acting-2.result c.acting-3.result c.acting-4.result c.acting-5.result
@@ -27,4 +27,4 @@ pub returns-clause-stands : goal.returns-clause-stands
 returns-clause-stands c =
     let inside = c.self.inside in
     subst (λ (key : PinKey). pin_key_after key 0 ≡ key) c.self.view_is
-    (sym (key_stands inside.w1 inside.w2 inside.w3 inside.w4 inside.w5 inside.w6 inside.rows c.self.invariant.0))
+    (sym (key_stands inside.w1 inside.w2 inside.w3 inside.w4 inside.w5 inside.w6 inside.bars c.self.invariant.0))

@@ -12,6 +12,6 @@ returns c =
       c.advance-4.ensures.next,
       c.advance-5.ensures.next,
       c.advance-6.ensures.next,
-    ) (key_moved inside.w1 inside.w2 inside.w3 inside.w4 inside.w5 inside.w6 inside.rows c.self.invariant.0 1
+    ) (key_moved inside.w1 inside.w2 inside.w3 inside.w4 inside.w5 inside.w6 inside.bars c.self.invariant.0 1
     _ _ _ _ _ _ refl refl refl refl refl refl
     ∙ ap (λ (key : PinKey). pin_key_after key 1) c.self.view_is)

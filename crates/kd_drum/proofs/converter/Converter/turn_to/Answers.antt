@@ -28,5 +28,5 @@ returns-clause-turned c =
           ∷ ap (λ w. w.pins) c.show-4.ensures.turned i ∷ ap (λ w. w.pins) c.show-5.ensures.turned i
           ∷ ap (λ w. w.pins) c.show-6.ensures.turned i ∷ [];
       letters = letters i;
-      rows = c.self.inside.rows;
+      bars = c.self.inside.bars;
     }) ∙ ap (λ key. pin_key_turned key there) c.self.view_is

@@ -24,7 +24,7 @@ pub use Rattle.kd_card.specs.{Months.{CardsAreFewestInAll, ReachesDay}, Proving.
 pub use Rattle.kd_card.specs.{declared.prices.PriceParts.TheVariants.{Bars, Cables}, Months.{DayAfterDay, IsProvedCard}}
 pub use Rattle.kd_card.specs.{declared.prices.PriceParts.PriceParts, Laws.{AsFewAreNeeded, ProvingPricesAreTight}}
 pub use Rattle.kd_card.specs.Laws.{FittingPricesBoundLists, ProvingCardsAreAsLong, ProvingCardsAreShortest}
-pub use Rattle.kd_card.specs.Prices.{ArePrices, ArePricesTight, column_prices, PricesFit, row_prices, table_size}
+pub use Rattle.kd_card.specs.Prices.{ArePrices, ArePricesTight, day_prices, PricesFit, machine_prices, table_size}
 pub use Rattle.{kd_card.specs.Prices.{cost_at, IsPriceTightAt, price_at, price_sum}, kd_tables.specs.Rings.place_on}
 pub use Rattle.kd_tables.specs.declared.{lug.Lug.Lug, model.Model.{Model, TheVariants.M209}, wheel.Wheel.Wheel}
 pub use Rattle.kd_tables.specs.declared.{place.Place.{Place, TheVariants.One}, reflector.Reflector.Reflector}

@@ -1,0 +1,36 @@
+-- The shortest list of settings that leads a machine to a day, and how a card's prices show that none is shorter.
+use Rattle.kd_card.specs.{declared.prices.PriceParts.PriceParts, Prices.price_sum}
+use Rattle.kd_card.specs.declared.prices.PriceParts.TheVariants.{CableKinds, BarKinds}
+use Rattle.kd_state.specs.{declared.setting.Setting.Setting, declared.machine.parts.Parts.Parts}
+use Rattle.kd_state.specs.declared.machine.parts.Parts.TheVariants.{Rotor, Pin}
+use Rattle.kd_state.specs.{Costs.{cable_cost, bar_cost, loose_count}, SheetDay.{Day, Rotor, Pin}}
+use Rattle.kd_state.specs.{Setting.Leads, OnKey.{ReadsAs, columns_in_order}}
+use Rattle.std.specs.Prelude.{◌≡◌, ◌≤◌, List, length, pos, flat_map, replicate, All, IsPermutation, ◌+ℤ◌, ◌≤ℤ◌}
+
+-- After the settings are carried out in turn, the machine reads as the day.
+abbrev pub LeadsToTheDay : Parts → Day → List Setting → Type 0
+LeadsToTheDay machine day settings = (reached : Parts) × Leads machine settings reached × ReadsAs reached day
+
+-- No list that leads the machine to the day is shorter than `settings`.
+abbrev pub IsShortest : Parts → Day → List Setting → Type 0
+IsShortest machine day settings =
+    (others : List Setting) → LeadsToTheDay machine day others → length settings ≤ length others
+
+-- Prices by kind fit. The kinds count exactly the machine's cables and the day's columns, or the machine's bars and the
+-- day's rows. The prices of a cable and a column, or of a bar and a row, add up to at most the cost of the two.
+abbrev pub KindPricesFit : Parts → Day → PriceParts → Type 0
+KindPricesFit (Rotor machine) (Rotor day) (CableKinds cables columns) =
+    IsPermutation machine.cables (flat_map (λ k. replicate k.count k.ends) cables.items)
+    × IsPermutation (columns_in_order day.pairs) (flat_map (λ k. replicate k.count k.pair) columns.items)
+    × All (λ k. All (λ c. (k.price +ℤ c.price) ≤ℤ pos (cable_cost k.ends c.pair)) columns.items) cables.items
+KindPricesFit (Pin machine) (Pin day) (BarKinds bars rows) =
+    IsPermutation machine.bars (flat_map (λ k. replicate k.count k.standing) bars.items)
+    × IsPermutation day.rows (flat_map (λ k. replicate k.count k.reading) rows.items)
+    × All (λ k. All (λ r. (k.price +ℤ r.price) ≤ℤ pos (bar_cost k.standing r.reading)) rows.items) bars.items
+KindPricesFit _ _ _ = ⊥
+
+-- Prices by kind show that no list that reaches the day is shorter than `settings`: they fit, and the number of
+-- settings is the number of loose things plus the sum of the prices.
+pub record ShowShortest (machine : Parts) (day : Day) (settings : List Setting) (prices : PriceParts) : Type 0 where
+  pub fit : KindPricesFit machine day prices
+  pub as_many : pos (length settings) ≡ (pos (loose_count machine day) +ℤ price_sum prices)
