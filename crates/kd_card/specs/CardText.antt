@@ -21,14 +21,15 @@ lines_text lines = flat_map (λ words. line_of words ++ 10 ∷ []) lines
 
 -- the price lines, each as a list of words: two lines of prices by number, or one line for each kind
 abbrev pub price_lines : PriceParts → List (List (List ℕ))
-price_lines (Cables row col) = (codes "CABLES" ∷ map signed_decimal row) ∷ (codes "PAIRS" ∷ map signed_decimal col) ∷ []
-price_lines (Bars row col) = (codes "BARS" ∷ map signed_decimal row) ∷ (codes "ROWS" ∷ map signed_decimal col) ∷ []
-price_lines (CableKinds row col) =
-    map (λ k. kind_line (codes "CABLE") (letters_text (cable_letters k.ends)) k.count k.price) row.items
-    ++ map (λ k. kind_line (codes "PAIR") (letters_text (column_letters k.pair)) k.count k.price) col.items
-price_lines (BarKinds row col) =
-    map (λ k. kind_line (codes "BAR") (standing_text k.standing) k.count k.price) row.items
-    ++ map (λ k. kind_line (codes "ROW") (reading_text k.reading) k.count k.price) col.items
+price_lines (Cables cables columns) =
+    (codes "CABLES" ∷ map signed_decimal cables) ∷ (codes "PAIRS" ∷ map signed_decimal columns) ∷ []
+price_lines (Bars bars rows) = (codes "BARS" ∷ map signed_decimal bars) ∷ (codes "ROWS" ∷ map signed_decimal rows) ∷ []
+price_lines (CableKinds cables columns) =
+    map (λ k. kind_line (codes "CABLE") (letters_text (cable_letters k.ends)) k.count k.price) cables.items
+    ++ map (λ k. kind_line (codes "PAIR") (letters_text (column_letters k.pair)) k.count k.price) columns.items
+price_lines (BarKinds bars rows) =
+    map (λ k. kind_line (codes "BAR") (standing_text k.standing) k.count k.price) bars.items
+    ++ map (λ k. kind_line (codes "ROW") (reading_text k.reading) k.count k.price) rows.items
 
 -- the text of a card: first line, settings, number of settings, prices, and sum of prices
 abbrev pub card_text : ℕ → List Setting → PriceParts → List ℕ

@@ -1,6 +1,5 @@
 -- What the laws on cards promise.
-use Rattle.kd_card.specs.Proving.{AreSettingsNeeded, AreModelPrices, ProvesByNumber, Proves}
-use Rattle.kd_card.specs.Proving.{priced_count}
+use Rattle.kd_card.specs.Proving.{AreSettingsNeeded, AreModelPrices, ProvesByNumber, Proves, priced_count}
 use Rattle.kd_card.specs.Shortest.{IsShortest, LeadsToTheDay, ShowShortest}
 use Rattle.kd_card.specs.declared.prices.Version.TheVariants.{ByKind}
 use Rattle.kd_card.specs.{Prices.{PricesFit, price_sum, version_of, ArePrices, ArePricesTight}, declared.fault.CardFault.CardFault}

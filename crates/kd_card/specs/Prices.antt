@@ -11,8 +11,8 @@ use Rattle.std.specs.Prelude.{pos, unsigned_abs, ◌+ℤ◌, ◌≤ℤ◌, flat_
 
 -- whether there is a price for each cable and each column (or each bar and each row), or for each kind of them
 abbrev pub version_of : PriceParts → Version
-version_of (CableKinds row col) = ByKind
-version_of (BarKinds row col) = ByKind
+version_of (CableKinds cables columns) = ByKind
+version_of (BarKinds bars rows) = ByKind
 version_of _ = ByNumber
 
 -- a price for each cable or bar, in order; by kind, each price as often as its kind's count says
@@ -31,8 +31,8 @@ day_prices (BarKinds bars rows) = flat_map (λ k. replicate k.count k.price) row
 
 -- the number of rows of the table of costs, which is also its number of columns
 abbrev pub table_size : PriceParts → ℕ
-table_size (Cables row col) = 13
-table_size (CableKinds row col) = 13
+table_size (Cables cables columns) = 13
+table_size (CableKinds cables columns) = 13
 table_size _ = 27
 
 -- All prices are from -9999 to 9999.
@@ -46,10 +46,10 @@ pub record IsPriceList (number : ℕ) (prices : List ℤ) : Type 0 where
 
 -- Each row and column of the table of costs has a price from -9999 to 9999; kinds are valid and strictly ascending.
 abbrev pub ArePrices : PriceParts → Type 0
-ArePrices (Cables row col) = IsPriceList 13 row × IsPriceList 13 col
-ArePrices (Bars row col) = IsPriceList 27 row × IsPriceList 27 col
-ArePrices (CableKinds row col) = IsGroup cable_format 13 row.items × IsGroup pair_format 13 col.items
-ArePrices (BarKinds row col) = IsGroup bar_format 27 row.items × IsGroup row_format 27 col.items
+ArePrices (Cables cables columns) = IsPriceList 13 cables × IsPriceList 13 columns
+ArePrices (Bars bars rows) = IsPriceList 27 bars × IsPriceList 27 rows
+ArePrices (CableKinds cables columns) = IsGroup cable_format 13 cables.items × IsGroup pair_format 13 columns.items
+ArePrices (BarKinds bars rows) = IsGroup bar_format 27 bars.items × IsGroup row_format 27 rows.items
 
 -- the cost in row `i` and column `j`
 abbrev pub cost_at : List (List ℕ) → ℕ → ℕ → ℕ
@@ -68,7 +68,7 @@ PricesFitAt costs prices i j =
 abbrev pub PricesFit : List (List ℕ) → PriceParts → Type 0
 PricesFit costs prices = (i j : ℕ) → i < table_size prices → j < table_size prices → PricesFitAt costs prices i j
 
--- the sum of all prices, of rows and columns
+-- the sum of all prices, the machine's and the day's
 abbrev pub price_sum : PriceParts → ℤ
 price_sum prices = fold (λ sum price. sum +ℤ price) (pos 0) (machine_prices prices ++ day_prices prices)
 

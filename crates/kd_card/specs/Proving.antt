@@ -6,7 +6,7 @@ use Rattle.kd_card.specs.{Prices.{version_of, price_sum, PricesFit, ArePrices}, 
 use Rattle.kd_card.specs.declared.prices.Version.TheVariants.{ByNumber}
 use Rattle.kd_state.specs.{declared.setting.Setting.TheVariants.{Pull, Put, LugTo}, declared.machine.parts.Parts.Parts}
 use Rattle.kd_state.specs.{declared.machine.parts.Parts.TheVariants.{Rotor, Pin}, declared.setting.Setting.Setting}
-use Rattle.kd_state.specs.{Costs.{cost_table, loose_count}}
+use Rattle.kd_state.specs.Costs.{cost_table, loose_count}
 use Rattle.kd_state.specs.SheetDay.{Day, Rotor, Pin, day_model}
 use Rattle.kd_state.specs.{Setting.outcome, Machine.model_of, OnKey.columns_in_order}
 use Rattle.kd_card.specs.Shortest.{LeadsToTheDay}
@@ -14,8 +14,8 @@ use Rattle.std.specs.Prelude.{◌≡◌, ℕ, ◌+◌, Bool, true, false, List, 
 
 -- The prices are by number: one for each cable and each column (rotor machine), or each bar and each row (Converter).
 abbrev pub AreModelPrices : Parts → PriceParts → Type 0
-AreModelPrices (Rotor machine) (Cables row col) = Unit {0}
-AreModelPrices (Pin machine) (Bars row col) = Unit {0}
+AreModelPrices (Rotor machine) (Cables cables columns) = Unit {0}
+AreModelPrices (Pin machine) (Bars bars rows) = Unit {0}
 AreModelPrices _ _ = ⊥
 
 -- whether the setting changes a cable or a bar
@@ -45,11 +45,11 @@ AreSettingsNeeded machine day (setting ∷ rest) = IsSettingNeeded machine day s
 
 -- The first prices' kinds count all cables and columns, or bars and rows. The second prices give each its kind's price.
 abbrev pub AreExpanded : Parts → Day → PriceParts → PriceParts → Type 0
-AreExpanded (Rotor machine) (Rotor day) (CableKinds row col) (Cables rows columns) =
-    AreKindsOf cable_format machine.cables rows row.items
-    × AreKindsOf pair_format (columns_in_order day.pairs) columns col.items
-AreExpanded (Pin machine) (Pin day) (BarKinds row col) (Bars rows columns) =
-    AreKindsOf bar_format machine.bars rows row.items × AreKindsOf row_format day.rows columns col.items
+AreExpanded (Rotor machine) (Rotor day) (CableKinds cable_kinds column_kinds) (Cables cables columns) =
+    AreKindsOf cable_format machine.cables cables cable_kinds.items
+    × AreKindsOf pair_format (columns_in_order day.pairs) columns column_kinds.items
+AreExpanded (Pin machine) (Pin day) (BarKinds bar_kinds row_kinds) (Bars bars rows) =
+    AreKindsOf bar_format machine.bars bars bar_kinds.items × AreKindsOf row_format day.rows rows row_kinds.items
 AreExpanded _ _ _ _ = ⊥
 
 -- If `prices` are by number, `numbered` equal them. If not, both are valid, and `AreExpanded` relates them.

@@ -1,4 +1,4 @@
--- The shortest list of settings that leads a machine to a day, and how a card's prices show that none is shorter.
+-- When a list of settings that leads a machine to a day is shortest, and how prices by kind show it.
 use Rattle.kd_card.specs.{declared.prices.PriceParts.PriceParts, Prices.price_sum}
 use Rattle.kd_card.specs.declared.prices.PriceParts.TheVariants.{CableKinds, BarKinds}
 use Rattle.kd_state.specs.{declared.setting.Setting.Setting, declared.machine.parts.Parts.Parts}
@@ -29,8 +29,7 @@ KindPricesFit (Pin machine) (Pin day) (BarKinds bars rows) =
     × All (λ k. All (λ r. (k.price +ℤ r.price) ≤ℤ pos (bar_cost k.standing r.reading)) rows.items) bars.items
 KindPricesFit _ _ _ = ⊥
 
--- Prices by kind show that no list that reaches the day is shorter than `settings`: they fit, and the number of
--- settings is the number of loose things plus the sum of the prices.
+-- The prices fit, and with the number of loose things they add up to the number of settings: so no list is shorter.
 pub record ShowShortest (machine : Parts) (day : Day) (settings : List Setting) (prices : PriceParts) : Type 0 where
   pub fit : KindPricesFit machine day prices
   pub as_many : pos (length settings) ≡ (pos (loose_count machine day) +ℤ price_sum prices)

@@ -141,7 +141,8 @@ papers_for read_back m n s machine legal planned card plans kinds text day numbe
     file sheet found =
     let back = read_back n (lists_keep_machines m n card.settings.items machine is_card.in_range leads) in
     let prints = printed m s machine legal planned card plans kinds
-    text day (sink_with text) success number is_card (in_whole Device text (sink_with text) refl) (λ err. grind (arith, err)) in
+    text day (sink_with text) success number is_card (in_whole Device text (sink_with text) refl)
+    (λ err. grind (arith, err)) in
     let applies : Applies m text (sink_with (machine_text n)) success =
     Carried card.settings.items n (settings_of text day card.settings.items card.prices is_card) leads back
     (in_whole Device (machine_text n) (sink_with (machine_text n)) refl) in (

@@ -1,6 +1,7 @@
 -- What the contracts promise of a card that was planned and written.
 use Rattle.kd_desk.proofs.Prelude.{Day, DeskFault, IsCard, IsLegalDay, IsMachine, List, Parts, Port, PriceParts, Result}
-use Rattle.{kd_desk.proofs.Prelude.{IsErr, IsTrue, arith, day_number, subst, sym, ℕ, ◌≡◌}, kd_prices.specs.KindCards.IsByKind}
+use Rattle.kd_desk.proofs.Prelude.{IsErr, IsTrue, arith, day_number, subst, sym, ℕ, ◌≡◌}
+use Rattle.kd_prices.specs.KindCards.{IsByKind}
 use Rattle.kd_desk.specs.RunCard.{Card, Different, IsChosenCard, IsShortestCard, Prints}
 use Rattle.kd_plan.specs.Planned.{IsProvedPlannedCard}
 use Rattle.{kd_host.specs.Writing.WritesText, kd_desk.specs.declared.fault.DeskFault.TheVariants.Device}

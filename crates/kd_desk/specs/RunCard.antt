@@ -21,15 +21,15 @@ use Rattle.kd_desk.specs.EquallySet.{EquallySetDecipherOn}
 use Rattle.kd_tables.specs.Ports.{Port}
 use Rattle.kd_host.specs.Writing.{WritesText}
 
--- A shortest card: its settings lead the machine to the day's machine, no list that reaches the day is shorter, and the
--- prices, one for each kind, show it. Whatever the card: equally set machines decipher each other's texts.
+-- A shortest card: its settings lead the machine to the day's machine. No list that reaches the day is shorter, and its
+-- prices show it. Whatever the card: machines that are equally set for the day decipher each other's texts.
 pub record IsShortestCard (machine : Parts) (day : Day) (settings : List Setting) (prices : PriceParts) : Type 0 where
   pub leaves : (after : Parts) × Leads machine settings after × IsSheetsMachine after day
   pub shortest : IsShortest machine day settings
   pub shown : ShowShortest machine day settings prices
   pub deciphers : EquallySetDecipherOn day
 
--- A card of which `Promise` holds was written for day `number`; or, since the sink failed, only a prefix of its text.
+-- A card of which `Promise` holds was written for day `number`; or only a prefix of its text, and the sink has failed.
 pub record WritesCard (Promise : List Setting → PriceParts → Type 0) (number : ℕ) (sink : Port)
     (answer : Result (Unit {0}) DeskFault) : Type 0 where
   pub settings : List Setting

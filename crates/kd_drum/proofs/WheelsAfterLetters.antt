@@ -113,15 +113,15 @@ pub acts_now : (key : PinKey) (number size : ℕ) (wheel : TurnedWheel) → IsPi
 acts_now key number size wheel h shown pins = grind (arith, key, start_place, size, size_is)
 
 -- Moving each wheel on by `count` places gives the key after `count` letters.
-pub key_moved : (w1 w2 w3 w4 w5 w6 : TurnedWheel) (rows : List (ℕ × ℕ)) → AreSixWheels w1 w2 w3 w4 w5 w6
+pub key_moved : (w1 w2 w3 w4 w5 w6 : TurnedWheel) (bars : List (ℕ × ℕ)) → AreSixWheels w1 w2 w3 w4 w5 w6
     → (count p1 p2 p3 p4 p5 p6 : ℕ)
     → (w1.place + count) % 26 ≡ p1 → (w2.place + count) % 25 ≡ p2 → (w3.place + count) % 23 ≡ p3
     → (w4.place + count) % 21 ≡ p4 → (w5.place + count) % 19 ≡ p5 → (w6.place + count) % 17 ≡ p6
     → converter_key (wheel_at_place w1 p1) (wheel_at_place w2 p2) (wheel_at_place w3 p3)
-    (wheel_at_place w4 p4) (wheel_at_place w5 p5) (wheel_at_place w6 p6) rows
-    ≡ pin_key_after (converter_key w1 w2 w3 w4 w5 w6 rows) count
-key_moved w1 w2 w3 w4 w5 w6 rows all count p1 p2 p3 p4 p5 p6 e1 e2 e3 e4 e5 e6 =
-    let key = converter_key w1 w2 w3 w4 w5 w6 rows in
+    (wheel_at_place w4 p4) (wheel_at_place w5 p5) (wheel_at_place w6 p6) bars
+    ≡ pin_key_after (converter_key w1 w2 w3 w4 w5 w6 bars) count
+key_moved w1 w2 w3 w4 w5 w6 bars all count p1 p2 p3 p4 p5 p6 e1 e2 e3 e4 e5 e6 =
+    let key = converter_key w1 w2 w3 w4 w5 w6 bars in
     let first = shows_after key 1 26 count p1 w1 all.first refl e1 in
     let second = shows_after key 2 25 count p2 w2 all.second refl e2 in
     let third = shows_after key 3 23 count p3 w3 all.third refl e3 in
@@ -131,10 +131,10 @@ key_moved w1 w2 w3 w4 w5 w6 rows all count p1 p2 p3 p4 p5 p6 e1 e2 e3 e4 e5 e6 =
     λ i. pin_key_turned key (first i ∷ second i ∷ third i ∷ fourth i ∷ fifth i ∷ sixth i ∷ [])
 
 -- The key after 0 letters is the key itself.
-pub key_stands : (w1 w2 w3 w4 w5 w6 : TurnedWheel) (rows : List (ℕ × ℕ)) → AreSixWheels w1 w2 w3 w4 w5 w6
-    → converter_key w1 w2 w3 w4 w5 w6 rows ≡ pin_key_after (converter_key w1 w2 w3 w4 w5 w6 rows) 0
-key_stands w1 w2 w3 w4 w5 w6 rows all =
-    key_moved w1 w2 w3 w4 w5 w6 rows all 0 w1.place w2.place w3.place w4.place w5.place w6.place
+pub key_stands : (w1 w2 w3 w4 w5 w6 : TurnedWheel) (bars : List (ℕ × ℕ)) → AreSixWheels w1 w2 w3 w4 w5 w6
+    → converter_key w1 w2 w3 w4 w5 w6 bars ≡ pin_key_after (converter_key w1 w2 w3 w4 w5 w6 bars) 0
+key_stands w1 w2 w3 w4 w5 w6 bars all =
+    key_moved w1 w2 w3 w4 w5 w6 bars all 0 w1.place w2.place w3.place w4.place w5.place w6.place
     (omega (arith, all.first.turned.place)) (omega (arith, all.second.turned.place))
     (omega (arith, all.third.turned.place))
     (omega (arith, all.fourth.turned.place)) (omega (arith, all.fifth.turned.place))

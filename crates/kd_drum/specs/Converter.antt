@@ -11,7 +11,7 @@ use Rattle.kd_tables.specs.Rings.{ring_of, place_on}
 use Rattle.kd_pins.specs.PinWheel.{is_effective}
 use Rattle.kd_pins.specs.PinWheels.{pin_wheels, pins_on, acting_offset}
 
--- A key of the Converter. `pins`: which pins of its six wheels are effective. `letters`: the letters that the wheels show.
+-- A key of the Converter. `pins`: which pins of its six wheels are effective. `letters`: the letters that they show.
 -- `bars`: for each bar, the numbers of the wheels at its two lugs, in any order; 0 where there is no wheel.
 pub record PinKey : Type 0 where
   pub pins : List (List Bool)

@@ -8,12 +8,12 @@ use Rattle.std.specs.List.{count_by}
 abbrev pub is_in_set : ℕ → ℕ → Bool
 is_in_set wheels wheel = (nat_le 1 wheel && nat_le wheel 6) && nat_eq (wheels / 2 ^ (wheel - 1) % 2) 1
 
--- how many bars have a lug at a wheel of the set; `rows` has each bar's reading, the numbers of its lugs' wheels
+-- how many bars have a lug at a wheel of the set; `bars` has for each bar the numbers of its lugs' wheels
 abbrev pub bars_met_by : List (ℕ × ℕ) → ℕ → ℕ
-bars_met_by rows wheels = count_by (λ row. is_in_set wheels row.0 || is_in_set wheels row.1) rows
+bars_met_by bars wheels = count_by (λ bar. is_in_set wheels bar.0 || is_in_set wheels bar.1) bars
 
 -- There are 27 bars. `counts` has an entry for each of the 64 sets of wheels: how many bars these wheels meet.
-pub record AreCounts (rows : List (ℕ × ℕ)) (counts : List ℕ) : Type 0 where
-  pub bars : length rows ≡ 27
+pub record AreCounts (bars : List (ℕ × ℕ)) (counts : List ℕ) : Type 0 where
+  pub number : length bars ≡ 27
   pub size : length counts ≡ 64
-  pub each : (wheels : ℕ) → wheels < 64 → slice_index counts wheels ≡ bars_met_by rows wheels
+  pub each : (wheels : ℕ) → wheels < 64 → slice_index counts wheels ≡ bars_met_by bars wheels

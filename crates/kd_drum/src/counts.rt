@@ -7,34 +7,34 @@ use kd_tables::Reading;
 /// For each set of wheels, counts the bars that are met if exactly these wheels have an effective acting pin.
 ///
 /// A set is a sum of powers of two: 1 for wheel 1, 2 for wheel 2, and so on to 32 for wheel 6.
-pub(crate) fn count_bars_met(rows: &[Reading; 27]) -> [u8; 64]
-    ensures { AreCounts rows.now result }
+pub(crate) fn count_bars_met(bars: &[Reading; 27]) -> [u8; 64]
+    ensures { AreCounts bars.now result }
 {
     let mut counts = [0; 64];
     for wheels in 0..64 {
-        counts[wheels] = bars_met_by(rows, wheels);
+        counts[wheels] = bars_met_by(bars, wheels);
     }
     counts
 }
 
 /// Counts the bars that have a lug at a wheel of the set `wheels`.
-fn bars_met_by(rows: &[Reading; 27], wheels: usize) -> u8
-    ensures { result ≡ bars_met_by rows.now wheels }
+fn bars_met_by(bars: &[Reading; 27], wheels: usize) -> u8
+    ensures { result ≡ bars_met_by bars.now wheels }
 {
     let mut met = 0;
-    for row in rows {
-        if is_met(*row, wheels) {
+    for bar in bars {
+        if is_met(*bar, wheels) {
             met += 1;
         }
     }
     met
 }
 
-/// Whether a bar with the reading `row` has a lug at a wheel of the set `wheels`.
-fn is_met(row: Reading, wheels: usize) -> bool
-    ensures { result ≡ (is_in_set wheels row.0 || is_in_set wheels row.1) }
+/// Whether a bar that reads as `bar` has a lug at a wheel of the set `wheels`.
+fn is_met(bar: Reading, wheels: usize) -> bool
+    ensures { result ≡ (is_in_set wheels bar.0 || is_in_set wheels bar.1) }
 {
-    let (smaller, larger) = row.numbers();
+    let (smaller, larger) = bar.numbers();
     is_in_set(wheels, smaller) || is_in_set(wheels, larger)
 }
 

@@ -1,10 +1,10 @@
 -- If a result is right for the prices that were found for rows and columns, it is right for the check of the card.
 use Rattle.kd_prices.proofs.Prelude.{AreModelPrices, ArePricesInRange, IsCheckedAnswer, PriceMissing, day_prices, ℤ}
 use Rattle.kd_prices.proofs.Prelude.{AreExpanded, AreKindsOf, MatchOption, Parts, cable_format, pair_format, version_of}
-use Rattle.kd_prices.proofs.Prelude.{ArePrices, CableKinds, KindFormat, PriceParts, bar_format, row_format, machine_prices}
+use Rattle.kd_prices.proofs.Prelude.{ArePrices, CableKinds, KindFormat, PriceParts, bar_format, row_format}
 use Rattle.kd_prices.proofs.Prelude.{BarKinds, ByNumber, Expanded, HasFault, Rotor, Setting, day_model, model_of}
 use Rattle.kd_prices.proofs.Prelude.{Bars, Cables, Doubt, Expands, GoesOn, Pin, Option, Result, Rotor, arith, subst}
-use Rattle.kd_prices.proofs.Prelude.{Day, Err, List, None, Pin, Same, Some, refl, sym, ◌∙◌, ◌≡◌}
+use Rattle.kd_prices.proofs.Prelude.{Day, Err, List, None, Pin, Same, Some, machine_prices, refl, sym, ◌∙◌, ◌≡◌}
 use Rattle.kd_prices.{proofs.{Prelude.{Ok, PricesSuitMachine, ap}, Runs.prices_alike}}
 use Rattle.kd_prices.{specs.Doubt.{ArePricesFound, IsByNumberAnswer}}
 use Rattle.std.specs.{Option.{ok_or, option_zip}, Result.MatchResult}

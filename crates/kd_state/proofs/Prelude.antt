@@ -24,9 +24,8 @@ pub use Rattle.kd_state.specs.Setting.{is_same_place, with_lug, seat_without}
 pub use Rattle.kd_state.specs.SheetDay.{Day, HasWheelLetters, IsLegalDay, IsLegalRotorDay, Pin, Rotor, PinDay}
 pub use Rattle.kd_state.specs.SheetDay.{RotorDay, seats_of_wheels}
 pub use Rattle.kd_state.specs.EngineKey.{EngineKey, Pin, Rotor, cipher, key_with_window}
-pub use Rattle.kd_state.specs.TwoCiphers.{IsReady}
+pub use Rattle.kd_state.specs.TwoCiphers.{IsReady, physical_cipher, seated_wheels, window_of}
 pub use Rattle.kd_state.specs.OwnKeys.{physical_key, sheet_key}
-pub use Rattle.kd_state.specs.TwoCiphers.{physical_cipher, seated_wheels, window_of}
 pub use Rattle.kd_state.specs.declared.machine.parts.Parts.{Parts, TheVariants.Pin, TheVariants.Rotor}
 pub use Rattle.kd_state.specs.declared.machine.{pin_parts.PinParts.PinParts, rotor_parts.RotorParts.RotorParts}
 pub use Rattle.kd_state.specs.declared.{setting.Setting.Setting, setting.why.Why.Why}

@@ -1,5 +1,5 @@
 -- What is said of a machine and a day: one case for rotor machines, and one for the Converter. They are unlike if one
--- is a rotor machine's and the other a Converter's; no promise of a card speaks of unlike ones.
+-- is for rotor machines and the other for the Converter; no promise of a card speaks of unlike ones.
 -- `f = by_model u r p` means `f machine day = by_model u r p machine day`. `X` is a type of values or of statements.
 use Rattle.kd_state.specs.declared.machine.rotor_parts.RotorParts.{RotorParts}
 use Rattle.kd_state.specs.declared.machine.pin_parts.PinParts.{PinParts}

@@ -13,9 +13,8 @@ use Rattle.kd_state.specs.Line.{setting_line, IsSettingInRange, IsListText, IsLi
 use Rattle.kd_state.specs.SheetDay.{Day, IsLegalDay}
 use Rattle.kd_state.specs.OnKey.{OnKey, ReadsAs}
 use Rattle.kd_state.specs.EngineKey.{EngineKey, cipher, engine_key_after, key_with_window, IsWindow}
-use Rattle.kd_state.specs.TwoCiphers.{IsReady}
+use Rattle.kd_state.specs.TwoCiphers.{IsReady, window_of, physical_cipher, sheet_cipher}
 use Rattle.kd_state.specs.OwnKeys.{physical_key, sheet_key, IsTurnedTo}
-use Rattle.kd_state.specs.TwoCiphers.{window_of, physical_cipher, sheet_cipher}
 
 -- Wheels, and reflectors, are compared as what they are: `==` is true exactly if the two are the same.
 abbrev pub SamePartsAreEqual : Type 0

@@ -1,4 +1,4 @@
--- The keys of engines that are set as a machine is, or as a day says.
+-- The keys of engines that are set as a machine is, or as a day says; machines turned to other letters.
 -- Code: one type, `Engine`, serves all models.
 use Rattle.std.specs.Prelude.{◌≡◌, ℕ, List, map}
 use Rattle.kd_tables.specs.Permutation.{exchange}
@@ -11,7 +11,7 @@ use Rattle.kd_state.specs.SeatedWheels.{key_of_wheels}
 use Rattle.kd_state.specs.SheetDay.{Day, Rotor, Pin}
 use Rattle.kd_state.specs.TwoCiphers.{key_of_rotor_parts, key_of_pin_day, window_of}
 
--- the key to which a machine is set
+-- the key to which a machine is set; right of `=`, `Rotor` and `Pin` make an `EngineKey`
 abbrev pub physical_key : Parts → EngineKey
 physical_key (Rotor machine) = Rotor (key_of_rotor_parts machine)
 physical_key (Pin machine) = Pin (record {

@@ -1,4 +1,5 @@
--- How definitions compare wheels and reflectors (as `==` does) and find items (by their numbers).
+-- How definitions compare wheels and reflectors, by the derived `==`, and find items, by their numbers. This `==` is
+-- true exactly if the two are equal (law `SamePartsAreEqual` in `Laws.antt`).
 -- Code: a wheel's place in the box is found by a search.
 use Rattle.std.specs.Prelude.{ℕ, zero, suc, Bool, List, slice_get, Option, None}
 use Rattle.std.specs.List.{position_or_len}
@@ -9,11 +10,11 @@ use Rattle.kd_tables.specs.declared.wheel.Wheel.{Wheel}
 use Rattle.kd_tables.specs.declared.reflector.Reflector.{Reflector}
 use Rattle.kd_tables.specs.Tables.{box_of}
 
--- whether two wheels are the same, by the derived `==`: true exactly if they are equal (law `SamePartsAreEqual` in `Laws.antt`)
+-- whether two wheels are the same
 abbrev pub same_wheel : Wheel → Wheel → Bool
 same_wheel = (wheel_eq.ghosts).eq
 
--- whether two reflectors are the same, by the derived `==`: true exactly if they are equal (law `SamePartsAreEqual` in `Laws.antt`)
+-- whether two reflectors are the same
 abbrev pub same_reflector : Reflector → Reflector → Bool
 same_reflector = (reflector_eq.ghosts).eq
 

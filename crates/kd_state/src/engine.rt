@@ -106,12 +106,12 @@ impl Engine {
 
     /// Creates the engine of a Converter M-209 from its pins, the letters that show, and the bars' readings.
     #[tactic(auto, using(crate::proofs::Slots::stand_on_wheels))]
-    fn from_drum(pins: PinSet, letters: [Letter; 6], rows: [Reading; 27]) -> Engine
+    fn from_drum(pins: PinSet, letters: [Letter; 6], bars: [Reading; 27]) -> Engine
         requires { AreOnWheels letters }
-        ensures { result ≡ Pin (record { pins = pins_of pins; letters = letters; bars = rows }) }
+        ensures { result ≡ Pin (record { pins = pins_of pins; letters = letters; bars = bars }) }
     {
         Engine {
-            mechanism: Mechanism::Drum(Converter::new(pins, letters, rows).unwrap()),
+            mechanism: Mechanism::Drum(Converter::new(pins, letters, bars).unwrap()),
         }
     }
 }

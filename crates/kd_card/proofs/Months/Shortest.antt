@@ -114,7 +114,8 @@ pub record AreBounds (costs : List (List ℕ)) (prices : PriceParts) (loose line
 
 module _ {A B : Type 0} (a : A) (b : B) (cost : A → B → ℕ) (rows : List A) (columns : List B) (prices : PriceParts)
     (loose lines : ℕ) (rows_count : length rows ≡ table_size prices)
-    (columns_count : length columns ≡ table_size prices) (row_count : length (machine_prices prices) ≡ table_size prices)
+    (columns_count : length columns ≡ table_size prices)
+    (row_count : length (machine_prices prices) ≡ table_size prices)
     (column_count : length (day_prices prices) ≡ table_size prices)
     (fits : PricesFit (map (λ row. map (cost row) columns) rows) prices) (beside : List (B × ℤ))
     (order : IsPermutation (zip columns (day_prices prices)) beside)
@@ -191,7 +192,8 @@ no_rotors model reflector e h = grind (arith, common_steps)
 
 -- There is a price for each row and each column of the table of costs.
 abbrev pub HasCounts : PriceParts → Type 0
-HasCounts prices = (length (machine_prices prices) ≡ table_size prices) × (length (day_prices prices) ≡ table_size prices)
+HasCounts prices =
+    (length (machine_prices prices) ≡ table_size prices) × (length (day_prices prices) ≡ table_size prices)
 
 HasCounts-prices : (m : Parts) (prices : PriceParts) → ArePrices prices → AreModelPrices m prices → HasCounts prices
 HasCounts-prices (Rotor m) (Cables row column) are kind = (are.0.count, are.1.count)

@@ -1,5 +1,5 @@
 use Rattle.{kd_drum.specs.Counts.bars_met_by, std.proofs.Common.take, std.proofs.Common.◌≡◌}
 use Rattle.kd_drum.proofs.counts.bars_met_by.Given as goal
 
-abbrev pub invariant-loop-row : goal.invariant-loop-row
-invariant-loop-row l = l.met ≡ bars_met_by (take l.row-index l.rows) l.wheels
+abbrev pub invariant-loop-bar : goal.invariant-loop-bar
+invariant-loop-bar l = l.met ≡ bars_met_by (take l.bar-index l.bars) l.wheels

@@ -1,7 +1,7 @@
-use Rattle.kd_prices.proofs.Prelude.{GoesOn, List, SFits, arith, price_sum, machine_prices, table_size, to_z-of_z, to_z_pos}
+use Rattle.kd_prices.proofs.Prelude.{GoesOn, List, SFits, arith, price_sum, table_size, to_z-of_z, to_z_pos}
 use Rattle.kd_prices.proofs.Prelude.{HasFault, ListsFitAt, NotTheSheet, PriceParts, PricesFitAt, SumDiffers, false≢true}
 use Rattle.kd_prices.proofs.Prelude.{IsFirstWithout, PriceTooHigh, ap, day_prices, err_from_is_err_and, priced_count}
-use Rattle.kd_prices.proofs.Prelude.{of_z, pos, refl, rules, sym, to_z, w32, ℕ, ℤ, ◌+◌, ◌<◌, ◌^◌, ◌∙◌, ◌≡◌, ◌≢◌}
+use Rattle.kd_prices.proofs.Prelude.{machine_prices, of_z, pos, refl, rules, sym, to_z, w32, ℕ, ℤ, ◌+◌, ◌<◌, ◌^◌, ◌∙◌, ◌≡◌, ◌≢◌}
 use Rattle.kd_prices.proofs.checking.check_by_prices.Goals as goal
 
 pub returns-in_err-carried : goal.returns-in_err-carried
