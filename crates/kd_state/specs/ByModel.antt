@@ -1,5 +1,4 @@
--- What is said of a machine and a day: one case for rotor machines, and one for the Converter. They are unlike if one
--- is for rotor machines and the other for the Converter; no promise of a card speaks of unlike ones.
+-- Definitions by cases: a rotor machine and a day of one; a Converter and its day; unlike ones.
 -- `f = by_model u r p` means `f machine day = by_model u r p machine day`. `X` is a type of values or of statements.
 use Rattle.kd_state.specs.declared.machine.rotor_parts.RotorParts.{RotorParts}
 use Rattle.kd_state.specs.declared.machine.pin_parts.PinParts.{PinParts}
