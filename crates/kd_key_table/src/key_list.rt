@@ -39,7 +39,8 @@ pub(crate) fn draw_key_lists<W: Sink>(
 
 /// Writes the key list of a Converter's day.
 fn draw_day<W: Sink>(sink: &mut W, language: Language, day: Option<&SheetDay>)
-    ensures { Draws W.taken W.has_failed sink.old sink.new (key_list_of language (option_copied day.entry)) }
+    ensures { Draws W.taken W.has_failed sink.old sink.new
+        (key_list_of language (option_copied day.entry)) }
 {
     match day {
         Some(day) => draw_list_of(sink, language, day),

@@ -64,7 +64,8 @@ fn draw_month_head<W: Sink>(
     last: u8,
     earlier: &[u8],
 )
-    ensures { Draws W.taken W.has_failed sink.old sink.new (month_head language model last earlier.now) }
+    ensures { Draws W.taken W.has_failed sink.old sink.new
+        (month_head language model last earlier.now) }
 {
     let slots = u16::from(model.slots());
     fill_in(sink, language, MONTH, &[Value::Model(model)]);

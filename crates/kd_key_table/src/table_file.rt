@@ -32,7 +32,8 @@ pub fn write_tables<W: Sink>(
     form: TableForm,
     sheet: &Sheet,
 ) -> Result<(), Device>
-    ensures text { Writes (W.taken sink.old) (W.taken sink.new) (file_text language form sheet.now) result }
+    ensures text { Writes (W.taken sink.old) (W.taken sink.new)
+        (file_text language form sheet.now) result }
     ensures failed { W.has_failed sink.new ≡ (W.has_failed sink.old || is_err result) }
 {
     draw_file(sink, language, form, sheet);

@@ -38,7 +38,8 @@ fn entry_of(items: &[Value], entry: usize) -> Option<&Table>
 /// The table in which a value stands: `document`, or the entry with this number of its list `day`.
 #[tactic(auto, unfolding(crate::specs::Line::table_at))]
 fn table_at(document: &Table, entry: Option<usize>) -> Option<&Table>
-    ensures { option_map (λ table. table_view table.now) result ≡ table_at (table_view document.now) entry }
+    ensures { option_map (λ table. table_view table.now) result
+        ≡ table_at (table_view document.now) entry }
 {
     match entry {
         Some(entry) => entry_of(entries_of(document)?, entry),
@@ -205,7 +206,8 @@ fn seek_lines(
     text: &[u8],
     findings: &[Finding],
 ) -> Result<Vec<Option<usize>>, AllocError>
-    ensures { IfOk result (λ lines. lines.items ≡ map (line_so_far text.now (length text.now)) findings.now) }
+    ensures { IfOk result (λ lines. lines.items
+        ≡ map (line_so_far text.now (length text.now)) findings.now) }
 {
     let mut lines = no_lines(alloc, findings)?;
     let mut line = 1;

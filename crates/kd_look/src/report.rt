@@ -26,7 +26,8 @@ pub struct Report {
 /// Appends the words for what the file `name` says.
 #[tactic(auto, using(std::proofs::Common::append_assoc), unfolding(crate::specs::Report::file_words))]
 fn push_file(text: &mut String, name: &str, file: &File) -> Result<(), AllocError>
-    ensures { OnOk result (string_bytes text.new ≡ string_bytes text.old ++ file_words name.now file.now) }
+    ensures { OnOk result (string_bytes text.new
+        ≡ string_bytes text.old ++ file_words name.now file.now) }
 {
     text.push_str(name)?;
     match file {

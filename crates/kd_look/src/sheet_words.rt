@@ -78,8 +78,8 @@ fn push_day(
     number: u8,
 ) -> Result<(), AllocError>
     requires { number < 32 }
-    ensures { OnOk result
-        (string_bytes text.new ≡ string_bytes text.old ++ numbered_day_words sheet.now title.now sort number) }
+    ensures { OnOk result (string_bytes text.new
+        ≡ string_bytes text.old ++ numbered_day_words sheet.now title.now sort number) }
 {
     if !has_day(sheet, sort, number) {
         return Ok(());

@@ -131,7 +131,8 @@ fn draw_plug_table<W: Sink>(
 )
     requires { length settings.now ≤ 192 }
     ensures { Draws W.taken W.has_failed sink.old sink.new
-        (plug_table language (in_language language head.entry.0.now head.entry.1.now) before.now step settings.now) }
+        (plug_table language (in_language language head.entry.0.now head.entry.1.now)
+        before.now step settings.now) }
 {
     draw_in(sink, language, head);
     draw_plug_rows(sink, language, before, step, settings, &CABLES);

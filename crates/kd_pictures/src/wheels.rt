@@ -72,7 +72,8 @@ fn draw_reflector_words<W: Sink>(sink: &mut W, language: Language, reflector: Op
 
 fn draw_all_slot_words<W: Sink>(sink: &mut W, language: Language, machine: &Machine, slots: &[u8])
     ensures { Draws W.taken W.has_failed sink.old sink.new
-        (flat_map (λ slot. slot_words language machine.now slot (machine_slot machine.now slot)) slots.now) }
+        (flat_map (λ slot. slot_words language machine.now slot (machine_slot machine.now slot))
+        slots.now) }
 {
     if let [slot, rest @ ..] = slots {
         draw_slot_words(sink, language, machine, *slot, machine.slot(*slot));

@@ -1,21 +1,20 @@
 -- The sheet written for legal days, each with its own number, is read as these days.
 use Rattle.kd_sheet.proofs.ReadBack.{FileEntry, IsWritten, line_of, text_entry, texts_entry, is_low, rotor_again, pin_again, rotor_day_table, pin_day_table, day_by_model}
 use Rattle.kd_sheet.proofs.ReadBack.{text_written, texts_written, model_plain, reflector_plain, slots_plain, letters_plain, pins_plain, recursion_from_All, IsPlain}
-use Rattle.kd_sheet.proofs.ReadBack.{Bool, List, Option, Some, None, ℕ, [], ◌∷◌, ◌++◌, ◌≡◌, ◌∙◌, ◌≤◌, ◌<◌, ◌==◌, true, false, refl, sym, ap, rules, arith}
-use Rattle.kd_sheet.proofs.ReadBack.{map, pos, integer, Data, Members, AllByRecursion, list_all, list_any, Ok, ok_or, as_table, bind-step, le-leb}
-use Rattle.kd_sheet.proofs.ReadBack.{day_for, day_in, model_in, read_at, number_up_to, model_found, key_name, slot_text, pin_texts, model_text, reflector_text, letters_text, seats_of_wheels, M209, IsReading, nat_tests, SheetWheel, letters_below, Result, SheetFault}
-use Rattle.kd_sheet.proofs.ReadBack.{Day, Rotor, Pin, RotorDay, PinDay, day_number, IsLegalDay, IsLegalRotorDay, IsLegalPinDay, IsDayNumber, reading_text}
+use Rattle.kd_sheet.proofs.ReadBack.{List, Some, ℕ, [], ◌∷◌, ◌++◌, ◌≡◌, ◌∙◌, ◌≤◌, ◌<◌, ◌==◌, false, refl, sym, ap, arith}
+use Rattle.kd_sheet.proofs.ReadBack.{map, pos, integer, Data, Members, AllByRecursion, list_any, Ok, ok_or, as_table, bind-step, le-leb}
+use Rattle.kd_sheet.proofs.ReadBack.{day_for, day_in, model_in, read_at, number_up_to, model_found, slot_text, pin_texts, model_text, reflector_text, letters_text, seats_of_wheels, M209, IsReading, nat_tests, SheetWheel, letters_below, Result, SheetFault}
+use Rattle.kd_sheet.proofs.ReadBack.{Day, Rotor, Pin, RotorDay, PinDay, day_number, IsLegalDay, reading_text}
 use Rattle.kd_sheet.proofs.ReadBack.{BadValue, UnknownModel, Model, read_items, no_nodes, close, append_assoc, append-nil, reflectors_of, has_reflector-Decides}
 use Rattle.kd_sheet.specs.declared.key.Key.TheVariants as keys
 use Rattle.kd_sheet.specs.SheetText.{day_lines, AreSheetDays}
 use Rattle.kd_sheet.proofs.Sections.{put_all, sections_read}
 use Rattle.kd_sheet.specs.SheetText.{sheet_text, sections_text}
 use Rattle.kd_sheet.specs.SheetFile.{sheet_of}
-use Rattle.kd_sheet.proofs.ReadBack.{month_of, All-weaker, All-map, HasWheelLetters, AreLetters, AllByRecursion-parts, ring_letters, flat_map}
+use Rattle.kd_sheet.proofs.ReadBack.{month_of, HasWheelLetters, AreLetters, ring_letters, flat_map}
 use Rattle.std.specs.Prelude.{decimal}
 use Rattle.kd_tables.specs.Tables.{wheel_text}
 use Rattle.std.proofs.lemmas.Grind.{get_or_default_zero}
-use Rattle.kd_sheet.proofs.ReadBack.{demand-passes, not, false}
 use Rattle.std.proofs.lemmas.Fmt.{IsAscii-decimal}
 use Rattle.std.proofs.lemmas.List.Sums.{list_all-from_AllPass}
 use Rattle.toml.specs.Data.{table, no_members, member}

@@ -1,11 +1,11 @@
 -- Reading back a key sheet: sections of lines, one for each day.
-use Rattle.kd_sheet.proofs.ReadBack.{FileEntry, IsWritten, line_of, expression_of, key_bare, lines_text, is_low, no_mark}
-use Rattle.kd_sheet.proofs.ReadBack.{Bool, List, Option, Some, None, ℕ, [], ◌∷◌, ◌++◌, ◌≡◌, ◌∙◌, true, false, refl, sym, ap}
+use Rattle.kd_sheet.proofs.ReadBack.{FileEntry, IsWritten, line_of, expression_of, lines_text, is_low, no_mark}
+use Rattle.kd_sheet.proofs.ReadBack.{Bool, List, Option, Some, ℕ, [], ◌∷◌, ◌++◌, ◌≡◌, ◌∙◌, true, false, refl, ap}
 use Rattle.kd_sheet.proofs.ReadBack.{arith, append_assoc, codes, map, suc, length, option_map, Expression, AllPrinted, IsLinesText}
-use Rattle.kd_sheet.proofs.ReadBack.{key_name, Data, Members, member, no_members, AllByRecursion, list_all, list_all-append}
+use Rattle.kd_sheet.proofs.ReadBack.{key_name, Data, member, no_members, AllByRecursion, list_all, list_all-append}
 use Rattle.kd_sheet.proofs.ReadBack.{cases_Bool, read_lines, run, close, no_nodes, document_parsed, IsUtf8-from_ascii, IsAscii-from_all}
-use Rattle.kd_sheet.proofs.ReadBack.{AllPass-from_list_all, ltb-true, document_of, parse_document, Ok, option_and_then, append-nil}
-use Rattle.kd_sheet.proofs.ReadBack.{as_items, items_list, array}
+use Rattle.kd_sheet.proofs.ReadBack.{AllPass-from_list_all, ltb-true, document_of, parse_document, Ok, option_and_then}
+use Rattle.kd_sheet.proofs.ReadBack.{items_list, array}
 use Rattle.kd_sheet.specs.declared.key.Key.TheVariants as keys
 use Rattle.kd_sheet.specs.SheetText.{sections_text, section_gap}
 use Rattle.toml.specs.Text.{IsLineText}
@@ -13,7 +13,7 @@ use Rattle.toml_writer.specs.Text.{key_text}
 use Rattle.toml.proofs.Lines.{IsLinesText-append}
 use Rattle.toml.proofs.Fill.{run-append}
 use Rattle.toml.specs.Data.{Items, no_items, item, push_item, table}
-use Rattle.toml.specs.Tables.{Nodes, node, open_array, put, array_table, Document, define, along_header, along_dots, at_key}
+use Rattle.toml.specs.Tables.{Nodes, node, open_array, put, array_table, Document, define, along_header, at_key}
 
 -- ---- the text
 

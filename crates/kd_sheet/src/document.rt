@@ -14,7 +14,8 @@ use toml::{Table, Value};
 /// Parses `bytes` as a TOML document.
 #[tactic(auto, using(crate::proofs::ReadBack::Described::KeyValues::Steps::document_parsed, crate::proofs::ReadBack::Described::KeyValues::Steps::document_refused))]
 pub fn parse_table(alloc: Global, bytes: &[u8]) -> Result<Table, SheetFault>
-    ensures { AgreesOrNoMemory SheetFault.NoMemory (document_of bytes.now) (result_map table_view result) }
+    ensures { AgreesOrNoMemory SheetFault.NoMemory
+        (document_of bytes.now) (result_map table_view result) }
 {
     match toml::table_from_slice(alloc, bytes) {
         Ok(table) => Ok(table),

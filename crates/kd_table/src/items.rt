@@ -81,7 +81,8 @@ pub fn push_item_text<T: FromWord>(text: &mut ArrayVec<u8, 384>, cell: &[u8])
 fn push_values<T: FromWord + Copy + Default>(values: &mut Values<T>, words: &[&[u8]]) -> Option<()>
     requires { length values.old.items + length words.now ≤ 192 }
     ensures { option_map (λ _. values.new.items) result
-        ≡ option_map (λ more. values.old.items ++ more) (values_of_words T.parse (map (λ word. word.now) words.now)) }
+        ≡ option_map (λ more. values.old.items ++ more)
+        (values_of_words T.parse (map (λ word. word.now) words.now)) }
 {
     match words {
         [first, rest @ ..] => {

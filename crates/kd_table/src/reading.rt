@@ -72,7 +72,8 @@ fn read_row(
     row: &ByteRecord,
 ) -> Result<(), SpreadsheetFault>
     ensures { IfOk result (λ _. (rows : List (List (List ℕ)))
-        → IsRead (texts_of options.now) rows reading.old.columns reading.old.days.items reading.old.refused
+        → IsRead (texts_of options.now) rows reading.old.columns
+        reading.old.days.items reading.old.refused
         → IsRead (texts_of options.now) (rows ++ fields_of row.now ∷ []) reading.new.columns
         reading.new.days.items reading.new.refused) }
 {

@@ -1,8 +1,7 @@
 use Rattle.kd_form.proofs.Prelude.{common_steps}
 use Rattle.kd_form.proofs.OrderSteps.{counted_on, letters_few, HasReadSoFar-order, HasFaultForGood-head, IsOrder-append}
 use Rattle.kd_form.proofs.OrderSteps.{HasFaultForGood-text, All-push, is_text_byte, IsTrue, HasFault, text_begins}
-use Rattle.kd_form.proofs.Prelude.{space_letter}
-use Rattle.kd_form.proofs.OrderSteps.{length, length-append, arith, filter_map-append, BadByte, [], ◌∷◌}
+use Rattle.kd_form.proofs.OrderSteps.{length-append, arith, filter_map-append, BadByte, [], ◌∷◌}
 use Rattle.kd_form.proofs.OrderSteps.{◌++◌, ◌+◌, ◌≡◌, ap, refl, sym, text_letters, ◌∙◌, all_of_the_day}
 use Rattle.kd_form.specs.declared.sending.order_reader.OrderStage.TheVariants as stages
 use Rattle.kd_form.proofs.sending.order_reader.OrderReaderMessageReader.feed.Goals as goal
