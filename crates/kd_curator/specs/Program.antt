@@ -13,7 +13,7 @@ use Rattle.kd_host.specs.declared.file_fault.FileFault.TheVariants as files
 use Rattle.kd_tables.specs.Answers.{AgreesOrNoMemory}
 use Rattle.kd_host.specs.Files.{AreAskedFor, AskedName, content_of}
 use Rattle.kd_host.specs.Writing.{WritesText}
-use Rattle.kd_sheet.specs.EmptySheet.{empty_month_text}
+use Rattle.kd_table.specs.EmptySheet.{empty_month_text}
 use Rattle.kd_table.specs.Notes.{Tells}
 use Rattle.kd_table.specs.Options.{OptionTexts}
 use Rattle.kd_state.specs.Machine.{model_of}

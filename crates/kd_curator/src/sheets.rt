@@ -4,13 +4,12 @@ ghost use Rattle.kd_tables.specs.Ports.{port};
 ghost use Rattle.kd_table.specs.Notes.{Tells};
 ghost use Rattle.kd_table.specs.Options.{texts_of};
 ghost use Rattle.kd_host.specs.Writing.{WritesText};
-ghost use Rattle.kd_sheet.specs.EmptySheet.{empty_month_text};
+ghost use Rattle.kd_table.specs.EmptySheet.{empty_month_text};
 ghost use Rattle.kd_curator.specs.Refusals.{is_device, refused_device};
 ghost use Rattle.kd_curator.specs.Sheets.{MakesSheet};
 
 use crate::fault::Refused;
-use kd_sheet::write_empty_month;
-use kd_table::{TableOptions, run_sheet};
+use kd_table::{TableOptions, run_sheet, write_empty_month};
 use kd_tables::{Model, Sink};
 use std::alloc::Global;
 

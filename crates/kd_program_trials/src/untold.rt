@@ -1,6 +1,7 @@
 //! Tests of what the program doesn't tell: which fault is the first of several files, and a month without days.
 use kd_look::{NamedFile, Outcome, look_at};
-use kd_sheet::{SheetFault, write_empty_month};
+use kd_sheet::SheetFault;
+use kd_table::write_empty_month;
 use kd_tables::{MemorySink, Model};
 
 #[test]

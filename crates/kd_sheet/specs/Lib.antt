@@ -13,5 +13,4 @@ pub mod Sheet
 pub mod SheetFile
 pub mod MachineText
 pub mod SheetText
-pub mod EmptySheet
 pub mod Laws

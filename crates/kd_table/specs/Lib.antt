@@ -10,3 +10,4 @@ pub mod PinRow
 pub mod Row
 pub mod Rows
 pub mod Table
+pub mod EmptySheet

@@ -1,7 +1,8 @@
-//! Makes a key sheet of a table of days, as a spreadsheet saves it.
+//! Makes a key sheet of a table of days, as a spreadsheet saves it, or writes a key sheet to fill in.
 #![tactic(auto)]
 
 mod columns;
+mod empty_month;
 mod fault;
 mod items;
 pub mod laws;
@@ -14,7 +15,10 @@ mod reading;
 mod rotor_row;
 mod row;
 mod sheet;
+mod sheet_writer;
 
+pub use empty_month::write_empty_month;
 pub use fault::SpreadsheetFault;
 pub use options::TableOptions;
 pub use sheet::run_sheet;
+pub use sheet_writer::write_sheet;

@@ -14,7 +14,7 @@ use crate::notes::tell_table;
 use crate::options::TableOptions;
 use crate::quotes::{is_well_quoted, separator_of};
 use crate::reading::{Reading, read_rows};
-use kd_sheet::write_sheet;
+use crate::sheet_writer::write_sheet;
 use kd_state::SheetDay;
 use kd_tables::{Device, Sink};
 use std::alloc::Global;

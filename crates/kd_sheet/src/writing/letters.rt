@@ -1,4 +1,4 @@
-//! Writes letters: a text of letters, the letters of effective pins, and the letters of a day's wheels.
+//! Writes letters: a text of letters, and the letters of effective pins.
 ghost use Rattle.std.specs.Prelude.{◌≡◌, ◌+◌, ◌≤◌, ◌++◌, map, length};
 ghost use Rattle.arrayvec.specs.ArrayString.{array_string_len};
 ghost use Rattle.kd_tables.specs.Text.{letters_text};
@@ -8,11 +8,11 @@ use super::item_text::ItemString;
 use super::lines::{FileString, push_text_line};
 use crate::Key;
 use kd_pins::PinSet;
-use kd_state::{SheetWheel, push_letter};
+use kd_state::push_letter;
 use kd_tables::{Letter, Ring, ring1, ring2, ring3, ring4, ring5, ring6};
 
 /// Writes `letters` as a text.
-pub fn letters_text(letters: &[Letter]) -> ItemString
+pub(crate) fn letters_text(letters: &[Letter]) -> ItemString
     requires { length letters.now ≤ 32 }
     ensures { result.bytes ≡ letters_text letters.now }
 {
@@ -23,7 +23,7 @@ pub fn letters_text(letters: &[Letter]) -> ItemString
     text
 }
 
-/// Appends a line whose value is a text of letters.
+/// Appends the line of `key` with `letters` in double quotes.
 pub fn push_letters_line(text: &mut FileString, key: Key, letters: &[Letter])
     requires room { array_string_len text.old + 47 ≤ 2048 }
     requires few { length letters.now ≤ 32 }
@@ -70,28 +70,4 @@ pub fn pin_texts(pins: &PinSet) -> [ItemString; 6]
         pins_text(&ring5(), &pins.w5),
         pins_text(&ring6(), &pins.w6),
     ]
-}
-
-/// Writes the rings of `wheels`, as letters.
-pub fn rings_text(wheels: &[SheetWheel]) -> ItemString
-    requires { length wheels.now ≤ 32 }
-    ensures { result.bytes ≡ letters_text (map (λ w. w.ring) wheels.now) }
-{
-    let mut text = ItemString::new();
-    for wheel in wheels {
-        push_letter(&mut text, wheel.ring);
-    }
-    text
-}
-
-/// Writes the window letters of `wheels`.
-pub fn window_text(wheels: &[SheetWheel]) -> ItemString
-    requires { length wheels.now ≤ 32 }
-    ensures { result.bytes ≡ letters_text (map (λ w. w.letter) wheels.now) }
-{
-    let mut text = ItemString::new();
-    for wheel in wheels {
-        push_letter(&mut text, wheel.letter);
-    }
-    text
 }

@@ -32,8 +32,8 @@ fn push_quoted(text: &mut FileString, value: &str)
     text.push_str("\"");
 }
 
-/// Appends the line of `key` with `value`, a number of one digit.
-pub fn push_digit_line(text: &mut FileString, key: Key, value: &str)
+/// Appends the line of `key` with `value` as it stands, such as a digit.
+pub(crate) fn push_digit_line(text: &mut FileString, key: Key, value: &str)
     requires { array_string_len text.old + length value.now + 13 ≤ 2048 }
     ensures bytes { text.new.bytes ≡ text.old.bytes ++ key_line key value.now }
     ensures len { array_string_len text.new ≤ array_string_len text.old + length value.now + 13 }

@@ -1,15 +1,16 @@
 //! Writes key sheets of all models.
-ghost use Rattle.std.specs.{Prelude.{◌≡◌, ◌≤◌, ◌||◌, ◌++◌, map, is_err}, List.{concat}};
+ghost use Rattle.std.specs.{Prelude.{◌≡◌, ◌≤◌, ◌||◌, ◌++◌, map, length, is_err}, List.{concat}};
 ghost use Rattle.arrayvec.specs.ArrayString.{array_string_len};
-ghost use Rattle.kd_tables.specs.Writing.{Writes};
+ghost use Rattle.kd_tables.specs.{Text.{letters_text}, Writing.{Writes}};
 ghost use Rattle.kd_state.specs.{SheetDay.{IsLegalRotorDay, IsLegalPinDay}, Entry.{rotor_values, pin_values}};
 ghost use Rattle.kd_sheet.specs.SheetText.{day_head_lines, wheels_lines, plugs_lines, converter_lines, day_lines};
 ghost use Rattle.kd_sheet.specs.SheetText.{rotor_day_lines, pin_day_lines, section_text, sections_text, sheet_text};
 
-use crate::Key;
-use crate::writing::letters::{pin_texts, push_letters_line, rings_text, window_text};
-use crate::writing::lines::{FileString, push_list_line, push_number_line, push_text_line};
-use kd_state::{Entry, PinEntry, RotorEntry, SheetDay};
+use kd_sheet::Key;
+use kd_sheet::writing::item_text::ItemString;
+use kd_sheet::writing::letters::{pin_texts, push_letters_line};
+use kd_sheet::writing::lines::{FileString, push_list_line, push_number_line, push_text_line};
+use kd_state::{Entry, PinEntry, RotorEntry, SheetDay, SheetWheel, push_letter};
 use kd_tables::{Device, Model, Sink, put_all};
 
 /// Appends the first two lines of a day: its number and its model.
@@ -20,6 +21,30 @@ pub fn push_day_head(text: &mut FileString, number: u8, model: Model)
 {
     push_number_line(text, Key::Day, number);
     push_text_line(text, Key::Model, model.text().as_str());
+}
+
+/// Writes the rings of `wheels`, as letters.
+fn rings_text(wheels: &[SheetWheel]) -> ItemString
+    requires { length wheels.now ≤ 32 }
+    ensures { result.bytes ≡ letters_text (map (λ w. w.ring) wheels.now) }
+{
+    let mut text = ItemString::new();
+    for wheel in wheels {
+        push_letter(&mut text, wheel.ring);
+    }
+    text
+}
+
+/// Writes the window letters of `wheels`.
+fn window_text(wheels: &[SheetWheel]) -> ItemString
+    requires { length wheels.now ≤ 32 }
+    ensures { result.bytes ≡ letters_text (map (λ w. w.letter) wheels.now) }
+{
+    let mut text = ItemString::new();
+    for wheel in wheels {
+        push_letter(&mut text, wheel.letter);
+    }
+    text
 }
 
 /// Appends the lines of the reflector, and of the wheels with their rings and window letters.
@@ -112,8 +137,8 @@ fn put_sections<W: Sink>(sink: &mut W, started: bool, days: &[SheetDay]) -> Resu
 /// Writes the key sheet that has `days`, in this order.
 ///
 /// On the fault `Device`, the sink has taken a prefix of the text. If there is a day, and no two days have the same
-/// number, `read_sheet` reads the text as exactly these days: the law `written_sheets_are_read_back`.
-#[tactic(auto, unfolding(crate::specs::SheetText::sheet_text))]
+/// number, `read_sheet` reads the text as exactly these days: the law `written_sheets_are_read_back` of `kd_sheet`.
+#[tactic(auto, unfolding(kd_sheet::specs::SheetText::sheet_text))]
 pub fn write_sheet<W: Sink>(sink: &mut W, days: &[SheetDay]) -> Result<(), Device>
     ensures text { Writes (W.taken sink.old) (W.taken sink.new) (sheet_text days.now) result }
     ensures failed { W.has_failed sink.new ≡ (W.has_failed sink.old || is_err result) }

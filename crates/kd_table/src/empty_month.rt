@@ -3,13 +3,13 @@ ghost use Rattle.std.specs.{Prelude.{codes, ◌≡◌, ◌+◌, ◌*◌, ◌<◌
 ghost use Rattle.arrayvec.specs.ArrayString.{array_string_len};
 ghost use Rattle.kd_tables.specs.{Tables.{slots_of}, Writing.{Writes}};
 ghost use Rattle.kd_sheet.specs.SheetText.{section_text, sections_text};
-ghost use Rattle.kd_sheet.specs.EmptySheet.{unknown_line, unknown_items_line, empty_rotor_lines, empty_pin_lines};
-ghost use Rattle.kd_sheet.specs.EmptySheet.{empty_day_lines, empty_month_text};
+ghost use Rattle.kd_table.specs.EmptySheet.{unknown_line, unknown_items_line, empty_rotor_lines, empty_pin_lines};
+ghost use Rattle.kd_table.specs.EmptySheet.{empty_day_lines, empty_month_text};
 
-use crate::Key;
 use crate::sheet_writer::push_day_head;
-use crate::writing::item_text::ItemString;
-use crate::writing::lines::{FileString, push_list_line, push_text_line};
+use kd_sheet::Key;
+use kd_sheet::writing::item_text::ItemString;
+use kd_sheet::writing::lines::{FileString, push_list_line, push_text_line};
 use kd_tables::{Device, Model, Sink, put_all};
 
 /// Appends the line of a text of `unknown`: a `?` for each letter.

@@ -1,10 +1,10 @@
-use Rattle.std.proofs.Common.{◌≡◌, ◌+◌, ◌-◌, ◌∷◌, map, true, arith}
+use Rattle.std.proofs.Common.{◌+◌, ◌-◌, map, true, arith}
 use Rattle.std.specs.List.{range_with_len}
 use Rattle.kd_sheet.specs.SheetText.{section_text, sections_text}
-use Rattle.kd_sheet.specs.EmptySheet.{empty_day_lines}
-use Rattle.kd_sheet.proofs.EmptyMonths.{range_with_len-first}
-use Rattle.kd_sheet.proofs.Writings.{writes_then, writes_front}
-use Rattle.kd_sheet.proofs.empty_month.+put_empty.Goals as goal
+use Rattle.kd_table.specs.EmptySheet.{empty_day_lines}
+use Rattle.kd_table.proofs.EmptyMonths.{range_with_len-first}
+use Rattle.kd_table.proofs.Writings.{writes_then, writes_front}
+use Rattle.kd_table.proofs.empty_month.+put_empty.Goals as goal
 
 pub returns-in-Ok-clause-text : goal.returns-in-Ok-clause-text
 returns-in-Ok-clause-text g t c =

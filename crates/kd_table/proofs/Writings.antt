@@ -13,7 +13,7 @@ takes_first a b one two (count, less, takes) = (
 )
 
 -- the first text, and a prefix of the second, are a prefix of both
-takes_second : (a b c : Option (List ℕ)) (one two : List ℕ) → Appends a b one → TakesPrefix b c two
+pub takes_second : (a b c : Option (List ℕ)) (one two : List ℕ) → Appends a b one → TakesPrefix b c two
     → TakesPrefix a c (one ++ two)
 takes_second a b c one two first (count, less, takes) = (
   length one + count,

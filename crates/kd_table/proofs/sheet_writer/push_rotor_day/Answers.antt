@@ -1,8 +1,8 @@
 use Rattle.std.proofs.Common.{◌++◌}
 use Rattle.kd_state.specs.Entry.{rotor_values}
 use Rattle.kd_sheet.specs.SheetText.{day_head_lines, wheels_lines, plugs_lines}
-use Rattle.kd_sheet.proofs.DayLines.{lines_joined}
-use Rattle.kd_sheet.proofs.sheet_writer.push_rotor_day.Goals as goal
+use Rattle.kd_table.proofs.DayLines.{lines_joined}
+use Rattle.kd_table.proofs.sheet_writer.push_rotor_day.Goals as goal
 
 pub returns : goal.returns
 returns c =

@@ -1,10 +1,10 @@
 use Rattle.std.proofs.Common.{◌≡◌, ◌∙◌, ap, ◌++◌}
 use Rattle.std.specs.Prelude.{replicate}
 use Rattle.arrayvec.specs.ArrayString.{ArrayString}
-use Rattle.kd_sheet.specs.EmptySheet.{unknown_items_line}
+use Rattle.kd_table.specs.EmptySheet.{unknown_items_line}
 use Rattle.kd_sheet.specs.MachineText.{key_line, array_text}
-use Rattle.kd_sheet.proofs.EmptyMonths.{map-replicate}
-use Rattle.kd_sheet.proofs.empty_month.push_unknown_items.Goals as goal
+use Rattle.kd_table.proofs.EmptyMonths.{map-replicate}
+use Rattle.kd_table.proofs.empty_month.push_unknown_items.Goals as goal
 
 pub returns-clause-bytes : goal.returns-clause-bytes
 unfolding unknown_items_line

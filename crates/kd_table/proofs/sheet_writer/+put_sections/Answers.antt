@@ -1,8 +1,8 @@
-use Rattle.std.proofs.Common.{◌≡◌, ◌∙◌, ◌∷◌, ◌++◌, [], ◌-◌, sym, map, take, drop, length, true, arith}
+use Rattle.std.proofs.Common.{◌≡◌, ◌∷◌, ◌-◌, map, take, drop, length, true, arith}
 use Rattle.std.proofs.lemmas.Grind.{common_steps}
 use Rattle.kd_sheet.specs.SheetText.{day_lines, section_text, sections_text}
-use Rattle.kd_sheet.proofs.Writings.{writes_then, writes_front}
-use Rattle.kd_sheet.proofs.sheet_writer.+put_sections.Goals as goal
+use Rattle.kd_table.proofs.Writings.{writes_then}
+use Rattle.kd_table.proofs.sheet_writer.+put_sections.Goals as goal
 
 pub returns-in-Ok-clause-text : goal.returns-in-Ok-clause-text
 returns-in-Ok-clause-text g t c =
