@@ -1,10 +1,10 @@
 -- The letters of a window after a step: which move and which stay.
-use Rattle.std.proofs.Common.{◌≡◌, ℕ, ◌-◌, ◌<◌, ◌≤◌, Bool, true, false, if◌then◌else◌, List, length, take, drop, map, get_or}
+use Rattle.std.proofs.Common.{◌≡◌, ℕ, ◌-◌, ◌<◌, ◌≤◌, Bool, true, false, List, refl, length, take, drop, map, get_or}
 use Rattle.std.proofs.Common.{slice_index, ap, ◌∙◌, arith, length-append, length-drop}
 use Rattle.std.proofs.lemmas.List.{get_or-append_right, get_or-map, get_or-drop, length-take-le, length-map}
 use Rattle.std.proofs.lemmas.List.{take-append-le, take_all}
 use Rattle.kd_tables.specs.declared.wheel.Wheel.{Wheel}
-use Rattle.kd_step.specs.Stepper.{next_letter, next_window, with_last_moved, stands_at_notch}
+use Rattle.kd_step.specs.Stepper.{next_letter, with_last_moved, stands_at_notch, IsStep}
 
 -- each of the last `count` letters becomes the next letter
 slice_index-with_last_moved : (count : ℕ) (window : List ℕ) (slot : ℕ) → count ≤ length window
@@ -37,11 +37,11 @@ abbrev slow_letters : List ℕ → List ℕ
 slow_letters window = take (length window - 1) window
 
 -- if a step leaves the middle wheel's letter, it leaves the letters of all wheels but the right one
-pub slow_still : (wheels : List Wheel) (before after : List ℕ) → after ≡ next_window wheels before → 3 ≤ length before
+pub slow_still : (wheels : List Wheel) (before after : List ℕ) → IsStep wheels before after → 3 ≤ length before
     → slice_index after (length before - 2) ≡ slice_index before (length before - 2)
     → slow_letters after ≡ slow_letters before
 slow_still wheels before after step least same =
-    at (stands_at_notch wheels before 1) (stands_at_notch wheels before 0) step
+    at (stands_at_notch wheels before 1) (stands_at_notch wheels before 0) refl refl
   where
     no_other : (count : ℕ) → 2 ≤ count → count ≤ length before → after ≡ with_last_moved count before
         → slow_letters after ≡ slow_letters before
@@ -60,10 +60,9 @@ slow_still wheels before after step least same =
         (omega (arith, length-take-le (length before - 1) before (omega arith)))
         ∙ take_all (length before - 1) front (omega (arith, length-take-le (length before - 1) before (omega arith)))
 
-    at : (middle right : Bool)
-        → after ≡ (if middle then with_last_moved 3 before
-        else (if right then with_last_moved 2 before else with_last_moved 1 before))
+    at : (middle right : Bool) → stands_at_notch wheels before 1 ≡ middle → stands_at_notch wheels before 0 ≡ right
         → slow_letters after ≡ slow_letters before
-    at true right e = no_other 3 (omega arith) least e
-    at false true e = no_other 2 (omega arith) (omega arith) e
-    at false false e = one e
+    at true right is_middle is_right = no_other 3 (omega arith) least (step.from_middle_notch is_middle)
+    at false true not_middle is_right =
+        no_other 2 (omega arith) (omega arith) (step.from_right_notch not_middle is_right)
+    at false false not_middle not_right = one (step.from_no_notch not_middle not_right)

@@ -4,8 +4,8 @@
 -- Code: `Stepper` has a table for the middle wheel, and one for the right wheel: whether the wheel is at a notch,
 -- for each letter that it can show.
 -- Test: wheels_step
-use Rattle.std.specs.Prelude.{◌≡◌, ℕ, zero, suc, ◌+◌, ◌-◌, ◌%◌, ◌≤◌, List, ◌++◌, length, take, drop, map}
-use Rattle.std.specs.Prelude.{slice_get, slice_index, Bool, false, if◌then◌else◌}
+use Rattle.std.specs.Prelude.{◌≡◌, ◌↔◌, ℕ, zero, suc, ◌+◌, ◌-◌, ◌%◌, ◌≤◌, List, ◌++◌, length, take, drop, map}
+use Rattle.std.specs.Prelude.{slice_get, slice_index, Bool, false, IsTrue, IsFalse, if◌then◌else◌}
 use Rattle.std.specs.Option.{option_map_or}
 use Rattle.kd_tables.specs.Tables.{is_notch}
 use Rattle.kd_tables.specs.declared.wheel.Wheel.{Wheel}
@@ -30,22 +30,46 @@ abbrev pub with_last_moved : ℕ → List ℕ → List ℕ
 with_last_moved count window = take (length window - count) window
     ++ map next_letter (drop (length window - count) window)
 
--- The window after one step. If the middle wheel is at a notch, the left, middle and right wheels move. Otherwise, if
--- the right wheel is at a notch, the middle and right wheels move. If neither is at a notch, only the right wheel moves.
+-- One step leads from the window `before` to the window `after`. If the middle wheel is at a notch, the left, middle and
+-- right wheels move. Otherwise, if the right wheel is at a notch, the middle and right wheels move. If neither is at a
+-- notch, only the right wheel moves.
+pub record IsStep (wheels : List Wheel) (before after : List ℕ) : Type 0 where
+  pub from_middle_notch : IsTrue (stands_at_notch wheels before 1) → after ≡ with_last_moved 3 before
+  pub from_right_notch : IsFalse (stands_at_notch wheels before 1) → IsTrue (stands_at_notch wheels before 0)
+      → after ≡ with_last_moved 2 before
+  pub from_no_notch : IsFalse (stands_at_notch wheels before 1) → IsFalse (stands_at_notch wheels before 0)
+      → after ≡ with_last_moved 1 before
+
+-- ---- Several steps: as a chain of steps, and as a function, which the ciphers need.
+-- Code: `Stepper` overwrites the letters of its window at each step.
+
+-- `n` steps lead from the window `first` to the window `last`: they are the ends of a list of `n + 1` windows, of which
+-- each next one is a step on.
+abbrev pub LeadsInSteps : List Wheel → List ℕ → ℕ → List ℕ → Type 0
+LeadsInSteps wheels first zero last = last ≡ first
+LeadsInSteps wheels first (suc n) last =
+    (between : List ℕ) × LeadsInSteps wheels first n between × IsStep wheels between last
+
+-- the window to which one step leads
 abbrev pub next_window : List Wheel → List ℕ → List ℕ
 next_window wheels window =
     if stands_at_notch wheels window 1 then with_last_moved 3 window
     else (if stands_at_notch wheels window 0 then with_last_moved 2 window else with_last_moved 1 window)
 
--- the window after `n` steps of the wheels
--- Code: `Stepper` overwrites the letters of its window at each step.
+-- the window to which `n` steps lead
 abbrev pub window_after : List Wheel → List ℕ → ℕ → List ℕ
 window_after wheels window zero = window
 window_after wheels window (suc n) = next_window wheels (window_after wheels window n)
 
+-- `n` steps lead to the window `window_after`, and to no other window.
+abbrev pub ChainsEndInWindowAfter : Type 0
+ChainsEndInWindowAfter =
+    (wheels : List Wheel) (first last : List ℕ) (n : ℕ)
+    → LeadsInSteps wheels first n last ↔ (last ≡ window_after wheels first n)
+
 -- If a step doesn't move the middle wheel, it moves only the right wheel.
 abbrev pub SlowWheelsMoveTogether : Type 0
 SlowWheelsMoveTogether =
-    (wheels : List Wheel) (before after : List ℕ) → after ≡ next_window wheels before → 3 ≤ length before
+    (wheels : List Wheel) (before after : List ℕ) → IsStep wheels before after → 3 ≤ length before
     → slice_index after (length before - 2) ≡ slice_index before (length before - 2)
     → take (length after - 1) after ≡ take (length before - 1) before

@@ -1,6 +1,6 @@
 //! The wheels of a rotor machine, and how a key press moves them.
 ghost use Rattle.std.specs.Prelude.{◌≡◌, ◌<◌, ◌≤◌, length, map, slice_index};
-ghost use Rattle.kd_step.specs.Stepper.{with_last_moved, next_letter, next_window};
+ghost use Rattle.kd_step.specs.Stepper.{IsStep, with_last_moved, next_letter, next_window};
 
 use super::notches::notches;
 use kd_tables::{Letter, Wheel};
@@ -50,7 +50,8 @@ impl<const S: usize> Stepper<S> {
 
     /// Moves the wheels as one key press does.
     pub fn step(&mut self)
-        ensures step { self.new.window ≡ next_window self.old.wheels self.old.window }
+        ensures step { IsStep self.old.wheels self.old.window self.new.window }
+        ensures window { self.new.window ≡ next_window self.old.wheels self.old.window }
         ensures wheels { self.new.wheels ≡ self.old.wheels }
     {
         let shown = &self.window[..];
