@@ -1,7 +1,9 @@
 -- The cipher of a rotor machine, letter by letter.
 use Rattle.std.proofs.Common.{List, [], add-suc, add-zero, ap, arith, length, map, refl}
-use Rattle.{kd_enigma.proofs.Ways.{path_exchanges}, kd_tables.proofs.Ciphers.{enciphered-append, enciphered-twice}}
+use Rattle.kd_enigma.proofs.{Cables.pairs_make_a_plugboard, Ways.{path_exchanges, paths_lead_back, paths_move_each_letter}}
+use Rattle.kd_tables.proofs.Ciphers.{enciphered-append, enciphered-twice}
 use Rattle.kd_enigma.{specs.Laws.{EnigmaCipherOfChunks, EnigmaKeyAfterChunks, EnigmaTwiceGivesBack}}
+use Rattle.kd_enigma.specs.Laws.{PairedPathsLeadBack, PairedKeysGiveBack, key_with_pairs}
 use Rattle.kd_enigma.specs.Cipher.{RotorKey, enigma_cipher, key_after, key_turned, path}
 use Rattle.{kd_step.specs.Stepper.{next_window, window_after}, kd_tables.specs.declared.wheel.Wheel.Wheel}
 use Rattle.std.proofs.Common.{rules, slice_index, suc, sym, zero, ℕ, ◌++◌, ◌+◌, ◌∙◌, ◌∷◌, ◌≡◌}
@@ -24,6 +26,17 @@ pub twice_gives_back : EnigmaTwiceGivesBack
 twice_gives_back key text board =
     enciphered-twice (lit_letter key) 1 text
     (λ n. (path_exchanges key (window_after key.wheels key.window n) board).back)
+
+-- ---- keys whose plugboard is given by its pairs
+
+pub paired_paths_lead_back : PairedPathsLeadBack
+paired_paths_lead_back key pairs window are =
+    let board = pairs_make_a_plugboard pairs are.once are.letters in
+    (paths_lead_back (key_with_pairs key pairs) window board, paths_move_each_letter (key_with_pairs key pairs) window board)
+
+pub paired_keys_give_back : PairedKeysGiveBack
+paired_keys_give_back key pairs text are =
+    twice_gives_back (key_with_pairs key pairs) text (pairs_make_a_plugboard pairs are.once are.letters)
 
 -- ---- a text in two chunks
 

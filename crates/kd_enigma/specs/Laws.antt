@@ -41,6 +41,31 @@ EnigmaTwiceGivesBack =
     (key : RotorKey) (text : List ℕ) → IsPlugboard key.plugs → All (λ letter. letter < 26) text
     → enigma_cipher key (enigma_cipher key text) ≡ text
 
+-- ---- The same of a key whose plugboard is given by its pairs.
+
+-- The pairs can be plugged: their letters are letters from A to Z, and no letter occurs twice.
+pub record ArePairs (pairs : List (ℕ × ℕ)) : Type 0 where
+  pub letters : All (λ letter. letter < 26) (letters_in_pairs pairs)
+  pub once : NoLetterTwice pairs
+
+-- `key` with a plugboard that exchanges the two letters of each pair
+abbrev pub key_with_pairs : RotorKey → List (ℕ × ℕ) → RotorKey
+key_with_pairs key pairs = record key { plugs = exchange pairs }
+
+-- The current's path through a plugboard with these pairs is its own inverse, and takes no letter to itself.
+abbrev pub PairedPathsLeadBack : Type 0
+PairedPathsLeadBack =
+    (key : RotorKey) (pairs : List (ℕ × ℕ)) (window : List ℕ) → ArePairs pairs
+    → IsOwnInverse (path (key_with_pairs key pairs) window) × MovesEachLetter (path (key_with_pairs key pairs) window)
+
+-- Enciphering twice with the same key gives the text back.
+abbrev pub PairedKeysGiveBack : Type 0
+PairedKeysGiveBack =
+    (key : RotorKey) (pairs : List (ℕ × ℕ)) (text : List ℕ) → ArePairs pairs → All (λ letter. letter < 26) text
+    → enigma_cipher (key_with_pairs key pairs) (enigma_cipher (key_with_pairs key pairs) text) ≡ text
+
+-- ---- A text in chunks.
+
 -- The text `first ++ rest` can be enciphered in two chunks. The chunk `rest` is enciphered with the key that the
 -- machine has after it enciphered `first`.
 abbrev pub EnigmaCipherOfChunks : Type 0

@@ -4,7 +4,7 @@ ghost use Rattle.kd_tables.specs.Permutation.{exchange};
 ghost use Rattle.kd_enigma.specs.Cipher.{IsPlugboard};
 ghost use Rattle.kd_enigma.specs.Laws.{PairsMakeAPlugboard, PairsExchange, SamePairsExchangeAlike, PathsAreOwnInverses};
 ghost use Rattle.kd_enigma.specs.Laws.{PathsMoveEachLetter, EnigmaTwiceGivesBack, EnigmaCipherOfChunks};
-ghost use Rattle.kd_enigma.specs.Laws.{EnigmaKeyAfterChunks};
+ghost use Rattle.kd_enigma.specs.Laws.{EnigmaKeyAfterChunks, PairedPathsLeadBack, PairedKeysGiveBack};
 
 /// Pairs in which no letter occurs twice make a plugboard, which exchanges the two letters of each pair.
 ///
@@ -33,6 +33,13 @@ pub fn path_is_its_own_inverse()
 #[tactic(auto, using(crate::proofs::Ciphers::twice_gives_back))]
 pub fn enciphering_twice_gives_back()
     ensures { EnigmaTwiceGivesBack }
+{}
+
+/// Of a key whose plugboard is given by its pairs: the path is its own inverse and takes no letter to itself, and
+/// enciphering twice gives the text back.
+pub fn keys_with_pairs_lead_back()
+    ensures path { PairedPathsLeadBack }
+    ensures cipher { PairedKeysGiveBack }
 {}
 
 /// A text can be enciphered in chunks: each chunk starts from the letters that the windows show after the previous one.
