@@ -116,7 +116,7 @@ pub six_lists : (pins : PinSet) (place : ℕ) (list : List Bool)
     → pins_of (pin_set (set (pins_of pins) place list)) ≡ set (pins_of pins) place list
 six_lists pins place list = grind arith
 
-is_none-nonempty : (found : Option (List Bool)) (place : ℕ) → place < length (unwrap_or found [])
+pub is_none-nonempty : (found : Option (List Bool)) (place : ℕ) → place < length (unwrap_or found [])
     → is_none found ≡ false
 is_none-nonempty found place within = grind arith
 

@@ -9,4 +9,5 @@ mod WheelsInSlots
 pub mod SortedAlike
 pub mod FirstFault
 pub mod Carrying
+mod OneChange
 pub mod OneAnswer

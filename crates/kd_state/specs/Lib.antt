@@ -4,6 +4,7 @@ pub mod SameParts
 pub mod Pins
 pub mod Machine
 pub mod Setting
+pub mod OneChange
 pub mod FaultText
 pub mod FirstFault
 pub mod LineWords

@@ -6,7 +6,7 @@ ghost use Rattle.kd_state.specs.Laws.{ReadsAsDayEnciphersAsDay, OnKeyIsReady, On
 ghost use Rattle.kd_state.specs.Laws.{TurnedStaysOnKey, TurningChangesOnlyLetters, TurnedEnciphersByDaysKey};
 ghost use Rattle.kd_state.specs.Laws.{MachinesCanBeTurned, EquallySetDecipher, DaysEngineDeciphersItself};
 ghost use Rattle.kd_state.specs.Laws.{CipherOfChunks, KeyAfterChunks};
-ghost use Rattle.kd_state.specs.Laws.{LeadsOrRefuses};
+ghost use Rattle.kd_state.specs.{Laws.{LeadsOrRefuses}, OneChange.{SettingsChangeOneThing}};
 
 /// Wheels are compared by which wheels they are, and reflectors likewise.
 pub fn same_parts_are_equal()
@@ -28,6 +28,14 @@ pub fn texts_determine_settings()
 pub fn settings_keep_machines()
     ensures one { SettingsKeepMachines }
     ensures lists { ListsKeepMachines }
+{}
+
+/// A machine carries a setting out exactly if none of the reasons for a refusal is true, and then changes one thing.
+///
+/// All else is as it was, also the rings and letters of the wheels in the box.
+#[tactic(auto, using(crate::proofs::OneChange::settings_change_one_thing))]
+pub fn settings_change_one_thing()
+    ensures { SettingsChangeOneThing }
 {}
 
 /// Carrying out a list of settings has only one result.
