@@ -165,13 +165,13 @@ module _ (s : RotorDay) (legal : IsLegalRotorDay s) (o : RotorParts) (reads : Re
       let fewer = gaps-fewer (λ w. place_in_box m.model w.wheel) (λ w. w.ring) o.rings m.rings
       (place_in_box m.model wheel) letter s.wheels (rw (reads.key.model ∙ sym same) at reads.key.rings) in
       let made = ring_made m wheel letter after e in
-      let one = if_carried (λ n. loose_count (Rotor m) (Rotor s) ≡ loose_count n (Rotor s) + 1) e (needed refl) in
+      let one = needed_one (Rotor m) (Rotor s) (RingTo wheel letter) false after refl e needed in
       subst (λ n. loose_for n + 1 ≤ loose_for (Rotor m) + 0) made (omega (arith, rw (← made) at one, fewer))
   loose_for-needed (Rotor m) (Turn slot letter) after same e needed =
       let (wheel, made) = turn_made m slot letter after e in
       let fewer = gaps-fewer (λ w. place_in_box m.model w.wheel) (λ w. w.letter) o.letters m.letters
       (place_in_box m.model wheel) letter s.wheels (rw (reads.key.model ∙ sym same) at reads.window) in
-      let one = if_carried (λ n. loose_count (Rotor m) (Rotor s) ≡ loose_count n (Rotor s) + 1) e (needed refl) in
+      let one = needed_one (Rotor m) (Rotor s) (Turn slot letter) false after refl e needed in
       subst (λ n. loose_for n + 1 ≤ loose_for (Rotor m) + 0) made (omega (arith, rw (← made) at one, fewer))
   loose_for-needed (Rotor m) (Pull cable letter) after same e needed =
       one_is_needed m m.slots m.reflector _ (Pull cable letter) after e (pulled m cable letter after e).made needed
@@ -189,8 +189,8 @@ module _ (s : RotorDay) (legal : IsLegalRotorDay s) (o : RotorParts) (reads : Re
   loose_for-list m n [] same leads needed = subst (λ n. loose_for n + 0 ≤ loose_for m + 0) (sym leads) (omega arith)
   loose_for-list m n (x ∷ xs) same leads needed =
       let rest = loose_for-list leads.0 n xs (model_of-changed m x leads.0 leads.1 ∙ same) leads.2
-      (if_carried (λ after. AreSettingsNeeded after (Rotor s) xs) leads.1 needed.1) in
-      omega (arith, rest, loose_for-needed m x leads.0 same leads.1 needed.0, count_by-cons is_priced_setting x xs)
+      (needed_then m leads.0 (Rotor s) x xs leads.1 needed) in
+      omega (arith, rest, loose_for-needed m x leads.0 same leads.1 needed.2, count_by-cons is_priced_setting x xs)
 
 -- ---- one day, and day after day
 

@@ -8,9 +8,9 @@ use Rattle.kd_state.specs.{declared.setting.Setting.TheVariants.{Pull, Put, LugT
 use Rattle.kd_state.specs.{declared.machine.parts.Parts.TheVariants.{Rotor, Pin}, declared.setting.Setting.Setting}
 use Rattle.kd_state.specs.Costs.{cost_table, loose_count}
 use Rattle.kd_state.specs.SheetDay.{Day, Rotor, Pin, day_model}
-use Rattle.kd_state.specs.{Setting.outcome, Machine.model_of, OnKey.columns_in_order}
+use Rattle.kd_state.specs.{Setting.Carries, Machine.model_of, OnKey.columns_in_order}
 use Rattle.kd_card.specs.Shortest.{LeadsToTheDay}
-use Rattle.std.specs.Prelude.{◌≡◌, ℕ, ◌+◌, Bool, true, false, List, [], ◌∷◌, pos, IfOk, IsFalse, count_by}
+use Rattle.std.specs.Prelude.{◌≡◌, ℕ, ◌+◌, Bool, true, false, List, [], ◌∷◌, pos, IsFalse, count_by}
 
 -- The prices are by number: one for each cable and each column (rotor machine), or each bar and each row (Converter).
 abbrev pub AreModelPrices : Parts → PriceParts → Type 0
@@ -29,17 +29,16 @@ is_priced_setting _ = false
 abbrev pub priced_count : List Setting → ℕ
 priced_count settings = count_by is_priced_setting settings
 
--- The setting changes a cable or a bar; or, if it is carried out, it lowers the number of loose things by one.
+-- The setting changes a cable or a bar; or the machine carries it out, and that lowers the number of loose things by one.
 abbrev pub IsSettingNeeded : Parts → Day → Setting → Type 0
 IsSettingNeeded machine day setting = IsFalse (is_priced_setting setting)
-    → IfOk (outcome machine setting) (λ after. loose_count machine day ≡ loose_count after day + 1)
+    → (after : Parts) × Carries machine setting after × (loose_count machine day ≡ loose_count after day + 1)
 
--- Each setting is needed at its turn, after the settings before it. A setting that the machine refuses counts as
--- needed, and so do all settings after it; a list that leads to the day has no such setting.
+-- The machine carries the settings out one after another, and each is needed at its turn.
 abbrev pub AreSettingsNeeded : Parts → Day → List Setting → Type 0
 AreSettingsNeeded machine day [] = Unit {0}
-AreSettingsNeeded machine day (setting ∷ rest) = IsSettingNeeded machine day setting
-    × IfOk (outcome machine setting) (λ after. AreSettingsNeeded after day rest)
+AreSettingsNeeded machine day (setting ∷ rest) = (after : Parts) × Carries machine setting after
+    × IsSettingNeeded machine day setting × AreSettingsNeeded after day rest
 
 -- ---- prices by kind mean prices by number
 

@@ -231,7 +231,14 @@ pub needed_one : (m : Parts) (s : Day) (x : Setting) (b : Bool) (after : Parts) 
     → Carries m x after → IsSettingNeeded m s x → loose_count m s + cond b 1 0 ≡ loose_count after s + 1
 needed_one m s x true after e carries needed = omega (arith, loose_count-priced m s x after e carries)
 needed_one m s x false after e carries needed =
-    let one = if_carried (λ n. loose_count m s ≡ loose_count n s + 1) carries (needed e) in omega (arith, one)
+    let (made, made_so, one) = needed e in
+    subst (λ n. loose_count m s + 0 ≡ loose_count n s + 1) (carries_unique m made after x made_so carries) (omega (arith, one))
+
+-- If settings are needed and the first is carried out, the others are needed after it.
+pub needed_then : (m after : Parts) (s : Day) (x : Setting) (xs : List Setting) → Carries m x after
+    → AreSettingsNeeded m s (x ∷ xs) → AreSettingsNeeded after s xs
+needed_then m after s x xs carries (made, made_so, one, rest) =
+    subst (λ n. AreSettingsNeeded n s xs) (carries_unique m made after x made_so carries) rest
 
 needed_all : (m n : Parts) (s : Day) (xs : List Setting) → Leads m xs n → AreSettingsNeeded m s xs
     → loose_count m s + priced_count xs ≡ loose_count n s + length xs
@@ -239,9 +246,9 @@ needed_all m n s [] leads needed = subst (λ n. loose_count m s + 0 ≡ loose_co
 needed_all m n s (x ∷ xs) leads needed =
     omega (
       arith,
-      needed_one m s x (is_priced_setting x) leads.0 refl leads.1 needed.0,
+      needed_one m s x (is_priced_setting x) leads.0 refl leads.1 needed.2,
       count_by-cons is_priced_setting x xs,
-      needed_all leads.0 n s xs leads.2 (if_carried (λ after. AreSettingsNeeded after s xs) leads.1 needed.1),
+      needed_all leads.0 n s xs leads.2 (needed_then m leads.0 s x xs leads.1 needed),
     )
 
 -- Up to `loose_falls`: a setting that changes no cable and no bar lowers the number of loose things by at most one.
@@ -279,10 +286,10 @@ module _ (s : Day) (legal : IsLegalDay s) where
       let rest = no_fewer leads.0 n xs then_same leads.2 in
       let one = loose_falls m x leads.0 same leads.1 in
       let head = count_by-cons is_priced_setting x xs in (
-        λ unpriced. when_carried (λ after. loose_count m s ≡ loose_count after s + 1) leads.1
-            (grind (arith, cond-one_or_other)),
-        when_carried (λ after. AreSettingsNeeded after s xs) leads.1
-            (needed_in_turn leads.0 n xs then_same leads.2 none (grind (arith, loose_count-priced m s x leads.0))),
+        leads.0,
+        leads.1,
+        λ unpriced. (leads.0, leads.1, grind (arith, cond-one_or_other)),
+        needed_in_turn leads.0 n xs then_same leads.2 none (grind (arith, loose_count-priced m s x leads.0)),
       )
 
 pub as_few_are_needed : AsFewAreNeeded

@@ -33,7 +33,7 @@ pub use Rattle.kd_state.proofs.Wheels.{days_wheels_have_their_places, same_refle
 pub use Rattle.{kd_tables.specs.Permutation.alphabet}
 pub use Rattle.kd_state.proofs.{Cables.column_is, Slots.IsNumbered-not_none, SortedAlike.count_by-cons}
 pub use Rattle.kd_state.proofs.{Cables.cables_by_columns, CostTable.thirteen_columns, Slots.{set_other, IsNumbered}}
-pub use Rattle.kd_state.proofs.Carrying.{if_carried, lug_moved, pin_made, pulled, reflector_made, ring_made, seat_made}
+pub use Rattle.kd_state.proofs.Carrying.{carries_unique, if_carried, lug_moved, pin_made, pulled, reflector_made, ring_made, seat_made}
 pub use Rattle.kd_state.proofs.Carrying.{six_lists, turn_made, was_put, wheel_turn_made, when_carried}
 pub use Rattle.std.specs.Prelude.{IfOk, IsFalse}
 pub use Rattle.kd_state.specs.Costs.{bar_cost, cable_cost, columns_of, exactly_one}
