@@ -40,19 +40,9 @@ module _ (names : List (List ℕ)) (asked : List AskedName) where
   asks_after true (Err Device) asks = asks
   asks_after file_failed (Err fault) asks = inl asks
 
-  pub asked_all : (May : Type 0) (command : KnownCommand) (source sink : Port) (answer : Result (Unit {0}) Stop)
-      → IsCommandDone May command source sink answer → AreAskedFor names [] asked true → Asks answer
-  asked_all May command source sink answer done asks = subst Asks (sym done.answers) (asks_after _ done.told asks)
-
--- ---- how a command was carried out
-
--- nothing is known of a file that wasn't opened
-abbrev pub nothing_left : KnownFile
-nothing_left = record { bytes = None; failed = false }
-
--- no read of a file failed that wasn't opened
-pub none_failed : {X : Type 0} → IsTrue nothing_left.failed → X
-none_failed failed = absurd (cc)
+  pub asked_all : (left : KnownFile) (command : KnownCommand) (source sink : Port) (answer : Result (Unit {0}) Stop)
+      → IsCommandDone left command source sink answer → AreAskedFor names [] asked true → Asks answer
+  asked_all left command source sink answer done asks = subst Asks (sym done.answers) (asks_after _ done.told asks)
 
 -- ---- the program's answer
 
@@ -62,7 +52,7 @@ failed_command fault = Err fault
 abbrev unread_answer : FileFault → Result (Unit {0}) Stop
 unread_answer fault = Err (Unread fault)
 
-module _ (May : Type 0) (source sink : Port) (answer : Result (Unit {0}) Stop) where
+module _ (left : KnownFile) (source sink : Port) (answer : Result (Unit {0}) Stop) where
   unread_by : (fault other : FileFault) → failed_command fault ≡ failed_command other → answer ≡ Err (Unread fault)
       → answer ≡ Err (Unread other)
   unread_by fault other is answers =
@@ -70,29 +60,29 @@ module _ (May : Type 0) (source sink : Port) (answer : Result (Unit {0}) Stop) w
       (λ f. unread_answer fault ≡ unread_answer f)) is refl
 
   file_refused : (meant : Result KnownCommand FileFault) (fault : FileFault) → AgreesOrNoMemory files.NoMemory meant (Err fault)
-      → answer ≡ Err (Unread fault) → CarriesOut May meant source sink answer
+      → answer ≡ Err (Unread fault) → CarriesOut left meant source sink answer
   file_refused meant fault e d = grind (arith, unread_by)
 
   carried_out : (meant : Result KnownCommand FileFault) (command : KnownCommand) → AgreesOrNoMemory files.NoMemory meant (Ok command)
-      → IsCommandDone May command source sink answer → CarriesOut May meant source sink answer
-  carried_out meant command (inl is) done = subst (λ r. CarriesOut May r source sink answer) is (inl done)
+      → IsCommandDone left command source sink answer → CarriesOut left meant source sink answer
+  carried_out meant command (inl is) done = subst (λ r. CarriesOut left r source sink answer) is (inl done)
   carried_out meant command (inr lacks) done = cc
 
   -- each command that the command line means is the parsed command, whatever is known of the files
   module _ (known : KnownFiles) (said command : NamedCommand) (same : said ≡ command) where
     abbrev Meant : (List ℕ → Option (List ℕ)) → Type 0
-    Meant held = CarriesOut May (known_command held command) source sink answer
+    Meant held = CarriesOut left (known_command held command) source sink answer
 
     pub unread : (fault : FileFault) → IsErrAnd answer (λ made. made ≡ Unread fault)
         → IfSome known (λ held. AgreesOrNoMemory files.NoMemory (known_command held said) (Err fault)) → IfSome known Meant
     unread fault made gives = grind (arith, err_is, file_refused, same)
 
-    done_of : (of_files : KnownCommand) → IsCommandDone May of_files source sink answer → (k : KnownFiles)
+    done_of : (of_files : KnownCommand) → IsCommandDone left of_files source sink answer → (k : KnownFiles)
         → IfSome k (λ held. AgreesOrNoMemory files.NoMemory (known_command held said) (Ok of_files)) → IfSome k Meant
     done_of of_files done None gives = tt
     done_of of_files done (Some held) gives = grind (arith, carried_out, same, done)
 
-    pub done : (of_files : KnownCommand) → IsCommandDone May of_files source sink answer
+    pub done : (of_files : KnownCommand) → IsCommandDone left of_files source sink answer
         → IfSome known (λ held. AgreesOrNoMemory files.NoMemory (known_command held said) (Ok of_files)) → IfSome known Meant
     done of_files is gives = done_of of_files is known gives
 

@@ -1,5 +1,5 @@
 -- What the contracts of inner functions say. No public contract cites these definitions.
-use Rattle.std.specs.Prelude.{◌≡◌, ℕ, Bool, false, List, Option, Result, Ok, IfSome, IsTrue}
+use Rattle.std.specs.Prelude.{◌≡◌, ℕ, Bool, false, List, Option, Result, Ok, IfSome}
 use Rattle.kd_tables.specs.Ports.{Port}
 use Rattle.kd_state.specs.declared.machine.parts.Parts.{Parts}
 use Rattle.kd_state.specs.SheetDay.{Day, day_number}
@@ -30,10 +30,8 @@ abbrev pub HasNoFailedRead : {O : Type 0} → (O → Bool) → Option O → Type
 HasNoFailedRead failed file = IfSome file (λ f. failed f ≡ false)
 
 -- `IsCommandDone` for a task, with the machine of the file `machine` and day `number` of the key sheet `sheet`.
-pub record IsTaskDone (MayFail : Type 0) (machine sheet : List ℕ) (number : ℕ) (task : KnownTask) (sink : Port)
+pub record IsTaskDone (left : KnownFile) (machine sheet : List ℕ) (number : ℕ) (task : KnownTask) (sink : Port)
     (answer : Result (Unit {0}) Stop) : Type 0 where
-  pub left : KnownFile
-  pub may : IsTrue left.failed → MayFail
   pub told : Result (Unit {0}) DeskFault
   pub does : IsAnswerOnDay machine sheet number (DoesTask (with_task_stream (file_port left) task) number sink told)
       told

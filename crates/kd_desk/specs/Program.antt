@@ -113,21 +113,18 @@ abbrev pub StopsForMemory : Result (Unit {0}) Stop → Type 0
 StopsForMemory answer = (answer ≡ Err (Refused (File NoMemory))) ⊎ (answer ≡ Err (Unread files.NoMemory))
 
 -- A command was carried out. `told` is the answer of the command's call, such as `run_card`, and `answer` is the
--- program's answer. `left` is what is known of the opened file after the call: only if `MayFail` holds, a read of the
--- file may have failed.
-pub record IsCommandDone (MayFail : Type 0) (command : KnownCommand) (source sink : Port)
+-- program's answer. `left` is what is known of the opened file after the call, when the program gave it back.
+pub record IsCommandDone (left : KnownFile) (command : KnownCommand) (source sink : Port)
     (answer : Result (Unit {0}) Stop) : Type 0 where
-  pub left : KnownFile
-  pub may : IsTrue left.failed → MayFail
   pub told : Result (Unit {0}) DeskFault
   pub does : DoesCommand (with_command_stream (file_port left) command) source sink told
   pub answers : answer ≡ stop_after (has_file_failed (command_stream command) left) told
 
 -- A command was carried out; or a file of the command couldn't be read or opened; or memory ran out.
-abbrev pub CarriesOut : Type 0 → Result KnownCommand FileFault → Port → Port → Result (Unit {0}) Stop → Type 0
-CarriesOut MayFail (Ok command) source sink answer =
-    IsCommandDone MayFail command source sink answer ⊎ StopsForMemory answer
-CarriesOut MayFail (Err fault) source sink answer = (answer ≡ Err (Unread fault)) ⊎ StopsForMemory answer
+abbrev pub CarriesOut : KnownFile → Result KnownCommand FileFault → Port → Port → Result (Unit {0}) Stop → Type 0
+CarriesOut left (Ok command) source sink answer =
+    IsCommandDone left command source sink answer ⊎ StopsForMemory answer
+CarriesOut left (Err fault) source sink answer = (answer ≡ Err (Unread fault)) ⊎ StopsForMemory answer
 
 -- ---- What holds of the program's answer: the command's answer, the files asked for, and the ports.
 
@@ -154,18 +151,18 @@ AsksFor names asked (Err (Refused fault)) = AreAskedFor names [] asked true ⊎ 
 AsksFor names asked answer = AreAskedFor names [] asked true
 
 -- If `known` says which bytes the files have, `CarriesOut` holds for these bytes.
-abbrev pub CarriesOutKnown : Type 0 → Option (List ℕ → Option (List ℕ)) → NamedCommand → Port → Port
+abbrev pub CarriesOutKnown : KnownFile → Option (List ℕ → Option (List ℕ)) → NamedCommand → Port → Port
     → Result (Unit {0}) Stop → Type 0
-CarriesOutKnown MayFail known command source sink answer =
-    IfSome known (λ held. CarriesOut MayFail (known_command held command) source sink answer)
+CarriesOutKnown left known command source sink answer =
+    IfSome known (λ held. CarriesOut left (known_command held command) source sink answer)
 
--- What holds of the program's answer to a command line. `carried`: what is done, if the files' bytes are known; only if
--- `MayFail` holds, a read of an opened file may fail. `asks`, `none_asked`: which files are asked for. `usage`,
+-- What holds of the program's answer to a command line. `carried`: what is done, if the files' bytes are known; `left`
+-- is the opened file as the program gave it back. `asks`, `none_asked`: which files are asked for. `usage`,
 -- `other_words`: when the answer is `Usage`. `untouched`, `failed`: what happens to the ports.
-pub record IsRun (words : List (List ℕ)) (known : Option (List ℕ → Option (List ℕ))) (MayFail : Type 0)
+pub record IsRun (words : List (List ℕ)) (known : Option (List ℕ → Option (List ℕ))) (left : KnownFile)
     (asked : List AskedName) (source sink : Port) (Untouched : Type 0) (answer : Result (Unit {0}) Stop) : Type 0 where
   pub carried : (command : NamedCommand) → IsCommandLineOf words command
-      → CarriesOutKnown MayFail known command source sink answer
+      → CarriesOutKnown left known command source sink answer
   pub asks : (command : NamedCommand) → IsCommandLineOf words command → AsksFor (files_of command) asked answer
   pub usage : answer ≡ Err Usage → IsNoCommandLine words
   pub other_words : IsNoCommandLine words → (answer ≡ Err Usage) ⊎ StopsForMemory answer

@@ -10,7 +10,7 @@ ghost use Rattle.kd_desk.specs.Program.{is_stopped_before_message, is_stopped_by
 ghost use Rattle.kd_command.specs.Inner.{unborrowed_action, unborrowed_task};
 ghost use Rattle.kd_desk.specs.Inner.{with_action_stream, with_task_stream};
 ghost use Rattle.kd_desk.specs.Inner.{HasNoFailedRead, IsTaskDone};
-ghost use Rattle.kd_host.specs.Files.{AreAskedFor, CanFail, IsReadAnswer, known_file};
+ghost use Rattle.kd_host.specs.Files.{AreAskedFor, IsReadAnswer, known_file};
 ghost use Rattle.kd_desk.specs.OnDay.{IsAnswerOnDay};
 ghost use Rattle.kd_tables.specs.Ports.{FailureAgrees, port};
 ghost use Rattle.kd_desk.specs.CallAnswers.{is_device, is_refused_before_message};
@@ -46,7 +46,7 @@ pub fn run_desk<'n, S: AsStr, F: Files<'n>, R: Source, W: Sink, E: Sink>(
 ) -> u8
     requires { F.asked files.old ≡ [] }
     ensures { HasEnded (IsRun (map S.text words.entry.now) (F.known files.old)
-        (CanFail F.Opened.has_failed) (F.asked files.new)
+        (F.returned files.new) (F.asked files.new)
         (port R.remaining R.has_failed source.old source.new)
         (port W.taken W.has_failed sink.old sink.new)
         ((source.new ≡ source.old) × (sink.new ≡ sink.old)))
@@ -65,7 +65,7 @@ pub fn run_words<'n, S: AsStr, F: Files<'n>, R: Source, W: Sink>(
 ) -> Result<(), Stop>
     requires { F.asked files.old ≡ [] }
     ensures carried { (command : _) → IsCommandLineOf (map S.text words.entry.now) command
-        → CarriesOutKnown (CanFail F.Opened.has_failed) (F.known files.old) command
+        → CarriesOutKnown (F.returned files.new) (F.known files.old) command
         (port R.remaining R.has_failed source.old source.new)
         (port W.taken W.has_failed sink.old sink.new) result }
     ensures asked { (command : _) → IsCommandLineOf (map S.text words.entry.now) command
@@ -81,7 +81,7 @@ pub fn run_words<'n, S: AsStr, F: Files<'n>, R: Source, W: Sink>(
 {
     let command = parse_words(alloc, words)?;
     let command = read_files(alloc, command, files)?;
-    carry_out(alloc, command, source, sink)
+    carry_out(alloc, command, files, source, sink)
 }
 
 /// Reads or opens the files that `command` names, in the order of the command line.
@@ -162,22 +162,24 @@ fn read_task<'n, F: Files<'n>>(
     }
 }
 
-/// Carries out `command`, whose files have been read or opened.
-fn carry_out<O: Source + Drop, R: Source, W: Sink>(
+/// Carries out `command`, whose files have been read or opened. Gives the opened file back to `files`.
+fn carry_out<'n, F: Files<'n>, R: Source, W: Sink>(
     alloc: Global,
-    command: Command<Content, O>,
+    command: Command<Content, F::Opened>,
+    files: &mut F,
     source: &mut R,
     sink: &mut W,
 ) -> Result<(), Stop>
-    requires { HasNoFailedRead O.has_failed (command_stream command) }
-    ensures does { IsCommandDone (CanFail O.has_failed)
-        (with_command_stream (known_file O.remaining O.has_failed) command)
+    requires { HasNoFailedRead F.Opened.has_failed (command_stream command) }
+    ensures does { IsCommandDone (F.returned files.new)
+        (with_command_stream (known_file F.Opened.remaining F.Opened.has_failed) command)
         (port R.remaining R.has_failed source.old source.new)
         (port W.taken W.has_failed sink.old sink.new) result }
     ensures untouched { IsTrue (is_stopped_before_message result)
         → (source.new ≡ source.old) × (sink.new ≡ sink.old) }
     ensures failed { FailureAgrees (port R.remaining R.has_failed source.old source.new)
         (port W.taken W.has_failed sink.old sink.new) (is_stopped_by_port result) }
+    ensures asked { F.asked files.new ≡ F.asked files.old }
 {
     let Command { machine, action } = command;
     let machine = machine.as_slice();
@@ -185,26 +187,29 @@ fn carry_out<O: Source + Drop, R: Source, W: Sink>(
         Action::Type => Stop::of_answer(run_type(alloc, machine, source, sink)),
         Action::Apply { list } => Stop::of_answer(run_apply(alloc, machine, list.as_slice(), sink)),
         Action::OnDay { sheet, day, task } => {
-            carry_task(alloc, machine, sheet.as_slice(), day, task, sink)
+            carry_task(alloc, machine, sheet.as_slice(), day, task, files, sink)
         }
     }
 }
 
-/// Carries out `task` with the machine in the file `machine` and day `number` of the sheet `sheet`.
-fn carry_task<O: Source + Drop, W: Sink>(
+/// Carries out `task` with the machine in the file `machine` and day `number` of the sheet `sheet`. Gives the opened
+/// file back to `files`.
+fn carry_task<'n, F: Files<'n>, W: Sink>(
     alloc: Global,
     machine: &[u8],
     sheet: &[u8],
     number: u8,
-    task: Task<Content, O>,
+    task: Task<Content, F::Opened>,
+    files: &mut F,
     sink: &mut W,
 ) -> Result<(), Stop>
-    requires { HasNoFailedRead O.has_failed (task_stream task) }
-    ensures does { IsTaskDone (CanFail O.has_failed) machine.now sheet.now number
-        (with_task_stream (known_file O.remaining O.has_failed) task)
+    requires { HasNoFailedRead F.Opened.has_failed (task_stream task) }
+    ensures does { IsTaskDone (F.returned files.new) machine.now sheet.now number
+        (with_task_stream (known_file F.Opened.remaining F.Opened.has_failed) task)
         (port W.taken W.has_failed sink.old sink.new) result }
     ensures untouched { IsTrue (is_stopped_before_message result) → sink.new ≡ sink.old }
     ensures failed { W.has_failed sink.new ≡ (W.has_failed sink.old || is_stopped_by_port result) }
+    ensures asked { F.asked files.new ≡ F.asked files.old }
 {
     match task {
         Task::Card => Stop::of_answer(run_card(alloc, machine, sheet, number, sink)),
@@ -213,7 +218,9 @@ fn carry_task<O: Source + Drop, W: Sink>(
         }
         Task::Message(direction, mut file) => {
             let done = carry_message(alloc, machine, sheet, number, direction, &mut file, sink);
-            Stop::of_file_answer(done, file.failed())
+            let failed = file.failed();
+            files.take_back(file);
+            Stop::of_file_answer(done, failed)
         }
     }
 }

@@ -24,12 +24,6 @@ pub record KnownFile : Type 0 where
 abbrev pub known_file : {O : Type 0} → (O → Option (List ℕ)) → (O → Bool) → O → KnownFile
 known_file bytes failed file = record { bytes = bytes file; failed = failed file }
 
--- A read of a file of this type can fail: it has failed for some file of the type. A type whose `has_failed` is false
--- for every file, such as a file in memory, can't fail.
-pub record CanFail {O : Type 0} (has_failed : O → Bool) : Type 0 where
-  pub file : O
-  pub failed : IsTrue (has_failed file)
-
 -- an opened file with all of its bytes still to be read; or the fault `Device` if there is no file
 abbrev pub opening_of : Option (List ℕ) → Result KnownFile FileFault
 opening_of None = Err Device

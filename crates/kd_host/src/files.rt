@@ -1,6 +1,6 @@
 //! `Files`: a trait for reading and opening the files that the command line names.
 ghost use Rattle.std.specs.Prelude.{◌≡◌, ◌<◌, [], ◌∷◌, ◌++◌, ℕ, false, List, Option, None, IfSome, IfOk, is_ok, length};
-ghost use Rattle.kd_host.specs.Files.{content_of, opening_of, known_file, AskedName, IsOpenAnswer};
+ghost use Rattle.kd_host.specs.Files.{content_of, opening_of, known_file, AskedName, KnownFile, IsOpenAnswer};
 ghost use Rattle.kd_tables.specs.Answers.{AgreesOrNoMemory};
 
 use crate::content::Content;
@@ -20,6 +20,9 @@ pub trait Files<'n> {
 
     /// The names asked for, in order. Beside each name: whether the file could be read or opened.
     ghost asked: { Self → List AskedName };
+
+    /// The opened file that was taken back last, as it was then.
+    ghost returned: { Self → KnownFile };
 
     /// Reads the file `name` whole.
     ///
@@ -42,5 +45,12 @@ pub trait Files<'n> {
             (known_file Self.Opened.remaining Self.Opened.has_failed) result) }
         ensures fresh { IfOk result (λ file. Self.Opened.has_failed file ≡ false) }
         ensures asked { asked self.new ≡ asked self.old ++ (name.now, is_ok result) ∷ [] }
+        ensures same { known self.new ≡ known self.old };
+
+    /// Takes back an opened file that has been read.
+    fn take_back(&mut self, file: Self::Opened)
+        ensures returned { returned self.new
+            ≡ known_file Self.Opened.remaining Self.Opened.has_failed file }
+        ensures asked { asked self.new ≡ asked self.old }
         ensures same { known self.new ≡ known self.old };
 }

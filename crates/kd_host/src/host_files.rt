@@ -15,6 +15,8 @@ use std::fs::File;
 pub struct HostFiles<'n> {
     rt: &'n HostRuntime,
     asked: AskedNames<'n>,
+    /// Whether a read of the opened file failed that was taken back last.
+    has_failed: bool,
 }
 
 impl<'n> HostFiles<'n> {
@@ -25,14 +27,19 @@ impl<'n> HostFiles<'n> {
         HostFiles {
             rt,
             asked: AskedNames::new(),
+            has_failed: false,
         }
     }
 }
 
 impl<'n> Files<'n> for HostFiles<'n> {
+    ghost use Rattle.std.specs.Prelude.{None};
+
     type Opened = HostFile;
 
     ghost asked = { λ s. s.asked };
+
+    ghost returned = { λ s. record { bytes = None; failed = s.has_failed } };
 
     fn read_content(&mut self, alloc: Global, name: &'n str) -> Result<Content, FileFault> {
         let content = read_file(self.rt, alloc, name);
@@ -44,6 +51,10 @@ impl<'n> Files<'n> for HostFiles<'n> {
         let file = open_file(self.rt, name);
         self.asked.add(name, file.is_ok());
         file
+    }
+
+    fn take_back(&mut self, file: HostFile) {
+        self.has_failed = file.failed();
     }
 }
 

@@ -1,12 +1,14 @@
 //! Laws: which files can fail.
-ghost use Rattle.kd_host.specs.Files.{CanFail};
+ghost use Rattle.std.specs.Prelude.{◌≡◌, false};
 
-use crate::memory_files::MemoryFile;
+use crate::files::Files;
+use crate::memory_files::{MemoryFile, MemoryFiles};
 use kd_tables::Source;
 
 /// No read of a file in memory fails.
 ///
 /// So a command whose files are in memory never blames a read of a file.
 pub fn files_in_memory_never_fail()
-    ensures { CanFail ⟦<MemoryFile<'static> as Source>⟧.has_failed → ⊥ }
+    ensures file { (file : _) → ⟦<MemoryFile<'static> as Source>⟧.has_failed file ≡ false }
+    ensures returned { (files : _) → (⟦<MemoryFiles<'static> as Files<'static>>⟧.returned files).failed ≡ false }
 {}

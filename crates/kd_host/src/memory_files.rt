@@ -16,6 +16,8 @@ use std::alloc::Global;
 pub struct MemoryFiles<'n> {
     files: &'n [(&'n str, &'n [u8])],
     asked: AskedNames<'n>,
+    /// What was left to read of the opened file that was taken back last.
+    rest: &'n [u8],
 }
 
 impl<'n> MemoryFiles<'n> {
@@ -27,6 +29,7 @@ impl<'n> MemoryFiles<'n> {
         MemoryFiles {
             files,
             asked: AskedNames::new(),
+            rest: &[],
         }
     }
 
@@ -49,7 +52,7 @@ impl<'n> MemoryFiles<'n> {
 }
 
 impl<'n> Files<'n> for MemoryFiles<'n> {
-    ghost use Rattle.std.specs.Prelude.{Some};
+    ghost use Rattle.std.specs.Prelude.{Some, false};
     ghost use Rattle.kd_host.specs.Files.{bytes_in_files};
 
     type Opened = MemoryFile<'n>;
@@ -57,6 +60,8 @@ impl<'n> Files<'n> for MemoryFiles<'n> {
     ghost known = { λ s. Some (bytes_in_files s.files.now) };
 
     ghost asked = { λ s. s.asked };
+
+    ghost returned = { λ s. record { bytes = Some s.rest.now; failed = false } };
 
     fn read_content(&mut self, alloc: Global, name: &'n str) -> Result<Content, FileFault> {
         let content = self.content(alloc, name);
@@ -69,6 +74,11 @@ impl<'n> Files<'n> for MemoryFiles<'n> {
         self.asked.add(name, found.is_some());
         let rest = found.ok_or(FileFault::Device)?;
         Ok(MemoryFile { rest })
+    }
+
+    fn take_back(&mut self, file: MemoryFile<'n>) {
+        let MemoryFile { rest } = file;
+        self.rest = rest;
     }
 }
 

@@ -1,4 +1,4 @@
-use Rattle.kd_desk.proofs.{Prelude.refl, Runs.{none_failed, nothing_left}}
+use Rattle.kd_desk.proofs.{Prelude.refl}
 use Rattle.kd_host.proofs.Failing.{FailureAgrees-sink}
 use Rattle.kd_desk.proofs.program.carry_out.Goals as goal
 
@@ -7,8 +7,6 @@ returns-in-Type-clause-does g c =
     let run = c.run_type.ensures in
     rw (c.in-Type.is, ← c.as_slice-machine.ensures)
     (record {
-      left = nothing_left;
-      may = none_failed;
       told = c.run_type.result;
       does = record { refused = run.refused; typed = run.typed };
       answers = c.of_answer.ensures;
@@ -18,8 +16,6 @@ pub returns-in-Apply-clause-does : goal.returns-in-Apply-clause-does
 returns-in-Apply-clause-does g c =
     let run = c.run_apply.ensures in
     rw (c.in-Apply.is, ← c.as_slice-machine.ensures, ← c.as_slice.ensures) (record {
-      left = nothing_left;
-      may = none_failed;
       told = c.run_apply.result;
       does = (record { refused = run.refused; applied = run.applied }, record { has = refl; well = refl });
       answers = c.of_answer-in-Apply.ensures;

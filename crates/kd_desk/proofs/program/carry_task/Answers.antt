@@ -1,12 +1,10 @@
-use Rattle.kd_desk.proofs.{Prelude.false, Prelude.known_file, Runs.{early, none_failed, nothing_left, refused_before}}
+use Rattle.kd_desk.proofs.{Prelude.false, Runs.{early, refused_before}}
 use Rattle.kd_desk.proofs.program.carry_task.Goals as goal
 
 pub returns-in-Card-clause-does : goal.returns-in-Card-clause-does
 returns-in-Card-clause-does g c =
     rw c.in-Card.is
     (record {
-      left = nothing_left;
-      may = none_failed;
       told = c.run_card.result;
       does = c.run_card.ensures.chosen;
       answers = c.of_answer.ensures;
@@ -16,8 +14,6 @@ pub returns-in-Check-clause-does : goal.returns-in-Check-clause-does
 returns-in-Check-clause-does g c =
     rw (c.in-Check.is, ← c.as_slice.ensures)
     (record {
-      left = nothing_left;
-      may = none_failed;
       told = c.run_check.result;
       does = c.run_check.ensures.checks;
       answers = c.of_answer-in-Check.ensures;
@@ -25,12 +21,10 @@ returns-in-Check-clause-does g c =
 
 pub returns-in-Message-clause-does : goal.returns-in-Message-clause-does
 returns-in-Message-clause-does g c =
-    rw c.in-Message.is (record {
-      left = known_file g.O.Source.remaining g.O.Source.has_failed c.carry_message-done.new.file;
-      may = λ failed. record { file = c.carry_message-done.new.file; failed = failed };
+    rw (c.in-Message.is, c.take_back.ensures.returned) (record {
       told = c.carry_message-done.result;
       does = c.carry_message-done.ensures.does;
-      answers = rw c.failed.ensures at c.of_file_answer.ensures;
+      answers = rw c.failed-failed.ensures at c.of_file_answer.ensures;
     })
 
 pub returns-in-Card-clause-untouched : goal.returns-in-Card-clause-untouched
