@@ -102,7 +102,7 @@ abbrev pub refused_look : LookFault → Refused
 refused_look looks.Device = refused_device
 refused_look looks.NoMemory = refused_whole (faults.File NoMemory)
 
--- ---- What inner functions ask of a refusal. No public contract cites this definition.
+-- ---- Whether something was written before a refusal.
 
 -- whether a command was refused after it had written something
 abbrev pub has_written : Result (Unit {0}) Refused → Bool

@@ -99,13 +99,6 @@ abbrev pub IsOpenHeading : Day → List ℕ → Option Heading → Type 0
 IsOpenHeading s part found =
     MatchOption found ((h : Heading) (body : List ℕ) → ¬ (HasHeading s part h body)) (λ h. HasHeading s part h [])
 
--- `part` is a part's first line, without its LF. `found` is the heading in it, or `None` if there is no heading.
-abbrev pub IsEndedHeading : Day → List ℕ → Option Heading → Type 0
-IsEndedHeading s part found =
-    MatchOption found
-    ((h : Heading) (body : List ℕ) → ¬ (HasHeading s (part ++ 10 ∷ []) h body))
-    (λ h. IsHeading s h × IsLineText part (line_of (heading_words h)))
-
 -- The answer to testing the heading `found`, which may be missing.
 abbrev pub IsHeadingAnswer : ℕ → Option ℕ → Option Heading → AnswerRule FormFault Heading
 IsHeadingAnswer number expected found = do

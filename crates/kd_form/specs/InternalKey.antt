@@ -33,11 +33,11 @@ pub record IsInternalKey (letters key : List ℕ) : Type 0 where
   pub picked : ArePicked letters places key
   pub first : (others other : List ℕ) → ArePicked letters others other → PrecedesOrEquals places others
 
--- ---- What the code holds. No public contract cites these definitions.
-
 -- There is no internal key: no places in `letters` satisfy `ArePicked`.
 abbrev pub HaveNoInternalKey : List ℕ → Type 0
 HaveNoInternalKey letters = (places picked : List ℕ) → ¬ (ArePicked letters places picked)
+
+-- ---- What the code holds. No public contract cites this definition.
 
 -- `key` has the letters of the first wheels. If the next wheel has `letter`, `next` is `key` with `letter` appended;
 -- otherwise `next` is `key`.

@@ -1,4 +1,4 @@
--- The pattern of a line of keys, and the letters that fill it. No public contract cites this file.
+-- The pattern of a line of keys, and the letters that fill it; days by the sort of their machine.
 use Rattle.std.specs.Prelude.{codes, ◌≡◌, ◌⊎◌, ℕ, List, [], ◌∷◌, ◌++◌, length, replicate}
 use Rattle.kd_state.specs.LineWords.{line_of}
 use Rattle.kd_state.specs.SheetDay.{Day, RotorDay, PinDay, Rotor, Pin}
@@ -6,6 +6,8 @@ use Rattle.kd_form.specs.declared.keys.Keys.{Keys}
 use Rattle.kd_form.specs.declared.keys.Keys.TheVariants.{Rotor, Pin}
 use Rattle.kd_form.specs.Keys.{AreKeys}
 use Rattle.kd_form.specs.Order.{IsKeyLine}
+
+-- ---- What a line of keys is made of. No public contract cites these definitions.
 
 -- `number` bytes `_`, each of which stands for a letter
 abbrev pub blank_places : ℕ → List ℕ
@@ -30,6 +32,8 @@ key_pattern (Pin s) = pin_pattern
 abbrev pub key_letters : Keys → List ℕ
 key_letters (Rotor k) = k.ground_setting ++ (k.message_key ++ (k.fillers ++ k.group))
 key_letters (Pin k) = k.chosen ∷ k.external
+
+-- ---- Lines of keys, and the sorts of days.
 
 -- `bytes` are a line of keys for the day's model, and the line's end.
 pub record IsAnyKeyLine (s : Day) (bytes : List ℕ) : Type 0 where

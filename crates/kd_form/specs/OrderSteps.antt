@@ -1,4 +1,4 @@
--- What `OrderReader` holds after it has read some bytes of an order. No public contract cites this file.
+-- What `OrderReader` holds after it has read some bytes of an order.
 use Rattle.std.specs.Prelude.{codes, ◌≡◌, ◌⊎◌, Result, Ok, Err, ℕ, ◌*◌, ◌<◌, ◌≤◌, List, [], ◌++◌, length, take}
 use Rattle.std.specs.Prelude.{drop, All, IsTrue}
 use Rattle.kd_tables.specs.Text.{is_text_byte}
@@ -38,6 +38,8 @@ abbrev pub IsHeadStep : Day → List Keys → List ℕ → List ℕ → HeadStep
 IsHeadStep s keys line order Open = IsHeadBegun s keys line order
 IsHeadStep s keys line order Text = IsOrder s order keys order []
 IsHeadStep s keys line order Bad = IsOrderHeadFault s order (length order)
+
+-- ---- The text behind the head. No public contract cites these definitions.
 
 -- There are keys for at most 99 parts. All are for the day's model, and suit the day.
 pub record AreSuitedKeys (s : Day) (keys : List Keys) : Type 0 where

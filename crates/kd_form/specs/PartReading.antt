@@ -1,7 +1,7 @@
 -- What one part of a form becomes: the letters of its text, or its first fault. Parts and bytes are counted
 -- from 1.
 -- Test: tests/cases/desk-messages.toml
-use Rattle.std.specs.Prelude.{◌≡◌, ℕ, ◌+◌, ◌-◌, List, length, Option, Some, None}
+use Rattle.std.specs.Prelude.{◌≡◌, ℕ, ◌+◌, ◌-◌, List, [], ◌∷◌, ◌++◌, length, Option, Some, None, MatchOption}
 use Rattle.kd_state.specs.AnswerRules.{AnswerRule, ◌>>=◌, Yields, Finds, Demands}
 use Rattle.kd_state.specs.SheetDay.{Day}
 use Rattle.kd_state.specs.LineWords.{line_of}
@@ -11,7 +11,7 @@ use Rattle.kd_form.specs.declared.heading.Heading.{Heading}
 use Rattle.kd_form.specs.Part.{heading_words}
 use Rattle.kd_form.specs.Sending.{letters_from, IsBytesAnswer}
 use Rattle.kd_form.specs.BodyCipher.{IsLettersAnswer}
-use Rattle.kd_form.specs.FormParts.{IsHeading, HasFirstLine}
+use Rattle.kd_form.specs.FormParts.{IsHeading, HasFirstLine, IsLineText}
 
 -- How a part begins. `number`: the part's number. `expected`: the number of all parts, if an earlier heading gave it.
 -- `bytes_before`: how many bytes of the form come before the part.
@@ -24,6 +24,13 @@ pub record PartStart : Type 0 where
 pub record HasHeading (s : Day) (part : List ℕ) (h : Heading) (body : List ℕ) : Type 0 where
   pub is_heading : IsHeading s h
   pub first : HasFirstLine part (line_of (heading_words h)) body
+
+-- `part` is a part's first line, without its LF. `found` is the heading in it, or `None` if there is no heading.
+abbrev pub IsEndedHeading : Day → List ℕ → Option Heading → Type 0
+IsEndedHeading s part found =
+    MatchOption found
+    ((h : Heading) (body : List ℕ) → ¬ (HasHeading s (part ++ 10 ∷ []) h body))
+    (λ h. IsHeading s h × IsLineText part (line_of (heading_words h)))
 
 -- `parts` is the number of parts that the earlier headings say. Without an earlier heading, it may be any number.
 abbrev pub IsExpectedCount : Option ℕ → ℕ → Type 0

@@ -73,11 +73,11 @@ sought_for place fault = Some (record { entry = place.entry; key = Some place.ke
 unfoldable pub line_of_fault : List ℕ → Place → SheetFault → Option ℕ
 line_of_fault text place fault = option_and_then (line_number text) (sought_for place fault)
 
+-- ---- Lines that are found one after another. No public contract cites these definitions.
+
 -- the line of a finding
 abbrev pub line_of : List ℕ → Finding → Option ℕ
 line_of text finding = line_of_fault text finding.place finding.fault
-
--- ---- Lines that are found one after another. No public contract cites these definitions.
 
 -- the first line of a finding before the byte at `end`
 unfoldable pub line_so_far : List ℕ → ℕ → Finding → Option ℕ

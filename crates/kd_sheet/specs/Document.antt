@@ -24,10 +24,6 @@ read_items parse (first ∷ rest) = do
   values ← read_items (λ earlier. parse (value ∷ earlier)) rest
   Ok (value ∷ values)
 
--- `answer` with `view` applied to its value; a fault stays as it is
-abbrev pub result_map : {A B : Type 0} → (A → B) → Result A SheetFault → Result B SheetFault
-result_map view answer = result_map_both view (λ fault. fault) answer
-
 unfoldable pub document_of : List ℕ → Result Members SheetFault
 document_of bytes = if is_utf8 bytes then ok_or (parse_document bytes) NotToml else Err NotToml
 
@@ -55,3 +51,9 @@ read_array key fits parse value = do
   items ← ok_or (as_items value) (BadValue key)
   demand (fits (length items)) (BadValue key)
   read_items parse items
+
+-- ---- What inner functions answer. No public contract cites this definition.
+
+-- `answer` with `view` applied to its value; a fault stays as it is
+abbrev pub result_map : {A B : Type 0} → (A → B) → Result A SheetFault → Result B SheetFault
+result_map view answer = result_map_both view (λ fault. fault) answer

@@ -7,7 +7,8 @@ ghost use Rattle.kd_state.specs.LineWords.{line_of, IsWithout};
 ghost use Rattle.kd_form.specs.declared.heading.Heading.{Heading};
 ghost use Rattle.kd_form.specs.Part.{fraction_text, indicator_words, heading_words};
 ghost use Rattle.kd_form.specs.FormParts.{IsFraction, IsLetterCount, IsHeading, IsLineText};
-ghost use Rattle.kd_form.specs.FormSteps.{AreFewLetters, AreHeadingWords, IsOpenHeading, IsEndedHeading};
+ghost use Rattle.kd_form.specs.FormSteps.{AreFewLetters, AreHeadingWords, IsOpenHeading};
+ghost use Rattle.kd_form.specs.PartReading.{IsEndedHeading};
 ghost use Rattle.kd_form.specs.BodyCipher.{HasIndicator};
 
 use crate::day_machine::slots_of;
