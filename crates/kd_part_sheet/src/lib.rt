@@ -2,12 +2,14 @@
 #![tactic(auto)]
 
 pub mod cells;
-pub mod filling;
+pub mod cutting;
+pub mod laws;
 mod letters_after;
 pub mod markup;
 pub mod part_sheet;
 pub mod part_work;
 mod rows;
+pub mod sheet;
 pub mod texts;
 mod windows;
-pub mod words;
+mod words;

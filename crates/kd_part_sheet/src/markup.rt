@@ -42,6 +42,10 @@ pub const WINDOW_WORDS: &str = "~: ~ ~";
 
 pub const WHEEL_WORDS: &str = "~: ~";
 
+/// A wheel of the Converter in the picture of its wheels, with its number.
+pub const WHEEL: &str =
+    "<text x=\"~\" y=\"16\" font-size=\"18\">~</text>\n<rect class=\"set\" x=\"~\" y=\"24\" width=\"40\" height=\"40\"/>\n<text class=\"bold\" x=\"~\" y=\"53\" font-size=\"26\">~</text>\n";
+
 /// The end of the title, and of the picture.
 pub const WINDOWS_TITLE_END: &str = ".</title>\n";
 
@@ -64,7 +68,24 @@ pub const FORM_GROUP: &str = "<span>";
 
 pub const FORM_GROUP_END: &str = "</span>";
 
-/// The end of an article.
+/// The end of the heading of a rotor machine's part in the form; then the groups.
+pub const FORM_KEY_END: &str = "</b></span>";
+
+pub const FORM_GROUPS: &str = "</p>\n<div class=groups>";
+
+/// The end of the key of the day that a rotor machine has to be on.
+pub const KEY_END: &str = "</b>.";
+
+/// The end of a reason, and of a box for what to ask for.
+pub const REASON_END: &str = "</p>\n";
+
+pub const ASK_END: &str = "</b></label>\n";
+
+/// The end of a section; of a part's sheet; of an article.
+pub const SECTION_END: &str = "</section>\n";
+
+pub const SHEET_END: &str = "</section>\n</article>\n";
+
 pub const ARTICLE_END: &str = "</article>\n";
 
 /// The text of a part: letters that may be broken anywhere, or words.

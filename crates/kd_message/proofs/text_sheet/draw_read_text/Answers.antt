@@ -18,5 +18,5 @@ returns g c =
     let asked = rw c.as_slice-2.ensures.value at c.draw_ask_for_lost.ensures in
     joined (both (both (both first letters) c.draw-2.ensures) warnings) asked
     (five_joined (text_begin c.args.name.model) (map (shown_byte (space_letter c.args.day.now)) c.args.shown.now.letters.items)
-    TEXT_END.now (warnings_text c.args.texts.now c.args.sheet.now (warnings_of c.args.shown.now))
-    (ask_for_lost c.args.texts.now c.args.name c.args.shown.now.letters.items))
+    TEXT_END.now (warnings_text c.args.language c.args.sheet (warnings_of c.args.shown.now))
+    (ask_for_lost c.args.language c.args.name c.args.shown.now.letters.items))
