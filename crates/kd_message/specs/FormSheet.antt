@@ -9,8 +9,7 @@ use Rattle.kd_pictures.specs.declared.language.Language.{Language}
 use Rattle.kd_pictures.specs.Language.{text_in}
 use Rattle.kd_pictures.specs.Template.{filled}
 use Rattle.kd_pictures.specs.Words.{model_name}
-use Rattle.kd_part_sheet.specs.declared.markup.TheConstants.{FORM_GROUP, FORM_GROUP_END, FORM_GROUPS, FORM_KEY_END}
-use Rattle.kd_part_sheet.specs.declared.texts.TheConstants as texts
+use Rattle.kd_message.specs.declared.texts.TheConstants as texts
 use Rattle.kd_part_sheet.specs.Rows.{pieces}
 
 -- the head of the sheet
@@ -26,7 +25,7 @@ part_head l model day part parts letters = filled (text_in l texts.FORM_PART) (
 unfoldable pub keys_text : Language → Indicator → List ℕ
 keys_text l indicator =
     text_in l texts.FORM_GROUND ++ letters_text indicator.ground_setting ++ text_in l texts.FORM_KEY
-    ++ letters_text indicator.enciphered_key ++ FORM_KEY_END.now
+    ++ letters_text indicator.enciphered_key ++ texts.FORM_KEY_END.now
 
 -- the ground and the enciphered key of a rotor machine's part
 abbrev pub indicator_text : Language → Option Indicator → List ℕ
@@ -34,7 +33,7 @@ indicator_text l (Some indicator) = keys_text l indicator
 indicator_text l None = []
 
 abbrev pub form_group : List ℕ → List ℕ
-form_group letters = FORM_GROUP.now ++ letters_text letters ++ FORM_GROUP_END.now
+form_group letters = texts.FORM_GROUP.now ++ letters_text letters ++ texts.FORM_GROUP_END.now
 
 -- what the groups of a part are
 abbrev pub part_note : Language → Option Indicator → List ℕ
@@ -45,5 +44,5 @@ part_note l None = text_in l texts.FORM_PIN_NOTE
 unfoldable pub form_part : Language → Model → ℕ → Part → List ℕ
 form_part l model day part =
     part_head l model day part.heading.part part.heading.parts part.heading.letters
-    ++ indicator_text l part.heading.indicator ++ FORM_GROUPS.now
+    ++ indicator_text l part.heading.indicator ++ texts.FORM_GROUPS.now
     ++ flat_map form_group (pieces 5 part.body) ++ part_note l part.heading.indicator

@@ -19,11 +19,11 @@ use Rattle.kd_pictures.specs.declared.language.Language.{Language}
 use Rattle.kd_pictures.specs.Language.{text_in}
 use Rattle.kd_pictures.specs.Template.{filled}
 use Rattle.kd_pictures.specs.Words.{is_converter}
-use Rattle.kd_part_sheet.specs.declared.markup.TheConstants.{ARTICLE_END, SECTION_END}
+use Rattle.kd_part_sheet.specs.declared.markup.TheConstants.{SECTION_END}
 use Rattle.kd_part_sheet.specs.declared.part_sheet.PartName.{PartName}
 use Rattle.kd_part_sheet.specs.declared.sheet.Sheet.{Sheet}
 use Rattle.kd_part_sheet.specs.declared.sheet.Sheet.TheVariants.{PinReceive, RotorReceive}
-use Rattle.kd_part_sheet.specs.declared.texts.TheConstants as texts
+use Rattle.kd_message.specs.declared.texts.TheConstants as texts
 use Rattle.kd_part_sheet.specs.PartSheet.{note, part_sheet, text_if}
 use Rattle.kd_message.specs.declared.receiving.ReceivePageFault.{ReceivePageFault}
 use Rattle.kd_message.specs.declared.receiving.ReceivePageFault.TheVariants as faults
@@ -99,7 +99,7 @@ receive_text l s parts =
     ++ section_text sections.Worked l s parts ++ text_sheet_head l s ++ order_text l parts
     ++ section_text sections.Texts l s parts
     ++ text_if (is_any_read parts) (note l (sheet_to_receive (day_model s)) (day_model s))
-    ++ ARTICLE_END.now ++ FOOT.now
+    ++ texts.ARTICLE_END.now ++ FOOT.now
 
 -- ---- What `write_receive_page` answers.
 

@@ -22,12 +22,11 @@ use Rattle.kd_pictures.specs.Language.{text_in}
 use Rattle.kd_pictures.specs.Template.{filled}
 use Rattle.kd_pictures.specs.Words.{is_converter, model_name}
 use Rattle.kd_tables.specs.declared.model.Model.{Model}
-use Rattle.kd_part_sheet.specs.declared.markup.TheConstants.{ARTICLE_END}
 use Rattle.kd_part_sheet.specs.declared.part_sheet.PartName.{PartName}
 use Rattle.kd_part_sheet.specs.declared.part_sheet.Warnings.{Warnings}
 use Rattle.kd_part_sheet.specs.declared.sheet.Sheet.{Sheet}
 use Rattle.kd_part_sheet.specs.declared.sheet.Sheet.TheVariants.{PinSend, RotorSend}
-use Rattle.kd_part_sheet.specs.declared.texts.TheConstants as texts
+use Rattle.kd_message.specs.declared.texts.TheConstants as texts
 use Rattle.kd_part_sheet.specs.PartSheet.{part_sheet}
 use Rattle.kd_part_sheet.specs.PartWork.{IsWork, Work}
 use Rattle.kd_part_sheet.specs.Rows.{pieces}
@@ -81,7 +80,7 @@ form_parts l s made = flat_map (form_part l (day_model s) (day_number s)) made
 unfoldable pub send_text : Language → Day → ℕ → List Work → List Part → List ℕ
 send_text l s parts works made =
     title_text l (text_in l texts.TITLE_TO_SEND) s ++ list_text l parts ++ part_sheets l s 1 parts works
-    ++ form_head l s ++ form_parts l s made ++ ARTICLE_END.now ++ page_texts.FOOT.now
+    ++ form_head l s ++ form_parts l s made ++ texts.ARTICLE_END.now ++ page_texts.FOOT.now
 
 -- ---- What is worked for an order, and its form.
 

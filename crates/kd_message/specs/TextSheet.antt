@@ -17,12 +17,11 @@ use Rattle.kd_pictures.specs.declared.language.Language.{Language}
 use Rattle.kd_pictures.specs.Language.{text_in}
 use Rattle.kd_pictures.specs.Template.{filled}
 use Rattle.kd_pictures.specs.Words.{is_converter, model_name}
-use Rattle.kd_part_sheet.specs.declared.markup.TheConstants.{ASK_END, COMMA, REASON_END, TEXT_END, TEXT_LETTERS}
-use Rattle.kd_part_sheet.specs.declared.markup.TheConstants.{TEXT_WORDS}
+use Rattle.kd_part_sheet.specs.declared.markup.TheConstants.{COMMA}
 use Rattle.kd_part_sheet.specs.declared.part_sheet.PartName.{PartName}
 use Rattle.kd_part_sheet.specs.declared.part_sheet.Warnings.{Warnings}
 use Rattle.kd_part_sheet.specs.declared.sheet.Sheet.{Sheet}
-use Rattle.kd_part_sheet.specs.declared.texts.TheConstants as texts
+use Rattle.kd_message.specs.declared.texts.TheConstants as texts
 use Rattle.kd_part_sheet.specs.PartSheet.{warnings_text}
 use Rattle.kd_part_sheet.specs.Rows.{pieces}
 use Rattle.kd_message.specs.ShownParts.{are_rising, numbers_of}
@@ -54,7 +53,7 @@ order_text l parts =
 
 -- a box, with what is to be asked for of this part
 unfoldable pub ask_text : Language → ℕ → List ℕ → List ℕ
-ask_text l part words = filled (text_in l texts.ASK) (decimal part ∷ []) ++ words ++ ASK_END.now
+ask_text l part words = filled (text_in l texts.ASK) (decimal part ∷ []) ++ words ++ texts.ASK_END.now
 
 -- a group, after `first`
 abbrev pub group_words : Language → List ℕ → ℕ → List ℕ
@@ -121,7 +120,7 @@ warnings_of shown = record {
 
 -- letters that may be broken anywhere or, on a Converter, words
 abbrev pub text_begin : Model → List ℕ
-text_begin model = if is_converter model then TEXT_WORDS.now else TEXT_LETTERS.now
+text_begin model = if is_converter model then texts.TEXT_WORDS.now else texts.TEXT_LETTERS.now
 
 -- the box for the groups in which letters are lost
 abbrev pub ask_for_lost : Language → PartName → List (Option ℕ) → List ℕ
@@ -133,7 +132,7 @@ ask_for_lost l name letters =
 -- the text of a part: `?` for each lost letter; then the warnings, and the groups to ask for
 unfoldable pub read_text : Language → Sheet → Day → PartName → DamagedText → List ℕ
 read_text l sheet s name shown =
-    text_begin name.model ++ map (shown_byte (space_letter s)) shown.letters.items ++ TEXT_END.now
+    text_begin name.model ++ map (shown_byte (space_letter s)) shown.letters.items ++ texts.TEXT_END.now
     ++ warnings_text l sheet (warnings_of shown) ++ ask_for_lost l name shown.letters.items
 
 -- ---- A part that isn't read.
@@ -177,7 +176,7 @@ asked_words l part damages.NoInternalKey = indicator_groups l part.came
 -- that a part isn't read, why, and what to ask for
 unfoldable pub unread_text : Language → PartName → List ℕ → List ℕ → List ℕ
 unread_text l name reason words =
-    text_in l texts.UNREAD ++ reason ++ REASON_END.now ++ ask_text l name.part words
+    text_in l texts.UNREAD ++ reason ++ texts.REASON_END.now ++ ask_text l name.part words
 
 -- a part that isn't read
 abbrev pub damage_text : Language → PartName → DamagedPart → PartDamage → List ℕ

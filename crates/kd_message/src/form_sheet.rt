@@ -6,13 +6,13 @@ ghost use Rattle.kd_part_sheet.specs.Rows.{pieces};
 ghost use Rattle.kd_message.specs.FormSheet.{form_group, form_head, form_part, indicator_text, keys_text};
 ghost use Rattle.kd_message.specs.FormSheet.{part_head, part_note};
 
+use crate::texts::{
+    FORM, FORM_GROUND, FORM_GROUP, FORM_GROUP_END, FORM_GROUPS, FORM_KEY, FORM_KEY_END, FORM_PART,
+    FORM_PIN_NOTE, FORM_ROTOR_NOTE,
+};
 use kd_form::heading::Indicator;
 use kd_part_sheet::cutting::first_piece;
-use kd_part_sheet::markup::{FORM_GROUP, FORM_GROUP_END, FORM_GROUPS, FORM_KEY_END};
 use kd_part_sheet::part_sheet::PartName;
-use kd_part_sheet::texts::{
-    FORM, FORM_GROUND, FORM_KEY, FORM_PART, FORM_PIN_NOTE, FORM_ROTOR_NOTE,
-};
 use kd_pictures::template::{Value, draw_letters, fill_in};
 use kd_pictures::{Language, draw, draw_in};
 use kd_state::SheetDay;

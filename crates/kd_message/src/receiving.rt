@@ -15,11 +15,11 @@ use crate::text_sheet::{
     draw_damage, draw_missing, draw_order, draw_read_text, draw_text_part_head,
     draw_text_sheet_head, warnings_of,
 };
+use crate::texts::{ARTICLE_END, LIST_END_WITH_TEXT, LISTED_UNREAD, TITLE_TO_RECEIVE};
 use kd_lost::{DamagedFormFault, DamagedPart, DamagedText, PartDamage, read_damaged_form};
-use kd_part_sheet::markup::{ARTICLE_END, SECTION_END};
+use kd_part_sheet::markup::SECTION_END;
 use kd_part_sheet::part_sheet::{PartName, draw_if, draw_part_sheet, note};
 use kd_part_sheet::sheet::Sheet;
-use kd_part_sheet::texts::{LIST_END_WITH_TEXT, LISTED_UNREAD, TITLE_TO_RECEIVE};
 use kd_pictures::template::{Value, fill_in};
 use kd_pictures::texts::FOOT;
 use kd_pictures::words::is_converter;

@@ -17,18 +17,17 @@ ghost use Rattle.kd_message.specs.SendPage.{send_text, text_pieces, title_text};
 
 use crate::form_sheet::{draw_form_head, draw_form_part};
 use crate::order::{read_head, take_piece};
+use crate::texts::{
+    ARTICLE_END, LIST_END_WITH_FORM, LIST_OF_ONE, LIST_OF_SEVERAL, LISTED_PART, TITLE_TO_SEND,
+};
 use kd_form::day_machine::DayMachine;
 use kd_form::keys::Keys;
 use kd_form::sending::order_head::HeadReader;
 use kd_form::sending::part::{indicator_of, pin_letters, rotor_letters};
 use kd_form::{FormFault, send};
-use kd_part_sheet::markup::ARTICLE_END;
 use kd_part_sheet::part_sheet::{PartName, Warnings, draw_part_sheet};
 use kd_part_sheet::part_work::work_of;
 use kd_part_sheet::sheet::Sheet;
-use kd_part_sheet::texts::{
-    LIST_END_WITH_FORM, LIST_OF_ONE, LIST_OF_SEVERAL, LISTED_PART, TITLE_TO_SEND,
-};
 use kd_pictures::file_head::draw_file_head;
 use kd_pictures::template::{Value, fill_in};
 use kd_pictures::texts::{BODY, FOOT, MORE_STYLE, STYLE, Text};

@@ -13,20 +13,19 @@ ghost use Rattle.kd_message.specs.TextSheet.{reason_text, text_begin, text_part_
 ghost use Rattle.kd_message.specs.TextSheet.{warnings_of};
 
 use crate::shown_parts::{are_rising, number_of};
+use crate::texts::{
+    ALL_OF_IT, ASK, ASK_END, BAD_BYTE, COPIES_DIFFER, COUNT_CAME, COUNT_END, COUNT_WRONG,
+    DID_NOT_COME, GROUP, HEADING_DAMAGED, HEADING_KEY_LOST, ITS_HEADING, KEY_LETTER_LOST,
+    KEY_NOT_ON_WHEEL, NO_INTERNAL_KEY, ORDER, ORDER_END, REASON_END, TEXT_END, TEXT_LETTERS,
+    TEXT_PART, TEXT_SHEET, TEXT_WORDS, UNREAD,
+};
 use itoa::Buffer;
 use kd_form::text_bytes::space_letter;
 use kd_lost::{DamagedPart, DamagedText, GroupTest, LostCopies, PartDamage, PartNumbers};
 use kd_part_sheet::cutting::first_piece;
-use kd_part_sheet::markup::{
-    ASK_END, COMMA, LOST_LETTER, REASON_END, SPACE, TEXT_END, TEXT_LETTERS, TEXT_WORDS,
-};
+use kd_part_sheet::markup::{COMMA, LOST_LETTER, SPACE};
 use kd_part_sheet::part_sheet::{PartName, Warnings, draw_warnings};
 use kd_part_sheet::sheet::Sheet;
-use kd_part_sheet::texts::{
-    ALL_OF_IT, ASK, BAD_BYTE, COPIES_DIFFER, COUNT_CAME, COUNT_END, COUNT_WRONG, DID_NOT_COME,
-    GROUP, HEADING_DAMAGED, HEADING_KEY_LOST, ITS_HEADING, KEY_LETTER_LOST, KEY_NOT_ON_WHEEL,
-    NO_INTERNAL_KEY, ORDER, ORDER_END, TEXT_PART, TEXT_SHEET, UNREAD,
-};
 use kd_pictures::template::{Value, draw_letter, fill_in};
 use kd_pictures::words::is_converter;
 use kd_pictures::{Language, draw, draw_in};

@@ -1,4 +1,4 @@
--- The texts in two languages take the same values.
+-- The templates of a part's sheet, and how many values each takes.
 use Rattle.std.specs.Prelude.{ℕ}
 use Rattle.kd_pictures.specs.Checked.{HasGaps, Takes}
 use Rattle.kd_part_sheet.specs.declared.markup.TheConstants as markup
@@ -10,13 +10,10 @@ abbrev pub SheetTakes : SheetText → ℕ → Type 0
 SheetTakes text number =
     Takes text.0.0 number × Takes text.0.1 number × Takes text.1.0 number × Takes text.1.1 number
 
--- all templates, each with the number of values that pages fill into it
+-- all templates, each with the number of values that a sheet fills into it
 abbrev pub TemplatesTakeTheirValues : Type 0
 TemplatesTakeTheirValues =
     SheetTakes texts.HEAD 5 × SheetTakes texts.KEY_STEP 4 × SheetTakes texts.TEXT_STEP 5 × SheetTakes texts.NEXT_STEP 4
-    × Takes texts.TITLE_TO_SEND 2 × Takes texts.TITLE_TO_RECEIVE 2 × Takes texts.LISTED_PART 3
-    × Takes texts.LISTED_UNREAD 2 × Takes texts.TEXT_SHEET 2 × Takes texts.TEXT_PART 4 × Takes texts.ASK 1
-    × Takes texts.COPIES_DIFFER 1 × Takes texts.KEY_LETTER_LOST 1 × Takes texts.REFLECTOR 1 × Takes texts.LIST 2
-    × Takes texts.WINDOW 7 × Takes texts.FORM 2 × Takes texts.FORM_PART 7
-    × HasGaps markup.ROW_BOX.now 1 × HasGaps markup.WINDOW_WORDS.now 3 × HasGaps markup.WHEEL_WORDS.now 2
-    × HasGaps markup.WHEEL.now 5 × HasGaps markup.RING.now 2
+    × Takes texts.REFLECTOR 1 × Takes texts.LIST 2 × Takes texts.WINDOW 7 × HasGaps markup.ROW_BOX.now 1
+    × HasGaps markup.WINDOW_WORDS.now 3 × HasGaps markup.WHEEL_WORDS.now 2 × HasGaps markup.WHEEL.now 5
+    × HasGaps markup.RING.now 2

@@ -1,4 +1,4 @@
-//! The sheet of one part of a message: the rows of its letters, its windows, and the fixed texts of all pages of messages.
+//! The sheet of one part of a message: the rows of its letters, its windows, and its fixed texts.
 #![tactic(auto)]
 
 pub mod cells;

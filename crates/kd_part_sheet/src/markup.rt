@@ -1,4 +1,4 @@
-//! The texts that are the same in each language: the style sheet, and the marks between values.
+//! The texts that are the same in each language: the marks of rows, and what stands between values.
 
 /// A place without a letter; letters stand exactly above each other.
 pub const NO_LETTER: &str = "\u{a0}";
@@ -63,34 +63,10 @@ pub const TWO_SPACES: &str = "\u{a0}\u{a0}";
 /// A ring: its letter, and its number.
 pub const RING: &str = "~\u{a0}~";
 
-/// A group of the form.
-pub const FORM_GROUP: &str = "<span>";
-
-pub const FORM_GROUP_END: &str = "</span>";
-
-/// The end of the heading of a rotor machine's part in the form; then the groups.
-pub const FORM_KEY_END: &str = "</b></span>";
-
-pub const FORM_GROUPS: &str = "</p>\n<div class=groups>";
-
 /// The end of the key of the day that a rotor machine has to be on.
 pub const KEY_END: &str = "</b>.";
 
-/// The end of a reason, and of a box for what to ask for.
-pub const REASON_END: &str = "</p>\n";
-
-pub const ASK_END: &str = "</b></label>\n";
-
-/// The end of a section; of a part's sheet; of an article.
+/// The end of a section, and of a part's sheet.
 pub const SECTION_END: &str = "</section>\n";
 
 pub const SHEET_END: &str = "</section>\n</article>\n";
-
-pub const ARTICLE_END: &str = "</article>\n";
-
-/// The text of a part: letters that may be broken anywhere, or words.
-pub const TEXT_LETTERS: &str = "<p class=\"text letters\">";
-
-pub const TEXT_WORDS: &str = "<p class=\"text words\">";
-
-pub const TEXT_END: &str = "</p>\n";

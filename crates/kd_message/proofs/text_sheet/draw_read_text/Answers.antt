@@ -2,7 +2,7 @@ use Rattle.std.proofs.Common.{map}
 use Rattle.kd_form.specs.Sending.{space_letter}
 use Rattle.kd_lost.specs.DamagedForm.{shown_byte}
 use Rattle.kd_pictures.proofs.Drawings.{both, joined}
-use Rattle.kd_part_sheet.specs.declared.markup.TheConstants.{TEXT_END}
+use Rattle.kd_message.specs.declared.texts.TheConstants.{TEXT_END}
 use Rattle.kd_part_sheet.specs.PartSheet.{warnings_text}
 use Rattle.kd_message.proofs.ReceivePages.{five_joined}
 use Rattle.kd_message.specs.TextSheet.{ask_for_lost, text_begin, warnings_of}
