@@ -151,8 +151,8 @@ module _ (one other : Port) (before : one.had ≡ other.had) (after : Keeps one.
       → WritesSendPage l month m number order other told
   send_kept l month m number order told (sends.NoDay none is) = sends.NoDay none is
   send_kept l month m number order told (sends.NoPage s found fault why is) = sends.NoPage s found fault why is
-  send_kept l month m number order told (sends.Page s found texts are form page ready is shown writes) =
-      sends.Page s found texts are form page ready is shown (text_kept _ _ told writes)
+  send_kept l month m number order told (sends.Page s found form page ready is shown writes) =
+      sends.Page s found form page ready is shown (text_kept _ _ told writes)
 
   receive_kept : (l : Language) (month : List (Option Day)) (m : Parts) (number : ℕ) (form : List ℕ)
       (told : Result (Unit {0}) Refused) → WritesReceivePage l month m number form one told
@@ -161,10 +161,10 @@ module _ (one other : Port) (before : one.had ≡ other.had) (after : Keeps one.
   receive_kept l month m number form told (receives.OffKey s found fault why is) = receives.OffKey s found fault why is
   receive_kept l month m number form told (receives.NotRead s found ready fault why is) =
       receives.NotRead s found ready fault why is
-  receive_kept l month m number form told (receives.Page s found texts parts read writes is) =
-      receives.Page s found texts parts read (appends_kept _ writes) is
-  receive_kept l month m number form told (receives.Cut s found texts parts read front is) =
-      receives.Cut s found texts parts read (front.0, front.1, appends_kept _ front.2) is
+  receive_kept l month m number form told (receives.Page s found parts read writes is) =
+      receives.Page s found parts read (appends_kept _ writes) is
+  receive_kept l month m number form told (receives.Cut s found parts read front is) =
+      receives.Cut s found parts read (front.0, front.1, appends_kept _ front.2) is
 
   message_kept : (kind : MessageKind) (l : Language) (month : List (Option Day)) (m : Parts) (number : ℕ)
       (message : List ℕ) (told : Result (Unit {0}) Refused) → WritesMessage kind l month m number message one told

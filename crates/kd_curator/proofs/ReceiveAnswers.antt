@@ -9,10 +9,8 @@ use Rattle.kd_form.specs.OnTheKey.{IsReadyOnKey}
 use Rattle.kd_pictures.specs.declared.language.Language.{Language}
 use Rattle.kd_message.specs.ReceivePage.{FormNotRead, IsReceivePageAnswer, ReceivedPageWritten}
 use Rattle.kd_message.specs.ReceivePage.{is_device_fault as is_page_device}
-use Rattle.kd_part_sheet.specs.Texts.{AreTexts}
 use Rattle.kd_message.specs.declared.receiving.ReceivePageFault.{ReceivePageFault}
 use Rattle.kd_message.specs.declared.receiving.ReceivePageFault.TheVariants.{NoMemory, TooManyParts, Device}
-use Rattle.kd_part_sheet.specs.declared.texts.MessageTexts.{MessageTexts}
 use Rattle.kd_curator.specs.Refusals.{has_written, is_device, refused_receive, refused_whole}
 use Rattle.kd_curator.specs.RunReceive.{Cut, NotRead, Page, WritesReceivePage}
 use Rattle.kd_curator.specs.declared.fault.PageFault.TheVariants.{LettersMissing}
@@ -24,22 +22,22 @@ receive_answer (Ok false) = Err (refused_whole LettersMissing)
 receive_answer (Err fault) = Err (refused_receive fault)
 
 pub page_told : (l : Language) (month : List (Option Day)) (m : Parts) (number : ℕ) (form : List ℕ) (sink : Port)
-    (s : Day) → day_of month number ≡ Some s → IsReadyOnKey m s → (texts : MessageTexts) → AreTexts l texts
-    → (told : Result Bool ReceivePageFault) → IsReceivePageAnswer texts s form sink told
+    (s : Day) → day_of month number ≡ Some s → IsReadyOnKey m s
+    → (told : Result Bool ReceivePageFault) → IsReceivePageAnswer l s form sink told
     → WritesReceivePage l month m number form sink (receive_answer told)
-page_told l month m number form sink s found ready texts are (Ok true)
+page_told l month m number form sink s found ready (Ok true)
     (ReceivedPageWritten parts read few writes whole failed) =
-    Page s found texts parts (record { ready = ready; in_language = are; read = read; few = few }) writes.whole
+    Page s found parts (record { ready = ready; read = read; few = few }) writes.whole
     (inl (whole.0 refl, refl))
-page_told l month m number form sink s found ready texts are (Ok false)
+page_told l month m number form sink s found ready (Ok false)
     (ReceivedPageWritten parts read few writes whole failed) =
-    Page s found texts parts (record { ready = ready; in_language = are; read = read; few = few }) writes.whole
+    Page s found parts (record { ready = ready; read = read; few = few }) writes.whole
     (inr ((λ all. false≢true (whole.1 all)), refl))
-page_told l month m number form sink s found ready texts are (Err fault)
+page_told l month m number form sink s found ready (Err fault)
     (ReceivedPageWritten parts read few writes is failed) =
-    Cut s found texts parts (record { ready = ready; in_language = are; read = read; few = few }) writes.front
+    Cut s found parts (record { ready = ready; read = read; few = few }) writes.front
     (ap (λ f. Err (refused_receive f)) is)
-page_told l month m number form sink s found ready texts are told (FormNotRead fault why is untouched) =
+page_told l month m number form sink s found ready told (FormNotRead fault why is untouched) =
     NotRead s found ready fault why (ap receive_answer is)
 
 pub device_told : (fault : ReceivePageFault)

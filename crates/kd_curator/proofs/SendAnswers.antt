@@ -6,10 +6,8 @@ use Rattle.kd_state.specs.SheetDay.{Day}
 use Rattle.kd_sheet.specs.Sheet.{day_of}
 use Rattle.kd_pictures.specs.declared.language.Language.{Language}
 use Rattle.kd_message.specs.SendPage.{IsSendPageAnswer, PageWritten, Refused as PageRefused, is_device as is_page_device}
-use Rattle.kd_part_sheet.specs.Texts.{AreTexts}
 use Rattle.kd_message.specs.declared.sending.SendPageFault.{SendPageFault}
 use Rattle.kd_message.specs.declared.sending.SendPageFault.TheVariants.{Order, Device}
-use Rattle.kd_part_sheet.specs.declared.texts.MessageTexts.{MessageTexts}
 use Rattle.kd_curator.specs.Refusals.{is_device, refused_send}
 use Rattle.kd_curator.specs.RunSend.{NoPage, Page, WritesSendPage}
 use Rattle.kd_curator.specs.declared.fault.Refused.{Refused}
@@ -19,16 +17,16 @@ send_answer (Ok done) = Ok done
 send_answer (Err fault) = Err (refused_send fault)
 
 pub page_told : (l : Language) (month : List (Option Day)) (m : Parts) (number : ℕ) (order : List ℕ) (sink : Port)
-    (s : Day) → day_of month number ≡ Some s → (texts : MessageTexts) → AreTexts l texts
-    → (told : Result (Unit {0}) SendPageFault) → IsSendPageAnswer texts m s order sink told
+    (s : Day) → day_of month number ≡ Some s
+    → (told : Result (Unit {0}) SendPageFault) → IsSendPageAnswer l m s order sink told
     → WritesSendPage l month m number order sink (send_answer told)
-page_told l month m number order sink s found texts are (Ok done) (PageWritten form page ready is shown writes device failed) =
-    Page s found texts are form page ready is shown
+page_told l month m number order sink s found (Ok done) (PageWritten form page ready is shown writes device failed) =
+    Page s found form page ready is shown
     (record { written = record { whole = writes.whole; front = tt }; device = tt })
-page_told l month m number order sink s found texts are (Err fault) (PageWritten form page ready is shown writes device failed) =
-    Page s found texts are form page ready is shown
+page_told l month m number order sink s found (Err fault) (PageWritten form page ready is shown writes device failed) =
+    Page s found form page ready is shown
     (record { written = record { whole = tt; front = writes.front }; device = ap send_answer device })
-page_told l month m number order sink s found texts are told (PageRefused fault why is untouched) =
+page_told l month m number order sink s found told (PageRefused fault why is untouched) =
     NoPage s found fault why (ap send_answer is)
 
 pub device_told : (fault : SendPageFault)

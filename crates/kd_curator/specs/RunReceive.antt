@@ -14,17 +14,13 @@ use Rattle.kd_lost.specs.declared.part.DamagedPart.{DamagedPart}
 use Rattle.kd_pictures.specs.declared.language.Language.{Language}
 use Rattle.kd_message.specs.ReceivePage.{page_fault, receive_text}
 use Rattle.kd_message.specs.ShownParts.{IsWhole}
-use Rattle.kd_part_sheet.specs.Texts.{AreTexts}
-use Rattle.kd_part_sheet.specs.declared.texts.MessageTexts.{MessageTexts}
 use Rattle.kd_curator.specs.Refusals.{refused_device, refused_receive, refused_whole}
 use Rattle.kd_curator.specs.declared.fault.PageFault.TheVariants.{LettersMissing, Message, NoSuchDay}
 use Rattle.kd_curator.specs.declared.fault.Refused.{Refused}
 
--- The machine is ready and on the day's key; `parts` is what is read of the form; `texts` are those of language `l`.
-pub record IsFormRead (l : Language) (m : Parts) (s : Day) (form : List ℕ) (texts : MessageTexts)
-    (parts : List DamagedPart) : Type 0 where
+-- The machine is ready and on the day's key; `parts` is what is read of the form.
+pub record IsFormRead (m : Parts) (s : Day) (form : List ℕ) (parts : List DamagedPart) : Type 0 where
   pub ready : IsReadyOnKey m s
-  pub in_language : AreTexts l texts
   pub read : AreReadOf s (damaged_parts_of form) parts
   pub few : length (damaged_parts_of form) ≤ 255
 
@@ -46,9 +42,9 @@ pub data WritesReceivePage (l : Language) (month : List (Option Day)) (m : Parts
   NotRead : (s : Day) → day_of month number ≡ Some s → IsReadyOnKey m s → (fault : DamagedFormFault)
       → IsFormFault (damaged_parts_of form) fault → answer ≡ Err (refused_receive (page_fault fault))
       → WritesReceivePage l month m number form sink answer
-  Page : (s : Day) → day_of month number ≡ Some s → (texts : MessageTexts) (parts : List DamagedPart)
-      → IsFormRead l m s form texts parts → Appends sink.had sink.has (receive_text texts s parts)
+  Page : (s : Day) → day_of month number ≡ Some s → (parts : List DamagedPart)
+      → IsFormRead m s form parts → Appends sink.had sink.has (receive_text l s parts)
       → IsReceivedAs parts answer → WritesReceivePage l month m number form sink answer
-  Cut : (s : Day) → day_of month number ≡ Some s → (texts : MessageTexts) (parts : List DamagedPart)
-      → IsFormRead l m s form texts parts → TakesPrefix sink.had sink.has (receive_text texts s parts)
+  Cut : (s : Day) → day_of month number ≡ Some s → (parts : List DamagedPart)
+      → IsFormRead m s form parts → TakesPrefix sink.had sink.has (receive_text l s parts)
       → answer ≡ Err refused_device → WritesReceivePage l month m number form sink answer

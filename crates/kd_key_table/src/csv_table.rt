@@ -15,10 +15,10 @@ use crate::month_table::has_numbered_rings;
 use crate::texts::{
     COLUMN_NAMES, COMMA, LIST_COLUMN_NAMES, NO_GROUPS, NO_LIST, PIN_MODEL, ROW_END,
 };
-use crate::words::{Ground, Name, RingLetter, RingNumber, Whole, draw_letters, draw_words};
+use crate::words::{Ground, Name, RingLetter, RingNumber, Whole, draw_words};
 use itoa::Buffer;
 use kd_pictures::draw;
-use kd_pictures::template::draw_letter;
+use kd_pictures::template::{draw_letter, draw_letters};
 use kd_pins::PinSet;
 use kd_sheet::Sheet;
 use kd_state::{Entry, PinEntry, RotorEntry, SheetDay, SheetWheel};

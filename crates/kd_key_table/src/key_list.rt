@@ -12,9 +12,9 @@ use crate::texts::{
     BAR, BAR_BELOW_TEN, CHECK, CHECK_END, EFFECTIVE, INEFFECTIVE, KEY_LIST, KEY_LIST_COLUMNS,
     KEY_LIST_END, NO_PIN, ROW_END,
 };
-use crate::words::{Whole, draw_letters, draw_words};
+use crate::words::{Whole, draw_words};
 use kd_pictures::fives::draw_fives;
-use kd_pictures::template::{Value, fill, fill_in};
+use kd_pictures::template::{Value, draw_letters, fill, fill_in};
 use kd_pictures::{Language, draw, draw_in};
 use kd_pins::PinSet;
 use kd_sheet::Sheet;

@@ -12,8 +12,7 @@ pub fn words_are_plain()
     ensures { WordsArePlain }
 {}
 
-/// In both languages, each template takes the values that tables fill into it.
-#[tactic(auto, using(crate::proofs::PlainWords::templates_take_their_values))]
+/// Each template takes the values that tables fill into it, in both languages.
 pub fn templates_take_their_values()
     ensures { TemplatesTakeTheirValues }
 {}

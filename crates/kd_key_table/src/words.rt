@@ -1,12 +1,11 @@
 //! The words of a cell: letters, cables, groups, wheels and rings, with a space between each two.
 ghost use Rattle.std.specs.Prelude.{ℕ, List, flat_map, true, false};
-ghost use Rattle.kd_tables.specs.Text.{letters_text};
 ghost use Rattle.kd_pictures.specs.Drawing.{Draws};
 ghost use Rattle.kd_key_table.specs.Words.{ring_text, spaced, words_text};
 
 use crate::texts::{NOTHING, SPACE};
 use kd_pictures::draw;
-use kd_pictures::template::{draw_letter, draw_ordinal};
+use kd_pictures::template::{draw_letter, draw_letters, draw_ordinal};
 use kd_state::SheetWheel;
 use kd_tables::{Letter, Reading, Sink};
 
@@ -109,16 +108,6 @@ impl CellWord<RingNumber> for SheetWheel {
 
     fn draw_word<W: Sink>(&self, sink: &mut W) {
         draw_ordinal(sink, self.ring);
-    }
-}
-
-/// Writes letters without anything between them.
-pub(crate) fn draw_letters<W: Sink>(sink: &mut W, letters: &[Letter])
-    ensures { Draws W.taken W.has_failed sink.old sink.new (letters_text letters.now) }
-{
-    if let [letter, rest @ ..] = letters {
-        draw_letter(sink, *letter);
-        draw_letters(sink, rest);
     }
 }
 

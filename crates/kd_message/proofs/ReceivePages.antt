@@ -18,7 +18,7 @@ use Rattle.kd_lost.specs.DamagedForm.{AreReadOf}
 use Rattle.kd_lost.specs.DamagedPart.{IsDamagedTextAnswer}
 use Rattle.kd_lost.specs.DamagedText.{AreTextKeys}
 use Rattle.kd_lost.proofs.PartShown.{shown_there}
-use Rattle.kd_part_sheet.specs.declared.texts.MessageTexts.{MessageTexts}
+use Rattle.kd_pictures.specs.declared.language.Language.{Language}
 use Rattle.kd_message.specs.ReceivedWork.{AreShowable}
 unfoldable use Rattle.kd_message.specs.ReceivePage.{receive_text}
 use Rattle.kd_message.specs.ReceivePage.{AreWorkable}
@@ -97,10 +97,10 @@ are_workable s (part ∷ parts) (read ∷ reads) are =
 -- ---- The page.
 
 -- a page isn't empty
-pub page_begins : (texts : MessageTexts) (s : Day) (parts : List DamagedPart)
-    → (first : ℕ) × ((rest : List ℕ) × (receive_text texts s parts ≡ first ∷ rest))
+pub page_begins : (l : Language) (s : Day) (parts : List DamagedPart)
+    → (first : ℕ) × ((rest : List ℕ) × (receive_text l s parts ≡ first ∷ rest))
 unfolding receive_text
-page_begins texts s parts = begins _ _ _
+page_begins l s parts = begins _ _ _
 
 pub five_joined : (a b c d e : List ℕ) → a ++ b ++ c ++ d ++ e ≡ (((a ++ b) ++ c) ++ d) ++ e
 five_joined a b c d e = grind (arith, append_assoc)

@@ -5,43 +5,44 @@ use Rattle.kd_tables.specs.Text.{letters_text}
 use Rattle.kd_state.specs.SheetDay.{Day, day_model, day_number}
 use Rattle.kd_form.specs.declared.heading.Indicator.{Indicator}
 use Rattle.kd_form.specs.Part.{Part}
+use Rattle.kd_pictures.specs.declared.language.Language.{Language}
+use Rattle.kd_pictures.specs.Language.{text_in}
 use Rattle.kd_pictures.specs.Template.{filled}
 use Rattle.kd_pictures.specs.Words.{model_name}
-use Rattle.kd_part_sheet.specs.declared.markup.TheConstants.{FORM_GROUP, FORM_GROUP_END}
-use Rattle.kd_part_sheet.specs.declared.texts.MessageTexts.{MessageTexts}
+use Rattle.kd_message.specs.declared.texts.TheConstants as texts
 use Rattle.kd_part_sheet.specs.Rows.{pieces}
 
 -- the head of the sheet
-abbrev pub form_head : MessageTexts → Day → List ℕ
-form_head texts s = filled texts.radio.form.now (model_name (day_model s) ∷ decimal (day_number s) ∷ [])
+abbrev pub form_head : Language → Day → List ℕ
+form_head l s = filled (text_in l texts.FORM) (model_name (day_model s) ∷ decimal (day_number s) ∷ [])
 
 -- the head of a part: its number, the number of parts, and the number of letters
-abbrev pub part_head : MessageTexts → Model → ℕ → ℕ → ℕ → ℕ → List ℕ
-part_head texts model day part parts letters = filled texts.radio.form_part.now (
+abbrev pub part_head : Language → Model → ℕ → ℕ → ℕ → ℕ → List ℕ
+part_head l model day part parts letters = filled (text_in l texts.FORM_PART) (
     decimal part ∷ decimal parts ∷ model_name model ∷ decimal day ∷ decimal part ∷ decimal parts ∷ decimal letters ∷ [])
 
 -- the ground and the enciphered key
-unfoldable pub keys_text : MessageTexts → Indicator → List ℕ
-keys_text texts indicator =
-    texts.radio.form_ground.now ++ letters_text indicator.ground_setting ++ texts.radio.form_key.now
-    ++ letters_text indicator.enciphered_key ++ texts.radio.form_key_end.now
+unfoldable pub keys_text : Language → Indicator → List ℕ
+keys_text l indicator =
+    text_in l texts.FORM_GROUND ++ letters_text indicator.ground_setting ++ text_in l texts.FORM_KEY
+    ++ letters_text indicator.enciphered_key ++ texts.FORM_KEY_END.now
 
 -- the ground and the enciphered key of a rotor machine's part
-abbrev pub indicator_text : MessageTexts → Option Indicator → List ℕ
-indicator_text texts (Some indicator) = keys_text texts indicator
-indicator_text texts None = []
+abbrev pub indicator_text : Language → Option Indicator → List ℕ
+indicator_text l (Some indicator) = keys_text l indicator
+indicator_text l None = []
 
 abbrev pub form_group : List ℕ → List ℕ
-form_group letters = FORM_GROUP.now ++ letters_text letters ++ FORM_GROUP_END.now
+form_group letters = texts.FORM_GROUP.now ++ letters_text letters ++ texts.FORM_GROUP_END.now
 
 -- what the groups of a part are
-abbrev pub part_note : MessageTexts → Option Indicator → List ℕ
-part_note texts (Some indicator) = texts.radio.form_rotor_note.now
-part_note texts None = texts.radio.form_pin_note.now
+abbrev pub part_note : Language → Option Indicator → List ℕ
+part_note l (Some indicator) = text_in l texts.FORM_ROTOR_NOTE
+part_note l None = text_in l texts.FORM_PIN_NOTE
 
 -- a part of the form: what its heading says, and its letters in groups of five
-unfoldable pub form_part : MessageTexts → Model → ℕ → Part → List ℕ
-form_part texts model day part =
-    part_head texts model day part.heading.part part.heading.parts part.heading.letters
-    ++ indicator_text texts part.heading.indicator ++ texts.radio.form_groups.now
-    ++ flat_map form_group (pieces 5 part.body) ++ part_note texts part.heading.indicator
+unfoldable pub form_part : Language → Model → ℕ → Part → List ℕ
+form_part l model day part =
+    part_head l model day part.heading.part part.heading.parts part.heading.letters
+    ++ indicator_text l part.heading.indicator ++ texts.FORM_GROUPS.now
+    ++ flat_map form_group (pieces 5 part.body) ++ part_note l part.heading.indicator

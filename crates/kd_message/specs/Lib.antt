@@ -1,3 +1,4 @@
+pub mod Checked
 pub mod ReceivedWork
 pub mod FormSheet
 pub mod SendPage

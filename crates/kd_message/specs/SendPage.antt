@@ -16,14 +16,17 @@ use Rattle.kd_form.specs.PartMaking.{IsKeysAnswer, IsPartMade, part_size}
 use Rattle.kd_form.specs.Sending.{IsFormOf, IsReadAnswer, IsSendFault, OrderParts, text_letters}
 use Rattle.kd_form.specs.Streams.{IsUntouched}
 use Rattle.kd_pictures.specs.declared.texts.TheConstants as page_texts
+use Rattle.kd_pictures.specs.declared.language.Language.{Language}
+use Rattle.kd_pictures.specs.FileHead.{file_head}
+use Rattle.kd_pictures.specs.Language.{text_in}
 use Rattle.kd_pictures.specs.Template.{filled}
 use Rattle.kd_pictures.specs.Words.{is_converter, model_name}
 use Rattle.kd_tables.specs.declared.model.Model.{Model}
-use Rattle.kd_part_sheet.specs.declared.markup.TheConstants.{ARTICLE_END}
 use Rattle.kd_part_sheet.specs.declared.part_sheet.PartName.{PartName}
 use Rattle.kd_part_sheet.specs.declared.part_sheet.Warnings.{Warnings}
-use Rattle.kd_part_sheet.specs.declared.texts.MessageTexts.{MessageTexts}
-use Rattle.kd_part_sheet.specs.declared.texts.SheetTexts.{SheetTexts}
+use Rattle.kd_part_sheet.specs.declared.sheet.Sheet.{Sheet}
+use Rattle.kd_part_sheet.specs.declared.sheet.Sheet.TheVariants.{PinSend, RotorSend}
+use Rattle.kd_message.specs.declared.texts.TheConstants as texts
 use Rattle.kd_part_sheet.specs.PartSheet.{part_sheet}
 use Rattle.kd_part_sheet.specs.PartWork.{IsWork, Work}
 use Rattle.kd_part_sheet.specs.Rows.{pieces}
@@ -32,52 +35,52 @@ use Rattle.kd_message.specs.declared.sending.SendPageFault.TheVariants.{Order, D
 use Rattle.kd_message.specs.FormSheet.{form_head, form_part}
 
 -- the head of the file, with the title that the template `title` gives
-unfoldable pub title_text : MessageTexts → List ℕ → Day → List ℕ
-title_text texts title s =
-    texts.sheets.head.now ++ filled title (model_name (day_model s) ∷ decimal (day_number s) ∷ [])
+unfoldable pub title_text : Language → List ℕ → Day → List ℕ
+title_text l title s =
+    file_head l ++ filled title (model_name (day_model s) ∷ decimal (day_number s) ∷ [])
     ++ page_texts.STYLE.now ++ page_texts.MORE_STYLE.now ++ page_texts.BODY.now
 
 -- a part in the list of the sheets
-abbrev pub listed_text : MessageTexts → ℕ → ℕ → List ℕ
-listed_text texts parts part = filled texts.sheets.listed_part.now (decimal part ∷ decimal part ∷ decimal parts ∷ [])
+abbrev pub listed_text : Language → ℕ → ℕ → List ℕ
+listed_text l parts part = filled (text_in l texts.LISTED_PART) (decimal part ∷ decimal part ∷ decimal parts ∷ [])
 
-abbrev pub list_head : MessageTexts → ℕ → List ℕ
-list_head texts parts = if parts == 1 then texts.sheets.list_of_one.now else texts.sheets.list_of_several.now
+abbrev pub list_head : Language → ℕ → List ℕ
+list_head l parts = if parts == 1 then text_in l texts.LIST_OF_ONE else text_in l texts.LIST_OF_SEVERAL
 
 -- the list of the sheets: the parts, and the form
-unfoldable pub list_text : MessageTexts → ℕ → List ℕ
-list_text texts parts =
-    list_head texts parts ++ flat_map (listed_text texts parts) (range_with_len 1 parts) ++ texts.sheets.list_end_with_form.now
+unfoldable pub list_text : Language → ℕ → List ℕ
+list_text l parts =
+    list_head l parts ++ flat_map (listed_text l parts) (range_with_len 1 parts) ++ text_in l texts.LIST_END_WITH_FORM
 
 abbrev pub part_name : Day → ℕ → ℕ → PartName
 part_name s part parts = record { model = day_model s; day = day_number s; part = part; parts = parts }
 
-abbrev pub send_texts : MessageTexts → Model → SheetTexts
-send_texts texts model = if is_converter model then texts.pin_send else texts.rotor_send
+abbrev pub sheet_to_send : Model → Sheet
+sheet_to_send model = if is_converter model then PinSend else RotorSend
 
 -- a part that is sent has no warnings
 abbrev pub no_warnings : Warnings
 no_warnings = record { letters_lost = false; copies_lost = false; wrong_day = false; not_tested = false }
 
 -- the sheet of a part that is sent
-abbrev pub send_sheet : MessageTexts → Day → PartName → Work → List ℕ
-send_sheet texts s name work = part_sheet texts (send_texts texts (day_model s)) s name no_warnings work
+abbrev pub send_sheet : Language → Day → PartName → Work → List ℕ
+send_sheet l s name work = part_sheet l (sheet_to_send (day_model s)) s name no_warnings work
 
 -- the sheets of the parts from number `part` on
-abbrev pub part_sheets : MessageTexts → Day → ℕ → ℕ → List Work → List ℕ
-part_sheets texts s part parts [] = []
-part_sheets texts s part parts (work ∷ works) =
-    send_sheet texts s (part_name s part parts) work ++ part_sheets texts s (part + 1) parts works
+abbrev pub part_sheets : Language → Day → ℕ → ℕ → List Work → List ℕ
+part_sheets l s part parts [] = []
+part_sheets l s part parts (work ∷ works) =
+    send_sheet l s (part_name s part parts) work ++ part_sheets l s (part + 1) parts works
 
 -- the parts of the form
-abbrev pub form_parts : MessageTexts → Day → List Part → List ℕ
-form_parts texts s made = flat_map (form_part texts (day_model s) (day_number s)) made
+abbrev pub form_parts : Language → Day → List Part → List ℕ
+form_parts l s made = flat_map (form_part l (day_model s) (day_number s)) made
 
 -- the file: a sheet on which each part is worked, and the form
-unfoldable pub send_text : MessageTexts → Day → ℕ → List Work → List Part → List ℕ
-send_text texts s parts works made =
-    title_text texts texts.sheets.title_to_send.now s ++ list_text texts parts ++ part_sheets texts s 1 parts works ++ form_head texts s
-    ++ form_parts texts s made ++ ARTICLE_END.now ++ page_texts.FOOT.now
+unfoldable pub send_text : Language → Day → ℕ → List Work → List Part → List ℕ
+send_text l s parts works made =
+    title_text l (text_in l texts.TITLE_TO_SEND) s ++ list_text l parts ++ part_sheets l s 1 parts works
+    ++ form_head l s ++ form_parts l s made ++ texts.ARTICLE_END.now ++ page_texts.FOOT.now
 
 -- ---- What is worked for an order, and its form.
 
@@ -103,8 +106,9 @@ AreMade s part parts (k ∷ keys) [] made = ⊥
 abbrev pub text_pieces : Day → List ℕ → List (List ℕ)
 text_pieces s text = pieces (part_size s) (text_letters s text)
 
--- `page` is the page for sending the order. It shows what is worked for each part, and the parts of the order's form.
-pub record IsSendPage (texts : MessageTexts) (s : Day) (order form page : List ℕ) : Type 0 where
+-- `page` is the page for sending the order, in language `l`. It shows what is worked for each part, and the parts of the
+-- order's form.
+pub record IsSendPage (l : Language) (s : Day) (order form page : List ℕ) : Type 0 where
   pub parts : OrderParts
   pub read : IsReadAnswer s order (Ok parts)
   pub works : List Work
@@ -112,7 +116,7 @@ pub record IsSendPage (texts : MessageTexts) (s : Day) (order form page : List �
   pub made : List Part
   pub are_made : AreMade s 1 (length parts.keys) parts.keys (text_pieces s parts.text) made
   pub is_form : form ≡ flat_map part_text made
-  pub is_page : page ≡ send_text texts s (length parts.keys) works made
+  pub is_page : page ≡ send_text l s (length parts.keys) works made
 
 -- ---- What `write_send_page` answers.
 
@@ -129,14 +133,14 @@ is_device _ = false
 
 -- `PageWritten`: the order has a form, and the page was written; or only a prefix of it, since the sink failed.
 -- `Refused`: nothing was written.
-pub data IsSendPageAnswer (texts : MessageTexts) (m : Parts) (s : Day) (order : List ℕ) (sink : Port)
+pub data IsSendPageAnswer (l : Language) (m : Parts) (s : Day) (order : List ℕ) (sink : Port)
     (answer : Result (Unit {0}) SendPageFault) : Type 0 where
-  PageWritten : (form page : List ℕ) → IsReadyOnKey m s → IsFormOf s order form → IsSendPage texts s order form page
+  PageWritten : (form page : List ℕ) → IsReadyOnKey m s → IsFormOf s order form → IsSendPage l s order form page
       → Writes sink.had sink.has page answer → OnErr answer (answer ≡ Err Device)
       → sink.has_failed ≡ (sink.had_failed || is_err answer)
-      → IsSendPageAnswer texts m s order sink answer
+      → IsSendPageAnswer l m s order sink answer
   Refused : (fault : FormFault) → IsSendRefusal m s order fault → answer ≡ Err (Order fault) → IsUntouched sink
-      → IsSendPageAnswer texts m s order sink answer
+      → IsSendPageAnswer l m s order sink answer
 
 -- ---- What the code holds. No public contract cites these definitions.
 

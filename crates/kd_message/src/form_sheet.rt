@@ -1,29 +1,31 @@
 //! The sheet with the form for the radio. It has neither the keys nor the text.
-ghost use Rattle.std.specs.Prelude.{◌≡◌, ◌+◌, ◌≤◌, ◌∷◌, flat_map, length};
+ghost use Rattle.std.specs.Prelude.{◌≡◌, ◌≤◌, flat_map, length};
 ghost use Rattle.kd_form.specs.PartMaking.{part_of};
 ghost use Rattle.kd_pictures.specs.Drawing.{Draws};
 ghost use Rattle.kd_part_sheet.specs.Rows.{pieces};
 ghost use Rattle.kd_message.specs.FormSheet.{form_group, form_head, form_part, indicator_text, keys_text};
 ghost use Rattle.kd_message.specs.FormSheet.{part_head, part_note};
 
+use crate::texts::{
+    FORM, FORM_GROUND, FORM_GROUP, FORM_GROUP_END, FORM_GROUPS, FORM_KEY, FORM_KEY_END, FORM_PART,
+    FORM_PIN_NOTE, FORM_ROTOR_NOTE,
+};
 use kd_form::heading::Indicator;
-use kd_part_sheet::filling::fill;
-use kd_part_sheet::markup::{FORM_GROUP, FORM_GROUP_END};
+use kd_part_sheet::cutting::first_piece;
 use kd_part_sheet::part_sheet::PartName;
-use kd_part_sheet::texts::MessageTexts;
-use kd_part_sheet::words::draw_letters;
-use kd_pictures::draw;
-use kd_pictures::template::Value;
+use kd_pictures::template::{Value, draw_letters, fill_in};
+use kd_pictures::{Language, draw, draw_in};
 use kd_state::SheetDay;
 use kd_tables::{Letter, Sink};
 
 /// Writes the head of the sheet.
-pub(crate) fn draw_form_head<W: Sink>(sink: &mut W, texts: &MessageTexts, day: &SheetDay)
-    ensures { Draws W.taken W.has_failed sink.old sink.new (form_head texts.now day.now) }
+pub(crate) fn draw_form_head<W: Sink>(sink: &mut W, language: Language, day: &SheetDay)
+    ensures { Draws W.taken W.has_failed sink.old sink.new (form_head language day.now) }
 {
-    fill(
+    fill_in(
         sink,
-        texts.radio.form,
+        language,
+        FORM,
         &[
             Value::Model(day.model()),
             Value::Number(u16::from(day.day())),
@@ -34,31 +36,32 @@ pub(crate) fn draw_form_head<W: Sink>(sink: &mut W, texts: &MessageTexts, day: &
 /// Writes a part of the form: its heading, and its letters in groups of five.
 pub(crate) fn draw_form_part<W: Sink>(
     sink: &mut W,
-    texts: &MessageTexts,
+    language: Language,
     name: PartName,
     indicator: &Option<Indicator>,
     letters: &[Letter],
 )
     requires { length letters.now ≤ 520 }
     ensures { Draws W.taken W.has_failed sink.old sink.new
-        (form_part texts.now name.model name.day
+        (form_part language name.model name.day
         (part_of name.part name.parts indicator.now letters.now)) }
 {
-    draw_part_head(sink, texts, name, letters.len());
-    draw_indicator(sink, texts, indicator);
-    draw(sink, texts.radio.form_groups);
+    draw_part_head(sink, language, name, letters.len());
+    draw_indicator(sink, language, indicator);
+    draw(sink, FORM_GROUPS);
     draw_form_groups(sink, letters);
-    draw(sink, part_note(texts, indicator));
+    draw(sink, part_note(language, indicator));
 }
 
-fn draw_part_head<W: Sink>(sink: &mut W, texts: &MessageTexts, name: PartName, letters: usize)
+fn draw_part_head<W: Sink>(sink: &mut W, language: Language, name: PartName, letters: usize)
     requires { letters ≤ 520 }
     ensures { Draws W.taken W.has_failed sink.old sink.new
-        (part_head texts.now name.model name.day name.part name.parts letters) }
+        (part_head language name.model name.day name.part name.parts letters) }
 {
-    fill(
+    fill_in(
         sink,
-        texts.radio.form_part,
+        language,
+        FORM_PART,
         &[
             Value::Number(u16::from(name.part)),
             Value::Number(u16::from(name.parts)),
@@ -72,25 +75,25 @@ fn draw_part_head<W: Sink>(sink: &mut W, texts: &MessageTexts, name: PartName, l
 }
 
 /// Writes the ground and the enciphered key of a rotor machine's part.
-fn draw_indicator<W: Sink>(sink: &mut W, texts: &MessageTexts, indicator: &Option<Indicator>)
+fn draw_indicator<W: Sink>(sink: &mut W, language: Language, indicator: &Option<Indicator>)
     ensures { Draws W.taken W.has_failed sink.old sink.new
-        (indicator_text texts.now indicator.now) }
+        (indicator_text language indicator.now) }
 {
     match indicator {
-        Some(indicator) => draw_keys(sink, texts, indicator),
+        Some(indicator) => draw_keys(sink, language, indicator),
         None => draw(sink, ""),
     }
 }
 
-fn draw_keys<W: Sink>(sink: &mut W, texts: &MessageTexts, indicator: &Indicator)
+fn draw_keys<W: Sink>(sink: &mut W, language: Language, indicator: &Indicator)
     ensures { Draws W.taken W.has_failed sink.old sink.new
-        (keys_text texts.now indicator.now) }
+        (keys_text language indicator.now) }
 {
-    draw(sink, texts.radio.form_ground);
+    draw_in(sink, language, FORM_GROUND);
     draw_letters(sink, indicator.ground_setting.as_slice());
-    draw(sink, texts.radio.form_key);
+    draw_in(sink, language, FORM_KEY);
     draw_letters(sink, indicator.enciphered_key.as_slice());
-    draw(sink, texts.radio.form_key_end);
+    draw(sink, FORM_KEY_END);
 }
 
 /// Writes letters in groups of five.
@@ -99,20 +102,10 @@ fn draw_form_groups<W: Sink>(sink: &mut W, letters: &[Letter])
         (flat_map form_group (pieces 5 letters.now)) }
 {
     if !letters.is_empty() {
-        let (group, rest) = first_group(letters);
+        let (group, rest) = first_piece(letters, 5);
         draw_form_group(sink, group);
         draw_form_groups(sink, rest);
     }
-}
-
-/// Splits `letters` after the first five, or after the last letter if there are fewer.
-fn first_group(letters: &[Letter]) -> (&[Letter], &[Letter])
-    requires { 1 ≤ length letters.now }
-    ensures pieces { pieces 5 letters.now ≡ result.0.now ∷ pieces 5 result.1.now }
-    ensures some { 1 ≤ length result.0.now }
-    ensures len { length result.0.now + length result.1.now ≡ length letters.now }
-{
-    letters.split_at(letters.len().min(5))
 }
 
 fn draw_form_group<W: Sink>(sink: &mut W, letters: &[Letter])
@@ -124,11 +117,11 @@ fn draw_form_group<W: Sink>(sink: &mut W, letters: &[Letter])
 }
 
 /// What the groups of a part are.
-fn part_note(texts: &MessageTexts, indicator: &Option<Indicator>) -> &'static str
-    ensures { result.now ≡ part_note texts.now indicator.now }
+fn part_note(language: Language, indicator: &Option<Indicator>) -> &'static str
+    ensures { result.now ≡ part_note language indicator.now }
 {
     match indicator {
-        Some(_) => texts.radio.form_rotor_note,
-        None => texts.radio.form_pin_note,
+        Some(_) => language.text(FORM_ROTOR_NOTE),
+        None => language.text(FORM_PIN_NOTE),
     }
 }

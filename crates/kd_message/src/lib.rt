@@ -9,6 +9,7 @@ mod receiving;
 mod sending;
 mod shown_parts;
 mod text_sheet;
+pub mod texts;
 
 pub use kd_pictures::Language;
 pub use receiving::{ReceivePageFault, write_receive_page};

@@ -3,29 +3,27 @@ ghost use Rattle.std.specs.Prelude.{◌≡◌, ◌≤◌, ◌+◌, ◌||◌, [],
 ghost use Rattle.std.specs.List.{range_with_len};
 ghost use Rattle.kd_tables.specs.Ports.{port};
 ghost use Rattle.kd_pictures.specs.Drawing.{Draws};
-ghost use Rattle.kd_part_sheet.specs.declared.texts.MessageTexts.{MessageTexts};
-ghost use Rattle.kd_part_sheet.specs.Texts.{AreTexts};
 ghost use Rattle.kd_message.specs.ReceivedWork.{AreShowable};
-ghost use Rattle.kd_message.specs.ReceivePage.{AreWorkable, IsReceivePageAnswer, listed_text, listed_unread, missing_in};
-ghost use Rattle.kd_message.specs.ReceivePage.{number_in, page_fault, part_in, receive_text, receive_texts, section_text};
-ghost use Rattle.kd_message.specs.ReceivePage.{is_device_fault, text_or_damage, worked_text};
+ghost use Rattle.kd_message.specs.ReceivePage.{AreWorkable, IsReceivePageAnswer, is_device_fault, listed_text};
+ghost use Rattle.kd_message.specs.ReceivePage.{listed_unread, missing_in, number_in, page_fault, part_in, receive_text};
+ghost use Rattle.kd_message.specs.ReceivePage.{section_text, sheet_to_receive, text_or_damage, worked_text};
 
 use crate::received_work::received_work;
-use crate::sending::{draw_title, list_head, part_name};
+use crate::sending::{draw_listed_part, draw_title, list_head, part_name};
 use crate::shown_parts::{is_any_read, is_whole, last_of, shown_under, total_of};
 use crate::text_sheet::{
     draw_damage, draw_missing, draw_order, draw_read_text, draw_text_part_head,
-    draw_text_sheet_head, text_note, warnings_of,
+    draw_text_sheet_head, warnings_of,
 };
+use crate::texts::{ARTICLE_END, LIST_END_WITH_TEXT, LISTED_UNREAD, TITLE_TO_RECEIVE};
 use kd_lost::{DamagedFormFault, DamagedPart, DamagedText, PartDamage, read_damaged_form};
-use kd_part_sheet::filling::fill;
-use kd_part_sheet::markup::ARTICLE_END;
-use kd_part_sheet::part_sheet::{PartName, draw_if, draw_part_sheet};
-use kd_part_sheet::texts::{MessageTexts, SheetTexts, message_texts};
-use kd_pictures::template::Value;
+use kd_part_sheet::markup::SECTION_END;
+use kd_part_sheet::part_sheet::{PartName, draw_if, draw_part_sheet, note};
+use kd_part_sheet::sheet::Sheet;
+use kd_pictures::template::{Value, fill_in};
 use kd_pictures::texts::FOOT;
 use kd_pictures::words::is_converter;
-use kd_pictures::{Language, draw};
+use kd_pictures::{Language, draw, draw_in};
 use kd_state::SheetDay;
 use kd_tables::{Model, Sink};
 use std::alloc::Global;
@@ -52,18 +50,16 @@ pub fn write_receive_page<W: Sink>(
     form: &[u8],
     sink: &mut W,
 ) -> Result<bool, ReceivePageFault>
-    ensures page { (texts : MessageTexts) × AreTexts language texts
-        × IsReceivePageAnswer texts day.now form.now
+    ensures page { IsReceivePageAnswer language day.now form.now
         (port W.taken W.has_failed sink.old sink.new) result }
     ensures untouched { IsErr result → is_device_fault result ≡ false → sink.new ≡ sink.old }
     ensures failed { W.has_failed sink.new ≡ (W.has_failed sink.old || is_device_fault result) }
 {
-    let texts = message_texts(language);
     let parts = match read_damaged_form(alloc, day, form) {
         Ok(parts) => parts,
         Err(fault) => return Err(page_fault(fault)),
     };
-    draw_page(sink, &texts, day, parts.as_slice());
+    draw_page(sink, language, day, parts.as_slice());
     if sink.failed() {
         Err(ReceivePageFault::Device)
     } else {
@@ -92,21 +88,25 @@ pub(crate) enum Section {
 }
 
 /// Writes the page of a form of which `parts` were read.
-fn draw_page<W: Sink>(sink: &mut W, texts: &MessageTexts, day: &SheetDay, parts: &[DamagedPart])
+fn draw_page<W: Sink>(sink: &mut W, language: Language, day: &SheetDay, parts: &[DamagedPart])
     requires few { length parts.now ≤ 255 }
     requires workable { AreWorkable day.now parts.now }
     ensures { Draws W.taken W.has_failed sink.old sink.new
-        (receive_text texts.now day.now parts.now) }
+        (receive_text language day.now parts.now) }
 {
-    draw_title(sink, texts, texts.sheets.title_to_receive, day);
-    draw(sink, list_head(texts, last_of(parts)));
-    draw_section(sink, Section::Listed, texts, day, parts);
-    draw(sink, texts.sheets.list_end_with_text);
-    draw_section(sink, Section::Worked, texts, day, parts);
-    draw_text_sheet_head(sink, texts, day);
-    draw_order(sink, texts, parts);
-    draw_section(sink, Section::Texts, texts, day, parts);
-    draw_if(sink, is_any_read(parts), text_note(texts, day.model()));
+    draw_title(sink, language, TITLE_TO_RECEIVE, day);
+    draw(sink, list_head(language, last_of(parts)));
+    draw_section(sink, Section::Listed, language, day, parts);
+    draw_in(sink, language, LIST_END_WITH_TEXT);
+    draw_section(sink, Section::Worked, language, day, parts);
+    draw_text_sheet_head(sink, language, day);
+    draw_order(sink, language, parts);
+    draw_section(sink, Section::Texts, language, day, parts);
+    draw_if(
+        sink,
+        is_any_read(parts),
+        note(language, sheet_to_receive(day.model()), day.model()),
+    );
     draw(sink, ARTICLE_END);
     draw(sink, FOOT);
 }
@@ -115,23 +115,23 @@ fn draw_page<W: Sink>(sink: &mut W, texts: &MessageTexts, day: &SheetDay, parts:
 fn draw_section<W: Sink>(
     sink: &mut W,
     section: Section,
-    texts: &MessageTexts,
+    language: Language,
     day: &SheetDay,
     parts: &[DamagedPart],
 )
     requires few { length parts.now ≤ 255 }
     requires workable { AreWorkable day.now parts.now }
     ensures { Draws W.taken W.has_failed sink.old sink.new
-        (section_text section texts.now day.now parts.now) }
+        (section_text section language day.now parts.now) }
 {
-    draw_numbers(sink, section, texts, day, parts, 1, last_of(parts));
+    draw_numbers(sink, section, language, day, parts, 1, last_of(parts));
 }
 
 /// Writes what a section has for the `count` numbers from `number` on.
 fn draw_numbers<W: Sink>(
     sink: &mut W,
     section: Section,
-    texts: &MessageTexts,
+    language: Language,
     day: &SheetDay,
     parts: &[DamagedPart],
     number: u16,
@@ -141,11 +141,11 @@ fn draw_numbers<W: Sink>(
     requires workable { AreWorkable day.now parts.now }
     requires numbers { number + count ≤ 256 }
     ensures { Draws W.taken W.has_failed sink.old sink.new
-        (flat_map (number_in section texts.now day.now parts.now) (range_with_len number count)) }
+        (flat_map (number_in section language day.now parts.now) (range_with_len number count)) }
 {
     if count > 0 {
-        draw_number(sink, section, texts, day, parts, number);
-        draw_numbers(sink, section, texts, day, parts, number + 1, count - 1);
+        draw_number(sink, section, language, day, parts, number);
+        draw_numbers(sink, section, language, day, parts, number + 1, count - 1);
     }
 }
 
@@ -153,7 +153,7 @@ fn draw_numbers<W: Sink>(
 fn draw_number<W: Sink>(
     sink: &mut W,
     section: Section,
-    texts: &MessageTexts,
+    language: Language,
     day: &SheetDay,
     parts: &[DamagedPart],
     number: u16,
@@ -162,13 +162,13 @@ fn draw_number<W: Sink>(
     requires workable { AreWorkable day.now parts.now }
     requires number { number ≤ 255 }
     ensures { Draws W.taken W.has_failed sink.old sink.new
-        (number_in section texts.now day.now parts.now number) }
+        (number_in section language day.now parts.now number) }
 {
     let total = total_of(parts);
     let name = part_name(day, number as u8, total);
     match shown_under(parts, number) {
-        Some(part) => draw_part(sink, section, texts, day, name, part),
-        None => draw_missing_if(sink, number <= u16::from(total), section, texts, name),
+        Some(part) => draw_part(sink, section, language, day, name, part),
+        None => draw_missing_if(sink, number <= u16::from(total), section, language, name),
     }
 }
 
@@ -176,52 +176,45 @@ fn draw_number<W: Sink>(
 fn draw_part<W: Sink>(
     sink: &mut W,
     section: Section,
-    texts: &MessageTexts,
+    language: Language,
     day: &SheetDay,
     name: PartName,
     part: &DamagedPart,
 )
     requires { IfOk part.now.text (λ shown. AreShowable day.now shown.keys) }
     ensures { Draws W.taken W.has_failed sink.old sink.new
-        (part_in section texts.now day.now name part.now) }
+        (part_in section language day.now name part.now) }
 {
     match section {
-        Section::Listed => draw_listed(sink, texts, name, &part.text),
-        Section::Worked => draw_worked(sink, texts, day, name, &part.text),
-        Section::Texts => draw_part_text(sink, texts, day, name, part),
+        Section::Listed => draw_listed(sink, language, name, &part.text),
+        Section::Worked => draw_worked(sink, language, day, name, &part.text),
+        Section::Texts => draw_part_text(sink, language, day, name, part),
     }
 }
 
 /// Writes a part in the list of the sheets.
 fn draw_listed<W: Sink>(
     sink: &mut W,
-    texts: &MessageTexts,
+    language: Language,
     name: PartName,
     text: &Result<DamagedText, PartDamage>,
 )
-    ensures { Draws W.taken W.has_failed sink.old sink.new (listed_text texts.now name text.now) }
+    ensures { Draws W.taken W.has_failed sink.old sink.new (listed_text language name text.now) }
 {
     match text {
-        Ok(_) => fill(
-            sink,
-            texts.sheets.listed_part,
-            &[
-                Value::Number(u16::from(name.part)),
-                Value::Number(u16::from(name.part)),
-                Value::Number(u16::from(name.parts)),
-            ],
-        ),
-        Err(_) => draw_listed_unread(sink, texts, name),
+        Ok(_) => draw_listed_part(sink, language, name.part, name.parts),
+        Err(_) => draw_listed_unread(sink, language, name),
     }
 }
 
 /// Writes a part that isn't read in the list of the sheets.
-fn draw_listed_unread<W: Sink>(sink: &mut W, texts: &MessageTexts, name: PartName)
-    ensures { Draws W.taken W.has_failed sink.old sink.new (listed_unread texts.now name) }
+fn draw_listed_unread<W: Sink>(sink: &mut W, language: Language, name: PartName)
+    ensures { Draws W.taken W.has_failed sink.old sink.new (listed_unread language name) }
 {
-    fill(
+    fill_in(
         sink,
-        texts.sheets.listed_unread,
+        language,
+        LISTED_UNREAD,
         &[
             Value::Number(u16::from(name.part)),
             Value::Number(u16::from(name.parts)),
@@ -232,20 +225,20 @@ fn draw_listed_unread<W: Sink>(sink: &mut W, texts: &MessageTexts, name: PartNam
 /// Writes the sheet on which a part is worked, if it is read.
 fn draw_worked<W: Sink>(
     sink: &mut W,
-    texts: &MessageTexts,
+    language: Language,
     day: &SheetDay,
     name: PartName,
     text: &Result<DamagedText, PartDamage>,
 )
     requires { IfOk text.now (λ shown. AreShowable day.now shown.keys) }
     ensures { Draws W.taken W.has_failed sink.old sink.new
-        (worked_text texts.now day.now name text.now) }
+        (worked_text language day.now name text.now) }
 {
     match text {
         Ok(shown) => draw_part_sheet(
             sink,
-            texts,
-            receive_texts(texts, day.model()),
+            language,
+            sheet_to_receive(day.model()),
             day,
             name,
             warnings_of(shown),
@@ -255,48 +248,48 @@ fn draw_worked<W: Sink>(
     }
 }
 
-fn receive_texts(texts: &MessageTexts, model: Model) -> &SheetTexts
-    ensures { result.now ≡ receive_texts texts.now model }
+fn sheet_to_receive(model: Model) -> Sheet
+    ensures { result ≡ sheet_to_receive model }
 {
     if is_converter(model) {
-        &texts.pin_receive
+        Sheet::PinReceive
     } else {
-        &texts.rotor_receive
+        Sheet::RotorReceive
     }
 }
 
 /// Writes a part of the text: its head, and its text or why it isn't read.
 fn draw_part_text<W: Sink>(
     sink: &mut W,
-    texts: &MessageTexts,
+    language: Language,
     day: &SheetDay,
     name: PartName,
     part: &DamagedPart,
 )
     ensures { Draws W.taken W.has_failed sink.old sink.new
-        (part_in Section.Texts texts.now day.now name part.now) }
+        (part_in Section.Texts language day.now name part.now) }
 {
-    draw_text_part_head(sink, texts, name);
-    draw_text_or_damage(sink, texts, day, name, part);
-    draw(sink, texts.plaintext.text_part_end);
+    draw_text_part_head(sink, language, name);
+    draw_text_or_damage(sink, language, day, name, part);
+    draw(sink, SECTION_END);
 }
 
 fn draw_text_or_damage<W: Sink>(
     sink: &mut W,
-    texts: &MessageTexts,
+    language: Language,
     day: &SheetDay,
     name: PartName,
     part: &DamagedPart,
 )
     ensures { Draws W.taken W.has_failed sink.old sink.new
-        (text_or_damage texts.now day.now name part.now part.now.text) }
+        (text_or_damage language day.now name part.now part.now.text) }
 {
     match &part.text {
         Ok(shown) => {
-            let sheet = receive_texts(texts, day.model());
-            draw_read_text(sink, texts, sheet, day, name, shown)
+            let sheet = sheet_to_receive(day.model());
+            draw_read_text(sink, language, sheet, day, name, shown)
         }
-        Err(damage) => draw_damage(sink, texts, name, part, *damage),
+        Err(damage) => draw_damage(sink, language, name, part, *damage),
     }
 }
 
@@ -305,35 +298,35 @@ fn draw_missing_if<W: Sink>(
     sink: &mut W,
     is_missing: bool,
     section: Section,
-    texts: &MessageTexts,
+    language: Language,
     name: PartName,
 )
     ensures { Draws W.taken W.has_failed sink.old sink.new
-        (if is_missing then missing_in section texts.now name else []) }
+        (if is_missing then missing_in section language name else []) }
 {
     if is_missing {
-        draw_missing_in(sink, section, texts, name);
+        draw_missing_in(sink, section, language, name);
     } else {
         draw(sink, "");
     }
 }
 
 /// Writes what a section has for a part that didn't come.
-fn draw_missing_in<W: Sink>(sink: &mut W, section: Section, texts: &MessageTexts, name: PartName)
-    ensures { Draws W.taken W.has_failed sink.old sink.new (missing_in section texts.now name) }
+fn draw_missing_in<W: Sink>(sink: &mut W, section: Section, language: Language, name: PartName)
+    ensures { Draws W.taken W.has_failed sink.old sink.new (missing_in section language name) }
 {
     match section {
-        Section::Listed => draw_listed_unread(sink, texts, name),
+        Section::Listed => draw_listed_unread(sink, language, name),
         Section::Worked => draw(sink, ""),
-        Section::Texts => draw_missing_text(sink, texts, name),
+        Section::Texts => draw_missing_text(sink, language, name),
     }
 }
 
-fn draw_missing_text<W: Sink>(sink: &mut W, texts: &MessageTexts, name: PartName)
+fn draw_missing_text<W: Sink>(sink: &mut W, language: Language, name: PartName)
     ensures { Draws W.taken W.has_failed sink.old sink.new
-        (missing_in Section.Texts texts.now name) }
+        (missing_in Section.Texts language name) }
 {
-    draw_text_part_head(sink, texts, name);
-    draw_missing(sink, texts, name);
-    draw(sink, texts.plaintext.text_part_end);
+    draw_text_part_head(sink, language, name);
+    draw_missing(sink, language, name);
+    draw(sink, SECTION_END);
 }

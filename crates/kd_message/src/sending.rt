@@ -7,31 +7,32 @@ ghost use Rattle.kd_form.specs.Part.{Part};
 ghost use Rattle.kd_form.specs.Sending.{IsFormOf};
 ghost use Rattle.kd_form.specs.PartMaking.{IsKeysAnswer, IsPartMade, part_size};
 ghost use Rattle.kd_pictures.specs.Drawing.{Draws};
-ghost use Rattle.kd_part_sheet.specs.declared.texts.MessageTexts.{MessageTexts};
+ghost use Rattle.kd_pictures.specs.Language.{in_language};
 ghost use Rattle.kd_part_sheet.specs.PartWork.{Work};
-ghost use Rattle.kd_part_sheet.specs.Texts.{AreTexts};
 ghost use Rattle.kd_message.specs.FormSheet.{form_part};
 ghost use Rattle.kd_message.specs.SendPage.{AreKeysOfText, AreMade, AreWorks, HasForm, IsSendPage, IsSendPageAnswer};
 ghost use Rattle.kd_message.specs.SendPage.{form_parts, is_device, list_head, list_text, listed_text, part_name};
-ghost use Rattle.kd_message.specs.SendPage.{part_sheets, send_texts};
+ghost use Rattle.kd_message.specs.SendPage.{part_sheets, sheet_to_send};
 ghost use Rattle.kd_message.specs.SendPage.{send_text, text_pieces, title_text};
 
 use crate::form_sheet::{draw_form_head, draw_form_part};
 use crate::order::{read_head, take_piece};
+use crate::texts::{
+    ARTICLE_END, LIST_END_WITH_FORM, LIST_OF_ONE, LIST_OF_SEVERAL, LISTED_PART, TITLE_TO_SEND,
+};
 use kd_form::day_machine::DayMachine;
 use kd_form::keys::Keys;
 use kd_form::sending::order_head::HeadReader;
 use kd_form::sending::part::{indicator_of, pin_letters, rotor_letters};
 use kd_form::{FormFault, send};
-use kd_part_sheet::filling::fill;
-use kd_part_sheet::markup::ARTICLE_END;
 use kd_part_sheet::part_sheet::{PartName, Warnings, draw_part_sheet};
 use kd_part_sheet::part_work::work_of;
-use kd_part_sheet::texts::{MessageTexts, SheetTexts, message_texts};
-use kd_pictures::template::Value;
-use kd_pictures::texts::{BODY, FOOT, MORE_STYLE, STYLE};
+use kd_part_sheet::sheet::Sheet;
+use kd_pictures::file_head::draw_file_head;
+use kd_pictures::template::{Value, fill_in};
+use kd_pictures::texts::{BODY, FOOT, MORE_STYLE, STYLE, Text};
 use kd_pictures::words::is_converter;
-use kd_pictures::{Language, draw};
+use kd_pictures::{Language, draw, draw_in};
 use kd_state::{Machine, SheetDay};
 use kd_tables::{Letter, Model, Sink};
 use std::alloc::Global;
@@ -68,15 +69,13 @@ pub fn write_send_page<W: Sink>(
     order: &[u8],
     sink: &mut W,
 ) -> Result<(), SendPageFault>
-    ensures page { (texts : MessageTexts) × AreTexts language texts
-        × IsSendPageAnswer texts machine.now day.now order.now
+    ensures page { IsSendPageAnswer language machine.now day.now order.now
         (port W.taken W.has_failed sink.old sink.new) result }
     ensures untouched { IsErr result → is_device result ≡ false → sink.new ≡ sink.old }
     ensures failed { W.has_failed sink.new ≡ (W.has_failed sink.old || is_device result) }
 {
-    let texts = message_texts(language);
     send(alloc, machine, day, order)?;
-    draw_page(sink, &texts, day, order);
+    draw_page(sink, language, day, order);
     if sink.failed() {
         Err(SendPageFault::Device)
     } else {
@@ -85,50 +84,45 @@ pub fn write_send_page<W: Sink>(
 }
 
 /// Writes the page of an order that `send` accepts.
-fn draw_page<W: Sink>(sink: &mut W, texts: &MessageTexts, day: &SheetDay, order: &[u8])
+fn draw_page<W: Sink>(sink: &mut W, language: Language, day: &SheetDay, order: &[u8])
     requires { HasForm day.now order.now }
     ensures { (form : List ℕ) → IsFormOf day.now order.now form
-        → (page : List ℕ) × IsSendPage texts.now day.now order.now form page
+        → (page : List ℕ) × IsSendPage language day.now order.now form page
         × Draws W.taken W.has_failed sink.old sink.new page }
 {
     let mut reader = HeadReader::new();
     let text = read_head(&mut reader, day, order);
-    draw_file(sink, texts, day, reader.keys(), text);
+    draw_file(sink, language, day, reader.keys(), text);
 }
 
 /// Writes the page of an order with these keys and this text.
-fn draw_file<W: Sink>(
-    sink: &mut W,
-    texts: &MessageTexts,
-    day: &SheetDay,
-    keys: &[Keys],
-    text: &[u8],
-)
+fn draw_file<W: Sink>(sink: &mut W, language: Language, day: &SheetDay, keys: &[Keys], text: &[u8])
     requires { AreKeysOfText day.now 1 (length keys.now) keys.now text.now }
     ensures { (works : List Work) × (made : List Part)
         × AreWorks day.now keys.now (text_pieces day.now text.now) works
         × AreMade day.now 1 (length keys.now) keys.now (text_pieces day.now text.now) made
         × Draws W.taken W.has_failed sink.old sink.new
-        (send_text texts.now day.now (length keys.now) works made) }
+        (send_text language day.now (length keys.now) works made) }
 {
     let parts = keys.len() as u8;
-    draw_title(sink, texts, texts.sheets.title_to_send, day);
-    draw_list(sink, texts, parts);
-    draw_part_sheets(sink, texts, day, 1, parts, keys, text);
-    draw_form_head(sink, texts, day);
-    draw_form_parts(sink, texts, day, 1, parts, keys, text);
+    draw_title(sink, language, TITLE_TO_SEND, day);
+    draw_list(sink, language, parts);
+    draw_part_sheets(sink, language, day, 1, parts, keys, text);
+    draw_form_head(sink, language, day);
+    draw_form_parts(sink, language, day, 1, parts, keys, text);
     draw(sink, ARTICLE_END);
     draw(sink, FOOT);
 }
 
 /// Writes the head of the file, with the title that the template `title` gives.
-pub(crate) fn draw_title<W: Sink>(sink: &mut W, texts: &MessageTexts, title: &str, day: &SheetDay)
+pub(crate) fn draw_title<W: Sink>(sink: &mut W, language: Language, title: Text, day: &SheetDay)
     ensures { Draws W.taken W.has_failed sink.old sink.new
-        (title_text texts.now title.now day.now) }
+        (title_text language (in_language language title.entry.0.now title.entry.1.now) day.now) }
 {
-    draw(sink, texts.sheets.head);
-    fill(
+    draw_file_head(sink, language);
+    fill_in(
         sink,
+        language,
         title,
         &[
             Value::Model(day.model()),
@@ -141,44 +135,45 @@ pub(crate) fn draw_title<W: Sink>(sink: &mut W, texts: &MessageTexts, title: &st
 }
 
 /// Writes the list of the sheets.
-fn draw_list<W: Sink>(sink: &mut W, texts: &MessageTexts, parts: u8)
+fn draw_list<W: Sink>(sink: &mut W, language: Language, parts: u8)
     requires { parts ≤ 99 }
-    ensures { Draws W.taken W.has_failed sink.old sink.new (list_text texts.now parts) }
+    ensures { Draws W.taken W.has_failed sink.old sink.new (list_text language parts) }
 {
-    draw(sink, list_head(texts, u16::from(parts)));
-    draw_listed(sink, texts, 1, parts, parts);
-    draw(sink, texts.sheets.list_end_with_form);
+    draw(sink, list_head(language, u16::from(parts)));
+    draw_listed(sink, language, 1, parts, parts);
+    draw_in(sink, language, LIST_END_WITH_FORM);
 }
 
 /// The head of the list of the sheets, for this many parts.
-pub(crate) fn list_head(texts: &MessageTexts, parts: u16) -> &'static str
-    ensures { result.now ≡ list_head texts.now parts }
+pub(crate) fn list_head(language: Language, parts: u16) -> &'static str
+    ensures { result.now ≡ list_head language parts }
 {
     if parts == 1 {
-        texts.sheets.list_of_one
+        language.text(LIST_OF_ONE)
     } else {
-        texts.sheets.list_of_several
+        language.text(LIST_OF_SEVERAL)
     }
 }
 
 /// Writes `count` parts of the list, from part number `part` on.
-fn draw_listed<W: Sink>(sink: &mut W, texts: &MessageTexts, part: u8, parts: u8, count: u8)
+fn draw_listed<W: Sink>(sink: &mut W, language: Language, part: u8, parts: u8, count: u8)
     requires { part + count ≤ 100 }
     ensures { Draws W.taken W.has_failed sink.old sink.new
-        (flat_map (listed_text texts.now parts) (range_with_len part count)) }
+        (flat_map (listed_text language parts) (range_with_len part count)) }
 {
     if count > 0 {
-        draw_listed_part(sink, texts, part, parts);
-        draw_listed(sink, texts, part + 1, parts, count - 1);
+        draw_listed_part(sink, language, part, parts);
+        draw_listed(sink, language, part + 1, parts, count - 1);
     }
 }
 
-fn draw_listed_part<W: Sink>(sink: &mut W, texts: &MessageTexts, part: u8, parts: u8)
-    ensures { Draws W.taken W.has_failed sink.old sink.new (listed_text texts.now parts part) }
+pub(crate) fn draw_listed_part<W: Sink>(sink: &mut W, language: Language, part: u8, parts: u8)
+    ensures { Draws W.taken W.has_failed sink.old sink.new (listed_text language parts part) }
 {
-    fill(
+    fill_in(
         sink,
-        texts.sheets.listed_part,
+        language,
+        LISTED_PART,
         &[
             Value::Number(u16::from(part)),
             Value::Number(u16::from(part)),
@@ -190,7 +185,7 @@ fn draw_listed_part<W: Sink>(sink: &mut W, texts: &MessageTexts, part: u8, parts
 /// Writes the sheets on which the parts from number `part` on are worked.
 fn draw_part_sheets<W: Sink>(
     sink: &mut W,
-    texts: &MessageTexts,
+    language: Language,
     day: &SheetDay,
     part: u8,
     parts: u8,
@@ -200,21 +195,21 @@ fn draw_part_sheets<W: Sink>(
     requires { AreKeysOfText day.now part parts keys.now text.now }
     ensures { (works : List Work) × AreWorks day.now keys.now (text_pieces day.now text.now) works
         × Draws W.taken W.has_failed sink.old sink.new
-        (part_sheets texts.now day.now part parts works) }
+        (part_sheets language day.now part parts works) }
 {
     if let [first, rest @ ..] = keys {
         let (piece, later) = take_piece(day, text);
         let work = work_of(day, part, first, piece.as_slice());
         draw_part_sheet(
             sink,
-            texts,
-            send_texts(texts, day.model()),
+            language,
+            sheet_to_send(day.model()),
             day,
             part_name(day, part, parts),
             NO_WARNINGS,
             &work,
         );
-        draw_part_sheets(sink, texts, day, part + 1, parts, rest, later);
+        draw_part_sheets(sink, language, day, part + 1, parts, rest, later);
     }
 }
 
@@ -226,13 +221,13 @@ const NO_WARNINGS: Warnings = Warnings {
     not_tested: false,
 };
 
-fn send_texts(texts: &MessageTexts, model: Model) -> &SheetTexts
-    ensures { result.now ≡ send_texts texts.now model }
+fn sheet_to_send(model: Model) -> Sheet
+    ensures { result ≡ sheet_to_send model }
 {
     if is_converter(model) {
-        &texts.pin_send
+        Sheet::PinSend
     } else {
-        &texts.rotor_send
+        Sheet::RotorSend
     }
 }
 
@@ -250,7 +245,7 @@ pub(crate) fn part_name(day: &SheetDay, part: u8, parts: u8) -> PartName
 /// Writes the parts of the form from number `part` on.
 fn draw_form_parts<W: Sink>(
     sink: &mut W,
-    texts: &MessageTexts,
+    language: Language,
     day: &SheetDay,
     part: u8,
     parts: u8,
@@ -260,26 +255,26 @@ fn draw_form_parts<W: Sink>(
     requires { AreKeysOfText day.now part parts keys.now text.now }
     ensures { (made : List Part)
         × AreMade day.now part parts keys.now (text_pieces day.now text.now) made
-        × Draws W.taken W.has_failed sink.old sink.new (form_parts texts.now day.now made) }
+        × Draws W.taken W.has_failed sink.old sink.new (form_parts language day.now made) }
 {
     if let [first, rest @ ..] = keys {
         let (piece, later) = take_piece(day, text);
         draw_made_part(
             sink,
-            texts,
+            language,
             day,
             part_name(day, part, parts),
             first,
             piece.as_slice(),
         );
-        draw_form_parts(sink, texts, day, part + 1, parts, rest, later);
+        draw_form_parts(sink, language, day, part + 1, parts, rest, later);
     }
 }
 
 /// Writes the part of the form that `text` becomes with `keys`.
 fn draw_made_part<W: Sink>(
     sink: &mut W,
-    texts: &MessageTexts,
+    language: Language,
     day: &SheetDay,
     name: PartName,
     keys: &Keys,
@@ -290,18 +285,18 @@ fn draw_made_part<W: Sink>(
     requires few { length text.now ≤ part_size day.now }
     ensures { (one : Part) × IsPartMade day.now name.part name.parts keys.now text.now one
         × Draws W.taken W.has_failed sink.old sink.new
-        (form_part texts.now name.model name.day one) }
+        (form_part language name.model name.day one) }
 {
     let mut machine = DayMachine::new(day);
     match keys {
         Keys::Rotor(keys) => {
             let indicator = indicator_of(&mut machine, keys);
             let letters = rotor_letters(&mut machine, keys, text);
-            draw_form_part(sink, texts, name, &Some(indicator), letters.as_slice());
+            draw_form_part(sink, language, name, &Some(indicator), letters.as_slice());
         }
         Keys::Pin(keys) => {
             let letters = pin_letters(&mut machine, keys, text);
-            draw_form_part(sink, texts, name, &None, letters.as_slice());
+            draw_form_part(sink, language, name, &None, letters.as_slice());
         }
     }
 }

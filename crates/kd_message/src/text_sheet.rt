@@ -9,30 +9,37 @@ ghost use Rattle.kd_message.specs.TextSheet.{ask_for_lost, ask_text, asked_words
 ghost use Rattle.kd_message.specs.TextSheet.{first_text_group, group_words, has_lost, heading_count, indicator_groups};
 ghost use Rattle.kd_message.specs.TextSheet.{indicator_place, is_copy_lost, is_not_tested, is_wrong_day, key_letter_groups};
 ghost use Rattle.kd_message.specs.TextSheet.{lost_groups, missing_text, numbers_after, order_text, order_words, read_text};
-ghost use Rattle.kd_message.specs.TextSheet.{reason_text, text_begin, text_note, text_part_head, text_sheet_head};
+ghost use Rattle.kd_message.specs.TextSheet.{reason_text, text_begin, text_part_head, text_sheet_head};
 ghost use Rattle.kd_message.specs.TextSheet.{warnings_of};
 
 use crate::shown_parts::{are_rising, number_of};
+use crate::texts::{
+    ALL_OF_IT, ASK, ASK_END, BAD_BYTE, COPIES_DIFFER, COUNT_CAME, COUNT_END, COUNT_WRONG,
+    DID_NOT_COME, GROUP, HEADING_DAMAGED, HEADING_KEY_LOST, ITS_HEADING, KEY_LETTER_LOST,
+    KEY_NOT_ON_WHEEL, NO_INTERNAL_KEY, ORDER, ORDER_END, REASON_END, TEXT_END, TEXT_LETTERS,
+    TEXT_PART, TEXT_SHEET, TEXT_WORDS, UNREAD,
+};
 use itoa::Buffer;
 use kd_form::text_bytes::space_letter;
 use kd_lost::{DamagedPart, DamagedText, GroupTest, LostCopies, PartDamage, PartNumbers};
-use kd_part_sheet::filling::fill;
-use kd_part_sheet::markup::{COMMA, LOST_LETTER, SPACE, TEXT_END, TEXT_LETTERS, TEXT_WORDS};
+use kd_part_sheet::cutting::first_piece;
+use kd_part_sheet::markup::{COMMA, LOST_LETTER, SPACE};
 use kd_part_sheet::part_sheet::{PartName, Warnings, draw_warnings};
-use kd_part_sheet::texts::{MessageTexts, SheetTexts};
-use kd_pictures::draw;
-use kd_pictures::template::{Value, draw_letter};
+use kd_part_sheet::sheet::Sheet;
+use kd_pictures::template::{Value, draw_letter, fill_in};
 use kd_pictures::words::is_converter;
+use kd_pictures::{Language, draw, draw_in};
 use kd_state::SheetDay;
 use kd_tables::{Letter, Model, Sink};
 
 /// Writes the head of the sheet.
-pub(crate) fn draw_text_sheet_head<W: Sink>(sink: &mut W, texts: &MessageTexts, day: &SheetDay)
-    ensures { Draws W.taken W.has_failed sink.old sink.new (text_sheet_head texts.now day.now) }
+pub(crate) fn draw_text_sheet_head<W: Sink>(sink: &mut W, language: Language, day: &SheetDay)
+    ensures { Draws W.taken W.has_failed sink.old sink.new (text_sheet_head language day.now) }
 {
-    fill(
+    fill_in(
         sink,
-        texts.plaintext.text,
+        language,
+        TEXT_SHEET,
         &[
             Value::Model(day.model()),
             Value::Number(u16::from(day.day())),
@@ -41,26 +48,26 @@ pub(crate) fn draw_text_sheet_head<W: Sink>(sink: &mut W, texts: &MessageTexts, 
 }
 
 /// Writes the order in which the parts came, if it isn't that of their numbers.
-pub(crate) fn draw_order<W: Sink>(sink: &mut W, texts: &MessageTexts, parts: &[DamagedPart])
+pub(crate) fn draw_order<W: Sink>(sink: &mut W, language: Language, parts: &[DamagedPart])
     requires { length parts.now ≤ 255 }
-    ensures { Draws W.taken W.has_failed sink.old sink.new (order_text texts.now parts.now) }
+    ensures { Draws W.taken W.has_failed sink.old sink.new (order_text language parts.now) }
 {
     if are_rising(0, 1, parts) {
         draw(sink, "");
     } else {
-        draw_order_words(sink, texts, parts);
+        draw_order_words(sink, language, parts);
     }
 }
 
 /// Writes that the parts came in the order of their numbers here.
-fn draw_order_words<W: Sink>(sink: &mut W, texts: &MessageTexts, parts: &[DamagedPart])
+fn draw_order_words<W: Sink>(sink: &mut W, language: Language, parts: &[DamagedPart])
     requires { length parts.now ≤ 255 }
     ensures { Draws W.taken W.has_failed sink.old sink.new
-        (order_words texts.now (numbers_of parts.now)) }
+        (order_words language (numbers_of parts.now)) }
 {
-    draw(sink, texts.plaintext.order);
+    draw_in(sink, language, ORDER);
     draw_numbers(sink, "", 1, parts);
-    draw(sink, texts.plaintext.order_end);
+    draw_in(sink, language, ORDER_END);
 }
 
 /// Writes the numbers of `parts`, which stand from `place` on, the first after `first`.
@@ -77,12 +84,13 @@ fn draw_numbers<W: Sink>(sink: &mut W, first: &str, place: u16, parts: &[Damaged
 }
 
 /// Writes the head of a part of the text.
-pub(crate) fn draw_text_part_head<W: Sink>(sink: &mut W, texts: &MessageTexts, name: PartName)
-    ensures { Draws W.taken W.has_failed sink.old sink.new (text_part_head texts.now name) }
+pub(crate) fn draw_text_part_head<W: Sink>(sink: &mut W, language: Language, name: PartName)
+    ensures { Draws W.taken W.has_failed sink.old sink.new (text_part_head language name) }
 {
-    fill(
+    fill_in(
         sink,
-        texts.plaintext.text_part,
+        language,
+        TEXT_PART,
         &[
             Value::Number(u16::from(name.part)),
             Value::Number(u16::from(name.parts)),
@@ -95,20 +103,20 @@ pub(crate) fn draw_text_part_head<W: Sink>(sink: &mut W, texts: &MessageTexts, n
 /// Writes the text of a part, its warnings, and the groups to ask for.
 pub(crate) fn draw_read_text<W: Sink>(
     sink: &mut W,
-    texts: &MessageTexts,
-    sheet: &SheetTexts,
+    language: Language,
+    sheet: Sheet,
     day: &SheetDay,
     name: PartName,
     shown: &DamagedText,
 )
     ensures { Draws W.taken W.has_failed sink.old sink.new
-        (read_text texts.now sheet.now day.now name shown.now) }
+        (read_text language sheet day.now name shown.now) }
 {
     draw(sink, text_begin(name.model));
     draw_letters_shown(sink, &space_letter(day), shown.letters.as_slice());
     draw(sink, TEXT_END);
-    draw_warnings(sink, texts, sheet, warnings_of(shown));
-    draw_ask_for_lost(sink, texts, name, shown.letters.as_slice());
+    draw_warnings(sink, language, sheet, warnings_of(shown));
+    draw_ask_for_lost(sink, language, name, shown.letters.as_slice());
 }
 
 /// What stands before the text.
@@ -198,16 +206,16 @@ fn has_lost(letters: &[Option<Letter>]) -> bool
 /// Writes the box for the groups in which letters are lost, if there are such groups.
 fn draw_ask_for_lost<W: Sink>(
     sink: &mut W,
-    texts: &MessageTexts,
+    language: Language,
     name: PartName,
     letters: &[Option<Letter>],
 )
     requires { length letters.now ≤ 500 }
     ensures { Draws W.taken W.has_failed sink.old sink.new
-        (ask_for_lost texts.now name letters.now) }
+        (ask_for_lost language name letters.now) }
 {
     if has_lost(letters) {
-        draw_ask_groups(sink, texts, name, letters);
+        draw_ask_groups(sink, language, name, letters);
     } else {
         draw(sink, "");
     }
@@ -215,22 +223,18 @@ fn draw_ask_for_lost<W: Sink>(
 
 fn draw_ask_groups<W: Sink>(
     sink: &mut W,
-    texts: &MessageTexts,
+    language: Language,
     name: PartName,
     letters: &[Option<Letter>],
 )
     requires { length letters.now ≤ 500 }
     ensures { Draws W.taken W.has_failed sink.old sink.new
-        (ask_text texts.now name.part
-        (lost_groups texts.now [] (first_text_group name.model) (pieces 5 letters.now))) }
+        (ask_text language name.part
+        (lost_groups language [] (first_text_group name.model) (pieces 5 letters.now))) }
 {
-    fill(
-        sink,
-        texts.asking.ask,
-        &[Value::Number(u16::from(name.part))],
-    );
-    draw_lost_groups(sink, texts, "", first_text_group(name.model), letters);
-    draw(sink, texts.asking.ask_end);
+    fill_in(sink, language, ASK, &[Value::Number(u16::from(name.part))]);
+    draw_lost_groups(sink, language, "", first_text_group(name.model), letters);
+    draw(sink, ASK_END);
 }
 
 /// The number of the group with which the text begins.
@@ -243,44 +247,33 @@ fn first_text_group(model: Model) -> usize
 /// Writes the numbers of the groups of `letters` in which letters are lost, the first after `first`.
 fn draw_lost_groups<W: Sink>(
     sink: &mut W,
-    texts: &MessageTexts,
+    language: Language,
     first: &str,
     number: usize,
     letters: &[Option<Letter>],
 )
     requires { number + length letters.now ≤ 1000 }
     ensures { Draws W.taken W.has_failed sink.old sink.new
-        (lost_groups texts.now first.now number (pieces 5 letters.now)) }
+        (lost_groups language first.now number (pieces 5 letters.now)) }
 {
     if !letters.is_empty() {
-        let (group, rest) = first_group(letters);
+        let (group, rest) = first_piece(letters, 5);
         if has_lost(group) {
-            draw_group_words(sink, texts, first, number);
-            draw_lost_groups(sink, texts, COMMA, number + 1, rest);
+            draw_group_words(sink, language, first, number);
+            draw_lost_groups(sink, language, COMMA, number + 1, rest);
         } else {
-            draw_lost_groups(sink, texts, first, number + 1, rest);
+            draw_lost_groups(sink, language, first, number + 1, rest);
         }
     }
 }
 
-/// Splits `letters` after the first five, or after the last letter if there are fewer.
-#[tactic(auto, using(kd_part_sheet::proofs::Pieces::first_pieces))]
-fn first_group(letters: &[Option<Letter>]) -> (&[Option<Letter>], &[Option<Letter>])
-    requires { 1 ≤ length letters.now }
-    ensures pieces { pieces 5 letters.now ≡ result.0.now ∷ pieces 5 result.1.now }
-    ensures some { 1 ≤ length result.0.now }
-    ensures len { length result.0.now + length result.1.now ≡ length letters.now }
-{
-    letters.split_at(letters.len().min(5))
-}
-
 /// Writes a group's number, after `first`.
-fn draw_group_words<W: Sink>(sink: &mut W, texts: &MessageTexts, first: &str, number: usize)
+fn draw_group_words<W: Sink>(sink: &mut W, language: Language, first: &str, number: usize)
     ensures { Draws W.taken W.has_failed sink.old sink.new
-        (group_words texts.now first.now number) }
+        (group_words language first.now number) }
 {
     draw(sink, first);
-    draw(sink, texts.asking.group);
+    draw_in(sink, language, GROUP);
     draw_count(sink, number);
 }
 
@@ -291,89 +284,83 @@ fn draw_count<W: Sink>(sink: &mut W, number: usize)
 }
 
 /// Writes that a part didn't come.
-pub(crate) fn draw_missing<W: Sink>(sink: &mut W, texts: &MessageTexts, name: PartName)
-    ensures { Draws W.taken W.has_failed sink.old sink.new (missing_text texts.now name) }
+pub(crate) fn draw_missing<W: Sink>(sink: &mut W, language: Language, name: PartName)
+    ensures { Draws W.taken W.has_failed sink.old sink.new (missing_text language name) }
 {
-    draw(sink, texts.reasons.unread);
-    draw(sink, texts.reasons.did_not_come);
-    draw(sink, texts.reasons.reason_end);
-    draw_ask(sink, texts, name, texts.asking.all_of_it);
+    draw_in(sink, language, UNREAD);
+    draw_in(sink, language, DID_NOT_COME);
+    draw(sink, REASON_END);
+    draw_ask(sink, language, name, language.text(ALL_OF_IT));
 }
 
 /// Writes the box for `words`.
-fn draw_ask<W: Sink>(sink: &mut W, texts: &MessageTexts, name: PartName, words: &str)
+fn draw_ask<W: Sink>(sink: &mut W, language: Language, name: PartName, words: &str)
     ensures { Draws W.taken W.has_failed sink.old sink.new
-        (ask_text texts.now name.part words.now) }
+        (ask_text language name.part words.now) }
 {
-    fill(
-        sink,
-        texts.asking.ask,
-        &[Value::Number(u16::from(name.part))],
-    );
+    fill_in(sink, language, ASK, &[Value::Number(u16::from(name.part))]);
     draw(sink, words);
-    draw(sink, texts.asking.ask_end);
+    draw(sink, ASK_END);
 }
 
 /// Writes why a part isn't read, and what to ask for.
 pub(crate) fn draw_damage<W: Sink>(
     sink: &mut W,
-    texts: &MessageTexts,
+    language: Language,
     name: PartName,
     part: &DamagedPart,
     damage: PartDamage,
 )
     ensures { Draws W.taken W.has_failed sink.old sink.new
-        (damage_text texts.now name part.now damage) }
+        (damage_text language name part.now damage) }
 {
-    draw(sink, texts.reasons.unread);
-    draw_reason(sink, texts, part, damage);
-    draw(sink, texts.reasons.reason_end);
-    fill(
-        sink,
-        texts.asking.ask,
-        &[Value::Number(u16::from(name.part))],
-    );
-    draw_asked(sink, texts, part, damage);
-    draw(sink, texts.asking.ask_end);
+    draw_in(sink, language, UNREAD);
+    draw_reason(sink, language, part, damage);
+    draw(sink, REASON_END);
+    fill_in(sink, language, ASK, &[Value::Number(u16::from(name.part))]);
+    draw_asked(sink, language, part, damage);
+    draw(sink, ASK_END);
 }
 
 /// Writes why a part isn't read.
-fn draw_reason<W: Sink>(sink: &mut W, texts: &MessageTexts, part: &DamagedPart, damage: PartDamage)
+fn draw_reason<W: Sink>(sink: &mut W, language: Language, part: &DamagedPart, damage: PartDamage)
     ensures { Draws W.taken W.has_failed sink.old sink.new
-        (reason_text texts.now part.now damage) }
+        (reason_text language part.now damage) }
 {
     match damage {
-        PartDamage::HeadingDamaged => draw(sink, texts.reasons.heading_damaged),
-        PartDamage::HeadingKeyLost => draw(sink, texts.reasons.heading_key_lost),
-        PartDamage::BadByte => draw(sink, texts.reasons.bad_byte),
+        PartDamage::HeadingDamaged => draw_in(sink, language, HEADING_DAMAGED),
+        PartDamage::HeadingKeyLost => draw_in(sink, language, HEADING_KEY_LOST),
+        PartDamage::BadByte => draw_in(sink, language, BAD_BYTE),
         PartDamage::CountWrong => {
-            draw_counts(sink, texts, heading_count(&part.numbers), part.came)
+            draw_counts(sink, language, heading_count(&part.numbers), part.came)
         }
-        PartDamage::CopiesDiffer(number) => fill(
+        PartDamage::CopiesDiffer(number) => fill_in(
             sink,
-            texts.reasons.copies_differ,
+            language,
+            COPIES_DIFFER,
             &[Value::Number(indicator_place(number))],
         ),
-        PartDamage::KeyLetterLost(number) => fill(
+        PartDamage::KeyLetterLost(number) => fill_in(
             sink,
-            texts.reasons.key_letter_lost,
+            language,
+            KEY_LETTER_LOST,
             &[Value::Number(indicator_place(number))],
         ),
-        PartDamage::KeyNotOnWheel => draw(sink, texts.reasons.key_not_on_wheel),
-        PartDamage::NoInternalKey => draw(sink, texts.reasons.no_internal_key),
+        PartDamage::KeyNotOnWheel => draw_in(sink, language, KEY_NOT_ON_WHEEL),
+        PartDamage::NoInternalKey => draw_in(sink, language, NO_INTERNAL_KEY),
     }
 }
 
 /// Writes how many letters the heading counts, and how many came.
-fn draw_counts<W: Sink>(sink: &mut W, texts: &MessageTexts, counted: usize, came: usize)
+fn draw_counts<W: Sink>(sink: &mut W, language: Language, counted: usize, came: usize)
     ensures { Draws W.taken W.has_failed sink.old sink.new
-        (counts_text texts.now counted came) }
+        (counts_text language counted came) }
 {
-    draw(sink, texts.reasons.count_wrong);
+    draw_in(sink, language, COUNT_WRONG);
     draw_count(sink, counted);
-    draw(sink, texts.reasons.count_came);
+    draw_in(sink, language, COUNT_CAME);
     draw_count(sink, came);
-    draw(sink, texts.reasons.count_end);
+    draw_in(sink, language, COUNT_END);
 }
 
 /// How many letters the body has, by the heading.
@@ -398,54 +385,43 @@ fn indicator_place(number: u8) -> u16
 }
 
 /// Writes what to ask for if a part isn't read.
-fn draw_asked<W: Sink>(sink: &mut W, texts: &MessageTexts, part: &DamagedPart, damage: PartDamage)
+fn draw_asked<W: Sink>(sink: &mut W, language: Language, part: &DamagedPart, damage: PartDamage)
     ensures { Draws W.taken W.has_failed sink.old sink.new
-        (asked_words texts.now part.now damage) }
+        (asked_words language part.now damage) }
 {
     match damage {
-        PartDamage::HeadingDamaged if part.came > 0 => draw(sink, texts.asking.its_heading),
-        PartDamage::HeadingKeyLost => draw(sink, texts.asking.its_heading),
+        PartDamage::HeadingDamaged if part.came > 0 => draw_in(sink, language, ITS_HEADING),
+        PartDamage::HeadingKeyLost => draw_in(sink, language, ITS_HEADING),
         PartDamage::HeadingDamaged | PartDamage::BadByte | PartDamage::CountWrong => {
-            draw(sink, texts.asking.all_of_it)
+            draw_in(sink, language, ALL_OF_IT)
         }
         PartDamage::CopiesDiffer(number) | PartDamage::KeyLetterLost(number) => {
-            draw_key_letter_groups(sink, texts, part.came, number)
+            draw_key_letter_groups(sink, language, part.came, number)
         }
         PartDamage::KeyNotOnWheel | PartDamage::NoInternalKey => {
-            draw_indicator_groups(sink, texts, part.came)
+            draw_indicator_groups(sink, language, part.came)
         }
     }
 }
 
 /// Writes the two groups with a key letter, of a body with this many letters.
-fn draw_key_letter_groups<W: Sink>(sink: &mut W, texts: &MessageTexts, came: usize, number: u8)
+fn draw_key_letter_groups<W: Sink>(sink: &mut W, language: Language, came: usize, number: u8)
     ensures { Draws W.taken W.has_failed sink.old sink.new
-        (key_letter_groups texts.now came number) }
+        (key_letter_groups language came number) }
 {
     let group = if indicator_place(number) <= 5 { 1 } else { 2 };
-    draw_group_words(sink, texts, "", group);
-    draw_group_words(sink, texts, COMMA, (came / 5).saturating_sub(2) + group);
+    draw_group_words(sink, language, "", group);
+    draw_group_words(sink, language, COMMA, (came / 5).saturating_sub(2) + group);
 }
 
 /// Writes the groups with the indicators, of a body with this many letters: the first two and the last two.
-fn draw_indicator_groups<W: Sink>(sink: &mut W, texts: &MessageTexts, came: usize)
+fn draw_indicator_groups<W: Sink>(sink: &mut W, language: Language, came: usize)
     ensures { Draws W.taken W.has_failed sink.old sink.new
-        (indicator_groups texts.now came) }
+        (indicator_groups language came) }
 {
     let last = came / 5;
-    draw_group_words(sink, texts, "", 1);
-    draw_group_words(sink, texts, COMMA, 2);
-    draw_group_words(sink, texts, COMMA, last.saturating_sub(1));
-    draw_group_words(sink, texts, COMMA, last);
-}
-
-/// How spaces and signs of the text are meant.
-pub(crate) fn text_note(texts: &MessageTexts, model: Model) -> &'static str
-    ensures { result.now ≡ text_note texts.now model }
-{
-    match model {
-        Model::EnigmaI | Model::M3 => texts.plaintext.enigma_text_note,
-        Model::M4 => texts.plaintext.naval_text_note,
-        Model::M209 => texts.plaintext.converter_text_note,
-    }
+    draw_group_words(sink, language, "", 1);
+    draw_group_words(sink, language, COMMA, 2);
+    draw_group_words(sink, language, COMMA, last.saturating_sub(1));
+    draw_group_words(sink, language, COMMA, last);
 }

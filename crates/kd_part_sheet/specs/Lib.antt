@@ -1,4 +1,5 @@
-pub mod Texts
+pub mod Checked
+pub mod Sheet
 pub mod Cells
 pub mod LettersAfter
 pub mod Words

@@ -1,8 +1,10 @@
 -- The picture of the windows, or of a Converter's wheels, that the hand sets.
 use Rattle.std.specs.Prelude.{decimal, ℕ, ◌+◌, ◌-◌, ◌*◌, Bool, if◌then◌else◌, List, [], ◌∷◌, ◌++◌}
+use Rattle.kd_pictures.specs.declared.language.Language.{Language}
+use Rattle.kd_pictures.specs.Language.{text_in}
 use Rattle.kd_pictures.specs.Template.{filled, letter_text, ordinal_text}
 use Rattle.kd_part_sheet.specs.declared.markup.TheConstants as markup
-use Rattle.kd_part_sheet.specs.declared.texts.MessageTexts.{MessageTexts}
+use Rattle.kd_part_sheet.specs.declared.texts.TheConstants as texts
 
 -- a window in words
 abbrev pub window_words : Bool → ℕ → ℕ → List ℕ
@@ -17,28 +19,28 @@ words_after is_converter first number (letter ∷ letters) =
     first ++ window_words is_converter number letter ++ words_after is_converter markup.COMMA.now (number + 1) letters
 
 -- a window, with its number and its letter; on a rotor machine also the letter's number
-abbrev pub window_item : MessageTexts → Bool → ℕ → ℕ → List ℕ
-window_item texts is_converter number letter =
-    if is_converter then filled texts.pictures.wheel.now (
+abbrev pub window_item : Language → Bool → ℕ → ℕ → List ℕ
+window_item l is_converter number letter =
+    if is_converter then filled markup.WHEEL.now (
     decimal (2 + 60 * (number - 1) + 20) ∷ decimal number ∷ decimal (2 + 60 * (number - 1))
     ∷ decimal (2 + 60 * (number - 1) + 20) ∷ letter_text letter ∷ [])
-    else filled texts.pictures.window.now (
+    else filled (text_in l texts.WINDOW) (
     decimal (2 + 96 * (number - 1)) ∷ decimal number ∷ decimal (2 + 96 * (number - 1))
     ∷ decimal (2 + 96 * (number - 1) + 20) ∷ letter_text letter
     ∷ decimal (2 + 96 * (number - 1) + 62) ∷ ordinal_text letter ∷ [])
 
 -- the windows from this number on
-abbrev pub window_items : MessageTexts → Bool → ℕ → List ℕ → List ℕ
-window_items texts is_converter number [] = []
-window_items texts is_converter number (letter ∷ letters) =
-    window_item texts is_converter number letter ++ window_items texts is_converter (number + 1) letters
+abbrev pub window_items : Language → Bool → ℕ → List ℕ → List ℕ
+window_items l is_converter number [] = []
+window_items l is_converter number (letter ∷ letters) =
+    window_item l is_converter number letter ++ window_items l is_converter (number + 1) letters
 
 -- the beginning of the picture's title
-abbrev pub windows_title : MessageTexts → Bool → List ℕ
-windows_title texts is_converter = if is_converter then texts.pictures.wheels.now else texts.pictures.windows.now
+abbrev pub windows_title : Language → Bool → List ℕ
+windows_title l is_converter = if is_converter then text_in l texts.WHEELS else text_in l texts.WINDOWS
 
 -- the picture
-unfoldable pub windows_text : MessageTexts → Bool → List ℕ → List ℕ
-windows_text texts is_converter letters =
-    windows_title texts is_converter ++ words_after is_converter [] 1 letters
-    ++ markup.WINDOWS_TITLE_END.now ++ window_items texts is_converter 1 letters ++ markup.WINDOWS_END.now
+unfoldable pub windows_text : Language → Bool → List ℕ → List ℕ
+windows_text l is_converter letters =
+    windows_title l is_converter ++ words_after is_converter [] 1 letters
+    ++ markup.WINDOWS_TITLE_END.now ++ window_items l is_converter 1 letters ++ markup.WINDOWS_END.now

@@ -3,8 +3,11 @@ use Rattle.std.specs.Prelude.{ℕ, Bool, if◌then◌else◌, List, [], ◌∷�
 use Rattle.kd_tables.specs.Tables.{wheel_text}
 use Rattle.kd_tables.specs.Text.{letters_text}
 use Rattle.kd_state.specs.declared.sheet_day.rotor_entry.SheetWheel.{SheetWheel}
+use Rattle.kd_pictures.specs.declared.language.Language.{Language}
+use Rattle.kd_pictures.specs.Language.{text_in}
 use Rattle.kd_pictures.specs.Template.{filled, letter_text, ordinal_text}
 use Rattle.kd_part_sheet.specs.declared.markup.TheConstants.{COMMA, RING, SPACE, WIDE_SPACE}
+use Rattle.kd_part_sheet.specs.declared.texts.TheConstants.{NO_CABLES}
 
 -- a letter, or its number
 abbrev pub shown_text : Bool → ℕ → List ℕ
@@ -34,6 +37,6 @@ pairs_after first (pair ∷ pairs) =
     first ++ letters_text (pair.0 ∷ pair.1 ∷ []) ++ pairs_after SPACE.now pairs
 
 -- the cables of the day, or that there are none
-abbrev pub cables_text : List ℕ → List (ℕ × ℕ) → List ℕ
-cables_text none [] = none
-cables_text none (pair ∷ pairs) = pairs_after [] (pair ∷ pairs)
+abbrev pub cables_text : Language → List (ℕ × ℕ) → List ℕ
+cables_text l [] = text_in l NO_CABLES
+cables_text l (pair ∷ pairs) = pairs_after [] (pair ∷ pairs)

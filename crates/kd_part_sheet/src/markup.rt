@@ -1,4 +1,4 @@
-//! The texts that are the same in each language: the style sheet, and the marks between values.
+//! The texts that are the same in each language: the marks of rows, and what stands between values.
 
 /// A place without a letter; letters stand exactly above each other.
 pub const NO_LETTER: &str = "\u{a0}";
@@ -42,6 +42,10 @@ pub const WINDOW_WORDS: &str = "~: ~ ~";
 
 pub const WHEEL_WORDS: &str = "~: ~";
 
+/// A wheel of the Converter in the picture of its wheels, with its number.
+pub const WHEEL: &str =
+    "<text x=\"~\" y=\"16\" font-size=\"18\">~</text>\n<rect class=\"set\" x=\"~\" y=\"24\" width=\"40\" height=\"40\"/>\n<text class=\"bold\" x=\"~\" y=\"53\" font-size=\"26\">~</text>\n";
+
 /// The end of the title, and of the picture.
 pub const WINDOWS_TITLE_END: &str = ".</title>\n";
 
@@ -59,17 +63,10 @@ pub const TWO_SPACES: &str = "\u{a0}\u{a0}";
 /// A ring: its letter, and its number.
 pub const RING: &str = "~\u{a0}~";
 
-/// A group of the form.
-pub const FORM_GROUP: &str = "<span>";
+/// The end of the key of the day that a rotor machine has to be on.
+pub const KEY_END: &str = "</b>.";
 
-pub const FORM_GROUP_END: &str = "</span>";
+/// The end of a section, and of a part's sheet.
+pub const SECTION_END: &str = "</section>\n";
 
-/// The end of an article.
-pub const ARTICLE_END: &str = "</article>\n";
-
-/// The text of a part: letters that may be broken anywhere, or words.
-pub const TEXT_LETTERS: &str = "<p class=\"text letters\">";
-
-pub const TEXT_WORDS: &str = "<p class=\"text words\">";
-
-pub const TEXT_END: &str = "</p>\n";
+pub const SHEET_END: &str = "</section>\n</article>\n";

@@ -3,23 +3,27 @@ ghost use Rattle.std.specs.Prelude.{◌≡◌, ◌+◌, ◌≤◌, length};
 ghost use Rattle.kd_state.specs.EngineKey.{IsWindow};
 ghost use Rattle.kd_state.specs.OwnKeys.{sheet_key};
 ghost use Rattle.kd_pictures.specs.Drawing.{Draws};
-ghost use Rattle.kd_state.specs.Entry.{rotor_values, values_of};
 ghost use Rattle.kd_pictures.specs.Template.{filled};
+ghost use Rattle.kd_state.specs.Entry.{rotor_values, values_of};
 ghost use Rattle.kd_part_sheet.specs.PartSheet.{day_key_text, first_sheet, head_text, key_step, name_values, next_sheet};
-ghost use Rattle.kd_part_sheet.specs.PartSheet.{part_sheet, rotor_key_text, sheet_end, text_head, text_if, text_rows};
+ghost use Rattle.kd_part_sheet.specs.PartSheet.{note, part_sheet, rotor_key_text, text_head, text_if, text_rows};
 ghost use Rattle.kd_part_sheet.specs.PartSheet.{text_step, warnings_text};
 ghost use Rattle.kd_part_sheet.specs.PartWork.{IsWorkable};
 
 use crate::cells::Cell;
-use crate::filling::fill;
+use crate::markup::{KEY_END, SHEET_END};
 use crate::part_work::PartWork;
 use crate::rows::{Progress, draw_rows, progress_after};
-use crate::texts::{MessageTexts, SheetTexts};
+use crate::sheet::Sheet;
+use crate::texts::{
+    CABLES, COPIES_LOST, HEAD, KEY_STEP, KEY_STEP_END, KEY_WORDS, LEGEND, LIST, LOST_LETTER,
+    NAVAL_NOTE, NEXT_STEP, NOT_TESTED, NOTE, REFLECTOR, RINGS, TEXT_STEP, WRONG_DAY,
+};
 use crate::windows::draw_windows;
 use crate::words::{draw_cables, draw_rings, draw_wheels};
-use kd_pictures::draw;
-use kd_pictures::template::Value;
+use kd_pictures::template::{Value, fill, fill_in};
 use kd_pictures::words::is_converter;
+use kd_pictures::{Language, draw, draw_in};
 use kd_state::{Entry, RotorEntry, SheetDay};
 use kd_tables::{Letter, Model, Sink};
 
@@ -39,8 +43,8 @@ pub struct PartName {
 /// Writes the sheet of a part.
 pub fn draw_part_sheet<W: Sink>(
     sink: &mut W,
-    texts: &MessageTexts,
-    sheet: &SheetTexts,
+    language: Language,
+    sheet: Sheet,
     day: &SheetDay,
     name: PartName,
     warnings: Warnings,
@@ -48,15 +52,20 @@ pub fn draw_part_sheet<W: Sink>(
 )
     requires { IsWorkable day.now work.now }
     ensures { Draws W.taken W.has_failed sink.old sink.new
-        (part_sheet texts.now sheet.now day.now name warnings work.now) }
+        (part_sheet language sheet day.now name warnings work.now) }
 {
-    draw_head(sink, sheet, name);
-    draw_day_key(sink, texts, day.entry());
-    draw(sink, sheet.legend);
-    draw_if(sink, warnings.letters_lost, sheet.lost_letter);
-    draw_key_step(sink, texts, sheet, day, name, work);
-    draw_text_step(sink, texts, sheet, day, name, warnings, work);
-    draw(sink, sheet_end(texts, sheet, name.model));
+    draw_head(sink, language, sheet, name);
+    draw_day_key(sink, language, day.entry());
+    draw(sink, sheet.text(language, LEGEND));
+    draw_if(
+        sink,
+        warnings.letters_lost,
+        sheet.text(language, LOST_LETTER),
+    );
+    draw_key_step(sink, language, sheet, day, name, work);
+    draw_text_step(sink, language, sheet, day, name, warnings, work);
+    draw(sink, note(language, sheet, name.model));
+    draw(sink, SHEET_END);
 }
 
 /// Writes `text` if `is_there`.
@@ -84,26 +93,22 @@ pub struct Warnings {
 }
 
 /// Writes the warnings on the copies of the indicators, and on the day.
-pub fn draw_warnings<W: Sink>(
-    sink: &mut W,
-    texts: &MessageTexts,
-    sheet: &SheetTexts,
-    warnings: Warnings,
-)
+pub fn draw_warnings<W: Sink>(sink: &mut W, language: Language, sheet: Sheet, warnings: Warnings)
     ensures { Draws W.taken W.has_failed sink.old sink.new
-        (warnings_text texts.now sheet.now warnings) }
+        (warnings_text language sheet warnings) }
 {
-    draw_if(sink, warnings.copies_lost, texts.copies_lost);
-    draw_if(sink, warnings.wrong_day, sheet.wrong_day);
-    draw_if(sink, warnings.not_tested, sheet.not_tested);
+    draw_if(sink, warnings.copies_lost, language.text(COPIES_LOST));
+    draw_if(sink, warnings.wrong_day, sheet.text(language, WRONG_DAY));
+    draw_if(sink, warnings.not_tested, sheet.text(language, NOT_TESTED));
 }
 
-fn draw_head<W: Sink>(sink: &mut W, sheet: &SheetTexts, name: PartName)
-    ensures { Draws W.taken W.has_failed sink.old sink.new (head_text sheet.now name) }
+fn draw_head<W: Sink>(sink: &mut W, language: Language, sheet: Sheet, name: PartName)
+    ensures { Draws W.taken W.has_failed sink.old sink.new (head_text language sheet name) }
 {
     fill(
         sink,
-        sheet.head,
+        language,
+        sheet.text(language, HEAD),
         &[
             Value::Number(u16::from(name.part)),
             Value::Model(name.model),
@@ -115,17 +120,18 @@ fn draw_head<W: Sink>(sink: &mut W, sheet: &SheetTexts, name: PartName)
 }
 
 /// Writes the key of the day that the machine has to be on.
-fn draw_day_key<W: Sink>(sink: &mut W, texts: &MessageTexts, entry: &Entry)
+fn draw_day_key<W: Sink>(sink: &mut W, language: Language, entry: &Entry)
     ensures { Draws W.taken W.has_failed sink.old sink.new
-        (day_key_text texts.now (values_of entry.now)) }
+        (day_key_text language (values_of entry.now)) }
 {
     match entry {
-        Entry::Rotor(entry) => draw_rotor_key(sink, texts, entry),
+        Entry::Rotor(entry) => draw_rotor_key(sink, language, entry),
         Entry::Pin(entry) => {
             let [one, other] = entry.list;
-            fill(
+            fill_in(
                 sink,
-                texts.day_key.list,
+                language,
+                LIST,
                 &[Value::Letter(one), Value::Letter(other)],
             );
         }
@@ -133,43 +139,44 @@ fn draw_day_key<W: Sink>(sink: &mut W, texts: &MessageTexts, entry: &Entry)
 }
 
 /// Writes reflector, wheels, rings and cables of the day.
-fn draw_rotor_key<W: Sink>(sink: &mut W, texts: &MessageTexts, entry: &RotorEntry)
+fn draw_rotor_key<W: Sink>(sink: &mut W, language: Language, entry: &RotorEntry)
     ensures { Draws W.taken W.has_failed sink.old sink.new
-        (rotor_key_text texts.now (rotor_values entry.now)) }
+        (rotor_key_text language (rotor_values entry.now)) }
 {
     let wheels = entry.wheels.as_slice();
-    fill(
+    fill_in(
         sink,
-        texts.day_key.reflector,
+        language,
+        REFLECTOR,
         &[Value::Reflector(entry.reflector)],
     );
     draw_wheels(sink, "", wheels);
-    draw(sink, texts.day_key.rings);
-    draw_rings(sink, "", wheels);
-    draw(sink, texts.day_key.cables);
-    draw_cables(sink, texts.day_key.no_cables, entry.pairs.as_slice());
-    draw(sink, texts.day_key.key_end);
+    draw_in(sink, language, RINGS);
+    draw_rings(sink, language, "", wheels);
+    draw_in(sink, language, CABLES);
+    draw_cables(sink, language, entry.pairs.as_slice());
+    draw(sink, KEY_END);
 }
 
 /// Writes the step of the key.
 fn draw_key_step<W: Sink>(
     sink: &mut W,
-    texts: &MessageTexts,
-    sheet: &SheetTexts,
+    language: Language,
+    sheet: Sheet,
     day: &SheetDay,
     name: PartName,
     work: &PartWork,
 )
     requires { IsWorkable day.now work.now }
     ensures { Draws W.taken W.has_failed sink.old sink.new
-        (key_step texts.now sheet.now day.now name work.now) }
+        (key_step language sheet day.now name work.now) }
 {
     let ground = work.ground.as_slice();
-    fill_name(sink, sheet.key_step, name);
-    draw_windows(sink, texts, is_converter(name.model), ground);
-    draw(sink, sheet.key_words);
-    draw_rows(sink, day, ground, BEGINNING, work.key.as_slice());
-    draw(sink, sheet.key_step_end);
+    fill_name(sink, language, sheet.text(language, KEY_STEP), name);
+    draw_windows(sink, language, is_converter(name.model), ground);
+    draw(sink, sheet.text(language, KEY_WORDS));
+    draw_rows(sink, language, day, ground, BEGINNING, work.key.as_slice());
+    draw(sink, sheet.text(language, KEY_STEP_END));
 }
 
 /// A step in which nothing was pressed yet.
@@ -179,12 +186,13 @@ const BEGINNING: Progress = Progress {
 };
 
 /// Fills the model, the day, the part and the number of parts into a template.
-fn fill_name<W: Sink>(sink: &mut W, template: &str, name: PartName)
+fn fill_name<W: Sink>(sink: &mut W, language: Language, template: &str, name: PartName)
     ensures { Draws W.taken W.has_failed sink.old sink.new
         (filled template.now (name_values name)) }
 {
     fill(
         sink,
+        language,
         template,
         &[
             Value::Model(name.model),
@@ -198,8 +206,8 @@ fn fill_name<W: Sink>(sink: &mut W, template: &str, name: PartName)
 /// Writes the step of the text.
 fn draw_text_step<W: Sink>(
     sink: &mut W,
-    texts: &MessageTexts,
-    sheet: &SheetTexts,
+    language: Language,
+    sheet: Sheet,
     day: &SheetDay,
     name: PartName,
     warnings: Warnings,
@@ -207,24 +215,31 @@ fn draw_text_step<W: Sink>(
 )
     requires { IsWorkable day.now work.now }
     ensures { Draws W.taken W.has_failed sink.old sink.new
-        (text_step texts.now sheet.now day.now name warnings work.now) }
+        (text_step language sheet day.now name warnings work.now) }
 {
     let start = work.start.as_slice();
     let body = work.body.as_slice();
-    draw_text_head(sink, sheet, name, body.len());
-    draw_windows(sink, texts, is_converter(name.model), start);
-    draw_warnings(sink, texts, sheet, warnings);
-    draw_text_rows(sink, sheet, day, name, start, body);
+    draw_text_head(sink, language, sheet, name, body.len());
+    draw_windows(sink, language, is_converter(name.model), start);
+    draw_warnings(sink, language, sheet, warnings);
+    draw_text_rows(sink, language, sheet, day, name, start, body);
 }
 
-fn draw_text_head<W: Sink>(sink: &mut W, sheet: &SheetTexts, name: PartName, letters: usize)
+fn draw_text_head<W: Sink>(
+    sink: &mut W,
+    language: Language,
+    sheet: Sheet,
+    name: PartName,
+    letters: usize,
+)
     requires { letters ≤ 520 }
     ensures { Draws W.taken W.has_failed sink.old sink.new
-        (text_head sheet.now name letters) }
+        (text_head language sheet name letters) }
 {
     fill(
         sink,
-        sheet.text_step,
+        language,
+        sheet.text(language, TEXT_STEP),
         &[
             Value::Number(letters as u16),
             Value::Model(name.model),
@@ -238,7 +253,8 @@ fn draw_text_head<W: Sink>(sink: &mut W, sheet: &SheetTexts, name: PartName, let
 /// Writes the rows of the text. The rows that don't fit the first sheet of paper are on a second one.
 fn draw_text_rows<W: Sink>(
     sink: &mut W,
-    sheet: &SheetTexts,
+    language: Language,
+    sheet: Sheet,
     day: &SheetDay,
     name: PartName,
     start: &[Letter],
@@ -247,12 +263,13 @@ fn draw_text_rows<W: Sink>(
     requires window { IsWindow (sheet_key day.now) start.now }
     requires few { length body.now ≤ 520 }
     ensures { Draws W.taken W.has_failed sink.old sink.new
-        (text_rows sheet.now day.now name start.now body.now) }
+        (text_rows language sheet day.now name start.now body.now) }
 {
     let (first, rest) = body.split_at(body.len().min(first_sheet(name.model)));
-    draw_rows(sink, day, start, BEGINNING, first);
+    draw_rows(sink, language, day, start, BEGINNING, first);
     draw_next_sheet(
         sink,
+        language,
         sheet,
         day,
         name,
@@ -272,7 +289,8 @@ fn first_sheet(model: Model) -> usize
 /// Writes the second sheet of paper, if letters are left.
 fn draw_next_sheet<W: Sink>(
     sink: &mut W,
-    sheet: &SheetTexts,
+    language: Language,
+    sheet: Sheet,
     day: &SheetDay,
     name: PartName,
     start: &[Letter],
@@ -283,23 +301,23 @@ fn draw_next_sheet<W: Sink>(
     requires presses { progress.presses ≤ progress.letters }
     requires few { progress.letters + length cells.now ≤ 520 }
     ensures { Draws W.taken W.has_failed sink.old sink.new
-        (next_sheet sheet.now day.now name start.now progress cells.now) }
+        (next_sheet language sheet day.now name start.now progress cells.now) }
 {
     if cells.is_empty() {
         draw(sink, "");
     } else {
-        fill_name(sink, sheet.next_step, name);
-        draw_rows(sink, day, start, progress, cells);
+        fill_name(sink, language, sheet.text(language, NEXT_STEP), name);
+        draw_rows(sink, language, day, start, progress, cells);
     }
 }
 
-/// The end of a part's sheet, which says how spaces and signs are meant.
-pub(crate) fn sheet_end(texts: &MessageTexts, sheet: &SheetTexts, model: Model) -> &'static str
-    ensures { result.now ≡ sheet_end texts.now sheet.now model }
+/// How spaces and signs are meant on a sheet with these texts.
+pub fn note(language: Language, sheet: Sheet, model: Model) -> &'static str
+    ensures { result.now ≡ note language sheet model }
 {
     if model == Model::M4 {
-        texts.naval_note
+        language.text(NAVAL_NOTE)
     } else {
-        sheet.note
+        sheet.text(language, NOTE)
     }
 }

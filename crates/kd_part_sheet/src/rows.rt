@@ -8,16 +8,16 @@ ghost use Rattle.kd_part_sheet.specs.Rows.{above_text, group_text, has_below, ha
 ghost use Rattle.kd_part_sheet.specs.Rows.{progress_after, row_text, rows_after, shown_after, windows_after};
 
 use crate::cells::{Cell, Line, Mark, Sign, draw_place};
-use crate::filling::fill;
+use crate::cutting::first_piece;
 use crate::letters_after::letters_after;
 use crate::markup::{
     ABOVE_END, GROUP, GROUP_END, MARKS, MARKS_END, ROW, ROW_BOX, ROW_END, ROW_LETTERS, ROW_NUMBERS,
     SMALL, SMALL_END, SPACE, TWO_SPACES,
 };
 use crate::words::draw_shown;
-use kd_pictures::draw;
-use kd_pictures::template::Value;
+use kd_pictures::template::{Value, fill};
 use kd_pictures::words::is_converter;
+use kd_pictures::{Language, draw};
 use kd_state::SheetDay;
 use kd_tables::{Letter, Sink};
 
@@ -31,6 +31,7 @@ pub(crate) struct Progress {
 /// Writes the rows of `cells`, after rows with this progress. At the step's start, the machine shows `start`.
 pub(crate) fn draw_rows<W: Sink>(
     sink: &mut W,
+    language: Language,
     day: &SheetDay,
     start: &[Letter],
     progress: Progress,
@@ -45,21 +46,9 @@ pub(crate) fn draw_rows<W: Sink>(
     if !cells.is_empty() {
         let (row, rest) = first_piece(cells, 50);
         let progress = progress_after(progress, row);
-        draw_row(sink, day, start, progress, row);
-        draw_rows(sink, day, start, progress, rest);
+        draw_row(sink, language, day, start, progress, row);
+        draw_rows(sink, language, day, start, progress, rest);
     }
-}
-
-/// Splits `cells` after the first `size` cells, or after the last cell if there are fewer.
-#[tactic(auto, using(crate::proofs::Pieces::first_pieces))]
-fn first_piece(cells: &[Cell], size: usize) -> (&[Cell], &[Cell])
-    requires size { 1 ≤ size }
-    requires some { 1 ≤ length cells.now }
-    ensures pieces { pieces size cells.now ≡ result.0.now ∷ pieces size result.1.now }
-    ensures some { 1 ≤ length result.0.now }
-    ensures len { length result.0.now + length result.1.now ≡ length cells.now }
-{
-    cells.split_at(cells.len().min(size))
 }
 
 /// The progress after another row.
@@ -86,6 +75,7 @@ fn pressed_count(row: &[Cell]) -> usize
 /// Writes a row, after which the step has this progress.
 fn draw_row<W: Sink>(
     sink: &mut W,
+    language: Language,
     day: &SheetDay,
     start: &[Letter],
     progress: Progress,
@@ -99,7 +89,12 @@ fn draw_row<W: Sink>(
 {
     draw(sink, ROW);
     draw_groups(sink, row);
-    fill(sink, ROW_BOX, &[Value::Number(progress.letters as u16)]);
+    fill(
+        sink,
+        language,
+        ROW_BOX,
+        &[Value::Number(progress.letters as u16)],
+    );
     draw_windows_after(sink, day, start, progress.presses, pressed_count(row) == 0);
     draw(sink, ROW_END);
 }

@@ -3,52 +3,45 @@ ghost use Rattle.std.specs.Prelude.{◌≡◌, ◌+◌, ◌≤◌, length};
 ghost use Rattle.kd_pictures.specs.Drawing.{Draws};
 ghost use Rattle.kd_part_sheet.specs.Windows.{window_item, window_items, window_words, windows_text, windows_title, words_after};
 
-use crate::filling::fill;
-use crate::markup::{COMMA, WHEEL_WORDS, WINDOW_WORDS, WINDOWS_END, WINDOWS_TITLE_END};
-use crate::texts::MessageTexts;
-use kd_pictures::draw;
-use kd_pictures::template::Value;
+use crate::markup::{COMMA, WHEEL, WHEEL_WORDS, WINDOW_WORDS, WINDOWS_END, WINDOWS_TITLE_END};
+use crate::texts::{WHEELS, WINDOW, WINDOWS};
+use kd_pictures::template::{Value, fill, fill_in};
+use kd_pictures::{Language, draw};
 use kd_tables::{Letter, Sink};
 
 /// Writes the picture of windows, or of a Converter's wheels, that show `letters`.
 pub(crate) fn draw_windows<W: Sink>(
     sink: &mut W,
-    texts: &MessageTexts,
+    language: Language,
     is_converter: bool,
     letters: &[Letter],
 )
     requires { length letters.now ≤ 6 }
     ensures { Draws W.taken W.has_failed sink.old sink.new
-        (windows_text texts.now is_converter letters.now) }
+        (windows_text language is_converter letters.now) }
 {
-    draw(
-        sink,
-        if is_converter {
-            texts.pictures.wheels
-        } else {
-            texts.pictures.windows
-        },
-    );
-    draw_all_words(sink, is_converter, "", 1, letters);
+    draw(sink, windows_title(language, is_converter));
+    draw_all_words(sink, language, is_converter, "", 1, letters);
     draw(sink, WINDOWS_TITLE_END);
-    draw_items(sink, texts, is_converter, 1, letters);
+    draw_items(sink, language, is_converter, 1, letters);
     draw(sink, WINDOWS_END);
 }
 
 /// The beginning of the picture's title.
-fn windows_title(texts: &MessageTexts, is_converter: bool) -> &'static str
-    ensures { result.now ≡ windows_title texts.now is_converter }
+fn windows_title(language: Language, is_converter: bool) -> &'static str
+    ensures { result.now ≡ windows_title language is_converter }
 {
     if is_converter {
-        texts.pictures.wheels
+        language.text(WHEELS)
     } else {
-        texts.pictures.windows
+        language.text(WINDOWS)
     }
 }
 
 /// Writes windows in words, from number `number` on, the first after `first`.
 fn draw_all_words<W: Sink>(
     sink: &mut W,
+    language: Language,
     is_converter: bool,
     first: &str,
     number: u8,
@@ -60,21 +53,33 @@ fn draw_all_words<W: Sink>(
 {
     if let [letter, rest @ ..] = letters {
         draw(sink, first);
-        draw_words(sink, is_converter, number, *letter);
-        draw_all_words(sink, is_converter, COMMA, number + 1, rest);
+        draw_words(sink, language, is_converter, number, *letter);
+        draw_all_words(sink, language, is_converter, COMMA, number + 1, rest);
     }
 }
 
-fn draw_words<W: Sink>(sink: &mut W, is_converter: bool, number: u8, letter: Letter)
+fn draw_words<W: Sink>(
+    sink: &mut W,
+    language: Language,
+    is_converter: bool,
+    number: u8,
+    letter: Letter,
+)
     ensures { Draws W.taken W.has_failed sink.old sink.new
         (window_words is_converter number letter) }
 {
     let number = Value::Number(u16::from(number));
     if is_converter {
-        fill(sink, WHEEL_WORDS, &[number, Value::Letter(letter)]);
+        fill(
+            sink,
+            language,
+            WHEEL_WORDS,
+            &[number, Value::Letter(letter)],
+        );
     } else {
         fill(
             sink,
+            language,
             WINDOW_WORDS,
             &[number, Value::Letter(letter), Value::Ordinal(letter)],
         );
@@ -84,7 +89,7 @@ fn draw_words<W: Sink>(sink: &mut W, is_converter: bool, number: u8, letter: Let
 /// Writes the windows from number `number` on.
 fn draw_items<W: Sink>(
     sink: &mut W,
-    texts: &MessageTexts,
+    language: Language,
     is_converter: bool,
     number: u8,
     letters: &[Letter],
@@ -92,17 +97,17 @@ fn draw_items<W: Sink>(
     requires some { 1 ≤ number }
     requires few { number + length letters.now ≤ 7 }
     ensures { Draws W.taken W.has_failed sink.old sink.new
-        (window_items texts.now is_converter number letters.now) }
+        (window_items language is_converter number letters.now) }
 {
     if let [letter, rest @ ..] = letters {
-        draw_item(sink, texts, is_converter, number, *letter);
-        draw_items(sink, texts, is_converter, number + 1, rest);
+        draw_item(sink, language, is_converter, number, *letter);
+        draw_items(sink, language, is_converter, number + 1, rest);
     }
 }
 
 fn draw_item<W: Sink>(
     sink: &mut W,
-    texts: &MessageTexts,
+    language: Language,
     is_converter: bool,
     number: u8,
     letter: Letter,
@@ -110,7 +115,7 @@ fn draw_item<W: Sink>(
     requires some { 1 ≤ number }
     requires few { number ≤ 6 }
     ensures { Draws W.taken W.has_failed sink.old sink.new
-        (window_item texts.now is_converter number letter) }
+        (window_item language is_converter number letter) }
 {
     let slot = u16::from(number);
     let letter_value = Value::Letter(letter);
@@ -118,7 +123,8 @@ fn draw_item<W: Sink>(
         let x = 2 + 60 * (slot - 1);
         fill(
             sink,
-            texts.pictures.wheel,
+            language,
+            WHEEL,
             &[
                 Value::Number(x + 20),
                 Value::Number(slot),
@@ -129,9 +135,10 @@ fn draw_item<W: Sink>(
         );
     } else {
         let x = 2 + 96 * (slot - 1);
-        fill(
+        fill_in(
             sink,
-            texts.pictures.window,
+            language,
+            WINDOW,
             &[
                 Value::Number(x),
                 Value::Number(slot),

@@ -1,25 +1,14 @@
 //! Lists of letters, wheels and cables, with something between each two.
 ghost use Rattle.std.specs.Prelude.{◌++◌};
-ghost use Rattle.kd_tables.specs.Text.{letters_text};
 ghost use Rattle.kd_pictures.specs.Drawing.{Draws};
 ghost use Rattle.kd_part_sheet.specs.Words.{cables_text, letter_words, pairs_after, rings_after, shown_text, wheels_after};
 
-use crate::filling::fill;
 use crate::markup::{COMMA, RING, SPACE, WIDE_SPACE};
-use kd_pictures::draw;
-use kd_pictures::template::{Value, draw_letter, draw_ordinal};
+use crate::texts::NO_CABLES;
+use kd_pictures::template::{Value, draw_letter, draw_letters, draw_ordinal, fill};
+use kd_pictures::{Language, draw, draw_in};
 use kd_state::SheetWheel;
 use kd_tables::{Letter, Sink};
-
-/// Writes letters without anything between them.
-pub fn draw_letters<W: Sink>(sink: &mut W, letters: &[Letter])
-    ensures { Draws W.taken W.has_failed sink.old sink.new (letters_text letters.now) }
-{
-    if let [letter, rest @ ..] = letters {
-        draw_letter(sink, *letter);
-        draw_letters(sink, rest);
-    }
-}
 
 /// Writes letters, or their numbers: `first` before the first of them, and `separator` before each other.
 pub(crate) fn draw_shown<W: Sink>(
@@ -61,26 +50,32 @@ pub(crate) fn draw_wheels<W: Sink>(sink: &mut W, first: &str, wheels: &[SheetWhe
 }
 
 /// Writes the rings of wheels, the first after `first`.
-pub(crate) fn draw_rings<W: Sink>(sink: &mut W, first: &str, wheels: &[SheetWheel])
+pub(crate) fn draw_rings<W: Sink>(
+    sink: &mut W,
+    language: Language,
+    first: &str,
+    wheels: &[SheetWheel],
+)
     ensures { Draws W.taken W.has_failed sink.old sink.new (rings_after first.now wheels.now) }
 {
     if let [wheel, rest @ ..] = wheels {
         draw(sink, first);
         fill(
             sink,
+            language,
             RING,
             &[Value::Letter(wheel.ring), Value::Ordinal(wheel.ring)],
         );
-        draw_rings(sink, COMMA, rest);
+        draw_rings(sink, language, COMMA, rest);
     }
 }
 
-/// Writes cables, or `none` if there are none.
-pub(crate) fn draw_cables<W: Sink>(sink: &mut W, none: &str, pairs: &[(Letter, Letter)])
-    ensures { Draws W.taken W.has_failed sink.old sink.new (cables_text none.now pairs.now) }
+/// Writes cables, or that there are none.
+pub(crate) fn draw_cables<W: Sink>(sink: &mut W, language: Language, pairs: &[(Letter, Letter)])
+    ensures { Draws W.taken W.has_failed sink.old sink.new (cables_text language pairs.now) }
 {
     if pairs.is_empty() {
-        draw(sink, none);
+        draw_in(sink, language, NO_CABLES);
     } else {
         draw_pairs(sink, "", pairs);
     }

@@ -3,4 +3,3 @@ pub mod Templates
 pub mod PlainValues
 pub mod SocketTables
 pub mod LinesApart
-pub mod CheckedTexts

@@ -8,22 +8,33 @@ use Rattle.kd_pictures.specs.Language.{text_in}
 use Rattle.kd_pictures.specs.Template.{is_gap}
 use Rattle.kd_pictures.specs.Words.{word_text}
 
--- In both languages, the template has this number of signs `~`, each of which takes a value.
-abbrev pub Takes : record { now : List ℕ } × record { now : List ℕ } → ℕ → Type 0
-Takes text number =
-    (count_by is_gap (text_in English text) ≡ number) × (count_by is_gap (text_in German text) ≡ number)
+-- The template has this number of signs `~`, each of which takes a value.
+abbrev pub HasGaps : List ℕ → ℕ → Type 0
+HasGaps template number = count_by is_gap template ≡ number
 
--- the templates, each with the number of values that pages fill into it
+-- The template has this number of signs `~` in both languages.
+abbrev pub Takes : record { now : List ℕ } × record { now : List ℕ } → ℕ → Type 0
+Takes text number = HasGaps (text_in English text) number × HasGaps (text_in German text) number
+
+-- all templates, each with the number of values that pages fill into it
 abbrev pub TemplatesTakeTheirValues : Type 0
 TemplatesTakeTheirValues =
-    Takes texts.TITLE_DAY 2 × Takes texts.TITLE_DAYS 3 × Takes texts.NAV_DAY 3 × Takes texts.DAY 4
-    × Takes texts.COMPARE_PIN 2 × Takes texts.STEP 4 × Takes texts.IDLE_STEP 4 × Takes texts.PLAIN_STEP 3
-    × Takes texts.RING 4 × Takes texts.SEAT 4 × Takes texts.SEAT_FROM 5 × Takes texts.REFLECTOR 2
-    × Takes texts.WINDOW_BOX 3 × Takes texts.REFLECTOR_WORDS 1 × Takes texts.EMPTY_WORDS 1
-    × Takes texts.WHEEL_WORDS 2 × Takes texts.RING_WORDS 1 × Takes texts.WINDOW_WORDS 1 × Takes texts.BAND 6
-    × Takes texts.EMPTY 7 × Takes texts.WHEEL 8 × Takes texts.NEW_WHEEL 8 × Takes texts.BOARD 1
-    × Takes texts.PINS 2 × Takes texts.PIN_WHEEL 2 × Takes texts.DRUM 3 × Takes texts.NOTE_ROTOR 3
-    × Takes texts.NOTE_PIN 3
+    HasGaps texts.HEAD.now 1 × Takes texts.TITLE_DAY 2 × Takes texts.TITLE_DAYS 3 × Takes texts.NAV_DAY 3
+    × Takes texts.DAY 4 × Takes texts.COMPARE_PIN 2 × Takes texts.STEP 4 × Takes texts.IDLE_STEP 4
+    × Takes texts.PLAIN_STEP 3 × Takes texts.RING 4 × Takes texts.SEAT 4 × Takes texts.SEAT_FROM 5
+    × Takes texts.REFLECTOR 2 × HasGaps texts.PLUG.now 2 × HasGaps texts.PIN.now 3 × HasGaps texts.LUG.now 3
+    × HasGaps texts.TURN.now 1 × Takes texts.WINDOW_BOX 3 × HasGaps texts.LETTER_BOX.now 1
+    × Takes texts.REFLECTOR_WORDS 1 × Takes texts.EMPTY_WORDS 1 × Takes texts.WHEEL_WORDS 2 × Takes texts.RING_WORDS 1
+    × Takes texts.WINDOW_WORDS 1 × Takes texts.BAND 6 × HasGaps texts.REFLECTOR_SHOWN.now 3
+    × HasGaps texts.NEW_REFLECTOR.now 3 × Takes texts.EMPTY 7 × Takes texts.WHEEL 8 × Takes texts.NEW_WHEEL 8
+    × HasGaps texts.RING_SHOWN.now 4 × HasGaps texts.NEW_RING.now 6 × HasGaps texts.WINDOW.now 8
+    × HasGaps texts.NEW_WINDOW.now 8 × Takes texts.BOARD 1 × HasGaps texts.CABLE_WORDS.now 3
+    × HasGaps texts.LOOSE_WORDS.now 2 × HasGaps texts.LEFT_HALF.now 8 × HasGaps texts.RIGHT_HALF.now 6
+    × HasGaps texts.OPEN_END.now 1 × HasGaps texts.FREE.now 5 × HasGaps texts.STAYS.now 8 × HasGaps texts.GOES_OUT.now 8
+    × HasGaps texts.GOES_IN.now 8 × HasGaps texts.PLUG_ROW.now 1 × Takes texts.PINS 2 × Takes texts.PIN_WHEEL 2
+    × HasGaps texts.PIN_LINES.now 1 × HasGaps texts.PIN_SHOWN.now 2 × Takes texts.DRUM 3 × HasGaps texts.BAR.now 1
+    × HasGaps texts.SET_BAR.now 1 × HasGaps texts.MARKED_LUG.now 1 × HasGaps texts.AGAIN_ROTOR.now 2
+    × Takes texts.NOTE_ROTOR 3 × Takes texts.NOTE_PIN 3
 
 -- The word has this text in English, and this text in German.
 abbrev pub Reads : Word → List ℕ → List ℕ → Type 0

@@ -12,8 +12,7 @@ pub fn values_are_plain()
     ensures { ValuesArePlain }
 {}
 
-/// In both languages, each template takes the values that pages fill into it, and the words for the hand are these.
-#[tactic(auto, using(crate::proofs::CheckedTexts::templates_take_their_values, crate::proofs::CheckedTexts::words_tell_what_to_do))]
+/// Each template takes the values that pages fill into it, and the words for the hand are these, in both languages.
 pub fn languages_say_the_same()
     ensures templates { TemplatesTakeTheirValues }
     ensures words { WordsTellWhatToDo }

@@ -1,6 +1,7 @@
 //! Fills values into a template.
 ghost use Rattle.std.specs.Prelude.{codes, decimal, ◌≡◌, [], ◌∷◌, ◌++◌, map, if◌then◌else◌};
 ghost use Rattle.std.specs.List.{before_first, after_first};
+ghost use Rattle.kd_tables.specs.Text.{letters_text};
 ghost use Rattle.kd_pictures.specs.Drawing.{Draws};
 ghost use Rattle.kd_pictures.specs.Language.{in_language, text_in};
 ghost use Rattle.kd_pictures.specs.declared.texts.TheConstants.{SETTINGS as SETTINGS_TEXT};
@@ -93,6 +94,16 @@ pub fn draw_letter<W: Sink>(sink: &mut W, letter: Letter)
     let mut text = ArrayString::<1>::new();
     push_letter(&mut text, letter);
     draw(sink, text.as_str());
+}
+
+/// Writes letters without anything between them.
+pub fn draw_letters<W: Sink>(sink: &mut W, letters: &[Letter])
+    ensures { Draws W.taken W.has_failed sink.old sink.new (letters_text letters.now) }
+{
+    if let [letter, rest @ ..] = letters {
+        draw_letter(sink, *letter);
+        draw_letters(sink, rest);
+    }
 }
 
 /// Writes the number of a letter, from 01 to 26.

@@ -4,13 +4,11 @@ use Rattle.kd_curator.proofs.run_send.write_order.Goals as goal
 
 pub returns-in-Ok-clause-page : goal.returns-in-Ok-clause-page
 returns-in-Ok-clause-page g c =
-    let (texts, are, answers) = c.in-Ok.ensures.page in
-    page_told _ _ _ _ _ _ _ (search rules) texts are (Ok tt) answers
+    page_told _ _ _ _ _ _ _ (search rules) (Ok tt) c.in-Ok.ensures.page
 
 pub returns-in-Err-clause-page : goal.returns-in-Err-clause-page
 returns-in-Err-clause-page g c =
-    let (texts, are, answers) = c.in-Err.ensures.page in
-    rw c.from-in-Err.ensures (page_told _ _ _ _ _ _ _ (search rules) texts are (Err c.in-Err.fault) answers)
+    rw c.from-in-Err.ensures (page_told _ _ _ _ _ _ _ (search rules) (Err c.in-Err.fault) c.in-Err.ensures.page)
 
 pub returns-in-Err-clause-untouched : goal.returns-in-Err-clause-untouched
 returns-in-Err-clause-untouched g c =

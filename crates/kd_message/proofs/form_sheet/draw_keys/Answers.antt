@@ -7,5 +7,6 @@ use Rattle.kd_message.proofs.form_sheet.draw_keys.Goals as goal
 pub returns : goal.returns
 unfolding keys_text
 returns g c =
-    joined (both (both (both c.draw.ensures c.draw_letters.ensures) c.draw-2.ensures) c.draw_letters-2.ensures) c.draw-3.ensures
+    joined (both (both (both c.draw_in.ensures c.draw_letters.ensures) c.draw_in-2.ensures)
+    c.draw_letters-2.ensures) c.draw.ensures
     (grind (arith, common_steps))

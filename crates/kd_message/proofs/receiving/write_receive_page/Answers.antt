@@ -7,11 +7,8 @@ use Rattle.kd_message.proofs.ReceivePages.{are_workable, page_begins}
 use Rattle.kd_message.proofs.receiving.write_receive_page.Goals as goal
 
 pub returns-in-Err-clause-page : goal.returns-in-Err-clause-page
-returns-in-Err-clause-page g c = (
-  c.message_texts-texts.result,
-  c.message_texts-texts.ensures,
-  FormNotRead c.in-Err.fault c.in-Err.ensures.read (ap Err c.page_fault.ensures) (record { has = refl; well = refl }),
-)
+returns-in-Err-clause-page g c =
+    FormNotRead c.in-Err.fault c.in-Err.ensures.read (ap Err c.page_fault.ensures) (record { has = refl; well = refl })
 
 pub draw_page-requires-clause-workable : goal.draw_page-requires-clause-workable
 draw_page-requires-clause-workable g c =
@@ -27,13 +24,10 @@ returns-then-failed-clause-page g c =
           c.in-Ok.ensures.read,
       c.in-Ok.ensures.few,
     ) in
-    let drawn = rw c.as_slice.ensures.value at c.draw_page.ensures in (
-      c.message_texts-texts.result,
-      c.message_texts-texts.ensures,
-      ReceivedPageWritten c.in-Ok.parts.items c.in-Ok.ensures.read few
-          (writes_part _ (page_begins c.message_texts-texts.result c.args.day.now c.in-Ok.parts.items).1.1 drawn
-          (search rules)) refl (search rules),
-    )
+    let drawn = rw c.as_slice.ensures.value at c.draw_page.ensures in
+    ReceivedPageWritten c.in-Ok.parts.items c.in-Ok.ensures.read few
+    (writes_part _ (page_begins c.args.language c.args.day.now c.in-Ok.parts.items).1.1 drawn (search rules)) refl
+    (search rules)
 
 pub returns-clause-page : goal.returns-clause-page
 returns-clause-page g c =
@@ -44,12 +38,9 @@ returns-clause-page g c =
           c.in-Ok.ensures.read,
       c.in-Ok.ensures.few,
     ) in
-    let drawn = rw c.as_slice.ensures.value at c.draw_page.ensures in (
-      c.message_texts-texts.result,
-      c.message_texts-texts.ensures,
-      ReceivedPageWritten c.in-Ok.parts.items c.in-Ok.ensures.read few (search rules)
-          (rw c.as_slice-else-failed.ensures.value at c.is_whole.ensures) (search rules),
-    )
+    let drawn = rw c.as_slice.ensures.value at c.draw_page.ensures in
+    ReceivedPageWritten c.in-Ok.parts.items c.in-Ok.ensures.read few (search rules)
+    (rw c.as_slice-else-failed.ensures.value at c.is_whole.ensures) (search rules)
 
 pub returns-clause-failed : goal.returns-clause-failed
 returns-clause-failed g c = let drawn = c.draw_page.ensures in (search rules)

@@ -7,5 +7,6 @@ use Rattle.kd_message.proofs.sending.draw_title.Goals as goal
 pub returns : goal.returns
 unfolding title_text
 returns g c =
-    joined (both (both (both c.draw.ensures c.fill.ensures) c.draw-2.ensures) c.draw-3.ensures) c.draw-4.ensures
+    joined (both (both (both c.draw_file_head.ensures c.fill_in.ensures) c.draw.ensures)
+    c.draw-2.ensures) c.draw-3.ensures
     (grind (arith, common_steps))

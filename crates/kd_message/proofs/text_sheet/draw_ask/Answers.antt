@@ -7,5 +7,5 @@ use Rattle.kd_message.proofs.text_sheet.draw_ask.Goals as goal
 pub returns : goal.returns
 unfolding ask_text
 returns g c =
-    joined (both c.fill.ensures c.draw.ensures) c.draw-2.ensures
+    joined (both c.fill_in.ensures c.draw.ensures) c.draw-2.ensures
     (grind (arith, common_steps))

@@ -7,5 +7,5 @@ use Rattle.kd_message.proofs.text_sheet.draw_ask_groups.Goals as goal
 pub returns : goal.returns
 unfolding ask_text
 returns g c =
-    joined (both c.fill.ensures c.draw_lost_groups.ensures) c.draw.ensures
+    joined (both c.fill_in.ensures c.draw_lost_groups.ensures) c.draw.ensures
     (grind (arith, common_steps))

@@ -7,5 +7,6 @@ use Rattle.kd_message.proofs.text_sheet.draw_counts.Goals as goal
 pub returns : goal.returns
 unfolding counts_text
 returns g c =
-    joined (both (both (both c.draw.ensures c.draw_count.ensures) c.draw-2.ensures) c.draw_count-2.ensures) c.draw-3.ensures
+    joined (both (both (both c.draw_in.ensures c.draw_count.ensures) c.draw_in-2.ensures)
+    c.draw_count-2.ensures) c.draw_in-3.ensures
     (grind (arith, common_steps))

@@ -5,5 +5,5 @@ use Rattle.kd_message.proofs.text_sheet.draw_group_words.Goals as goal
 
 pub returns : goal.returns
 returns g c =
-    joined (both c.draw.ensures c.draw-2.ensures) c.draw_count.ensures
+    joined (both c.draw.ensures c.draw_in.ensures) c.draw_count.ensures
     (grind (arith, common_steps))

@@ -7,5 +7,5 @@ use Rattle.kd_message.proofs.text_sheet.draw_order_words.Goals as goal
 pub returns : goal.returns
 unfolding order_words
 returns g c =
-    joined (both c.draw.ensures c.draw_numbers.ensures) c.draw-2.ensures
+    joined (both c.draw_in.ensures c.draw_numbers.ensures) c.draw_in-2.ensures
     (grind (arith, common_steps))

@@ -2,7 +2,7 @@ use Rattle.std.proofs.Common.{map}
 use Rattle.kd_form.specs.Sending.{space_letter}
 use Rattle.kd_lost.specs.DamagedForm.{shown_byte}
 use Rattle.kd_pictures.proofs.Drawings.{both, joined}
-use Rattle.kd_part_sheet.specs.declared.markup.TheConstants.{TEXT_END}
+use Rattle.kd_message.specs.declared.texts.TheConstants.{TEXT_END}
 use Rattle.kd_part_sheet.specs.PartSheet.{warnings_text}
 use Rattle.kd_message.proofs.ReceivePages.{five_joined}
 use Rattle.kd_message.specs.TextSheet.{ask_for_lost, text_begin, warnings_of}
@@ -18,5 +18,5 @@ returns g c =
     let asked = rw c.as_slice-2.ensures.value at c.draw_ask_for_lost.ensures in
     joined (both (both (both first letters) c.draw-2.ensures) warnings) asked
     (five_joined (text_begin c.args.name.model) (map (shown_byte (space_letter c.args.day.now)) c.args.shown.now.letters.items)
-    TEXT_END.now (warnings_text c.args.texts.now c.args.sheet.now (warnings_of c.args.shown.now))
-    (ask_for_lost c.args.texts.now c.args.name c.args.shown.now.letters.items))
+    TEXT_END.now (warnings_text c.args.language c.args.sheet (warnings_of c.args.shown.now))
+    (ask_for_lost c.args.language c.args.name c.args.shown.now.letters.items))

@@ -1,5 +1,5 @@
 use Rattle.std.proofs.Common.{length}
-use Rattle.kd_part_sheet.proofs.words.+draw_letters.Given as goal
+use Rattle.kd_pictures.proofs.template.+draw_letters.Given as goal
 
 abbrev pub decreases-draw_letters : goal.decreases-draw_letters
 decreases-draw_letters g l = length l.letters.now

@@ -1,7 +1,7 @@
 use Rattle.std.proofs.Common.{arith}
 use Rattle.std.proofs.lemmas.Grind.{common_steps}
 use Rattle.kd_pictures.proofs.Drawings.{joined}
-use Rattle.kd_key_table.proofs.words.+draw_letters.Goals as goal
+use Rattle.kd_pictures.proofs.template.+draw_letters.Goals as goal
 
 pub returns-in-len1-up : goal.returns-in-len1-up
 returns-in-len1-up g t c =

@@ -1,0 +1,10 @@
+-- The templates of a message's pages but for the parts' sheets, and how many values each takes.
+use Rattle.kd_pictures.specs.Checked.{Takes}
+use Rattle.kd_message.specs.declared.texts.TheConstants as texts
+
+-- all templates, each with the number of values that pages fill into it
+abbrev pub TemplatesTakeTheirValues : Type 0
+TemplatesTakeTheirValues =
+    Takes texts.TITLE_TO_SEND 2 × Takes texts.TITLE_TO_RECEIVE 2 × Takes texts.LISTED_PART 3
+    × Takes texts.LISTED_UNREAD 2 × Takes texts.TEXT_SHEET 2 × Takes texts.TEXT_PART 4 × Takes texts.ASK 1
+    × Takes texts.COPIES_DIFFER 1 × Takes texts.KEY_LETTER_LOST 1 × Takes texts.FORM 2 × Takes texts.FORM_PART 7

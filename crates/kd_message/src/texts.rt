@@ -1,0 +1,181 @@
+//! The fixed texts of a message's pages but for the parts' sheets; those with words in English and in German.
+
+use kd_pictures::texts::Text;
+
+/// The title of a page, for sending and for receiving: the model, and the day.
+pub const TITLE_TO_SEND: Text = ("~, day ~: send", "~, Tag ~: Verschlüsseln");
+
+pub const TITLE_TO_RECEIVE: Text = ("~, day ~: receive", "~, Tag ~: Entschlüsseln");
+
+/// The list of the sheets, if the message has one part, and if it has several parts.
+pub const LIST_OF_ONE: Text = (
+    "<nav aria-label=\"Sheets\">\n<ul>\n",
+    "<nav aria-label=\"Blätter\">\n<ul>\n",
+);
+
+pub const LIST_OF_SEVERAL: Text = (
+    "<nav class=sheets aria-label=\"Sheets\">\n<ul>\n",
+    "<nav class=sheets aria-label=\"Blätter\">\n<ul>\n",
+);
+
+/// A part in the list of the sheets: the part, the part again, and the number of parts.
+pub const LISTED_PART: Text = (
+    "<li><a href=\"#part-~\">Part ~ of ~</a>\n",
+    "<li><a href=\"#part-~\">Teil ~ von ~</a>\n",
+);
+
+/// A part that isn't read in the list of the sheets: the part, and the number of parts.
+pub const LISTED_UNREAD: Text = (
+    "<li><a href=\"#text\">Part ~ of ~</a>, not read\n",
+    "<li><a href=\"#text\">Teil ~ von ~</a>, nicht lesbar\n",
+);
+
+/// The end of the list of the sheets, with the form, and with the text.
+pub const LIST_END_WITH_FORM: Text = (
+    "<li><a href=\"#form\">Form</a>\n</ul>\n</nav>\n",
+    "<li><a href=\"#form\">Funkspruch</a>\n</ul>\n</nav>\n",
+);
+
+pub const LIST_END_WITH_TEXT: Text = (
+    "<li><a href=\"#text\">Text</a>\n</ul>\n</nav>\n",
+    "<li><a href=\"#text\">Klartext</a>\n</ul>\n</nav>\n",
+);
+
+/// The sheet with the text: the model, and the day. A part of it: the part, the number of parts, the model, the day.
+pub const TEXT_SHEET: Text = (
+    "<article id=text class=form>\n<header>\n<h1>~, day ~: text</h1>\n<p class=fields><span>From</span><span>Time</span><span>Read by</span></p>\n</header>\n",
+    "<article id=text class=form>\n<header>\n<h1>~, Tag ~: Klartext</h1>\n<p class=fields><span>Von</span><span>Uhrzeit</span><span>Entschlüsselt durch</span></p>\n</header>\n",
+);
+
+pub const TEXT_PART: Text = (
+    "<section>\n<h2>Part ~ of ~<span>~, day ~: text</span></h2>\n",
+    "<section>\n<h2>Teil ~ von ~<span>~, Tag ~: Klartext</span></h2>\n",
+);
+
+/// The text of a part: letters that may be broken anywhere, or words.
+pub const TEXT_LETTERS: &str = "<p class=\"text letters\">";
+
+pub const TEXT_WORDS: &str = "<p class=\"text words\">";
+
+pub const TEXT_END: &str = "</p>\n";
+
+/// The order in which the parts came: what stands before their numbers, and after them.
+pub const ORDER: Text = (
+    "<p>The parts came in this order: ",
+    "<p>Die Teile kamen in dieser Reihenfolge: ",
+);
+
+pub const ORDER_END: Text = (
+    ". If a part came again, the last one is shown.</p>\n",
+    ". Kam ein Teil mehrmals, ist der letzte gezeigt.</p>\n",
+);
+
+/// What to ask for again: the part; then what of it.
+pub const ASK: Text = (
+    "<label><input type=checkbox> ask for part ~ again: <b>",
+    "<label><input type=checkbox> von Teil ~ wiederholen lassen: <b>",
+);
+
+/// A group, before its number; the heading; the whole part.
+pub const GROUP: Text = ("group ", "Gruppe ");
+
+pub const ITS_HEADING: Text = ("its heading", "Spruchkopf");
+
+pub const ALL_OF_IT: Text = ("all of it", "alles");
+
+/// The end of the box for what to ask for.
+pub const ASK_END: &str = "</b></label>\n";
+
+/// A part that isn't read: what stands before the reason, and after it.
+pub const UNREAD: Text = (
+    "<p class=reason><b>Not read.</b> ",
+    "<p class=reason><b>Nicht lesbar.</b> ",
+);
+
+pub const REASON_END: &str = "</p>\n";
+
+/// Why a part isn't read. Before the heading's count; before the count of the letters that came; after it. A letter
+/// of the indicators: its number.
+pub const HEADING_DAMAGED: Text = ("The heading is damaged.", "Der Spruchkopf ist verstümmelt.");
+
+pub const DID_NOT_COME: Text = ("It didn\u{2019}t come.", "Der Teil ist nicht eingegangen.");
+
+pub const HEADING_KEY_LOST: Text = (
+    "A letter of the ground or of the key is lost.",
+    "In Grundstellung oder Spruchschlüssel fehlt ein Buchstabe.",
+);
+
+pub const BAD_BYTE: Text = (
+    "A sign of the body is no letter.",
+    "Ein Zeichen des Spruchs ist kein Buchstabe.",
+);
+
+pub const COUNT_WRONG: Text = ("The heading counts ", "Buchstaben nach dem Spruchkopf: ");
+
+pub const COUNT_CAME: Text = (", but ", ", eingegangen: ");
+
+pub const COUNT_END: Text = (" came.", ".");
+
+pub const COPIES_DIFFER: Text = (
+    "The indicators differ at letter ~.",
+    "Die Kennbuchstaben weichen bei Buchstabe ~ voneinander ab.",
+);
+
+pub const KEY_LETTER_LOST: Text = (
+    "Letter ~ of the indicators is lost both times.",
+    "Buchstabe ~ der Kennbuchstaben fehlt beide Male.",
+);
+
+pub const KEY_NOT_ON_WHEEL: Text = (
+    "A letter of the indicators isn\u{2019}t on its wheel.",
+    "Ein Kennbuchstabe ist auf seinem Rad nicht vorhanden.",
+);
+
+pub const NO_INTERNAL_KEY: Text = (
+    "The indicators give no internal key.",
+    "Die Kennbuchstaben ergeben keinen inneren Schlüssel.",
+);
+
+/// The sheet with the form for the radio: the model, and the day.
+pub const FORM: Text = (
+    "<article id=form class=form>\n<header>\n<h1>~, day ~: form for the radio</h1>\n<p class=fields><span>To</span><span>From</span><span>Time</span><span>Sent by</span></p>\n</header>\n",
+    "<article id=form class=form>\n<header>\n<h1>~, Tag ~: Funkspruch</h1>\n<p class=fields><span>An</span><span>Von</span><span>Uhrzeit</span><span>Befördert durch</span></p>\n</header>\n",
+);
+
+/// A part of the form: the part, the number of parts, the model, the day, the part, the number of parts, and the
+/// number of letters.
+pub const FORM_PART: Text = (
+    "<section>\n<h2>Part ~ of ~<span>~, day ~: form for the radio</span></h2>\n<p class=heading><span>part <b>PART ~/~</b></span><span>letters <b>~</b></span>",
+    "<section>\n<h2>Teil ~ von ~<span>~, Tag ~: Funkspruch</span></h2>\n<p class=heading><span>Teil <b>PART ~/~</b></span><span>Buchstaben <b>~</b></span>",
+);
+
+/// The ground and the enciphered key in the heading of a rotor machine's part.
+pub const FORM_GROUND: Text = ("<span>ground <b>", "<span>Grundstellung <b>");
+
+pub const FORM_KEY: Text = (
+    "</b></span><span>key, enciphered <b>",
+    "</b></span><span>Schlüssel, verschlüsselt <b>",
+);
+
+/// The end of the heading of a rotor machine's part; then the groups, and each group.
+pub const FORM_KEY_END: &str = "</b></span>";
+
+pub const FORM_GROUPS: &str = "</p>\n<div class=groups>";
+
+pub const FORM_GROUP: &str = "<span>";
+
+pub const FORM_GROUP_END: &str = "</span>";
+
+/// What the groups of a part are.
+pub const FORM_ROTOR_NOTE: Text = (
+    "</div>\n<p class=note>Group 1: two fillers, then the group of the day.</p>\n</section>\n",
+    "</div>\n<p class=note>Gruppe 1: zwei Füllbuchstaben, dann die Kenngruppe des Tages.</p>\n</section>\n",
+);
+
+pub const FORM_PIN_NOTE: Text = (
+    "</div>\n<p class=note>The first two groups, and the last two: the indicators.</p>\n</section>\n",
+    "</div>\n<p class=note>Die ersten zwei und die letzten zwei Gruppen: die Kennbuchstaben.</p>\n</section>\n",
+);
+
+/// The end of the sheet with the form, and of the sheet with the text.
+pub const ARTICLE_END: &str = "</article>\n";

@@ -1,0 +1,35 @@
+//! Which sheet of a part a text is for.
+ghost use Rattle.std.specs.Prelude.{◌≡◌};
+ghost use Rattle.kd_pictures.specs.Language.{in_language};
+ghost use Rattle.kd_part_sheet.specs.Sheet.{for_sheet};
+
+use crate::texts::SheetText;
+use kd_pictures::Language;
+
+/// The sheet of a part that is sent or received, on a rotor machine or on a Converter.
+#[derive(Clone, Copy)]
+pub enum Sheet {
+    RotorSend,
+    PinSend,
+    RotorReceive,
+    PinReceive,
+}
+
+impl Sheet {
+    /// The text on this sheet, in this language.
+    pub fn text(self, language: Language, text: SheetText) -> &'static str
+        ensures { result.now ≡ for_sheet self
+            (in_language language text.entry.0.0.0.now text.entry.0.0.1.now)
+            (in_language language text.entry.0.1.0.now text.entry.0.1.1.now)
+            (in_language language text.entry.1.0.0.now text.entry.1.0.1.now)
+            (in_language language text.entry.1.1.0.now text.entry.1.1.1.now) }
+    {
+        let (sent, received) = text;
+        match self {
+            Sheet::RotorSend => language.text(sent.0),
+            Sheet::PinSend => language.text(sent.1),
+            Sheet::RotorReceive => language.text(received.0),
+            Sheet::PinReceive => language.text(received.1),
+        }
+    }
+}
