@@ -1,6 +1,6 @@
 -- The row of a Converter's day is read as this day.
-use Rattle.std.proofs.Common.{◌≡◌, ◌+◌, ◌<◌, ◌≤◌, ◌==◌, ◌++◌, ◌∷◌, ◌∙◌, [], ℕ, Bool, true, false, List, Option, Some, ap, append_assoc, arith, filter, length, map, not, option_map, refl, sym}
-use Rattle.std.specs.Prelude.{codes, decimal, flat_map, zip}
+use Rattle.std.proofs.Common.{◌≡◌, ◌+◌, ◌<◌, ◌≤◌, ◌==◌, ◌++◌, ◌∷◌, ◌∙◌, [], ℕ, Bool, true, false, List, Some, ap, append_assoc, arith, filter, length, map, not, option_map, refl}
+use Rattle.std.specs.Prelude.{codes, decimal}
 use Rattle.std.specs.List.{AllByRecursion}
 use Rattle.std.proofs.lemmas.Bool.{eq-eqb, le-leb}
 use Rattle.std.proofs.lemmas.List.{map-id}
@@ -13,14 +13,13 @@ use Rattle.kd_pins.specs.declared.pin_set.PinSet.{PinSet}
 use Rattle.kd_sheet.proofs.ReadBack.Described.KeyValues.{letters_below, pins_of_text-pins_text, ring_letters}
 use Rattle.kd_sheet.specs.Bars.{reading_of_text}
 use Rattle.kd_sheet.specs.MachineText.{pins_text}
-use Rattle.kd_state.specs.SheetDay.{Day, IsLegalPinDay, Pin, PinDay}
+use Rattle.kd_state.specs.SheetDay.{IsLegalPinDay, Pin, PinDay}
 use Rattle.kd_pictures.specs.Template.{letter_text}
-use Rattle.kd_table.specs.Items.{exactly, hyphened, is_blank, joined, letters, letters_in, normal, number_in, readings_in, ring_of_word}
+use Rattle.kd_table.specs.Items.{is_blank, joined, letters_in, normal, readings_in, ring_of_word}
 use Rattle.kd_table.specs.Options.{OptionTexts}
 unfoldable use Rattle.kd_table.specs.PinRow.{pin_values, pins_in}
-use Rattle.kd_table.specs.PinRow.{pins_at}
 use Rattle.kd_table.specs.Row.{is_blank_row, row_values}
-use Rattle.kd_key_table.proofs.CellWords.{IsWordOf, hyphened_cell, letters_cell, read_words, short_letters}
+use Rattle.kd_key_table.proofs.CellWords.{hyphened_cell, letters_cell, short_letters}
 use Rattle.kd_key_table.proofs.PlainCells.{IsPlain, IsPlainRow, line}
 use Rattle.kd_key_table.proofs.RotorRows.{each, every, number_again}
 use Rattle.kd_key_table.proofs.TableHead.{table_columns}

@@ -1,8 +1,7 @@
 -- A table of plain cells, with commas between the cells and a line feed after each row, is read as these cells.
-use Rattle.std.proofs.Common.{◌≡◌, ◌⊎◌, ◌==◌, ◌||◌, ◌++◌, ◌∷◌, ◌∙◌, [], ℕ, Bool, true, false, List, Some, None, ap, append_assoc, inl, inr, refl}
+use Rattle.std.proofs.Common.{◌≡◌, ◌==◌, ◌||◌, ◌++◌, ◌∷◌, ◌∙◌, [], ℕ, Bool, true, false, List, Some, None, ap, append_assoc, inl, inr, refl}
 use Rattle.std.specs.List.{AllByRecursion, list_any}
 use Rattle.std.proofs.lemmas.Bool.{cases_Bool}
-use Rattle.std.proofs.lemmas.List.Folds.{list_any-append}
 use Rattle.csv.proofs.RoundTrip.{plain-run, record-same, start-same}
 unfoldable use Rattle.csv.specs.Machine.{next_record}
 unfoldable use Rattle.csv.specs.Reading.{Reached}

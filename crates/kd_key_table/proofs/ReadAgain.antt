@@ -17,7 +17,7 @@ use Rattle.kd_sheet.specs.SheetFile.{day_for, sheet_of}
 use Rattle.kd_sheet.specs.declared.key.Key.TheVariants as keys
 use Rattle.kd_table.specs.Columns.{columns_of}
 use Rattle.kd_table.specs.Options.{OptionTexts}
-use Rattle.kd_table.specs.Row.{IsDayOfRow, is_blank_row, row_values}
+use Rattle.kd_table.specs.Row.{is_blank_row, row_values}
 use Rattle.kd_table.specs.Rows.{is_well_quoted}
 use Rattle.kd_table.specs.Table.{AreDaysOfRows, AreRows, DayRow, IsRefusedTable, NoDays, NoRows, TableMeans, is_taken}
 use Rattle.kd_key_table.proofs.PinRows.{pin_cells, pin_line_is, pin_plain, pin_row, pin_seen}
@@ -29,7 +29,6 @@ use Rattle.kd_key_table.specs.CsvTable.{day_line, head_line}
 unfoldable use Rattle.kd_key_table.specs.Days.{has_day_of}
 use Rattle.kd_key_table.specs.Days.{has_days}
 use Rattle.kd_key_table.specs.ReadAgain.{MeansMonth, TablesAreReadBack}
-use Rattle.kd_key_table.specs.declared.days.TheConstants.{DAYS}
 
 -- ---- a day
 

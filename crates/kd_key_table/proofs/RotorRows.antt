@@ -1,6 +1,6 @@
 -- The row of a rotor machine's day is read as this day.
-use Rattle.std.proofs.Common.{◌≡◌, ◌<◌, ◌≤◌, ◌++◌, ◌∷◌, ◌∙◌, [], ℕ, All, Bool, true, false, Contains, List, Option, Some, ap, append_assoc, arith, length, map, refl, sym}
-use Rattle.std.specs.Prelude.{decimal, flat_map, if◌then◌else◌, option_map}
+use Rattle.std.proofs.Common.{◌≡◌, ◌<◌, ◌≤◌, ◌++◌, ◌∷◌, ◌∙◌, [], ℕ, Bool, true, false, List, Some, ap, append_assoc, arith, length, map, refl, sym}
+use Rattle.std.specs.Prelude.{decimal, option_map}
 use Rattle.std.specs.List.{AllByRecursion, list_any}
 use Rattle.std.specs.Option.{option_and_then}
 use Rattle.std.proofs.lemmas.List.{length-map, map-id}
@@ -14,9 +14,8 @@ use Rattle.kd_tables.specs.declared.reflector.Reflector.{Reflector}
 use Rattle.kd_state.proofs.Wheels.{has_reflector-Decides}
 use Rattle.kd_state.specs.Machine.{AreLetters}
 use Rattle.kd_state.specs.SameParts.{same_reflector}
-use Rattle.kd_state.specs.SheetDay.{Day, HasWheelLetters, IsLegalRotorDay, Rotor, RotorDay, seats_of_wheels}
+use Rattle.kd_state.specs.SheetDay.{HasWheelLetters, IsLegalRotorDay, Rotor, RotorDay}
 use Rattle.kd_state.specs.declared.sheet_day.rotor_entry.SheetWheel.{SheetWheel}
-use Rattle.kd_table.specs.Columns.{cell_at, cell_or}
 use Rattle.kd_table.specs.Items.{group_of, groups_in, is_blank, letters_in, number_in, number_of, pair_of, pairs_in, ring_of_word, single, slot_of, wheels_in, words}
 use Rattle.kd_table.specs.Names.{model_named, reflector_named}
 use Rattle.kd_table.specs.Options.{OptionTexts}

@@ -1,7 +1,7 @@
 -- Each word of a cell is read as the value that it was written for, and its bytes are plain.
-use Rattle.std.proofs.Common.{◌≡◌, ◌⊎◌, ◌<◌, ◌≤◌, ◌+◌, ◌*◌, ◌-◌, ◌/◌, ◌%◌, ◌==◌, ◌++◌, ◌∷◌, ◌∙◌, [], ℕ, Bool, true, false, List, Some, arith, codes, inl, inr, length, nat_lt, option_map, refl, subst, sym}
+use Rattle.std.proofs.Common.{◌≡◌, ◌<◌, ◌≤◌, ◌+◌, ◌*◌, ◌-◌, ◌/◌, ◌%◌, ◌==◌, ◌++◌, ◌∷◌, ◌∙◌, [], ℕ, true, false, List, Some, arith, codes, inl, inr, length, nat_lt, option_map, refl, subst, sym}
 use Rattle.std.specs.Prelude.{decimal, flat_map, if◌then◌else◌}
-use Rattle.std.specs.List.{AllByRecursion, list_any}
+use Rattle.std.specs.List.{AllByRecursion}
 use Rattle.std.proofs.lemmas.Bool.Decides.{nat_tests}
 use Rattle.std.proofs.lemmas.Bool.{cases_eq, cases_lt, eq-eqb, le-leb, le-ltb, lt-ltb, ne_eqb}
 use Rattle.std.proofs.lemmas.List.Folds.{list_any-append}
@@ -15,7 +15,7 @@ use Rattle.kd_tables.specs.declared.wheel.Wheel.{Wheel}
 use Rattle.kd_tables.specs.declared.wheel.Wheel.TheVariants.{I, II, III, IV, V, VI, VII, VIII, Beta, Gamma}
 unfoldable use Rattle.kd_sheet.specs.Bars.{reading_of_text}
 use Rattle.kd_pictures.specs.Template.{letter_text, ordinal_text}
-use Rattle.kd_table.specs.Items.{group_of, hyphened, is_blank, letters, normal, number_of, pair_of, ring_of_word, slot_of, words}
+use Rattle.kd_table.specs.Items.{group_of, hyphened, is_blank, letters, number_of, pair_of, ring_of_word, slot_of, words}
 use Rattle.kd_table.specs.Names.{capital, is_capital_letter, is_digit, is_gap}
 use Rattle.kd_key_table.proofs.CellWords.{IsWordOf, Stays, read_words, word_is}
 use Rattle.kd_key_table.proofs.PlainCells.{IsPlain}
