@@ -3,3 +3,10 @@ pub mod Begun
 pub mod SheetAnswers
 pub mod PlainWords
 pub mod EffectivePins
+pub mod PlainCells
+pub mod CellWords
+pub mod WordValues
+pub mod TableHead
+pub mod RotorRows
+pub mod PinRows
+pub mod ReadAgain

@@ -1,5 +1,5 @@
 -- The days of a sheet as a table for a spreadsheet, in the form CSV: a row for each day, from the first day on.
-use Rattle.std.specs.Prelude.{decimal, ℕ, Bool, if◌then◌else◌, List, [], ◌∷◌, ◌++◌, flat_map, zip}
+use Rattle.std.specs.Prelude.{decimal, ℕ, Bool, if◌then◌else◌, List, [], ◌++◌, flat_map, zip}
 use Rattle.std.specs.Prelude.{Option, Some, None}
 use Rattle.std.specs.List.{list_any}
 use Rattle.kd_tables.specs.Places.{reading_text}

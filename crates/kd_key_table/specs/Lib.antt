@@ -6,3 +6,4 @@ pub mod CsvTable
 pub mod TableFile
 pub mod RunTable
 pub mod Plain
+pub mod ReadAgain

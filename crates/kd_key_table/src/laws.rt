@@ -2,6 +2,7 @@
 ghost use Rattle.std.specs.Prelude.{◌≡◌, reverse};
 ghost use Rattle.std.specs.List.{range_with_len};
 ghost use Rattle.kd_key_table.specs.Plain.{TemplatesTakeTheirValues, WordsArePlain};
+ghost use Rattle.kd_key_table.specs.ReadAgain.{TablesAreReadBack};
 ghost use Rattle.kd_key_table.specs.declared.days.TheConstants.{DAYS, LAST_DAY_FIRST};
 
 /// What a table takes from a sheet has no markup.
@@ -23,4 +24,12 @@ pub fn templates_take_their_values()
 pub fn days_are_a_months()
     ensures days { DAYS ≡ range_with_len 1 31 }
     ensures last_first { LAST_DAY_FIRST ≡ reverse (range_with_len 1 31) }
+{}
+
+/// The table for a spreadsheet of a sheet is read as exactly the days of the sheet.
+///
+/// A row is read as no other day, and a table without days isn't read.
+#[tactic(auto, using(crate::proofs::ReadAgain::tables_are_read_back))]
+pub fn tables_are_read_back()
+    ensures { TablesAreReadBack }
 {}

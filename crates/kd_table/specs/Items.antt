@@ -7,11 +7,7 @@ use Rattle.std.specs.Option.{option_and_then, option_map}
 use Rattle.kd_tables.specs.declared.wheel.Wheel.{Wheel}
 use Rattle.kd_state.specs.LineWords.{words_of}
 use Rattle.kd_sheet.specs.Bars.{reading_of_text}
-use Rattle.kd_table.specs.Names.{capital, is_digit, is_capital_letter, wheel_named}
-
--- what may stand between items: a blank, tab, line end, comma, hyphen, full stop, slash or semicolon
-abbrev pub is_gap : ℕ → Bool
-is_gap byte = nat_eq byte 32 || nat_le 44 byte && nat_le byte 47 || nat_eq byte 59 || nat_le 9 byte && nat_le byte 13
+use Rattle.kd_table.specs.Names.{capital, is_digit, is_gap, is_capital_letter, wheel_named}
 
 abbrev pub is_blank : List ℕ → Bool
 is_blank cell = list_all is_gap cell

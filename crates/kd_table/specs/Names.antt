@@ -1,7 +1,8 @@
--- Names in the cells of a table: of columns, models, wheels and reflectors. Only letters and digits count, and capital
--- and small letters are alike: `Enigma I`, `ENIGMA I` and `enigma-i` name the same model.
+-- Names in the cells of a table: of columns, models, wheels and reflectors. Gaps don't count, and capital and small letters
+-- are alike: `Enigma I`, `ENIGMA I` and `enigma-i` name the same model. Any other sign counts, so `III?` names no wheel.
 -- Test: tests/cases/curator-sheet.toml
-use Rattle.std.specs.Prelude.{ℕ, nat_le, ◌-◌, ◌&&◌, ◌||◌, Bool, List, [], ◌∷◌, length, map, filter, find, bytes_eq, Option}
+use Rattle.std.specs.Prelude.{ℕ, nat_eq, nat_le, ◌-◌, ◌==◌, ◌&&◌, ◌||◌, not, Bool, false, List, [], ◌∷◌, length, map, filter, find}
+use Rattle.std.specs.Prelude.{bytes_eq, drop, take, Option}
 use Rattle.std.specs.Prelude.{if◌then◌else◌}
 use Rattle.kd_tables.specs.Tables.{box_of, reflectors_of, model_text, reflector_text, wheel_text}
 use Rattle.kd_tables.specs.declared.model.Model.{Model}
@@ -19,13 +20,28 @@ is_digit byte = nat_le 48 byte && nat_le byte 57
 abbrev pub is_capital_letter : ℕ → Bool
 is_capital_letter byte = nat_le 65 byte && nat_le byte 90
 
--- the letters and digits of a text, with capital letters for small letters
+-- what may stand between items: a blank, tab, line end, comma, hyphen, full stop, slash or semicolon
+abbrev pub is_gap : ℕ → Bool
+is_gap byte = nat_eq byte 32 || nat_le 44 byte && nat_le byte 47 || nat_eq byte 59 || nat_le 9 byte && nat_le byte 13
+
+-- a text without its gaps, and with capital letters for small letters
 abbrev pub plain : List ℕ → List ℕ
-plain text = filter (λ byte. is_capital_letter byte || is_digit byte) (map capital text)
+plain text = filter (λ byte. not (is_gap byte)) (map capital text)
+
+-- whether the three bytes are a typographic quote in UTF-8, single or double, such as “
+abbrev pub is_quote : List ℕ → Bool
+is_quote (first ∷ second ∷ third ∷ []) = first == 0xE2 && second == 0x80 && (nat_le 0x98 third && nat_le third 0x9F)
+is_quote _ = false
+
+-- a cell without a pair of typographic quotes around it
+abbrev pub unquoted : List ℕ → List ℕ
+unquoted cell =
+    if nat_le 6 (length cell) && is_quote (take 3 cell) && is_quote (drop (length cell - 3) cell)
+    then take (length cell - 6) (drop 3 cell) else cell
 
 -- whether a cell of at most 32 bytes has this name
 abbrev pub is_named : List ℕ → List ℕ → Bool
-is_named name cell = nat_le (length cell) 32 && bytes_eq (plain cell) (plain name)
+is_named name cell = nat_le (length cell) 32 && bytes_eq (plain (unquoted cell)) (plain name)
 
 -- the model that a cell names
 abbrev pub model_named : List ℕ → Option Model

@@ -2,12 +2,13 @@
 ghost use Rattle.std.specs.Prelude.{◌≡◌, ◌≤◌, ◌+◌, ◌*◌, ◌++◌, ◌==◌, not, filter, ℕ, Bool, List, Option, map, option_map, length};
 ghost use Rattle.std.specs.Option.{option_and_then};
 ghost use Rattle.kd_state.specs.LineWords.{words_of};
-ghost use Rattle.kd_table.specs.Items.{is_gap, is_blank, normal, item_text, cell_words, values_of_words, values_in};
+ghost use Rattle.kd_table.specs.Names.{is_gap};
+ghost use Rattle.kd_table.specs.Items.{is_blank, normal, item_text, cell_words, values_of_words, values_in};
 ghost use Rattle.kd_table.specs.Items.{digit_of, number_of, letter_of, pair_of, group_of, slot_of, numbered_letter, ring_of_word};
 ghost use Rattle.kd_table.specs.Items.{Bytes, words, letters, hyphened, number_in, joined};
 ghost use Rattle.kd_sheet.specs.Bars.{reading_of_text};
 
-use crate::names::{capital, is_capital_letter, is_digit, wheel_named};
+use crate::names::{capital, is_capital_letter, is_digit, is_gap, wheel_named};
 use arrayvec::ArrayVec;
 use kd_sheet::reading_of_text;
 use kd_state::split_words;
@@ -18,13 +19,6 @@ pub const CELL_LIMIT: usize = 192;
 
 /// The values in a cell.
 pub type Values<T> = ArrayVec<T, 192>;
-
-/// Whether `byte` may stand between items.
-pub fn is_gap(byte: u8) -> bool
-    ensures { result ≡ is_gap byte }
-{
-    byte == 32 || 44 <= byte && byte <= 47 || byte == 59 || 9 <= byte && byte <= 13
-}
 
 /// Whether `cell` has nothing but gaps.
 pub fn is_blank(cell: &[u8]) -> bool

@@ -1,6 +1,6 @@
 //! Finds models, wheels and reflectors by their names in a table.
 ghost use Rattle.std.specs.Prelude.{◌≡◌, ◌≤◌, ◌+◌, ◌++◌, ◌||◌, length};
-ghost use Rattle.kd_table.specs.Names.{capital, is_digit, is_capital_letter, plain, is_named};
+ghost use Rattle.kd_table.specs.Names.{capital, is_digit, is_gap, is_capital_letter, is_named, is_quote, plain, unquoted};
 ghost use Rattle.kd_table.specs.Names.{model_named, wheel_named, reflector_named};
 
 use arrayvec::ArrayVec;
@@ -31,21 +31,28 @@ pub fn is_digit(byte: u8) -> bool
     48 <= byte && byte <= 57
 }
 
-/// Appends the letters and digits of `text`, with capital letters for small letters.
+/// Whether `byte` may stand between items.
+pub fn is_gap(byte: u8) -> bool
+    ensures { result ≡ is_gap byte }
+{
+    byte == 32 || 44 <= byte && byte <= 47 || byte == 59 || 9 <= byte && byte <= 13
+}
+
+/// Appends the bytes of `text` without gaps, with capital letters for small letters.
 fn push_plain(name: &mut ArrayVec<u8, 32>, text: &[u8])
     requires { length name.old.items + length text.now ≤ 32 }
     ensures { name.new.items ≡ name.old.items ++ plain text.now }
 {
     if let [byte, rest @ ..] = text {
         let byte = capital(*byte);
-        if is_capital_letter(byte) || is_digit(byte) {
+        if !is_gap(byte) {
             name.push(byte);
         }
         push_plain(name, rest);
     }
 }
 
-/// The letters and digits of `text`, with capital letters for small letters.
+/// The bytes of `text` without gaps, with capital letters for small letters.
 fn plain(text: &[u8]) -> ArrayVec<u8, 32>
     requires { length text.now ≤ 32 }
     ensures { result.items ≡ plain text.now }
@@ -55,12 +62,37 @@ fn plain(text: &[u8]) -> ArrayVec<u8, 32>
     name
 }
 
+/// Whether the bytes are a typographic quote in UTF-8, single or double, such as “.
+fn is_quote(bytes: &[u8]) -> bool
+    ensures { result ≡ is_quote bytes.now }
+{
+    match bytes {
+        [first, second, third] => {
+            *first == 0xE2 && *second == 0x80 && 0x98 <= *third && *third <= 0x9F
+        }
+        _ => false,
+    }
+}
+
+/// `cell` without a pair of typographic quotes around it.
+fn unquoted(cell: &[u8]) -> &[u8]
+    ensures value { result.now ≡ unquoted cell.now }
+    ensures short { length result.now ≤ length cell.now }
+{
+    let count = cell.len();
+    if count >= 6 && is_quote(&cell[..3]) && is_quote(&cell[count - 3..]) {
+        &cell[3..count - 3]
+    } else {
+        cell
+    }
+}
+
 /// Whether `cell`, of at most 32 bytes, has the name `name`.
 pub fn is_named(name: &str, cell: &[u8]) -> bool
     requires { length name.now ≤ 32 }
     ensures { result ≡ is_named name.now cell.now }
 {
-    cell.len() <= 32 && plain(cell).as_slice() == plain(name.as_bytes()).as_slice()
+    cell.len() <= 32 && plain(unquoted(cell)).as_slice() == plain(name.as_bytes()).as_slice()
 }
 
 /// The model that `cell` names.

@@ -52,7 +52,8 @@ pub fn tell_table<N: Sink>(
 {
     if !is_well_quoted(table) {
         let mut lines = Lines::new();
-        lines.add("a quote isn't closed, or something follows the closing quote of a cell\n");
+        lines.add("a quote isn't closed, or something follows the closing quote of a cell");
+        lines.end();
         lines.put(notes);
         return Ok(());
     }
@@ -90,7 +91,8 @@ pub fn tell_table<N: Sink>(
         return Ok(());
     }
     let mut lines = Lines::new();
-    lines.add("the table has no row with a day\n");
+    lines.add("the table has no row with a day");
+    lines.end();
     lines.put(notes);
     Ok(())
 }
@@ -169,7 +171,8 @@ fn tell_day(
             lines.begin(at);
             lines.add("row ");
             lines.add_number(*earlier);
-            lines.add(" has this day, too\n");
+            lines.add(" has this day, too");
+            lines.end();
         }
     }
 }

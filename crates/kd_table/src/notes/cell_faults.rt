@@ -65,5 +65,5 @@ pub fn tell_count(lines: &mut Lines, place: CellPlace<'_>, found: usize, count: 
     lines.add(what);
     lines.add(" are there, in place of ");
     lines.add_number(count as u64);
-    lines.add("\n");
+    lines.end();
 }

@@ -13,7 +13,8 @@ pub fn tell_unread(lines: &mut Lines, columns: &Columns, head: &ByteRecord) {
             if !is_blank(name) && !is_read(columns, place) {
                 lines.add("column ");
                 lines.add_cell(name);
-                lines.add(": this column isn't read\n");
+                lines.add(": this column isn't read");
+                lines.end();
             }
         }
     }
@@ -40,7 +41,7 @@ fn tell_missing(lines: &mut Lines, column: Option<usize>, names: &str) {
     if column.is_none() {
         lines.add("row 1: there is no column ");
         lines.add(names);
-        lines.add("\n");
+        lines.end();
     }
 }
 
@@ -57,7 +58,7 @@ fn tell_missing_or(
         lines.add(names);
         lines.add(" nor an option ");
         lines.add(name);
-        lines.add("\n");
+        lines.end();
     }
 }
 

@@ -56,7 +56,7 @@ fn tell_off_wheel(lines: &mut Lines, place: CellPlace<'_>, wheel: u8, letter: Le
         lines.add_number(u64::from(wheel));
         lines.add(" has no ");
         lines.add_cell(&[letter.byte()]);
-        lines.add("\n");
+        lines.end();
     }
 }
 

@@ -78,7 +78,7 @@ fn tell_reflector(
         lines.add(model.text().as_str());
         lines.add(" has no reflector ");
         lines.add_cell(cell);
-        lines.add("\n");
+        lines.end();
     }
 }
 
@@ -124,7 +124,7 @@ fn tell_wheel(lines: &mut Lines, place: CellPlace<'_>, wheel: Wheel, message: &s
     lines.add("wheel ");
     lines.add(wheel.text().as_str());
     lines.add(message);
-    lines.add("\n");
+    lines.end();
 }
 
 /// Tells that the box of the model lacks a wheel.
@@ -188,7 +188,7 @@ fn tell_shared(
             lines.add_cell(&one);
             lines.add(" and in ");
             lines.add_cell(&two);
-            lines.add("\n");
+            lines.end();
         }
     }
 }

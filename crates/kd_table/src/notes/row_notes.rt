@@ -10,10 +10,17 @@ use kd_tables::{Sink, put_all};
 /// The most bytes of a cell that are shown.
 const SHOWN: usize = 60;
 
-/// Lines of text. What doesn't fit is left out.
+/// Told in place of the lines that don't fit.
+const MORE: &str = "further faults aren't told\n";
+
+/// Lines of text. The first line that doesn't fit is left out, and so are all lines after it.
 #[derive(Drop)]
 pub struct Lines {
     text: ArrayVec<u8, 4096>,
+    /// The number of bytes in whole lines.
+    whole: usize,
+    /// Whether a line didn't fit.
+    is_full: bool,
 }
 
 impl Lines {
@@ -21,6 +28,8 @@ impl Lines {
     pub fn new() -> Self {
         Lines {
             text: ArrayVec::new(),
+            whole: 0,
+            is_full: false,
         }
     }
 
@@ -29,9 +38,25 @@ impl Lines {
         self.text.is_empty()
     }
 
-    /// Appends a text.
+    /// Appends bytes to the line at hand.
+    fn add_bytes(&mut self, bytes: &[u8]) {
+        if !self.is_full && self.text.try_extend_from_slice(bytes).is_err() {
+            self.is_full = true;
+            self.text.truncate(self.whole);
+        }
+    }
+
+    /// Appends a text to the line at hand.
     pub fn add(&mut self, text: &str) {
-        let _ = self.text.try_extend_from_slice(text.as_bytes());
+        self.add_bytes(text.as_bytes());
+    }
+
+    /// Ends the line at hand.
+    pub fn end(&mut self) {
+        self.add("\n");
+        if !self.is_full {
+            self.whole = self.text.len();
+        }
     }
 
     /// Appends a number.
@@ -45,7 +70,7 @@ impl Lines {
         let is_long = cell.len() > SHOWN;
         for byte in cell.iter().take(SHOWN) {
             let hidden = *byte < 32 || *byte == 127 || is_long && *byte > 127;
-            let _ = self.text.try_push(if hidden { b'?' } else { *byte });
+            self.add_bytes(&[if hidden { b'?' } else { *byte }]);
         }
         if is_long {
             self.add("...");
@@ -56,8 +81,16 @@ impl Lines {
     pub fn put<N: Sink>(&self, notes: &mut N)
         ensures { Tells (port N.taken N.has_failed notes.old notes.new) }
     {
-        let _ = put_all(notes, self.text.as_slice());
+        put_text(notes, self.text.as_slice());
+        put_text(notes, if self.is_full { MORE.as_bytes() } else { &[] });
     }
+}
+
+/// Writes a text, unless `notes` fails.
+fn put_text<N: Sink>(notes: &mut N, text: &[u8])
+    ensures { Tells (port N.taken N.has_failed notes.old notes.new) }
+{
+    let _ = put_all(notes, text);
 }
 
 /// Where a row stands in its table.
@@ -103,7 +136,7 @@ impl Lines {
     pub fn tell(&mut self, place: CellPlace<'_>, message: &str) {
         self.begin(place);
         self.add(message);
-        self.add("\n");
+        self.end();
     }
 
     /// Appends a line with a message on an item, which stands between two parts of the message.
@@ -112,6 +145,6 @@ impl Lines {
         self.add(before);
         self.add_cell(item);
         self.add(after);
-        self.add("\n");
+        self.end();
     }
 }
