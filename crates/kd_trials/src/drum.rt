@@ -1,6 +1,7 @@
 //! Tests of the drum.
 use crate::letters::letters;
-use crate::machines::{File, day};
+use crate::machines::day;
+use crate::named::File;
 use crate::named::TextName::{DayOfAllMet, DayWithoutPins};
 use kd_drum::Converter;
 use kd_tables::Letter;

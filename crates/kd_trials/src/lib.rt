@@ -1,6 +1,7 @@
 //! Tests of public calls of the crates below `kd_host` that no run of the program shows: a module for each crate, and samples.
 //!
-//! The tests have a crate of their own, since a crate with tests is proved twice.
+//! The tests have a crate of their own, since a crate with tests is proved twice. The texts, and the sources without an
+//! end, are also for the tests of the crates above.
 #![tactic(auto)]
 
 #[cfg(test)]
@@ -19,19 +20,18 @@ mod letters;
 mod lost;
 #[cfg(test)]
 mod machines;
-#[cfg(test)]
-mod named;
+pub mod named;
 #[cfg(test)]
 mod pins;
 #[cfg(test)]
 mod prices;
 #[cfg(test)]
 mod sheet;
+pub mod source;
 #[cfg(test)]
 mod state;
 #[cfg(test)]
 mod step;
 #[cfg(test)]
 mod tables;
-#[cfg(test)]
-mod texts;
+pub mod texts;

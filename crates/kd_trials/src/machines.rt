@@ -1,14 +1,10 @@
 //! Machines and days, read from their files.
-use crate::named::TextName::{self, DayWithoutPins, M1, PlainDay, WithoutPins};
+use crate::named::TextName::{DayWithoutPins, M1, PlainDay, WithoutPins};
+use crate::named::{File, changed};
 use kd_sheet::{read_machine, read_sheet};
 use kd_state::{Machine, SheetDay};
 use std::alloc::Global;
 use std::process::Abort;
-
-/// A file with a change: a text, and what replaces it wherever it is in the file.
-///
-/// If both texts are empty, the file isn't changed.
-pub type File = (TextName, &'static str, &'static str);
 
 /// A machine file, and a sheet with one day.
 pub type Told = (File, File);
@@ -43,28 +39,25 @@ pub const TWO_BARS: Told = (
 );
 
 /// Reads the machine from a machine file, after the file's change.
-pub fn machine(rt: &impl Abort, alloc: Global, (file, old, new): &File) -> Machine {
-    let text = file
-        .text()
-        .replace(alloc, old, new)
-        .ok()
-        .expect(rt, "memory");
+pub fn machine(rt: &impl Abort, alloc: Global, file: &File) -> Machine {
+    let text = changed(alloc, file).ok().expect(rt, "memory");
     read_machine(alloc, text.as_bytes())
         .ok()
         .expect(rt, "a machine file")
 }
 
-/// Reads day 1 from a sheet, after the sheet's change.
-pub fn day(rt: &impl Abort, alloc: Global, (sheet, old, new): &File) -> SheetDay {
-    let text = sheet
-        .text()
-        .replace(alloc, old, new)
-        .ok()
-        .expect(rt, "memory");
+/// Reads day `number` from a sheet, after the sheet's change.
+pub fn numbered_day(rt: &impl Abort, alloc: Global, sheet: &File, number: u8) -> SheetDay {
+    let text = changed(alloc, sheet).ok().expect(rt, "memory");
     let sheet = read_sheet(alloc, text.as_bytes())
         .ok()
         .expect(rt, "a sheet");
-    sheet.into_day(1).expect(rt, "a day")
+    sheet.into_day(number).expect(rt, "a day")
+}
+
+/// Reads day 1 from a sheet, after the sheet's change.
+pub fn day(rt: &impl Abort, alloc: Global, sheet: &File) -> SheetDay {
+    numbered_day(rt, alloc, sheet, 1)
 }
 
 /// Reads a machine and its day.

@@ -1,16 +1,23 @@
-//! Names for the texts in module `texts`.
+//! Names for the texts in module `texts`, and texts with a change.
 //!
 //! A table of cases is proved far faster with names than with the texts themselves.
 use crate::texts;
+use std::alloc::{AllocError, Global};
 
-/// The name of a machine file, a sheet or a card in module `texts`, or of the empty text.
+/// The name of a machine file, a sheet, a card or a form in module `texts`, or of the empty text.
 #[derive(Clone, Copy)]
 pub enum TextName {
     M1,
+    M1Written,
+    Unready,
     TenCables,
+    TenCablesWritten,
     M209,
     M4AsEnigma,
+    M4,
+    M3,
     AllMet,
+    Farthest,
     WithoutPins,
     PlainDay,
     DayOf1941,
@@ -19,16 +26,25 @@ pub enum TextName {
     DayOfAllMet,
     TwoCables,
     OneLug,
+    NoPrices,
+    Higher,
+    TwoLugs,
     NoSettings,
     TwoCableKinds,
     BarKinds,
+    TwoLugsByKind,
     EmptyKinds,
+    Highest,
     UnlikeBars,
     DayOfUnlikeBars,
     NoLugs,
     UnlikeBarKinds,
     OneBarKind,
     UnlikeCableKinds,
+    FarthestCard,
+    Sheet,
+    EmptySheet,
+    Message,
     Empty,
 }
 
@@ -37,10 +53,16 @@ impl TextName {
     pub fn text(self) -> &'static str {
         match self {
             TextName::M1 => texts::M1,
+            TextName::M1Written => texts::M1_WRITTEN,
+            TextName::Unready => texts::UNREADY,
             TextName::TenCables => texts::TEN_CABLES,
+            TextName::TenCablesWritten => texts::TEN_CABLES_WRITTEN,
             TextName::M209 => texts::M209,
             TextName::M4AsEnigma => texts::M4_AS_ENIGMA,
+            TextName::M4 => texts::M4,
+            TextName::M3 => texts::M3,
             TextName::AllMet => texts::ALL_MET,
+            TextName::Farthest => texts::FARTHEST,
             TextName::WithoutPins => texts::WITHOUT_PINS,
             TextName::PlainDay => texts::PLAIN_DAY,
             TextName::DayOf1941 => texts::DAY_OF_1941,
@@ -49,17 +71,36 @@ impl TextName {
             TextName::DayOfAllMet => texts::DAY_OF_ALL_MET,
             TextName::TwoCables => texts::TWO_CABLES,
             TextName::OneLug => texts::ONE_LUG,
+            TextName::NoPrices => texts::NO_PRICES,
+            TextName::Higher => texts::HIGHER,
+            TextName::TwoLugs => texts::TWO_LUGS,
             TextName::NoSettings => texts::NO_SETTINGS,
             TextName::TwoCableKinds => texts::TWO_CABLE_KINDS,
             TextName::BarKinds => texts::BAR_KINDS,
+            TextName::TwoLugsByKind => texts::TWO_LUGS_BY_KIND,
             TextName::EmptyKinds => texts::EMPTY_KINDS,
+            TextName::Highest => texts::HIGHEST,
             TextName::UnlikeBars => texts::UNLIKE_BARS,
             TextName::DayOfUnlikeBars => texts::DAY_OF_UNLIKE_BARS,
             TextName::NoLugs => texts::NO_LUGS,
             TextName::UnlikeBarKinds => texts::UNLIKE_BAR_KINDS,
             TextName::OneBarKind => texts::ONE_BAR_KIND,
             TextName::UnlikeCableKinds => texts::UNLIKE_CABLE_KINDS,
+            TextName::FarthestCard => texts::FARTHEST_CARD,
+            TextName::Sheet => texts::SHEET,
+            TextName::EmptySheet => texts::EMPTY_SHEET,
+            TextName::Message => texts::MESSAGE,
             TextName::Empty => "",
         }
     }
+}
+
+/// A text with a change: its name, a part of it, and what replaces the part wherever it is in the text.
+///
+/// If both parts are empty, the text isn't changed. An empty part of the empty text is replaced by a whole text.
+pub type File = (TextName, &'static str, &'static str);
+
+/// The text of `file`, after its change.
+pub fn changed(alloc: Global, (name, old, new): &File) -> Result<String, AllocError> {
+    name.text().replace(alloc, old, new)
 }
