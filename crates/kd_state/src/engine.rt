@@ -17,7 +17,7 @@ use kd_drum::Converter;
 use kd_enigma::{Enigma, EnigmaKey, Plugs};
 use kd_pins::PinSet;
 use kd_tables::{Letter, Reading, Reflector};
-pub use ready::NotReady;
+pub use ready::{NotReady, ReadyWheels, ready_wheels};
 use std::marker::Model;
 
 /// A machine of any model, set to a key and ready to encipher and decipher texts.

@@ -13,7 +13,7 @@ mod sheet_day;
 
 pub use costs::tables::{bar_costs, cable_costs, column_at};
 pub use costs::{bar_cost, cable_cost, lies_in_column, nearest_standing};
-pub use engine::{Engine, NotReady, own_engine};
+pub use engine::{Engine, NotReady, ReadyWheels, own_engine, ready_wheels};
 pub use line_words::{
     day_of_text, is_word, letter_of_text, number_of_text, push_letter, push_number, split_once,
     split_words, wide_number_of_text,
@@ -24,7 +24,7 @@ pub use machine::one_model::OneModel;
 pub use machine::parts::Parts;
 pub use machine::per_slot::PerSlot;
 pub use machine::per_wheel::PerWheel;
-pub use machine::pin_parts::PinParts;
+pub use machine::pin_parts::{PinParts, readings_of};
 pub use machine::rotor_parts::RotorParts;
 pub use setting::Setting;
 pub use setting::carry_list::carry_all;

@@ -1,13 +1,15 @@
 //! Whether a machine is ready to encipher, and the engine of a ready machine.
-ghost use Rattle.std.specs.Prelude.{◌≡◌, ◌≢◌, ◌↔◌, ◌<◌, ◌≤◌, ◌+◌, ◌++◌, length, map, filter_map, All, Contains, IsTrue};
+ghost use Rattle.std.specs.Prelude.{◌≡◌, ◌≢◌, ◌⊎◌, ◌↔◌, ◌<◌, ◌≤◌, ◌+◌, ◌++◌, length, map, filter_map, All, Contains, IsTrue};
 ghost use Rattle.std.specs.Prelude.{IsSome, IfSome, MatchOption, Some, None};
 ghost use Rattle.std.specs.Option.{option_to_list, option_zip};
 ghost use Rattle.arrayvec.specs.ArrayVec.{array_vec_len};
+ghost use Rattle.kd_enigma.specs.Cipher.{IsPlugboard};
 ghost use Rattle.kd_tables.specs.Permutation.{exchange};
 ghost use Rattle.kd_tables.specs.Refusals.{refusal_name};
 ghost use Rattle.kd_tables.specs.Tables.{box_of};
 ghost use Rattle.kd_state.specs.Machine.{cable_letters, AreCables, AreLegalRotorParts};
-ghost use Rattle.kd_state.specs.SeatedWheels.{wheel_in_seat};
+ghost use Rattle.kd_state.specs.SeatedWheels.{key_of_wheels, wheel_in_seat};
+ghost use Rattle.kd_state.specs.EngineKey.{Rotor};
 ghost use Rattle.kd_state.specs.OwnKeys.{physical_key};
 ghost use Rattle.kd_state.specs.TwoCiphers.{IsReady};
 
@@ -21,7 +23,7 @@ use crate::machine::rotor_parts::RotorParts;
 use crate::sheet_day::rotor_entry::SheetWheel;
 use arrayvec::ArrayVec;
 use kd_enigma::Plugs;
-use kd_tables::{Letter, Refusal, Text, Wheel};
+use kd_tables::{Letter, Reflector, Refusal, Text, Wheel};
 use thiserror::Error;
 
 /// The machine isn't ready: a slot is empty, or a cable has exactly one letter.
@@ -36,6 +38,15 @@ impl NotReady {
     {
         Refusal::NotReady.text()
     }
+}
+
+/// The wheels, the reflector and the plugboard of a rotor machine that is ready.
+#[derive(Drop)]
+pub struct ReadyWheels {
+    /// A wheel for each slot, from the left.
+    pub wheels: ArrayVec<SheetWheel, 4>,
+    pub reflector: Reflector,
+    pub plugs: Plugs,
 }
 
 impl Machine {
@@ -74,15 +85,33 @@ impl Machine {
 }
 
 /// Creates the engine of a rotor machine, if the machine is ready.
-#[tactic(auto, using(crate::proofs::WheelsInSlots::not_ready))]
 fn rotor_engine(parts: &RotorParts) -> Option<Engine>
     requires { AreLegalRotorParts parts.now }
     ensures ready { IsSome result ↔ IsReady (Parts.Rotor parts.now) }
     ensures key { IfSome result (λ engine. engine ≡ physical_key (Parts.Rotor parts.now)) }
 {
+    let ready = ready_wheels(parts)?;
+    Some(Engine::from_wheels(ready.wheels.as_slice(), ready.reflector, ready.plugs))
+}
+
+/// The wheels, the reflector and the plugboard of a rotor machine, if the machine is ready.
+#[tactic(auto, using(crate::proofs::WheelsInSlots::not_ready))]
+pub fn ready_wheels(parts: &RotorParts) -> Option<ReadyWheels>
+    requires { AreLegalRotorParts parts.now }
+    ensures ready { IsSome result ↔ IsReady (Parts.Rotor parts.now) }
+    ensures key { IfSome result (λ ready. physical_key (Parts.Rotor parts.now)
+        ≡ Rotor (key_of_wheels ready.wheels.items ready.reflector ready.plugs)) }
+    ensures slots { IfSome result
+        (λ ready. (array_vec_len ready.wheels ≡ 3) ⊎ (array_vec_len ready.wheels ≡ 4)) }
+    ensures plugs { IfSome result (λ ready. IsPlugboard ready.plugs) }
+{
     let wheels = seated_wheels(parts)?;
     let plugs = plugs_of(&parts.cables)?;
-    Some(Engine::from_wheels(wheels.as_slice(), parts.reflector, plugs))
+    Some(ReadyWheels {
+        wheels,
+        reflector: parts.reflector,
+        plugs,
+    })
 }
 
 /// The wheels in the slots, with their rings and window letters. `None` if a slot is empty.
@@ -121,6 +150,7 @@ fn plugs_of(cables: &[Cable; 13]) -> Option<Plugs>
     ensures ready { IsSome result ↔ All (λ cable. length (cable_letters cable) ≢ 1) cables.now }
     ensures plugs { IfSome result
         (λ plugs. plugs ≡ exchange (filter_map (λ cable. option_zip cable.0 cable.1) cables.now)) }
+    ensures plugboard { IfSome result IsPlugboard }
 {
     if !have_no_single_letter(cables) {
         return None;

@@ -44,7 +44,7 @@ pub(crate) fn are_on_wheels(letters: &[Letter; 6]) -> bool
 }
 
 /// The readings of a Converter's bars, from bar 1 to bar 27.
-pub(crate) fn readings_of(bars: &[Standing; 27]) -> [Reading; 27]
+pub fn readings_of(bars: &[Standing; 27]) -> [Reading; 27]
     ensures { result ≡ map reading_of bars.now }
 {
     let mut readings = [bars[0].reading(); 27];

@@ -1,5 +1,5 @@
 use Rattle.kd_state.proofs.{Prelude.{arith, refl}, WheelsInSlots.of_seated}
-use Rattle.kd_state.proofs.engine.ready.rotor_engine.Goals as goal
+use Rattle.kd_state.proofs.engine.ready.ready_wheels.Goals as goal
 
 pub returns-clause-ready : goal.returns-clause-ready
 returns-clause-ready c =
