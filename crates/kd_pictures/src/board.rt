@@ -66,7 +66,7 @@ fn picture_name(plugs: Plugs) -> Word
 
 /// Writes the cables in words.
 #[tactic(auto, unfolding(crate::specs::Board::all_cables))]
-fn draw_all_cables<W: Sink>(sink: &mut W, language: Language, machine: &Machine)
+pub fn draw_all_cables<W: Sink>(sink: &mut W, language: Language, machine: &Machine)
     ensures { Draws W.taken W.has_failed sink.old sink.new (all_cables language machine.now) }
 {
     if has_cables(machine, &CABLES) {

@@ -48,8 +48,8 @@ pub fn draw_one<W: Sink>(sink: &mut W, language: Language, after: &Machine)
     draw(sink, WHEELS_END);
 }
 
-/// Writes the machine in words.
-fn draw_words<W: Sink>(sink: &mut W, language: Language, machine: &Machine)
+/// Writes in words how a rotor machine's reflector, wheels, rings and windows are set.
+pub fn draw_words<W: Sink>(sink: &mut W, language: Language, machine: &Machine)
     ensures { Draws W.taken W.has_failed sink.old sink.new (machine_words language machine.now) }
 {
     draw_reflector_words(sink, language, machine.reflector());

@@ -1,0 +1,64 @@
+-- Tables as text: lines of capital letters and digits, with an LF between lines.
+use Rattle.std.specs.Prelude.{ℕ, ◌+◌, ◌-◌, ◌%◌, ◌==◌, Bool, List, [], ◌∷◌, ◌++◌, drop, flat_map, length, map}
+use Rattle.std.specs.Prelude.{slice_index_or, take}
+use Rattle.std.specs.List.{range_with_len, slice_split}
+use Rattle.std.specs.Int.{from_bool}
+use Rattle.kd_tables.specs.Tables.{letters_of}
+use Rattle.kd_tables.specs.Text.{letters_text}
+use Rattle.kd_pins.specs.PinWheel.{is_effective}
+use Rattle.kd_typing.specs.PinTable.{PinTable}
+use Rattle.kd_typing.specs.RotorTable.{RotorTable}
+
+-- the lines, with an LF between each two
+abbrev pub lines_text : List (List ℕ) → List ℕ
+lines_text [] = []
+lines_text (line ∷ lines) = line ++ flat_map (λ other. 10 ∷ other) lines
+
+-- the numbers from 0 to 9 as digits
+abbrev pub digits_text : List ℕ → List ℕ
+digits_text numbers = map (λ number. 48 + number) numbers
+
+-- the lines of a rotor machine's table: `steps` as one line of digits, then the rows of `into`, then those of `core`
+abbrev pub rotor_lines : RotorTable → List (List ℕ)
+rotor_lines table = digits_text table.steps ∷ map letters_text table.into ++ map letters_text table.core
+
+-- a digit for each pin: 1 if the pin is effective, and 0 if it isn't
+abbrev pub pins_text : List Bool → List ℕ
+pins_text pins = digits_text (map from_bool pins)
+
+-- the lines of a Converter's table: for each wheel a line of digits, and then the rows
+abbrev pub pin_lines : PinTable → List (List ℕ)
+pin_lines table = map pins_text table.pins ++ map letters_text table.rows
+
+-- ---- Reading a table from its text, as the script of a page does.
+
+-- the lines of a text
+abbrev pub lines_of : List ℕ → List (List ℕ)
+lines_of text = slice_split (λ byte. byte == 10) text
+
+-- the table in a text: its first line has `steps`, the next 26 lines have `into`, and all further lines have `core`
+unfoldable pub rotor_table_in : List ℕ → RotorTable
+rotor_table_in text =
+    let lines = lines_of text in
+    record {
+      steps = map (λ byte. byte - 48) (slice_index_or lines 0 []);
+      into = map letters_of (take 26 (drop 1 lines));
+      core = map letters_of (drop 27 lines);
+    }
+
+-- the table in a text: its first six lines have `pins`, and all further lines have `rows`
+unfoldable pub pin_table_in : List ℕ → PinTable
+pin_table_in text =
+    let lines = lines_of text in
+    record { pins = map (map (λ byte. byte == 49)) (take 6 lines); rows = map letters_of (drop 6 lines) }
+
+-- ---- Lines in parts. No public contract cites these definitions.
+
+-- the line of a wheel with these pins, whose acting pin is `offset` places past the shown letter
+unfoldable pub acting_text : List Bool → ℕ → List ℕ
+acting_text pins offset =
+    pins_text (map (λ place. is_effective pins ((place + offset) % length pins)) (range_with_len 0 (length pins)))
+
+-- a row of letters as a line, with an LF before it
+abbrev pub row_line : List ℕ → List ℕ
+row_line row = 10 ∷ letters_text row

@@ -1,0 +1,15 @@
+//! Tables of machines, on which a text can be typed by looking letters up.
+#![tactic(auto)]
+
+mod around;
+pub mod laws;
+mod machine_rows;
+mod pin_rows;
+mod pin_text;
+mod rotor_rows;
+mod rotor_text;
+mod row_line;
+
+pub use machine_rows::MachineRows;
+pub use pin_rows::PinRows;
+pub use rotor_rows::RotorRows;

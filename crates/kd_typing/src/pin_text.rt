@@ -1,0 +1,100 @@
+//! The table of a Converter M-209 as text.
+ghost use Rattle.std.specs.Prelude.{◌≡◌, [], ◌∷◌, ◌++◌, ◌+◌, ◌≤◌, ◌<◌, flat_map, length, map};
+ghost use Rattle.arrayvec.specs.ArrayString.{array_string_len};
+ghost use Rattle.kd_pictures.specs.Drawing.{Draws};
+ghost use Rattle.kd_tables.specs.Text.{letters_text};
+ghost use Rattle.kd_typing.specs.PinTable.{pin_table};
+ghost use Rattle.kd_typing.specs.TableText.{acting_text, lines_text, pin_lines, pins_text, row_line};
+
+use crate::pin_rows::PinRows;
+use crate::row_line::row_line;
+use arrayvec::ArrayString;
+use kd_pictures::draw;
+use kd_pictures::template::draw_letter;
+use kd_tables::{Letter, Sink};
+
+impl PinRows {
+    /// Writes the table: for each wheel a line of digits, 1 where the acting pin is effective; then the rows. There is
+    /// an LF between each two lines.
+    pub fn draw<W: Sink>(&self, sink: &mut W)
+        ensures { Draws W.taken W.has_failed sink.old sink.new
+            (lines_text (pin_lines (pin_table self.now))) }
+    {
+        self.draw_wheels(sink);
+        self.draw_rows(sink);
+    }
+
+    /// Writes the letters that the wheels show.
+    pub fn draw_shown<W: Sink>(&self, sink: &mut W)
+        ensures { Draws W.taken W.has_failed sink.old sink.new (letters_text self.now.letters) }
+    {
+        draw_letters(sink, self.letters());
+    }
+
+    /// Writes the lines of the six wheels.
+    fn draw_wheels<W: Sink>(&self, sink: &mut W)
+        ensures { Draws W.taken W.has_failed sink.old sink.new
+            (lines_text (map pins_text (pin_table self.now).pins)) }
+    {
+        let pins = self.pins();
+        draw(sink, acting_text(&pins.w1, 15).as_str());
+        draw_wheel(sink, &pins.w2, 14);
+        draw_wheel(sink, &pins.w3, 13);
+        draw_wheel(sink, &pins.w4, 12);
+        draw_wheel(sink, &pins.w5, 11);
+        draw_wheel(sink, &pins.w6, 10);
+    }
+
+    /// Writes the rows, with an LF before each.
+    #[tactic(auto, using(crate::proofs::TableTexts::none_yet))]
+    fn draw_rows<W: Sink>(&self, sink: &mut W)
+        ensures { Draws W.taken W.has_failed sink.old sink.new
+            (flat_map row_line (pin_table self.now).rows) }
+    {
+        for number in 0..64 {
+            draw(sink, row_line(&self.row_at(number)).as_str());
+        }
+    }
+}
+
+/// Writes letters without anything between them.
+fn draw_letters<W: Sink>(sink: &mut W, letters: &[Letter])
+    ensures { Draws W.taken W.has_failed sink.old sink.new (letters_text letters.now) }
+{
+    if let [letter, rest @ ..] = letters {
+        draw_letter(sink, *letter);
+        draw_letters(sink, rest);
+    }
+}
+
+/// Writes the line of a wheel with these pins, with an LF before it.
+fn draw_wheel<W: Sink>(sink: &mut W, pins: &[bool], offset: usize)
+    requires pins { length pins.now ≤ 26 }
+    requires offset { offset ≤ 26 }
+    ensures { Draws W.taken W.has_failed sink.old sink.new (10 ∷ acting_text pins.now offset) }
+{
+    draw(sink, "\n");
+    draw(sink, acting_text(pins, offset).as_str());
+}
+
+/// A digit for each letter of a wheel: 1 if the acting pin, `offset` places on, is effective while this letter shows.
+fn acting_text(pins: &[bool], offset: usize) -> ArrayString<26>
+    requires pins { length pins.now ≤ 26 }
+    requires offset { offset ≤ 26 }
+    ensures { result.bytes ≡ acting_text pins.now offset }
+{
+    let mut text = ArrayString::new();
+    for place in 0..pins.len() {
+        push_digit(&mut text, pins[(place + offset) % pins.len()]);
+    }
+    text
+}
+
+/// Appends 1 for an effective pin, and 0 for another.
+fn push_digit(text: &mut ArrayString<26>, effective: bool)
+    requires { array_string_len text.old < 26 }
+    ensures bytes { text.new.bytes ≡ text.old.bytes ++ pins_text (effective ∷ []) }
+    ensures len { array_string_len text.new ≡ array_string_len text.old + 1 }
+{
+    text.push(if effective { '1' } else { '0' });
+}

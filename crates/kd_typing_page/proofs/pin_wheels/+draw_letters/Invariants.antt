@@ -1,0 +1,5 @@
+use Rattle.std.proofs.Common.{length}
+use Rattle.kd_typing_page.proofs.pin_wheels.+draw_letters.Given as goal
+
+abbrev pub decreases-draw_letters : goal.decreases-draw_letters
+decreases-draw_letters g l = length l.letters.now

@@ -1,0 +1,5 @@
+use Rattle.std.proofs.Common.{length}
+use Rattle.kd_typing_page.proofs.windows.+draw_windows.Given as goal
+
+abbrev pub decreases-draw_windows : goal.decreases-draw_windows
+decreases-draw_windows g l = length l.slots.now

@@ -1,0 +1,5 @@
+pub mod Windows
+pub mod PinWheels
+pub mod Setting
+pub mod TypingPage
+pub mod Plain

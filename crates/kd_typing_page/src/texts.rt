@@ -1,0 +1,127 @@
+//! The fixed texts of a page on which a machine is typed on, those with words in English and in German. In a template, each
+//! sign `~` stands for a value. The words that the script shows have the sign `%s` in its place.
+
+use kd_pictures::texts::Text;
+
+/// The file's title, with the model. After it comes what the page may run and load: this script and this style sheet, known by
+/// their SHA-256, and nothing else.
+pub const TITLE: Text = ("~: typing", "~: Tasten");
+
+pub const POLICY: &str =
+    "</title>\n<meta http-equiv=Content-Security-Policy content=\"default-src 'none'; script-src 'sha256-hQVoSE9h/N85GXqRhH+Jdm7nTj5nRGwxOpeJh2obuDQ='; style-src 'sha256-1Xs7RBstJAKd++H97kwyJD8TTsEhQ7iDMZTTNFUVyXk='; base-uri 'none'; form-action 'none'\">\n<style>";
+
+pub const BODY: &str = "</style>\n<body>\n";
+
+/// The head of a rotor machine's page, with the model, and of a Converter's. After it come the wheels.
+pub const ROTOR_HEAD: Text = (
+    "<main class=enigma>\n<header><h1>~ <small>Press a key: a lamp shows the letter.</small></h1></header>\n<p id=off>This page needs JavaScript: without it no key works. If this is a preview, open the file in a browser.</p>\n<div>\n<div class=windows role=group aria-label=\"Windows\">\n",
+    "<main class=enigma>\n<header><h1>~ <small>Taste dr\u{fc}cken: Die Lampe zeigt den Buchstaben.</small></h1></header>\n<p id=off>Diese Seite braucht JavaScript: Ohne JavaScript wirkt keine Taste. Ist dies nur eine Vorschau, die Datei in einem Browser \u{f6}ffnen.</p>\n<div>\n<div class=windows role=group aria-label=\"Fenster\">\n",
+);
+
+pub const PIN_HEAD: Text = (
+    "<main class=alphabet>\n<header><h1>~ <small>Press a letter: the machine prints one.</small></h1></header>\n<p id=off>This page needs JavaScript: without it no key works. If this is a preview, open the file in a browser.</p>\n<div>\n<div class=windows role=group aria-label=\"Wheels\">\n",
+    "<main class=alphabet>\n<header><h1>~ <small>Buchstaben dr\u{fc}cken: Die Maschine druckt einen.</small></h1></header>\n<p id=off>Diese Seite braucht JavaScript: Ohne JavaScript wirkt keine Taste. Ist dies nur eine Vorschau, die Datei in einem Browser \u{f6}ffnen.</p>\n<div>\n<div class=windows role=group aria-label=\"R\u{e4}der\">\n",
+);
+
+/// The window of a slot: before its letters, which are the same for all slots, and after them.
+pub const WINDOW: Text = (
+    "<div class=wheel><button type=button value=1 aria-label=\"slot ~: next letter\">\u{25b2}</button><label><span>slot ~</span><select autocomplete=off aria-label=\"slot ~: window\">",
+    "<div class=wheel><button type=button value=1 aria-label=\"Platz ~: n\u{e4}chster Buchstabe\">\u{25b2}</button><label><span>Platz ~</span><select autocomplete=off aria-label=\"Platz ~: Fenster\">",
+);
+
+pub const LETTERS: &str =
+    "<option>A<option>B<option>C<option>D<option>E<option>F<option>G<option>H<option>I<option>J<option>K<option>L<option>M<option>N<option>O<option>P<option>Q<option>R<option>S<option>T<option>U<option>V<option>W<option>X<option>Y<option>Z";
+
+pub const WINDOW_END: Text = (
+    "</select><small></small></label><button type=button value=-1 aria-label=\"slot ~: letter before\">\u{25bc}</button></div>\n",
+    "</select><small></small></label><button type=button value=-1 aria-label=\"Platz ~: voriger Buchstabe\">\u{25bc}</button></div>\n",
+);
+
+/// A pin wheel: before its letters, a letter, and after them.
+pub const WHEEL: Text = (
+    "<div class=wheel><button type=button value=1 aria-label=\"wheel ~: next letter\">\u{25b2}</button><label><span>wheel ~</span><select autocomplete=off aria-label=\"wheel ~: letter\">",
+    "<div class=wheel><button type=button value=1 aria-label=\"Rad ~: n\u{e4}chster Buchstabe\">\u{25b2}</button><label><span>Rad ~</span><select autocomplete=off aria-label=\"Rad ~: Buchstabe\">",
+);
+
+pub const LETTER: &str = "<option>~";
+
+pub const WHEEL_END: Text = (
+    "</select><small></small></label><button type=button value=-1 aria-label=\"wheel ~: letter before\">\u{25bc}</button></div>\n",
+    "</select><small></small></label><button type=button value=-1 aria-label=\"Rad ~: voriger Buchstabe\">\u{25bc}</button></div>\n",
+);
+
+/// The end of the windows, and the lamps.
+pub const LAMPS: &str =
+    "</div>\n<div id=lamps aria-hidden=true>\n<div class=row><b data-lamp=Q><span>Q</span></b><b data-lamp=W><span>W</span></b><b data-lamp=E><span>E</span></b><b data-lamp=R><span>R</span></b><b data-lamp=T><span>T</span></b><b data-lamp=Z><span>Z</span></b><b data-lamp=U><span>U</span></b><b data-lamp=I><span>I</span></b><b data-lamp=O><span>O</span></b></div>\n<div class=row><b data-lamp=A><span>A</span></b><b data-lamp=S><span>S</span></b><b data-lamp=D><span>D</span></b><b data-lamp=F><span>F</span></b><b data-lamp=G><span>G</span></b><b data-lamp=H><span>H</span></b><b data-lamp=J><span>J</span></b><b data-lamp=K><span>K</span></b></div>\n<div class=row><b data-lamp=P><span>P</span></b><b data-lamp=Y><span>Y</span></b><b data-lamp=X><span>X</span></b><b data-lamp=C><span>C</span></b><b data-lamp=V><span>V</span></b><b data-lamp=B><span>B</span></b><b data-lamp=N><span>N</span></b><b data-lamp=M><span>M</span></b><b data-lamp=L><span>L</span></b></div>\n</div>\n";
+
+/// The end of the pin wheels, the knob, and the end of the printed tape.
+pub const KNOB: Text = (
+    "</div>\n<fieldset class=knob><legend>Knob</legend><label><input type=radio name=knob value=C autocomplete=off checked><span><b>C</b> encipher</span></label><label><input type=radio name=knob value=D autocomplete=off><span><b>D</b> decipher</span></label></fieldset>\n<div id=strip class=strip aria-hidden=true></div>\n",
+    "</div>\n<fieldset class=knob><legend>Knopf</legend><label><input type=radio name=knob value=C autocomplete=off checked><span><b>C</b> verschl\u{fc}sseln</span></label><label><input type=radio name=knob value=D autocomplete=off><span><b>D</b> entschl\u{fc}sseln</span></label></fieldset>\n<div id=strip class=strip aria-hidden=true></div>\n",
+);
+
+/// The report, and the keys: those of a rotor machine, and those of a Converter.
+pub const KEYS: Text = (
+    "<p id=told role=status></p>\n<div id=keys role=group aria-label=\"Keys\">\n",
+    "<p id=told role=status></p>\n<div id=keys role=group aria-label=\"Tasten\">\n",
+);
+
+pub const ROTOR_KEYS: &str =
+    "<div class=row><button type=button value=Q><span>Q</span></button><button type=button value=W><span>W</span></button><button type=button value=E><span>E</span></button><button type=button value=R><span>R</span></button><button type=button value=T><span>T</span></button><button type=button value=Z><span>Z</span></button><button type=button value=U><span>U</span></button><button type=button value=I><span>I</span></button><button type=button value=O><span>O</span></button></div>\n<div class=row><button type=button value=A><span>A</span></button><button type=button value=S><span>S</span></button><button type=button value=D><span>D</span></button><button type=button value=F><span>F</span></button><button type=button value=G><span>G</span></button><button type=button value=H><span>H</span></button><button type=button value=J><span>J</span></button><button type=button value=K><span>K</span></button></div>\n<div class=row><button type=button value=P><span>P</span></button><button type=button value=Y><span>Y</span></button><button type=button value=X><span>X</span></button><button type=button value=C><span>C</span></button><button type=button value=V><span>V</span></button><button type=button value=B><span>B</span></button><button type=button value=N><span>N</span></button><button type=button value=M><span>M</span></button><button type=button value=L><span>L</span></button></div>\n";
+
+pub const PIN_KEYS: &str =
+    "<div class=row><button type=button value=A><span>A</span></button><button type=button value=B><span>B</span></button><button type=button value=C><span>C</span></button><button type=button value=D><span>D</span></button><button type=button value=E><span>E</span></button><button type=button value=F><span>F</span></button><button type=button value=G><span>G</span></button><button type=button value=H><span>H</span></button><button type=button value=I><span>I</span></button><button type=button value=J><span>J</span></button><button type=button value=K><span>K</span></button><button type=button value=L><span>L</span></button><button type=button value=M><span>M</span></button><button type=button value=N><span>N</span></button><button type=button value=O><span>O</span></button><button type=button value=P><span>P</span></button><button type=button value=Q><span>Q</span></button><button type=button value=R><span>R</span></button><button type=button value=S><span>S</span></button><button type=button value=T><span>T</span></button><button type=button value=U><span>U</span></button><button type=button value=V><span>V</span></button><button type=button value=W><span>W</span></button><button type=button value=X><span>X</span></button><button type=button value=Y><span>Y</span></button><button type=button value=Z><span>Z</span></button></div>\n";
+
+/// The buttons, the tape, and the field for a whole text.
+pub const ROTOR_TAPE: Text = (
+    "</div>\n<p class=buttons><button type=button id=undo>Undo</button><button type=button id=back>To the start</button><button type=button id=copy>Copy</button><button type=button id=clear>Clear</button></p>\n</div>\n<section>\n<h2>Tape <small>letters: <b id=count>0</b></small></h2>\n<div id=tape tabindex=0 role=group aria-label=\"Tape\"></div>\n<details id=whole><summary>Type a whole text</summary>\n<textarea id=text aria-label=\"Text\" autocomplete=off spellcheck=false></textarea>\n<button type=button id=go>Type it</button> <span class=note>A to Z; spaces and line ends are left out.</span></details>\n",
+    "</div>\n<p class=buttons><button type=button id=undo>R\u{fc}ckg\u{e4}ngig</button><button type=button id=back>Zum Anfang</button><button type=button id=copy>Kopieren</button><button type=button id=clear>L\u{f6}schen</button></p>\n</div>\n<section>\n<h2>Streifen <small>Buchstaben: <b id=count>0</b></small></h2>\n<div id=tape tabindex=0 role=group aria-label=\"Streifen\"></div>\n<details id=whole><summary>Einen ganzen Text tasten</summary>\n<textarea id=text aria-label=\"Text\" autocomplete=off spellcheck=false></textarea>\n<button type=button id=go>Tasten</button> <span class=note>A bis Z; Zwischenr\u{e4}ume und Zeilenenden fallen weg.</span></details>\n",
+);
+
+pub const PIN_TAPE: Text = (
+    "</div>\n<p class=buttons><button type=button id=undo>Undo</button><button type=button id=back>To the start</button><button type=button id=copy>Copy</button><button type=button id=clear>Clear</button></p>\n</div>\n<section>\n<h2>Tape <small>letters: <b id=count>0</b></small></h2>\n<div id=tape tabindex=0 role=group aria-label=\"Tape\"></div>\n<details id=whole><summary>Type a whole text</summary>\n<textarea id=text aria-label=\"Text\" autocomplete=off spellcheck=false></textarea>\n<button type=button id=go>Type it</button> <span class=note>A to Z; at C each space becomes Z, and line ends are left out.</span></details>\n",
+    "</div>\n<p class=buttons><button type=button id=undo>R\u{fc}ckg\u{e4}ngig</button><button type=button id=back>Zum Anfang</button><button type=button id=copy>Kopieren</button><button type=button id=clear>L\u{f6}schen</button></p>\n</div>\n<section>\n<h2>Streifen <small>Buchstaben: <b id=count>0</b></small></h2>\n<div id=tape tabindex=0 role=group aria-label=\"Streifen\"></div>\n<details id=whole><summary>Einen ganzen Text tasten</summary>\n<textarea id=text aria-label=\"Text\" autocomplete=off spellcheck=false></textarea>\n<button type=button id=go>Tasten</button> <span class=note>A bis Z; bei C wird jeder Zwischenraum zu Z, Zeilenenden fallen weg.</span></details>\n",
+);
+
+/// How a rotor machine is set: before its reflector and its wheels, which are in words, and before its cables.
+pub const ROTOR_SETTING: Text = (
+    "<details><summary>How the machine is set</summary><p>At the start, from the left: ",
+    "<details><summary>Wie die Maschine eingestellt ist</summary><p>Am Anfang, von links: ",
+);
+
+pub const CABLES: Text = (".<br>Cables: ", ".<br>Steckerverbindungen: ");
+
+/// How a Converter is set: before the letters of its wheels, before the effective pins of each wheel, and before its bars.
+pub const PIN_SETTING: Text = (
+    "<details><summary>How the machine is set</summary><p>Letters at the start: ",
+    "<details><summary>Wie die Maschine eingestellt ist</summary><p>Buchstaben am Anfang: ",
+);
+
+pub const PINS: Text = (".<br>Effective pins:", ".<br>Wirksame Stifte:");
+
+pub const WHEEL_PINS: Text = ("<br>wheel ~: ", "<br>Rad ~: ");
+
+pub const BARS: Text = ("<br>Bars:", "<br>Stangen:");
+
+pub const BAR: &str = " <b>~-~</b>";
+
+pub const SETTING_END: &str = ".</p></details>\n</section>\n</main>\n";
+
+/// What the script reads: before the letters that the machine shows. After them come the words that the script shows, on a
+/// rotor machine's page and on a Converter's, and then the table.
+pub const START: &str = "<script type=\"application/json\" id=data>{\"start\": \"";
+
+pub const ROTOR_WORDS: Text = (
+    "\", \"words\": {\"lit\": \"Key %s, lamp %s\", \"blank\": \"space\", \"nokey\": \"The machine has no key \u{201c}%s\u{201d}: nothing typed.\", \"space\": \"The machine has no key for a space: leave it out.\", \"bad\": \"Nothing typed: character %s is \u{201c}%s\u{201d}. Write \u{c4} as AE, \u{df} as SS, numbers in words.\", \"long\": \"Nothing typed: the text has more than 5000 letters.\", \"empty\": \"There is no letter to type.\", \"typed\": \"Letters typed: %s.\", \"undone\": \"Taken back: %s. The windows show %s.\", \"nothing\": \"The tape has no letter.\", \"back\": \"The windows show %s, as in the file.\", \"cleared\": \"The tape is empty.\", \"copied\": \"Letters copied: %s.\", \"byhand\": \"The browser can\u{2019}t copy. The letters are marked below.\"}}</script>\n<script type=\"text/plain\" id=table>",
+    "\", \"words\": {\"lit\": \"Taste %s, Lampe %s\", \"blank\": \"Zwischenraum\", \"nokey\": \"Die Maschine hat keine Taste \u{201e}%s\u{201c}: nichts getastet.\", \"space\": \"Die Maschine hat keine Leertaste: Zwischenraum weglassen.\", \"bad\": \"Nichts getastet: Zeichen %s ist \u{201e}%s\u{201c}. \u{c4} als AE, \u{df} als SS, Zahlen in Worten schreiben.\", \"long\": \"Nichts getastet: Der Text hat mehr als 5000 Buchstaben.\", \"empty\": \"Es ist kein Buchstabe zu tasten.\", \"typed\": \"Getastete Buchstaben: %s.\", \"undone\": \"Zur\u{fc}ckgenommen: %s. Die Fenster zeigen %s.\", \"nothing\": \"Auf dem Streifen steht kein Buchstabe.\", \"back\": \"Die Fenster zeigen %s, wie in der Datei.\", \"cleared\": \"Der Streifen ist leer.\", \"copied\": \"Kopierte Buchstaben: %s.\", \"byhand\": \"Der Browser kann nicht kopieren. Die Buchstaben sind unten markiert.\"}}</script>\n<script type=\"text/plain\" id=table>",
+);
+
+pub const PIN_WORDS: Text = (
+    "\", \"words\": {\"lit\": \"Letter %s, printed: %s\", \"blank\": \"space\", \"nokey\": \"The machine has no key \u{201c}%s\u{201d}: nothing typed.\", \"space\": \"At D a space is left out.\", \"bad\": \"Nothing typed: character %s is \u{201c}%s\u{201d}. Write \u{c4} as AE, \u{df} as SS, numbers in words.\", \"long\": \"Nothing typed: the text has more than 5000 letters.\", \"empty\": \"There is no letter to type.\", \"typed\": \"Letters typed: %s.\", \"undone\": \"Taken back: %s. The windows show %s.\", \"nothing\": \"The tape has no letter.\", \"back\": \"The windows show %s, as in the file.\", \"cleared\": \"The tape is empty.\", \"copied\": \"Letters copied: %s.\", \"byhand\": \"The browser can\u{2019}t copy. The letters are marked below.\"}}</script>\n<script type=\"text/plain\" id=table>",
+    "\", \"words\": {\"lit\": \"Buchstabe %s, gedruckt: %s\", \"blank\": \"Zwischenraum\", \"nokey\": \"Die Maschine hat keine Taste \u{201e}%s\u{201c}: nichts getastet.\", \"space\": \"Bei D f\u{e4}llt ein Zwischenraum weg.\", \"bad\": \"Nichts getastet: Zeichen %s ist \u{201e}%s\u{201c}. \u{c4} als AE, \u{df} als SS, Zahlen in Worten schreiben.\", \"long\": \"Nichts getastet: Der Text hat mehr als 5000 Buchstaben.\", \"empty\": \"Es ist kein Buchstabe zu tasten.\", \"typed\": \"Getastete Buchstaben: %s.\", \"undone\": \"Zur\u{fc}ckgenommen: %s. Die Fenster zeigen %s.\", \"nothing\": \"Auf dem Streifen steht kein Buchstabe.\", \"back\": \"Die Fenster zeigen %s, wie in der Datei.\", \"cleared\": \"Der Streifen ist leer.\", \"copied\": \"Kopierte Buchstaben: %s.\", \"byhand\": \"Der Browser kann nicht kopieren. Die Buchstaben sind unten markiert.\"}}</script>\n<script type=\"text/plain\" id=table>",
+);
+
+/// The end of the table, and the end of the script and of the file.
+pub const SCRIPT_HEAD: &str = "</script>\n<script>";
+
+pub const FOOT: &str = "</script>\n";
