@@ -7,7 +7,8 @@ use Rattle.kd_tables.specs.Answers.{AgreesOrNoMemory}
 use Rattle.kd_sheet.specs.declared.fault.SheetFault.{SheetFault}
 use Rattle.kd_sheet.specs.declared.fault.SheetFault.TheVariants as files
 use Rattle.kd_host.proofs.Failing.{err_is}
-use Rattle.kd_curator.specs.MachineAndSheet.{IsAnswerOnSheet, LacksMemory, machine_and_month}
+use Rattle.kd_sheet.specs.MachineFile.{machine_of}
+use Rattle.kd_curator.specs.MachineAndSheet.{IsAnswerOnMachine, IsAnswerOnSheet, LacksMemory, machine_and_month, or_refused}
 use Rattle.kd_curator.specs.declared.fault.Refused.{Refused}
 
 pub is_meant : {A : Type 0} (fault : SheetFault) (meant : Result A SheetFault)
@@ -15,6 +16,12 @@ pub is_meant : {A : Type 0} (fault : SheetFault) (meant : Result A SheetFault)
 is_meant fault meant is = grind (arith)
 
 pub ruleset finding = (is_meant, err_is)
+
+module _ (machine : List ℕ) (does : Parts → Type 0) (answer : Result (Unit {0}) Refused) where
+  pub on_machine : (m : Parts) → (Ok m ≡ or_refused (machine_of machine)) ⊎ LacksMemory (Ok m) → does m
+      → IsAnswerOnMachine machine does answer
+  on_machine m (inl is) done = inl (subst (λ found. MatchResult found does (λ fault. answer ≡ Err fault)) is done)
+  on_machine m (inr lacks) done = absurd (cc)
 
 module _ (machine sheet : List ℕ) (does : Parts → List (Option Day) → Type 0) (answer : Result (Unit {0}) Refused) where
   abbrev Finds : Result (Parts × List (Option Day)) Refused → Type 0

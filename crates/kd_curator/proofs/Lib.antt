@@ -7,4 +7,5 @@ pub mod ReceiveAnswers
 pub mod SendAnswers
 pub mod SheetAnswers
 pub mod TableAnswers
+pub mod TypingAnswers
 pub mod Writings

@@ -11,7 +11,7 @@ use Rattle.kd_host.specs.Writing.{WritesText}
 use Rattle.kd_state.specs.declared.machine.parts.Parts.{Parts}
 use Rattle.kd_state.specs.SheetDay.{Day}
 use Rattle.kd_curator.specs.Ending.{stop_after}
-use Rattle.kd_curator.specs.MachineAndSheet.{IsAnswerOnSheet}
+use Rattle.kd_curator.specs.MachineAndSheet.{IsAnswerOnMachine, IsAnswerOnSheet, or_refused}
 use Rattle.kd_curator.specs.Program.{CarriesOut, DoesCommand, DoesTask, IsTold, IsAnswerAfterFlush, is_stopped_before_writing}
 use Rattle.kd_curator.specs.Program.{AnswersAfter, IsFlushed, is_whole}
 use Rattle.kd_curator.specs.Program.{Carried, FileUnread, Shown, OtherWords, NoMemory, is_stopped_by_device, is_usage}
@@ -42,6 +42,9 @@ use Rattle.kd_curator.specs.RunReceive.{WritesReceivePage}
 use Rattle.kd_curator.specs.RunReceive as receives
 use Rattle.kd_curator.specs.RunSend.{WritesSendPage}
 use Rattle.kd_curator.specs.RunSend as sends
+use Rattle.kd_curator.specs.RunType.{WritesTypingPage}
+use Rattle.kd_curator.specs.RunType as types
+use Rattle.kd_sheet.specs.MachineFile.{machine_of}
 use Rattle.kd_curator_command.specs.declared.command.MessageKind.{MessageKind}
 use Rattle.kd_curator_command.specs.declared.command.MessageKind.TheVariants as kinds
 use Rattle.kd_curator_command.specs.declared.command.Task.{Task}
@@ -172,12 +175,34 @@ module _ (one other : Port) (before : one.had ≡ other.had) (after : Keeps one.
   message_kept kinds.Order l month m number order told writes = send_kept l month m number order told writes
   message_kept kinds.Form l month m number form told writes = receive_kept l month m number form told writes
 
+  typing_page_kept : (l : Language) (m : Parts) (told : Result (Unit {0}) Refused) → WritesTypingPage l m one told
+      → WritesTypingPage l m other told
+  typing_page_kept l m told (types.NoPage not_ready is) = types.NoPage not_ready is
+  typing_page_kept l m told (types.Page ready types_so writes) =
+      types.Page ready types_so (text_kept refused_device _ told writes)
+
+  machine_kept : (Holds Other : Parts → Type 0) (answer : Result (Unit {0}) Refused)
+      → ((m : Parts) → Holds m → Other m) → (found : Result Parts Refused)
+      → MatchResult found Holds (λ refused. answer ≡ Err refused)
+      → MatchResult found Other (λ refused. answer ≡ Err refused)
+  machine_kept Holds Other answer more (Ok m) holds = more m holds
+  machine_kept Holds Other answer more (Err refused) holds = holds
+
+  on_machine_kept : (machine : List ℕ) (Holds Other : Parts → Type 0) (answer : Result (Unit {0}) Refused)
+      → ((m : Parts) → Holds m → Other m) → IsAnswerOnMachine machine Holds answer
+      → IsAnswerOnMachine machine Other answer
+  on_machine_kept machine Holds Other answer more (inl found) =
+      inl (machine_kept Holds Other answer more (or_refused (machine_of machine)) found)
+  on_machine_kept machine Holds Other answer more (inr lacks) = inr lacks
+
   command_kept : (l : Language) (command : ReadCommand) (told : Result (Unit {0}) Refused) → DoesCommand l command one told
       → DoesCommand l command other told
   command_kept l (commands.OnMachine machine sheet task) told does = task_kept l task machine sheet told does
   command_kept l (commands.Message machine sheet message task) told does =
       on_sheet_kept machine sheet _ _ told
       (λ m month. message_kept task.kind (unwrap_or task.language l) month m task.day message told) does
+  command_kept l (commands.TypingPage machine chosen) told does =
+      on_machine_kept machine _ _ told (λ m. typing_page_kept (unwrap_or chosen l) m told) does
   command_kept l (commands.Table sheet form chosen) told does = tables_kept (unwrap_or chosen l) form sheet told does
   command_kept l (commands.Sheet table options) told does = sheet_kept options table told does
   command_kept l (commands.Look names files) told does = look_kept (named_texts names files) told does

@@ -77,6 +77,7 @@ pub notes_so : (words : List (List ℕ)) (errors : Port) (command : NamedCommand
     → IsCommandLineOf words command → AreAlike command read → HasTold read errors → HasNotes words errors
 notes_so words errors (commands.OnMachine a b c) (commands.OnMachine d e f) says alike told = NoNotes told
 notes_so words errors (commands.Message a b c d) (commands.Message e f g h) says alike told = NoNotes told
+notes_so words errors (commands.TypingPage a b) (commands.TypingPage c d) says alike told = NoNotes told
 notes_so words errors (commands.Table a b c) (commands.Table d e f) says alike told = NoNotes told
 notes_so words errors (commands.EmptySheet a b) (commands.EmptySheet c d) says alike told = NoNotes told
 notes_so words errors (commands.Sheet table options) (commands.Sheet bytes same) says alike told =
@@ -97,6 +98,7 @@ months_so words (commands.EmptySheet model days) (commands.EmptySheet same many)
     subst (λ d. d ≤ 31) alike.1 here
 months_so words command (commands.OnMachine d e f) says alike = tt
 months_so words command (commands.Message d e f g) says alike = tt
+months_so words command (commands.TypingPage d e) says alike = tt
 months_so words command (commands.Table d e f) says alike = tt
 months_so words command (commands.Sheet d e) says alike = tt
 months_so words command (commands.Look d e) says alike = tt

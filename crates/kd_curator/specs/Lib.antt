@@ -6,6 +6,7 @@ pub mod RunList
 pub mod RunPage
 pub mod RunReceive
 pub mod RunSend
+pub mod RunType
 pub mod Sheets
 pub mod Looks
 pub mod Tables

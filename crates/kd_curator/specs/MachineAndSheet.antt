@@ -1,4 +1,4 @@
--- How a machine and a key sheet are found in their files, and what is done with both.
+-- How a machine and a key sheet are found in their files, and what is done with the machine, or with both.
 -- Test: tests/cases/curator-pages.toml
 use Rattle.std.specs.Prelude.{◌≡◌, ◌⊎◌, ℕ, List, Option, Result, Ok, Err, MatchResult}
 use Rattle.std.specs.Result.{result_map_both}
@@ -26,6 +26,11 @@ machine_and_month machine sheet = do
   m ← or_refused (machine_of machine)
   month ← or_refused (sheet_of sheet)
   Ok (m, month)
+
+-- The machine satisfies `Holds`; or the answer is the first fault of the machine file. Or memory ran out.
+abbrev pub IsAnswerOnMachine : List ℕ → (Parts → Type 0) → Result (Unit {0}) Refused → Type 0
+IsAnswerOnMachine machine Holds answer =
+    MatchResult (or_refused (machine_of machine)) Holds (λ refused. answer ≡ Err refused) ⊎ LacksMemory answer
 
 -- Machine and month satisfy `Holds`; or the answer is the first fault of the files. Or memory ran out.
 abbrev pub IsAnswerOnSheet : List ℕ → List ℕ → (Parts → List (Option Day) → Type 0) → Result (Unit {0}) Refused

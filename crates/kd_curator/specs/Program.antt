@@ -22,7 +22,7 @@ use Rattle.kd_curator_command.specs.CommandLine.{AsksForHelp, IsCommandLineOf, I
 use Rattle.kd_curator_command.specs.CommandLine.{curator_grammar}
 use Rattle.kd_curator_command.specs.CommandLine.{is_help}
 use Rattle.kd_curator.specs.Ending.{EndsAs, stop_after}
-use Rattle.kd_curator.specs.MachineAndSheet.{IsAnswerOnSheet}
+use Rattle.kd_curator.specs.MachineAndSheet.{IsAnswerOnMachine, IsAnswerOnSheet}
 use Rattle.kd_curator.specs.Looks.{Looks, named_texts}
 use Rattle.kd_curator_command.specs.UpToThree.{AreAsMany, list_of_three}
 use Rattle.kd_curator_command.specs.declared.up_to_three.UpToThree.{UpToThree}
@@ -32,6 +32,7 @@ use Rattle.kd_curator.specs.RunList.{WritesList}
 use Rattle.kd_curator.specs.RunPage.{WritesPages, wanted_days}
 use Rattle.kd_curator.specs.RunReceive.{WritesReceivePage}
 use Rattle.kd_curator.specs.RunSend.{WritesSendPage}
+use Rattle.kd_curator.specs.RunType.{WritesTypingPage}
 use Rattle.kd_state.specs.SheetDay.{Day}
 use Rattle.kd_state.specs.declared.machine.parts.Parts.{Parts}
 use Rattle.kd_curator_command.specs.declared.command.MessageKind.{MessageKind}
@@ -71,6 +72,8 @@ known_command held (commands.OnMachine machine sheet task) =
 known_command held (commands.Message machine sheet message task) =
     with_file (content_of (held machine)) (λ bytes. with_file (content_of (held sheet))
     (λ more. with_file (content_of (held message)) (λ text. Ok (commands.Message bytes more text task))))
+known_command held (commands.TypingPage machine language) =
+    with_file (content_of (held machine)) (λ bytes. Ok (commands.TypingPage bytes language))
 known_command held (commands.Table sheet form language) =
     with_file (content_of (held sheet)) (λ bytes. Ok (commands.Table bytes form language))
 known_command held (commands.Sheet table options) =
@@ -83,6 +86,7 @@ known_command held (commands.EmptySheet model days) = Ok (commands.EmptySheet mo
 abbrev pub AreAlike : NamedCommand → ReadCommand → Type 0
 AreAlike (commands.OnMachine machine sheet task) (commands.OnMachine bytes more same) = task ≡ same
 AreAlike (commands.Message machine sheet message task) (commands.Message bytes more text same) = task ≡ same
+AreAlike (commands.TypingPage machine language) (commands.TypingPage bytes same) = language ≡ same
 AreAlike (commands.Table sheet form language) (commands.Table bytes same also) = (form ≡ same) × (language ≡ also)
 AreAlike (commands.Sheet table options) (commands.Sheet bytes same) = options ≡ same
 AreAlike (commands.Look names files) (commands.Look same contents) = (names ≡ same) × AreAsMany files contents
@@ -93,6 +97,7 @@ AreAlike _ _ = ⊥
 abbrev pub names_of : NamedCommand → List (List ℕ)
 names_of (commands.OnMachine machine sheet task) = machine ∷ sheet ∷ []
 names_of (commands.Message machine sheet message task) = machine ∷ sheet ∷ message ∷ []
+names_of (commands.TypingPage machine language) = machine ∷ []
 names_of (commands.Table sheet form language) = sheet ∷ []
 names_of (commands.Sheet table options) = table ∷ []
 names_of (commands.Look names files) = list_of_three files
@@ -123,6 +128,8 @@ abbrev pub DoesCommand : Language → ReadCommand → Port → Result (Unit {0})
 DoesCommand l (commands.OnMachine machine sheet task) sink answer = DoesTask l task machine sheet sink answer
 DoesCommand l (commands.Message machine sheet message task) sink answer =
     WorksMessage l task machine sheet message sink answer
+DoesCommand l (commands.TypingPage machine chosen) sink answer =
+    IsAnswerOnMachine machine (λ m. WritesTypingPage (unwrap_or chosen l) m sink answer) answer
 DoesCommand l (commands.Table sheet form chosen) sink answer = WritesTables (unwrap_or chosen l) form sheet sink answer
 DoesCommand l (commands.Sheet table options) sink answer = MakesSheet options table sink answer
 DoesCommand l (commands.Look names files) sink answer = Looks (named_texts names files) sink answer
@@ -260,6 +267,7 @@ abbrev pub HasMonth : ReadCommand → Type 0
 HasMonth (commands.EmptySheet model days) = days ≤ 31
 HasMonth (commands.OnMachine machine sheet task) = Unit {0}
 HasMonth (commands.Message machine sheet message task) = Unit {0}
+HasMonth (commands.TypingPage machine language) = Unit {0}
 HasMonth (commands.Table sheet form language) = Unit {0}
 HasMonth (commands.Sheet table options) = Unit {0}
 HasMonth (commands.Look names files) = Unit {0}
@@ -270,6 +278,7 @@ abbrev pub HasTold : ReadCommand → Port → Type 0
 HasTold (commands.Sheet table options) errors = Tells errors
 HasTold (commands.OnMachine machine sheet task) errors = IsLeftAlone errors
 HasTold (commands.Message machine sheet message task) errors = IsLeftAlone errors
+HasTold (commands.TypingPage machine language) errors = IsLeftAlone errors
 HasTold (commands.Table sheet form language) errors = IsLeftAlone errors
 HasTold (commands.Look names files) errors = IsLeftAlone errors
 HasTold (commands.EmptySheet model days) errors = IsLeftAlone errors

@@ -12,6 +12,7 @@ pub mod run_list;
 pub mod run_page;
 pub mod run_receive;
 pub mod run_send;
+pub mod run_type;
 mod sheets;
 mod stop;
 mod tables;

@@ -9,7 +9,7 @@ ghost use Rattle.kd_host.specs.Writing.{WritesText};
 ghost use Rattle.kd_curator_command.specs.CommandLine.{unborrowed_command, with_texts};
 ghost use Rattle.kd_table.specs.Options.{texts_of};
 ghost use Rattle.kd_curator.specs.Ending.{stop_after};
-ghost use Rattle.kd_curator_command.specs.declared.command.Command.TheVariants.{Look, Message, OnMachine, Sheet, Table};
+ghost use Rattle.kd_curator_command.specs.declared.command.Command.TheVariants.{Look, Message, OnMachine, Sheet, Table, TypingPage};
 ghost use Rattle.kd_curator.specs.Program.{AreAlike, CarriesOut, DoesCommand, DoesTask, HasEnded, IsRun};
 ghost use Rattle.kd_curator.specs.Program.{port_with_untaken, known_command};
 ghost use Rattle.kd_curator.specs.Program.{HasMonth, HasNotes, HasTold, names_of, read_with_texts};
@@ -25,6 +25,7 @@ use crate::run_list::run_list;
 use crate::run_page::run_page;
 use crate::run_receive::run_receive;
 use crate::run_send::run_send;
+use crate::run_type::run_type;
 use crate::sheets::{make_sheet, write_empty_sheet};
 use crate::stop::{Stop, end_program};
 use crate::tables::write_tables;
@@ -139,6 +140,9 @@ fn read_files<'n, F: Files<'n>>(
             message,
             task,
         } => read_message(alloc, machine, sheet, message, task, files),
+        Command::TypingPage { machine, language } => {
+            read_machine_file(alloc, machine, language, files)
+        }
         Command::Table {
             sheet,
             form,
@@ -205,6 +209,24 @@ fn read_message<'n, F: Files<'n>>(
         message,
         task,
     })
+}
+
+/// Reads a machine file, for the command `type`.
+fn read_machine_file<'n, F: Files<'n>>(
+    alloc: Global,
+    machine: &'n str,
+    language: Option<Language>,
+    files: &mut F,
+) -> Result<Command<Content, &'n str>, FileFault>
+    requires { F.asked files.old ≡ [] }
+    ensures read { IfSome (F.known files.old) (λ held. AgreesOrNoMemory FileFault.NoMemory
+        (known_command held (TypingPage machine.now language)) (read_with_texts result)) }
+    ensures alike { IfOk result (λ read. AreAlike (TypingPage machine.now language) (with_texts read)) }
+    ensures asked { AreAskedFor (names_of (TypingPage machine.now language))
+        (F.asked files.old) (F.asked files.new) (is_ok result) }
+{
+    let machine = files.read_content(alloc, machine)?;
+    Ok(Command::TypingPage { machine, language })
 }
 
 /// Reads a key sheet, for the command `table`.
@@ -341,6 +363,10 @@ fn carry_out<W: Sink, E: Sink>(
             message.as_slice(),
             sink,
         ),
+        Command::TypingPage {
+            machine,
+            language: chosen,
+        } => run_type(alloc, chosen.unwrap_or(language), machine.as_slice(), sink),
         Command::Table {
             sheet,
             form,

@@ -13,7 +13,8 @@ use Rattle.kd_curator_command.specs.declared.command.Task.{Task}
 use Rattle.kd_curator_command.specs.declared.command.Task.TheVariants as tasks
 use Rattle.kd_curator_command.specs.declared.command.Command.TheVariants as commands
 use Rattle.kd_curator_command.specs.CommandLine.{HasForm, IsCommandOf, IsFormNamed, IsTaskWith, task_name}
-use Rattle.kd_curator_command.specs.CommandLine.{IsEmptySheetOf, IsLookOf, IsMessageOf, IsSheetOf, IsTableOf, message_name}
+use Rattle.kd_curator_command.specs.CommandLine.{IsEmptySheetOf, IsLookOf, IsMessageOf, IsSheetOf, IsTableOf, IsTypingPageOf}
+use Rattle.kd_curator_command.specs.CommandLine.{message_name}
 use Rattle.kd_curator_command.specs.Locale.{language_code}
 use Rattle.kd_curator_command.specs.declared.command.MessageKind.{MessageKind}
 use Rattle.kd_curator_command.specs.declared.command.MessageKind.TheVariants as kinds
@@ -152,6 +153,7 @@ apart place one other differ is =
 abbrev pub name_of : NamedCommand → List ℕ
 name_of (commands.OnMachine machine sheet task) = task_name task
 name_of (commands.Message machine sheet message task) = message_name task.kind
+name_of (commands.TypingPage machine language) = codes "type"
 name_of (commands.Table sheet form language) = codes "table"
 name_of (commands.Sheet table options) = codes "sheet"
 name_of (commands.Look names files) = codes "look"
@@ -161,6 +163,7 @@ pub name_said : (said : List ℕ × List Row) (command : NamedCommand) → IsCom
     → said.0 ≡ name_of command
 name_said said (commands.OnMachine machine sheet task) of = of.task.name
 name_said said (commands.Message machine sheet message task) of = of.name
+name_said said (commands.TypingPage machine language) of = of.name
 name_said said (commands.Table sheet form language) of = of.name
 name_said said (commands.Sheet table options) of = of.name
 name_said said (commands.Look names files) of = of.name
@@ -218,6 +221,15 @@ module _ (rows : List Row) where
   only_table (commands.Message machine sheet message task) of =
       absurd (message_apart task.kind (codes "table") refl refl (sym of.name))
   only_table other of = absurd (other_name (codes "table") other refl of)
+
+  pub only_typing_page : (command : NamedCommand) → IsCommandOf (codes "type", rows) command
+      → (machine : List ℕ) × (language : Option Language) × IsTypingPageOf (codes "type", rows) machine language
+  only_typing_page (commands.TypingPage machine language) of = (machine, language, of)
+  only_typing_page (commands.OnMachine machine sheet task) of =
+      absurd (other_task (codes "type") machine sheet task refl refl of)
+  only_typing_page (commands.Message machine sheet message task) of =
+      absurd (message_apart task.kind (codes "type") refl refl (sym of.name))
+  only_typing_page other of = absurd (other_name (codes "type") other refl of)
 
   pub only_look : (command : NamedCommand) → IsCommandOf (codes "look", rows) command
       → (names files : UpToThree (List ℕ)) × IsLookOf (codes "look", rows) names files
@@ -277,17 +289,18 @@ module _ (rows : List Row) where
 
 -- no command is meant, if its name is none of these, and no task is meant
 pub no_task_with : (said : List ℕ × List Row) → said.0 ≢ codes "table" → said.0 ≢ codes "sheet"
-    → said.0 ≢ codes "look" → said.0 ≢ codes "send" → said.0 ≢ codes "receive"
+    → said.0 ≢ codes "look" → said.0 ≢ codes "send" → said.0 ≢ codes "receive" → said.0 ≢ codes "type"
     → ((machine sheet : List ℕ) (task : Task) → IsTaskWith said machine sheet task → ⊥)
     → (command : NamedCommand) → IsCommandOf said command → ⊥
-no_task_with said table sheet look send receive none (commands.OnMachine machine its_sheet task) of =
+no_task_with said table sheet look send receive typing none (commands.OnMachine machine its_sheet task) of =
     none machine its_sheet task of
-no_task_with said table sheet look send receive none (commands.Message machine its_sheet message task) of =
+no_task_with said table sheet look send receive typing none (commands.Message machine its_sheet message task) of =
     no_message said.0 task.kind send receive of.name
-no_task_with said table sheet look send receive none (commands.Table its_sheet form language) of = table of.name
-no_task_with said table sheet look send receive none (commands.Sheet its_table options) of = sheet of.name
-no_task_with said table sheet look send receive none (commands.Look names files) of = look of.name
-no_task_with said table sheet look send receive none (commands.EmptySheet model days) of = sheet of.name
+no_task_with said table sheet look send receive typing none (commands.TypingPage machine language) of = typing of.name
+no_task_with said table sheet look send receive typing none (commands.Table its_sheet form language) of = table of.name
+no_task_with said table sheet look send receive typing none (commands.Sheet its_table options) of = sheet of.name
+no_task_with said table sheet look send receive typing none (commands.Look names files) of = look of.name
+no_task_with said table sheet look send receive typing none (commands.EmptySheet model days) of = sheet of.name
 
 -- a task of `page` has its days and its language
 pub only_page : (rows : List Row) (task : Task) → IsTaskOf (codes "page", rows) task

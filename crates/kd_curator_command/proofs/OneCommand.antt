@@ -95,6 +95,10 @@ same_table : (sheet other : List ℕ) (form next : TableForm) (language also : O
     → ◌≡◌ {A = NamedCommand} (commands.Table sheet form language) (commands.Table other next also)
 same_table sheet other form next language also is same spoken = cc
 
+same_typing_page : (machine other : List ℕ) (language also : Option Language) → machine ≡ other → language ≡ also
+    → ◌≡◌ {A = NamedCommand} (commands.TypingPage machine language) (commands.TypingPage other also)
+same_typing_page machine other language also is spoken = cc
+
 same_model : (model other : Model) → model_text model ≡ model_text other → model ≡ other
 same_model model other is = same_Some model other
     (sym (model_found model) ∙ ap (find_by_text model_text (EnigmaI ∷ M3 ∷ M4 ∷ M209 ∷ [])) is ∙ model_found other)
@@ -146,6 +150,9 @@ same_command said (commands.Message machine sheet message task) (commands.Messag
     (same_Some _ _ (sym named ∙ second.message))
     (same_work task.kind next.kind task.day next.day task.language next.language kind (same_day said.1 task.day next.day first.day second.day)
     (same_language said.1 task.language next.language first.language second.language))
+same_command said (commands.TypingPage machine language) (commands.TypingPage other also) first second =
+    same_typing_page machine other language also (same_Some _ _ (sym first.machine ∙ second.machine))
+    (same_language said.1 language also first.language second.language)
 same_command said (commands.Table sheet form language) (commands.Table other next also) first second =
     same_table sheet other form next language also (same_Some _ _ (sym first.sheet ∙ second.sheet))
     (same_form said.1 form next first.form second.form)

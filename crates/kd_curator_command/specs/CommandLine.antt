@@ -1,5 +1,5 @@
--- The grammar of the command line: `page`, `list`, `table`, `sheet`, `look`, `send` and `receive`, with their arguments
--- and with help.
+-- The grammar of the command line: `page`, `list`, `send`, `receive`, `type`, `table`, `sheet` and `look`, with their
+-- arguments and with help.
 -- Code: `grammar` builds the grammar by calls of the library `clap`.
 -- Test: tests/cases/curator-words.toml
 use Rattle.std.specs.Prelude.{codes, decimal, ◌≡◌, ◌≢◌, ℕ, Bool, true, false, List, [], ◌∷◌, ◌++◌, Option, Some, None}
@@ -95,6 +95,9 @@ send_shape = message_shape (codes "send") (needed (codes "ORDER"))
 abbrev pub receive_shape : Shape
 receive_shape = message_shape (codes "receive") (needed (codes "FORM"))
 
+abbrev pub type_shape : Shape
+type_shape = record (new_shape (codes "type")) { rules = needed (codes "MACHINE") ∷ language_option ∷ [] }
+
 -- the program without its commands
 abbrev pub program_alone : App
 program_alone = record {
@@ -111,7 +114,8 @@ program_alone = record {
 unfoldable pub curator_grammar : App
 curator_grammar = record {
   top = record program_alone.top { is_leaf = false };
-  subs = page_shape ∷ list_shape ∷ send_shape ∷ receive_shape ∷ table_shape ∷ sheet_shape ∷ look_shape ∷ [];
+  subs = page_shape ∷ list_shape ∷ send_shape ∷ receive_shape ∷ type_shape ∷ table_shape ∷ sheet_shape ∷ look_shape
+      ∷ [];
 }
 
 -- ---- Which command a command line means.
@@ -127,6 +131,7 @@ abbrev pub unborrowed_command : Command (Bor (List ℕ)) (Bor (List ℕ)) → Na
 unborrowed_command (commands.OnMachine machine sheet task) = commands.OnMachine machine.now sheet.now task
 unborrowed_command (commands.Message machine sheet message task) =
     commands.Message machine.now sheet.now message.now task
+unborrowed_command (commands.TypingPage machine language) = commands.TypingPage machine.now language
 unborrowed_command (commands.Table sheet form language) = commands.Table sheet.now form language
 unborrowed_command (commands.Sheet table options) = commands.Sheet table.now (texts_of options)
 unborrowed_command (commands.Look names files) = commands.Look (unborrowed_three names) (unborrowed_three files)
@@ -194,6 +199,13 @@ pub record IsMessageOf (said : List ℕ × List Row) (machine_file key_sheet its
   pub day : HasDay said.1 its_task.day
   pub language : HasLanguage said.1 its_task.language
 
+-- They mean the command `type`, with this file and this language.
+pub record IsTypingPageOf (said : List ℕ × List Row) (machine_file : List ℕ) (its_language : Option Language)
+    : Type 0 where
+  pub name : said.0 ≡ codes "type"
+  pub machine : first_of (codes "MACHINE") said.1 ≡ Some machine_file
+  pub language : HasLanguage said.1 its_language
+
 -- They mean the command `table`, with this file, this form and this language.
 pub record IsTableOf (said : List ℕ × List Row) (key_sheet : List ℕ) (its_form : TableForm)
     (its_language : Option Language) : Type 0 where
@@ -254,6 +266,7 @@ pub record IsLookOf (said : List ℕ × List Row) (names files : UpToThree (List
 abbrev pub IsCommandOf : List ℕ × List Row → NamedCommand → Type 0
 IsCommandOf said (commands.OnMachine machine sheet task) = IsTaskWith said machine sheet task
 IsCommandOf said (commands.Message machine sheet message task) = IsMessageOf said machine sheet message task
+IsCommandOf said (commands.TypingPage machine language) = IsTypingPageOf said machine language
 IsCommandOf said (commands.Table sheet form language) = IsTableOf said sheet form language
 IsCommandOf said (commands.Sheet table options) = IsSheetOf said table options
 IsCommandOf said (commands.Look names files) = IsLookOf said names files
@@ -342,6 +355,7 @@ IsFormNamed word forms.Page = word ≢ codes "true"
 abbrev pub with_texts : Command (List ℕ) (Bor (List ℕ)) → ReadCommand
 with_texts (commands.OnMachine machine sheet task) = commands.OnMachine machine sheet task
 with_texts (commands.Message machine sheet message task) = commands.Message machine sheet message task
+with_texts (commands.TypingPage machine language) = commands.TypingPage machine language
 with_texts (commands.Table sheet form language) = commands.Table sheet form language
 with_texts (commands.Sheet table options) = commands.Sheet table (texts_of options)
 with_texts (commands.Look names files) = commands.Look (unborrowed_three names) files

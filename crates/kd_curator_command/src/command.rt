@@ -59,6 +59,13 @@ pub enum Command<F, T> {
         /// What is written.
         task: MessageTask,
     },
+    /// Writes a page on which a machine is typed on.
+    TypingPage {
+        /// The machine file.
+        machine: F,
+        /// The language of the page, if the words say it.
+        language: Option<Language>,
+    },
     /// Writes a key sheet as printed tables.
     Table {
         /// The key sheet.
@@ -241,6 +248,7 @@ fn command_of<'a>(name: &str, words: &ArgMatches<'a>) -> Option<NamedCommand<'a>
         "look" => look_of(words),
         "send" => message_of(words, MessageKind::Order),
         "receive" => message_of(words, MessageKind::Form),
+        "type" => typing_page_of(words),
         _ => task_with_files(name, words),
     }
 }
@@ -287,6 +295,18 @@ fn message_task(words: &ArgMatches<'_>, kind: MessageKind) -> Option<MessageTask
         day,
         language,
     })
+}
+
+/// The command `type`, with the machine in `words`; `None` if an argument has a wrong value.
+fn typing_page_of<'a>(words: &ArgMatches<'a>) -> Option<NamedCommand<'a>>
+    ensures said { IfSome result (λ command.
+        IsCommandOf (codes "type", rows_of (found_of words.now)) (unborrowed_command command)) }
+    ensures none { result ≡ None → (command : NamedCommand)
+        → ¬ (IsCommandOf (codes "type", rows_of (found_of words.now)) command) }
+{
+    let machine = words.get_str("MACHINE")?;
+    let language = language_asked(words).ok()?;
+    Some(Command::TypingPage { machine, language })
 }
 
 /// The command `table`, with the key sheet in `words`; `None` if an argument has a wrong value.
@@ -413,6 +433,7 @@ fn task_with_files<'a>(name: &str, words: &ArgMatches<'a>) -> Option<NamedComman
     requires look { name.now ≢ codes "look" }
     requires send { name.now ≢ codes "send" }
     requires receive { name.now ≢ codes "receive" }
+    requires typing { name.now ≢ codes "type" }
     ensures said { IfSome result (λ command.
         IsCommandOf (name.now, rows_of (found_of words.now)) (unborrowed_command command)) }
     ensures none { result ≡ None → (command : NamedCommand)

@@ -66,7 +66,7 @@ const LANGUAGE: Argument<'static> = Argument {
 };
 
 /// The commands, in the order in which help lists them.
-static COMMANDS: [CommandWords; 7] = [
+static COMMANDS: [CommandWords; 8] = [
     CommandWords {
         name: "page",
         about: "Writes an HTML page of each day, from the machine as the day before left it",
@@ -115,6 +115,11 @@ static COMMANDS: [CommandWords; 7] = [
             },
             LANGUAGE,
         ],
+    },
+    CommandWords {
+        name: "type",
+        about: "Writes an HTML page on which the machine is typed on, in any browser",
+        arguments: &[MACHINE, LANGUAGE],
     },
     CommandWords {
         name: "table",

@@ -10,6 +10,9 @@ returns-in-Sheet-clause-untouched g c = not_device _ c.make_sheet.ensures.untouc
 pub returns-in-OnMachine-clause-untouched : goal.returns-in-OnMachine-clause-untouched
 returns-in-OnMachine-clause-untouched g c = not_device _ c.do_task.ensures.untouched
 
+pub returns-in-TypingPage-clause-untouched : goal.returns-in-TypingPage-clause-untouched
+returns-in-TypingPage-clause-untouched g c = not_device _ c.run_type.ensures.untouched
+
 pub returns-in-Table-clause-untouched : goal.returns-in-Table-clause-untouched
 returns-in-Table-clause-untouched g c = not_device _ c.write_tables.ensures.untouched
 

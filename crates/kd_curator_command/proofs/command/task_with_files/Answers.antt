@@ -3,14 +3,14 @@ use Rattle.kd_curator_command.proofs.CommandLines.{no_task_with, read_none, read
 use Rattle.kd_curator_command.proofs.command.task_with_files.Goals as goal
 
 pub returns-in_err-machine-clause-none : goal.returns-in_err-machine-clause-none
-returns-in_err-machine-clause-none c = λ _. no_task_with _ c.requires.table c.requires.sheet c.requires.look c.requires.send c.requires.receive (λ m s t of. grind (arith, read_none, of.machine))
+returns-in_err-machine-clause-none c = λ _. no_task_with _ c.requires.table c.requires.sheet c.requires.look c.requires.send c.requires.receive c.requires.typing (λ m s t of. grind (arith, read_none, of.machine))
 
 pub returns-in_err-sheet-clause-none : goal.returns-in_err-sheet-clause-none
-returns-in_err-sheet-clause-none c = λ _. no_task_with _ c.requires.table c.requires.sheet c.requires.look c.requires.send c.requires.receive (λ m s t of. grind (arith, read_none, of.sheet))
+returns-in_err-sheet-clause-none c = λ _. no_task_with _ c.requires.table c.requires.sheet c.requires.look c.requires.send c.requires.receive c.requires.typing (λ m s t of. grind (arith, read_none, of.sheet))
 
 pub returns-in_err-task-clause-none : goal.returns-in_err-task-clause-none
 returns-in_err-task-clause-none c =
-    λ _. no_task_with _ c.requires.table c.requires.sheet c.requires.look c.requires.send c.requires.receive (λ m s t of. c.in_err-task.ensures.none refl t of.task)
+    λ _. no_task_with _ c.requires.table c.requires.sheet c.requires.look c.requires.send c.requires.receive c.requires.typing (λ m s t of. c.in_err-task.ensures.none refl t of.task)
 
 pub returns-clause-said : goal.returns-clause-said
 returns-clause-said c =
