@@ -1,6 +1,5 @@
 -- The table of a Converter M-209, and typing on it by looking letters up. Wheels are numbered from 1 to 6.
 -- Source: War Department TM 11-380
--- Test: tests/typing-pages
 use Rattle.std.specs.Prelude.{ℕ, ◌+◌, ◌-◌, ◌*◌, ◌/◌, ◌%◌, ◌^◌, nat_eq, nat_le, Bool, false, ◌&&◌, ◌||◌, List, [], ◌∷◌}
 use Rattle.std.specs.Prelude.{length, map, slice_index, slice_index_or}
 use Rattle.std.specs.Int.{from_bool}

@@ -2,7 +2,6 @@
 -- each press, and the other wheels seldom move. So the way of the current is in two parts: in through plugboard and
 -- right wheel; and through the core, which is all that lies to the left of the right wheel.
 -- Source: the published accounts of the current's path and of the stepping.
--- Test: tests/typing-pages
 use Rattle.std.specs.Prelude.{◌≡◌, ℕ, zero, suc, ◌+◌, ◌-◌, ◌*◌, ◌/◌, ◌%◌, ◌^◌, ◌<◌, ◌≤◌, ◌==◌, Bool, false, List, [], ◌∷◌}
 use Rattle.std.specs.Prelude.{length, map, take, drop, slice_get, slice_index, slice_index_or, All, if◌then◌else◌}
 use Rattle.std.specs.List.{position_or_len, range_with_len}

@@ -1,5 +1,4 @@
 -- Tables as text: lines of capital letters and digits, with an LF between lines.
--- Test: tests/typing-pages
 use Rattle.std.specs.Prelude.{ℕ, ◌+◌, ◌-◌, ◌%◌, ◌==◌, Bool, List, [], ◌∷◌, ◌++◌, drop, flat_map, length, map}
 use Rattle.std.specs.Prelude.{slice_index_or, take}
 use Rattle.std.specs.List.{range_with_len, slice_split}

@@ -1,5 +1,4 @@
 -- The page on which a machine is typed on, in language `l`.
--- Test: tests/typing-pages
 use Rattle.std.specs.Prelude.{ℕ, if◌then◌else◌, List, [], ◌∷◌, ◌++◌}
 use Rattle.kd_tables.specs.declared.model.Model.{Model}
 use Rattle.kd_tables.specs.Text.{letters_text}
