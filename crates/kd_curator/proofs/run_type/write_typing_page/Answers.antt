@@ -15,6 +15,6 @@ pub returns-in-Ok-clause-failed : goal.returns-in-Ok-clause-failed
 returns-in-Ok-clause-failed g c =
     rw c.answer_after.ensures (failed_told _ _ _ _ _ _ c.in-Ok.ensures.page _ (sym c.failed.ensures))
 
-pub returns-in-Err-NotReady-clause-page : goal.returns-in-Err-NotReady-clause-page
-returns-in-Err-NotReady-clause-page g c =
-    rw c.from.ensures (NoPage (λ ready. absurd (c.in-Err-NotReady.ensures.ready.1 ready)) refl)
+pub returns-in-Err-clause-page : goal.returns-in-Err-clause-page
+returns-in-Err-clause-page g c =
+    rw c.from.ensures (NoPage (λ ready. cc (c.in-Err.ensures.ready.1 ready)) refl)
