@@ -15,6 +15,7 @@ use crate::machine_and_day::find_day;
 use kd_card::{Card, Version, write_card};
 use kd_plan::plan;
 use kd_prices::by_kind;
+use kd_prices::laws::alike_prices_are_equal;
 use kd_state::{Machine, SheetDay};
 use kd_tables::Sink;
 use std::alloc::Global;
@@ -67,5 +68,6 @@ pub(crate) fn with_prices_by_kind(machine: &Machine, day: &SheetDay, card: &Card
     ensures { IsByKind machine.now day.now card.now result }
 {
     prove!(matches!(card.prices.version(), Version::ByNumber));
+    alike_prices_are_equal();
     by_kind(machine, day, card).unwrap()
 }

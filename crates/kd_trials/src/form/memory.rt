@@ -184,7 +184,7 @@ fn orders_and_forms_want_memory(rt: HostRuntime) {
     }
 }
 
-/// Checks the beginning and the length of the text of the message of 1941, of which no more is known.
+/// Checks the first letters, the length and the last byte of the text of the message of 1941.
 fn is_text_of_1941(rt: &impl Abort, text: &[u8]) {
     assert!(rt; text.starts_with(b"AUFKLXABTEILUNG"));
     assert!(rt; text.len() == 175 && text.last() == Some(&b'\n'));
