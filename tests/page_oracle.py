@@ -322,7 +322,7 @@ def page(machine_file, sheet, day, folder):
         say('Set the knob to C, and encipher 26 times A. The machine has to print the second line:' if is_converter else
             'Type the alphabet. The lamps have to give the second line:'),
         in_fives(keys), in_fives(lamps), say('Then set the windows to <b>%s</b> again.', shown),
-        say('%s when put away', say('Letters' if is_converter else 'Windows')),
+        say('Letters when put away' if is_converter else 'Windows when put away'),
         say(differences, len(settings) - total, total, len(settings)))
     out = '<article id=day-%s>\n<header>\n<h1>%s <small>%s</small></h1>\n<p class=fields><span>%s</span><span>%s</span><span>%s</span></p>\n<p>%s</p>\n</header>\n%s%s</article>\n' % (
         day, name, count(len(settings)), say('Machine'), say('Date'), say('Done by'), first, (converter if is_converter else enigma)(before, after, settings, name),

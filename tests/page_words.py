@@ -14,7 +14,7 @@ DAY_PAGE = {
     'Date': 'Datum',
     'Done by': 'Ausgeführt von',
     'First compare the machine with <i>before</i>; only windows may differ. Thick frames: to set.':
-        'Zuerst die Maschine mit <i>vorher</i> vergleichen; nur die Fenster dürfen abweichen. Dicke Rahmen: einzustellen.',
+        'Zuerst die Maschine mit <i>vorher</i> vergleichen; nur die Fenster dürfen abweichen. Dick Umrahmtes ist einzustellen.',
     'The machine has to stand as shown; only windows may differ.':
         'Die Maschine muss wie gezeigt stehen; nur die Fenster dürfen abweichen.',
     'First compare: framed pins the other way, other pins as shown, lugs at ▪ and ×.':
@@ -48,7 +48,7 @@ DAY_PAGE = {
     'the box': 'dem Kasten',
     'put in reflector <b>%s</b>': 'Umkehrwalze <b>%s</b> einsetzen',
     'slot %d: turn the wheel until <b>%s</b> shows': 'Platz %d: Walze drehen, bis <b>%s</b> erscheint',
-    'Set all of them: typing may have turned the wheels.': 'Alle einstellen: Beim Tasten können sich die Walzen gedreht haben.',
+    'Set all of them: typing may have turned the wheels.': 'Alle einstellen: Beim Tippen können sich die Walzen gedreht haben.',
     'Set all of them: enciphering may have turned the wheels.': 'Alle einstellen: Beim Schlüsseln können sich die Räder gedreht haben.',
     'The plugboard before. Cables: %s.': 'Das Steckerbrett vorher. Steckerverbindungen: %s.',
     'The plugboard after. Cables: %s.': 'Das Steckerbrett nachher. Steckerverbindungen: %s.',
@@ -57,9 +57,9 @@ DAY_PAGE = {
     'take out at': 'ziehen bei',
     'put in at': 'stecken bei',
     'Before. Square: take out. Circle: stays. Number: the cable’s.': 'Vorher. Quadrat: ziehen. Kreis: bleibt. Zahl: Nummer der Schnur.',
-    'After. Disc: put in. Circle: stays. Number: the cable’s.': 'Nachher. Scheibe: stecken. Kreis: bleibt. Zahl: Nummer der Schnur.',
+    'After. Disc: put in. Circle: stays. Number: the cable’s.': 'Nachher. Gefüllter Kreis: stecken. Kreis: bleibt. Zahl: Nummer der Schnur.',
     'After. Circle: stays. Number: the cable’s.': 'Nachher. Kreis: bleibt. Zahl: Nummer der Schnur.',
-    'Type the alphabet. The lamps have to give the second line:': 'Das Alphabet tasten. Die Lampen müssen die zweite Zeile ergeben:',
+    'Type the alphabet. The lamps have to give the second line:': 'Das Alphabet eintippen. Die Lampen müssen die zweite Zeile ergeben:',
     'Set the knob to C, and encipher 26 times A. The machine has to print the second line:':
         'Den Knopf auf C stellen und 26-mal A schlüsseln. Die Maschine muss die zweite Zeile drucken:',
     'Then set the windows to <b>%s</b> again.': 'Danach wieder <b>%s</b> einstellen.',
@@ -84,7 +84,8 @@ DAY_PAGE = {
     'Wheel': 'Rad',
     'letter': 'Buchstabe',
     '4 Test': '4 Probe',
-    '%s when put away': '%s beim Wegstellen',
+    'Windows when put away': 'Buchstaben in den Fenstern beim Wegräumen',
+    'Letters when put away': 'Buchstaben beim Wegräumen',
     'Windows': 'Fenster',
     'Letters': 'Buchstaben',
 }

@@ -24,7 +24,7 @@ pub const LEGEND: SheetText = (
     (
         (
             "</p>\n<p>Above the line: press. On it: write the lamp\u{2019}s letter. Below: what it has to be. Where nothing stands above, copy.<br>A row ends with the letters so far and the windows. If they differ, set the windows as before the row, and begin it again.",
-            "</p>\n<p>Über der Linie: tasten. Auf die Linie: den Buchstaben der Lampe schreiben. Darunter: wie er lauten muss. Wo darüber nichts steht: abschreiben.<br>Am Ende der Zeile: Buchstaben bis hier, und Fenster. Weichen sie ab, die Fenster wie vor der Zeile einstellen und die Zeile wiederholen.",
+            "</p>\n<p>Über der Linie: tippen. Auf die Linie: den Buchstaben der Lampe schreiben. Darunter: wie er lauten muss. Wo darüber nichts steht: abschreiben.<br>Am Ende der Zeile: Buchstaben bis hier, und Fenster. Weichen sie ab, die Fenster wie vor der Zeile einstellen und die Zeile wiederholen.",
         ),
         (
             "</p>\n<p>Above the line: enter. On it: write what the machine prints. Below: what it has to be. Where nothing stands above, copy.<br>A row ends with the letters so far, those of the indicators too, and the wheels. If they differ, set the wheels as before the row, and begin it again.",
@@ -34,7 +34,7 @@ pub const LEGEND: SheetText = (
     (
         (
             "</p>\n<p>Above the line: press. On it: write the lamp\u{2019}s letter. Below: what it has to be. Skip letters in small print above.<br>A row ends with the letters so far and the windows. If they differ, set the windows as before the row, and begin it again.",
-            "</p>\n<p>Über der Linie: tasten. Auf die Linie: den Buchstaben der Lampe schreiben. Darunter: wie er lauten muss. Kleingedruckte Buchstaben darüber auslassen.<br>Am Ende der Zeile: Buchstaben bis hier, und Fenster. Weichen sie ab, die Fenster wie vor der Zeile einstellen und die Zeile wiederholen.",
+            "</p>\n<p>Über der Linie: tippen. Auf die Linie: den Buchstaben der Lampe schreiben. Darunter: wie er lauten muss. Kleingedruckte Buchstaben darüber auslassen.<br>Am Ende der Zeile: Buchstaben bis hier, und Fenster. Weichen sie ab, die Fenster wie vor der Zeile einstellen und die Zeile wiederholen.",
         ),
         (
             "</p>\n<p>Above the line: enter. On it: write what the machine prints. Below: what it has to be. Skip letters in small print above.<br>A row ends with the letters so far, those of the indicators too, and the wheels. If they differ, set the wheels as before the row, and begin it again.",
@@ -72,14 +72,14 @@ pub const KEY_WORDS: SheetText = (
     (
         (
             "<label><input type=checkbox> press the message key: the lamps give the key for the heading</label>\n",
-            "<label><input type=checkbox> Spruchschlüssel tasten: Die Lampen ergeben den Schlüssel für den Spruchkopf</label>\n",
+            "<label><input type=checkbox> Spruchschlüssel eintippen: Die Lampen ergeben den Schlüssel für den Spruchkopf</label>\n",
         ),
         CHOICE_WORDS,
     ),
     (
         (
             "<label><input type=checkbox> press the key from the heading: the lamps give the message key</label>\n",
-            "<label><input type=checkbox> Schlüssel aus dem Spruchkopf tasten: Die Lampen ergeben den Spruchschlüssel</label>\n",
+            "<label><input type=checkbox> Schlüssel aus dem Spruchkopf eintippen: Die Lampen ergeben den Spruchschlüssel</label>\n",
         ),
         CHOICE_WORDS,
     ),
@@ -87,7 +87,7 @@ pub const KEY_WORDS: SheetText = (
 
 const CHOICE_WORDS: Text = (
     "<label><input type=checkbox> encipher the chosen letter twelve times</label>\n",
-    "<label><input type=checkbox> den gewählten Buchstaben zwölfmal schlüsseln</label>\n",
+    "<label><input type=checkbox> den gewählten Buchstaben zwölfmal verschlüsseln</label>\n",
 );
 
 /// The end of the step of the key.
@@ -97,29 +97,29 @@ const ROTOR_KEY_END: Text = (SECTION_END, SECTION_END);
 
 const PIN_KEY_END: Text = (
     "<p>The wheels 1 to 6 each take the next letter that they have; - strikes a letter out.</p>\n</section>\n",
-    "<p>Die Räder 1 bis 6 nehmen je den nächsten Buchstaben, den sie haben; - streicht einen Buchstaben.</p>\n</section>\n",
+    "<p>Von links: Jedes Rad nimmt den nächsten Buchstaben, der auf ihm steht. Mit - Bezeichnete streichen.</p>\n</section>\n",
 );
 
 /// The step of the text: the number of letters, the model, the day, the part, and the number of parts.
 pub const TEXT_STEP: SheetText = (
     (
         (
-            "<section>\n<h2>2 Text <small>letters of the body: ~</small><span>~, day ~: send, part ~ of ~</span></h2>\n<label><input type=checkbox> set the windows to the message key</label>\n",
-            "<section>\n<h2>2 Text <small>Buchstaben des Spruchs: ~</small><span>~, Tag ~: Verschlüsseln, Teil ~ von ~</span></h2>\n<label><input type=checkbox> Fenster auf den Spruchschlüssel stellen</label>\n",
+            "<section>\n<h2>2 Text <small>letters in this part: ~</small><span>~, day ~: send, part ~ of ~</span></h2>\n<label><input type=checkbox> set the windows to the message key</label>\n",
+            "<section>\n<h2>2 Text <small>Buchstaben in diesem Teil: ~</small><span>~, Tag ~: Verschlüsseln, Teil ~ von ~</span></h2>\n<label><input type=checkbox> Fenster auf den Spruchschlüssel stellen</label>\n",
         ),
         (
-            "<section>\n<h2>2 Text <small>letters of the body: ~</small><span>~, day ~: send, part ~ of ~</span></h2>\n<label><input type=checkbox> set the wheels to the internal key</label>\n",
-            "<section>\n<h2>2 Text <small>Buchstaben des Spruchs: ~</small><span>~, Tag ~: Verschlüsseln, Teil ~ von ~</span></h2>\n<label><input type=checkbox> Räder auf den inneren Schlüssel stellen</label>\n",
+            "<section>\n<h2>2 Text <small>letters in this part: ~</small><span>~, day ~: send, part ~ of ~</span></h2>\n<label><input type=checkbox> set the wheels to the internal key</label>\n",
+            "<section>\n<h2>2 Text <small>Buchstaben in diesem Teil: ~</small><span>~, Tag ~: Verschlüsseln, Teil ~ von ~</span></h2>\n<label><input type=checkbox> Räder auf den inneren Schlüssel stellen</label>\n",
         ),
     ),
     (
         (
-            "<section>\n<h2>2 Text <small>letters of the body: ~</small><span>~, day ~: receive, part ~ of ~</span></h2>\n<label><input type=checkbox> set the windows to the message key</label>\n",
-            "<section>\n<h2>2 Text <small>Buchstaben des Spruchs: ~</small><span>~, Tag ~: Entschlüsseln, Teil ~ von ~</span></h2>\n<label><input type=checkbox> Fenster auf den Spruchschlüssel stellen</label>\n",
+            "<section>\n<h2>2 Text <small>letters in this part: ~</small><span>~, day ~: receive, part ~ of ~</span></h2>\n<label><input type=checkbox> set the windows to the message key</label>\n",
+            "<section>\n<h2>2 Text <small>Buchstaben in diesem Teil: ~</small><span>~, Tag ~: Entschlüsseln, Teil ~ von ~</span></h2>\n<label><input type=checkbox> Fenster auf den Spruchschlüssel stellen</label>\n",
         ),
         (
-            "<section>\n<h2>2 Text <small>letters of the body: ~</small><span>~, day ~: receive, part ~ of ~</span></h2>\n<label><input type=checkbox> set the knob to <b>D</b></label>\n<label><input type=checkbox> set the wheels to the internal key</label>\n",
-            "<section>\n<h2>2 Text <small>Buchstaben des Spruchs: ~</small><span>~, Tag ~: Entschlüsseln, Teil ~ von ~</span></h2>\n<label><input type=checkbox> Knopf auf <b>D</b> stellen</label>\n<label><input type=checkbox> Räder auf den inneren Schlüssel stellen</label>\n",
+            "<section>\n<h2>2 Text <small>letters in this part: ~</small><span>~, day ~: receive, part ~ of ~</span></h2>\n<label><input type=checkbox> set the knob to <b>D</b></label>\n<label><input type=checkbox> set the wheels to the internal key</label>\n",
+            "<section>\n<h2>2 Text <small>Buchstaben in diesem Teil: ~</small><span>~, Tag ~: Entschlüsseln, Teil ~ von ~</span></h2>\n<label><input type=checkbox> Knopf auf <b>D</b> stellen</label>\n<label><input type=checkbox> Räder auf den inneren Schlüssel stellen</label>\n",
         ),
     ),
 );

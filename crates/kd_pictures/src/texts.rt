@@ -303,7 +303,7 @@ pub const TURN: &str = " <code>~</code>";
 /// The windows of a rotor machine: all have a box.
 pub const WINDOWS: Text = (
     "<p>Set all of them: typing may have turned the wheels.</p>\n<ul>\n",
-    "<p>Alle einstellen: Beim Tasten k\u{f6}nnen sich die Walzen gedreht haben.</p>\n<ul>\n",
+    "<p>Alle einstellen: Beim Tippen k\u{f6}nnen sich die Walzen gedreht haben.</p>\n<ul>\n",
 );
 
 pub const WINDOW_BOX: Text = (
@@ -328,7 +328,7 @@ pub const LETTERS_END: &str = "\n</table>\n</section>\n";
 /// The picture of the wheels before and after, and in words; if nothing changes, only after.
 pub const WHEELS: Text = (
     "First compare the machine with <i>before</i>; only windows may differ. Thick frames: to set.</p>\n</header>\n<figure class=wheels><svg role=\"img\" viewBox=\"0 0 600 314\"><title>The wheels, from the left. Before: ",
-    "Zuerst die Maschine mit <i>vorher</i> vergleichen; nur die Fenster d\u{fc}rfen abweichen. Dicke Rahmen: einzustellen.</p>\n</header>\n<figure class=wheels><svg role=\"img\" viewBox=\"0 0 600 314\"><title>Die Walzen, von links. Vorher: ",
+    "Zuerst die Maschine mit <i>vorher</i> vergleichen; nur die Fenster d\u{fc}rfen abweichen. Dick Umrahmtes ist einzustellen.</p>\n</header>\n<figure class=wheels><svg role=\"img\" viewBox=\"0 0 600 314\"><title>Die Walzen, von links. Vorher: ",
 );
 
 pub const WHEELS_THEN: Text = (". After: ", ". Nachher: ");
@@ -439,7 +439,7 @@ pub const PLUGS_OUT: Text = (
 
 pub const PLUGS_IN: Text = (
     "After. Disc: put in. Circle: stays. Number: the cable\u{2019}s.</figcaption></figure>\n<table class=plugs>\n<tr><th scope=col>Cable<th scope=col colspan=2>put in at\n",
-    "Nachher. Scheibe: stecken. Kreis: bleibt. Zahl: Nummer der Schnur.</figcaption></figure>\n<table class=plugs>\n<tr><th scope=col>Schnur<th scope=col colspan=2>stecken bei\n",
+    "Nachher. Gef\u{fc}llter Kreis: stecken. Kreis: bleibt. Zahl: Nummer der Schnur.</figcaption></figure>\n<table class=plugs>\n<tr><th scope=col>Schnur<th scope=col colspan=2>stecken bei\n",
 );
 
 pub const PLUG_ROW: &str = "<tr><th scope=row>~";
@@ -500,7 +500,7 @@ pub const DRUM_END: &str = "</table>\n</section>\n";
 /// The test: the keys, and what the machine makes of them. Then the letters to set again, and the numbers of settings.
 pub const TEST_ROTOR: Text = (
     "<p>Type the alphabet. The lamps have to give the second line:</p>\n<pre>",
-    "<p>Das Alphabet tasten. Die Lampen m\u{fc}ssen die zweite Zeile ergeben:</p>\n<pre>",
+    "<p>Das Alphabet eintippen. Die Lampen m\u{fc}ssen die zweite Zeile ergeben:</p>\n<pre>",
 );
 
 pub const TEST_PIN: Text = (
@@ -519,12 +519,12 @@ pub const AGAIN_ROTOR: &str = "~\u{a0}~";
 
 pub const NOTE_ROTOR: Text = (
     "</b> again.</p>\n<p class=fields><span>Windows when put away</span></p>\n<p class=note>No shorter list leads to this day. Differences in rings, slots, reflector and windows: ~. Least number of plugs to move, by the prices\u{2019} sum: ~. Together: ~.</p>\n</section>\n",
-    "</b> einstellen.</p>\n<p class=fields><span>Fenster beim Wegstellen</span></p>\n<p class=note>Keine k\u{fc}rzere Liste f\u{fc}hrt zu diesem Tag. Abweichungen bei Ringen, Pl\u{e4}tzen, Umkehrwalze und Fenstern: ~. Mindestzahl der Stecker, nach der Summe der Preise: ~. Zusammen: ~.</p>\n</section>\n",
+    "</b> einstellen.</p>\n<p class=fields><span>Buchstaben in den Fenstern beim Wegr\u{e4}umen</span></p>\n<p class=note>Keine k\u{fc}rzere Liste f\u{fc}hrt zu diesem Tag. Abweichungen bei Ringen, Pl\u{e4}tzen, Umkehrwalze und Fenstern: ~. Mindestzahl der Stecker, nach der Summe der Preise: ~. Zusammen: ~.</p>\n</section>\n",
 );
 
 pub const NOTE_PIN: Text = (
     "</b> again.</p>\n<p class=fields><span>Letters when put away</span></p>\n<p class=note>No shorter list leads to this day. Differences in pins and letters: ~. Least number of lugs to move, by the prices\u{2019} sum: ~. Together: ~.</p>\n</section>\n",
-    "</b> einstellen.</p>\n<p class=fields><span>Buchstaben beim Wegstellen</span></p>\n<p class=note>Keine k\u{fc}rzere Liste f\u{fc}hrt zu diesem Tag. Abweichungen bei Stiften und Buchstaben: ~. Mindestzahl der Reiter, nach der Summe der Preise: ~. Zusammen: ~.</p>\n</section>\n",
+    "</b> einstellen.</p>\n<p class=fields><span>Buchstaben beim Wegr\u{e4}umen</span></p>\n<p class=note>Keine k\u{fc}rzere Liste f\u{fc}hrt zu diesem Tag. Abweichungen bei Stiften und Buchstaben: ~. Mindestzahl der Reiter, nach der Summe der Preise: ~. Zusammen: ~.</p>\n</section>\n",
 );
 
 /// The names of the models.
