@@ -2,6 +2,7 @@
 use Rattle.std.proofs.Common.{◌≡◌, ℕ, List, [], ◌∷◌, ◌++◌, Option, Result, Ok, Err, IfErr, IsOk, refl, subst}
 use Rattle.std.proofs.Common.{arith, length}
 use Rattle.kd_page.specs.DayPage.{day_text}
+use Rattle.kd_page.specs.Page.{page_of}
 use Rattle.kd_pictures.specs.declared.language.Language.{Language}
 use Rattle.kd_state.specs.declared.machine.parts.Parts.{Parts}
 use Rattle.kd_state.specs.declared.setting.Setting.{Setting}
@@ -34,7 +35,7 @@ drawn_first m plan rest all is drawable = let these = subst (AreDrawable m) is d
 -- a day's page, and then the pages of the days after it, are the pages of all
 pub pages_next : (l : Language) (m n : Parts) (plan : DayPlan) (rest all : List DayPlan) (more : List ℕ) → all ≡ plan ∷ rest
     → Leads m plan.settings.items n → ArePages l n rest more
-    → ArePages l m all (day_text l plan.day m n plan.settings.items ++ more)
+    → ArePages l m all (day_text (page_of l plan.day m n plan.settings.items) ++ more)
 pages_next l m n plan rest all more is leads are = rw is (n, more, leads, refl, are)
 
 -- settings that lead to a machine can be carried out

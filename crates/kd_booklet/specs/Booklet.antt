@@ -3,6 +3,7 @@
 use Rattle.std.specs.Prelude.{◌≡◌, ℕ, ◌≤◌, List, [], ◌∷◌, ◌++◌, length, map}
 use Rattle.kd_page.specs.DayPage.{day_text}
 use Rattle.kd_page.specs.Head.{file_text}
+use Rattle.kd_page.specs.Page.{page_of}
 use Rattle.kd_page.specs.declared.head.ListedDay.{ListedDay}
 use Rattle.kd_pictures.specs.declared.language.Language.{Language}
 use Rattle.kd_state.specs.declared.machine.parts.Parts.{Parts}
@@ -16,7 +17,7 @@ use Rattle.kd_booklet.specs.declared.day_plan.DayPlan.{DayPlan}
 abbrev pub ArePages : Language → Parts → List DayPlan → List ℕ → Type 0
 ArePages l m [] text = text ≡ []
 ArePages l m (plan ∷ plans) text = (n : Parts) × (more : List ℕ) × Leads m plan.settings.items n
-    × (text ≡ day_text l plan.day m n plan.settings.items ++ more) × ArePages l n plans more
+    × (text ≡ day_text (page_of l plan.day m n plan.settings.items) ++ more) × ArePages l n plans more
 
 -- a planned day in the list of days, with its number of settings
 abbrev pub listed_day : DayPlan → ListedDay

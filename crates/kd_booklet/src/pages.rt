@@ -4,6 +4,7 @@ ghost use Rattle.arrayvec.specs.ArrayVec.{array_vec_len};
 ghost use Rattle.kd_page.specs.DayPage.{day_text};
 ghost use Rattle.kd_page.specs.Drawing.{Draws};
 ghost use Rattle.kd_page.specs.Head.{head_text};
+ghost use Rattle.kd_page.specs.Page.{page_of};
 ghost use Rattle.kd_state.specs.Machine.{model_of};
 ghost use Rattle.kd_state.specs.Setting.{Leads};
 ghost use Rattle.kd_tables.specs.Writing.{Writes};
@@ -11,7 +12,7 @@ ghost use Rattle.kd_booklet.specs.Booklet.{ArePages, AreDrawable, IsBooklet, IsD
 
 use crate::day_plan::DayPlan;
 use arrayvec::ArrayVec;
-use kd_page::{Language, ListedDay, draw, draw_day, draw_foot, draw_head};
+use kd_page::{Language, ListedDay, Page, draw, draw_day, draw_foot, draw_head};
 use kd_state::{Machine, Parts, carry_all};
 use kd_tables::{Device, Sink};
 
@@ -106,11 +107,12 @@ fn draw_plan<W: Sink>(
     requires { (n : Parts) × IsDrawable machine.now plan.now n }
     ensures leads { Leads machine.now plan.now.settings.items result }
     ensures draws { Draws W.taken W.has_failed sink.old sink.new
-        (day_text language plan.now.day machine.now result plan.now.settings.items) }
+        (day_text (page_of language plan.now.day machine.now result plan.now.settings.items)) }
 {
     let settings = plan.settings.as_slice();
     let after = carry_all(machine, settings).unwrap();
-    draw_day(sink, language, plan.day, machine, &after, settings);
+    let page = Page::new(language, plan.day, machine, &after, settings);
+    draw_day(sink, &page);
     after
 }
 

@@ -1,33 +1,41 @@
 -- The page of a day has the boxes of its settings.
-use Rattle.std.proofs.Common.{◌≡◌, true, false, arith, subst, sym}
+use Rattle.std.proofs.Common.{◌≡◌, ℕ, List, true, false, arith, subst, sym}
 use Rattle.std.specs.Prelude.{Contains}
 use Rattle.kd_tables.specs.declared.model.Model.{Model}
 use Rattle.kd_tables.specs.declared.model.Model.TheVariants.{EnigmaI, M3, M4, M209}
 use Rattle.kd_tables.specs.declared.reflector.Reflector.{Reflector}
 use Rattle.kd_tables.specs.Tables.{reflectors_of}
+use Rattle.kd_state.specs.declared.machine.parts.Parts.{Parts}
 use Rattle.kd_state.specs.declared.machine.parts.Parts.TheVariants.{Pin, Rotor}
+use Rattle.kd_state.specs.declared.setting.Setting.{Setting}
+use Rattle.kd_state.specs.Machine.{IsMachine, model_of}
+use Rattle.kd_pictures.specs.declared.language.Language.{Language}
 use Rattle.kd_pictures.specs.Words.{is_converter}
 use Rattle.kd_page.specs.declared.spots.Step.TheVariants.{Lugs, Turns}
-use Rattle.kd_page.specs.declared.steps.Heading.{Heading}
 use Rattle.kd_page.specs.Boxes.{box_text}
 use Rattle.kd_page.specs.DayPage.{day_text}
-use Rattle.kd_page.specs.PageOrder.{pin_boxes, rotor_boxes}
-use Rattle.kd_page.specs.ShownBoxes.{HasInTurn, PinPageHasTheBoxes, RotorPageHasTheBoxes}
+use Rattle.kd_page.specs.Page.{Page, page_of}
+use Rattle.kd_page.specs.PageOrder.{IsPinOrder, IsRotorOrder, pin_boxes, rotor_boxes}
+use Rattle.kd_page.specs.ShownBoxes.{HasInTurn, HasItsBoxes, PinPageHasTheBoxes, RotorPageHasTheBoxes}
 use Rattle.kd_page.proofs.BoxesShown.{HasPinPlaces, HasRotorPlaces, converter, rotor, whole}
 use Rattle.kd_page.proofs.LedPlaces.{one_kind, pins_there, plugs_there, row_there, windows_there}
 use Rattle.kd_page.proofs.PageOrders.{pin_boxes_are, rotor_boxes_are}
 
-pub rotor_pages : RotorPageHasTheBoxes
-rotor_pages l day m (Pin n) settings legal is order leads = absurd (cc)
-rotor_pages l day m (Rotor n) settings legal is order leads =
-    let heading : Heading = record { model = n.model; day = day } in
+rotor_of : (l : Language) (day : ℕ) (m n : Parts) (settings : List Setting) → IsMachine n
+    → is_converter (model_of n) ≡ false → IsRotorOrder settings → HasItsBoxes (page_of l day m n settings)
+rotor_of l day m (Pin n) settings legal is order leads = absurd (cc)
+rotor_of l day m (Rotor n) settings legal is order leads =
+    let page : Page = page_of l day m (Rotor n) settings in
     let places : HasRotorPlaces (Rotor n) settings = record {
       plugs = λ none. plugs_there (Rotor n) m 0 settings none order.steps order.«in» leads;
       windows = λ slot none. windows_there slot n legal none m 0 settings (sym (one_kind m (Rotor n) settings leads))
           order.steps leads;
     } in
-    subst (λ xs. HasInTurn (box_text l m) xs (day_text l day m (Rotor n) settings)) (rotor_boxes_are settings order)
-    (whole l m settings heading (Rotor n) (rotor_boxes settings) false is (rotor l m settings heading (Rotor n) places))
+    subst (λ xs. HasInTurn (box_text l m) xs (day_text page)) (rotor_boxes_are settings order)
+    (whole page (rotor_boxes settings) false is (rotor page places))
+
+pub rotor_pages : RotorPageHasTheBoxes
+rotor_pages page = rotor_of page.language page.day page.before page.after page.settings
 
 -- A Converter has no reflector.
 no_reflector : (model : Model) (reflector : Reflector) → is_converter model ≡ true
@@ -37,13 +45,14 @@ no_reflector M3 reflector is has = absurd (cc)
 no_reflector M4 reflector is has = absurd (cc)
 no_reflector M209 reflector is has = absurd (grind (arith, has))
 
-pub pin_pages : PinPageHasTheBoxes
-pin_pages l day m (Rotor n) settings legal then is order leads =
+pin_of : (l : Language) (day : ℕ) (m n : Parts) (settings : List Setting) → IsMachine m → IsMachine n
+    → is_converter (model_of n) ≡ true → IsPinOrder settings → HasItsBoxes (page_of l day m n settings)
+pin_of l day m (Rotor n) settings legal then is order leads =
     absurd (no_reflector n.model n.reflector is then.legal.reflector)
-pin_pages l day (Rotor m) (Pin n) settings legal then is order leads =
+pin_of l day (Rotor m) (Pin n) settings legal then is order leads =
     let kind = one_kind (Rotor m) (Pin n) settings leads in absurd (cc)
-pin_pages l day (Pin m) (Pin n) settings legal then is order leads =
-    let heading : Heading = record { model = M209; day = day } in
+pin_of l day (Pin m) (Pin n) settings legal then is order leads =
+    let page : Page = page_of l day (Pin m) (Pin n) settings in
     let bars = then.legal.bars in
     let old_bars = legal.legal.bars in
     let letters = then.legal.letters.count in
@@ -53,7 +62,8 @@ pin_pages l day (Pin m) (Pin n) settings legal then is order leads =
       old_bars = λ bar none. row_there Lugs m.bars bar 28 settings (omega (arith, old_bars)) order.lugs none;
       letters = λ wheel none. row_there Turns n.letters wheel 7 settings (omega (arith, letters)) order.turns none;
     } in
-    subst (λ xs. HasInTurn (box_text l (Pin m)) xs (day_text l day (Pin m) (Pin n) settings))
-    (pin_boxes_are settings order)
-    (whole l (Pin m) settings heading (Pin n) (pin_boxes settings) true is
-    (converter l (Pin m) settings heading (Pin n) places))
+    subst (λ xs. HasInTurn (box_text l (Pin m)) xs (day_text page)) (pin_boxes_are settings order)
+    (whole page (pin_boxes settings) true is (converter page places))
+
+pub pin_pages : PinPageHasTheBoxes
+pin_pages page = pin_of page.language page.day page.before page.after page.settings

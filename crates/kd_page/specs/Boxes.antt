@@ -21,6 +21,7 @@ use Rattle.kd_pictures.specs.declared.words.Mark.{Mark}
 use Rattle.kd_pictures.specs.declared.words.Mark.TheVariants.{Effective, Ineffective}
 use Rattle.kd_pictures.specs.declared.texts.TheConstants.{LUG, PIN, PLUG, REFLECTOR, RING, SEAT, SEAT_FROM, TURN}
 use Rattle.kd_pictures.specs.Language.{text_in}
+use Rattle.kd_page.specs.Page.{Page}
 use Rattle.kd_page.specs.Spots.{is_at}
 use Rattle.kd_pictures.specs.Template.{filled, letter_text, ordinal_text}
 use Rattle.kd_pictures.specs.Wheels.{is_seated}
@@ -77,6 +78,6 @@ box_text l m (settings.LugTo bar lug place) =
 abbrev pub box_at : Language → Parts → Spot → Setting → List ℕ
 box_at l m spot x = if is_at spot x then box_text l m x else []
 
--- the boxes of the settings at a spot, in their order
-abbrev pub boxes_at : Language → Parts → Spot → List Setting → List ℕ
-boxes_at l m spot settings = flat_map (box_at l m spot) settings
+-- the boxes of the page's settings at a spot, in their order
+abbrev pub boxes_at : Page → Spot → List ℕ
+boxes_at page spot = flat_map (box_at page.language page.before spot) page.settings

@@ -4,13 +4,10 @@ use Rattle.std.specs.Prelude.{flat_map}
 use Rattle.std.specs.Prelude.{Option, Some, None}
 use Rattle.kd_tables.specs.declared.place.Place.{Place}
 use Rattle.kd_tables.specs.Places.{places}
-use Rattle.kd_state.specs.declared.machine.parts.Parts.{Parts}
-use Rattle.kd_state.specs.declared.setting.Setting.{Setting}
 use Rattle.kd_state.specs.Machine.{machine_standing}
 use Rattle.kd_state.specs.Setting.{is_same_place}
 use Rattle.kd_pictures.specs.declared.numbers.TheConstants.{BARS}
 use Rattle.kd_page.specs.declared.spots.Step.TheVariants.{Lugs}
-use Rattle.kd_page.specs.declared.steps.Heading.{Heading}
 use Rattle.kd_pictures.specs.declared.language.Language.{Language}
 use Rattle.kd_pictures.specs.declared.words.Mark.{Mark}
 use Rattle.kd_pictures.specs.declared.words.Mark.TheVariants.{LugComes, LugLeaves, LugStays}
@@ -18,6 +15,7 @@ use Rattle.kd_pictures.specs.declared.words.Word.TheVariants as words
 use Rattle.kd_pictures.specs.declared.texts.TheConstants as texts
 use Rattle.kd_pictures.specs.Language.{text_in}
 use Rattle.kd_page.specs.Boxes.{boxes_at}
+use Rattle.kd_page.specs.Page.{Page}
 use Rattle.kd_page.specs.Spots.{count_at, row_spot, step_spot}
 use Rattle.kd_page.specs.Steps.{step_text}
 use Rattle.kd_pictures.specs.Template.{filled}
@@ -53,23 +51,23 @@ abbrev pub bar_end : ℕ → List ℕ
 bar_end count = if count == 0 then texts.NO_BOXES.now else if count == 1 then texts.ONE_BOX.now else texts.BOXES.now
 
 -- the row of a bar with its standing before and after
-abbrev pub bar_item : Language → Parts → List Setting → ℕ → Place × Place → Place × Place → List ℕ
-bar_item l m settings bar was is =
-    bar_head bar was is ++ flat_map (lug_cell was is) places ++ boxes_at l m (row_spot Lugs bar) settings
-    ++ bar_end (count_at (row_spot Lugs bar) settings)
+abbrev pub bar_item : Page → ℕ → Place × Place → Place × Place → List ℕ
+bar_item page bar was is =
+    bar_head bar was is ++ flat_map (lug_cell was is) places ++ boxes_at page (row_spot Lugs bar)
+    ++ bar_end (count_at (row_spot Lugs bar) page.settings)
 
-abbrev pub bar_row : Language → Parts → List Setting → ℕ → Option (Place × Place) → Option (Place × Place) → List ℕ
-bar_row l m settings bar (Some was) (Some is) = bar_item l m settings bar was is
-bar_row l m settings bar (Some was) None = []
-bar_row l m settings bar None is = []
+abbrev pub bar_row : Page → ℕ → Option (Place × Place) → Option (Place × Place) → List ℕ
+bar_row page bar (Some was) (Some is) = bar_item page bar was is
+bar_row page bar (Some was) None = []
+bar_row page bar None is = []
 
 -- what the marks mean, and the head of the table
 unfoldable pub drum_head : Language → List ℕ
 drum_head l =
     filled (text_in l texts.DRUM) (mark_text LugStays ∷ mark_text LugLeaves ∷ mark_text LugComes ∷ [])
 
-unfoldable pub lugs_step : Language → Heading → Parts → Parts → List Setting → List ℕ
-lugs_step l heading m n settings =
-    step_text l heading words.Lugs (count_at (step_spot Lugs) settings) ++ drum_head l
-    ++ flat_map (λ bar. bar_row l m settings bar (machine_standing m bar) (machine_standing n bar)) BARS
+unfoldable pub lugs_step : Page → List ℕ
+lugs_step page =
+    step_text page words.Lugs (count_at (step_spot Lugs) page.settings) ++ drum_head page.language
+    ++ flat_map (λ bar. bar_row page bar (machine_standing page.before bar) (machine_standing page.after bar)) BARS
     ++ texts.DRUM_END.now

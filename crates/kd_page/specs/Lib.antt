@@ -1,6 +1,7 @@
 pub mod Drawing
 pub mod Head
 pub mod Spots
+pub mod Page
 pub mod Boxes
 pub mod Steps
 pub mod PlugSteps

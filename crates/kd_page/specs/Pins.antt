@@ -4,19 +4,17 @@ use Rattle.std.specs.Prelude.{drop}
 use Rattle.std.specs.Prelude.{Option, Some, None}
 use Rattle.std.specs.Option.{option_map_or}
 use Rattle.kd_tables.specs.Permutation.{alphabet}
-use Rattle.kd_state.specs.declared.machine.parts.Parts.{Parts}
-use Rattle.kd_state.specs.declared.setting.Setting.{Setting}
 use Rattle.kd_state.specs.Machine.{machine_pin}
 use Rattle.kd_pictures.specs.declared.numbers.TheConstants.{PIN_WHEELS}
 use Rattle.kd_page.specs.declared.spots.Spot.{Spot}
 use Rattle.kd_page.specs.declared.spots.Step.TheVariants.{Pins}
-use Rattle.kd_page.specs.declared.steps.Heading.{Heading}
 use Rattle.kd_pictures.specs.declared.language.Language.{Language}
 use Rattle.kd_pictures.specs.declared.words.Mark.TheVariants.{Effective, Ineffective}
 use Rattle.kd_pictures.specs.declared.words.Word.TheVariants as words
 use Rattle.kd_pictures.specs.declared.texts.TheConstants as texts
 use Rattle.kd_pictures.specs.Language.{text_in}
 use Rattle.kd_page.specs.Boxes.{boxes_at, pin_mark}
+use Rattle.kd_page.specs.Page.{Page}
 use Rattle.kd_page.specs.Spots.{count_at, row_spot, step_spot}
 use Rattle.kd_page.specs.Steps.{step_text}
 use Rattle.kd_pictures.specs.Template.{count_text, filled, letter_text}
@@ -34,27 +32,26 @@ abbrev pub pin_shown : ℕ → Bool → List ℕ
 pin_shown letter effective = filled texts.PIN_SHOWN.now (letter_text letter ∷ mark_text (pin_mark effective) ∷ [])
 
 -- what the cell of a pin has inside: its box, or the pin
-abbrev pub pin_inside : Language → Parts → List Setting → Spot → ℕ → Bool → List ℕ
-pin_inside l m settings spot letter effective =
-    if count_at spot settings == 0 then pin_shown letter effective else boxes_at l m spot settings
+abbrev pub pin_inside : Page → ℕ → ℕ → Bool → List ℕ
+pin_inside page wheel letter effective =
+    let spot = pin_spot wheel letter in
+    if count_at spot page.settings == 0 then pin_shown letter effective else boxes_at page spot
 
 abbrev pub cell_text : Bool → List ℕ
 cell_text is_same = if is_same then texts.CELL.now else texts.SET_CELL.now
 
-abbrev pub pin_item : Language → Parts → List Setting → Spot → ℕ → Option Bool → Bool → List ℕ
-pin_item l m settings spot letter was effective =
-    cell_text (is_same_pin effective was) ++ pin_inside l m settings spot letter effective
+abbrev pub pin_item : Page → ℕ → ℕ → Bool → List ℕ
+pin_item page wheel letter effective =
+    cell_text (is_same_pin effective (machine_pin page.before wheel letter)) ++ pin_inside page wheel letter effective
 
 -- the cell of a pin after the settings, which is framed unless it was so before; empty if the wheel lacks the letter
-abbrev pub pin_cell : Language → Parts → List Setting → Spot → ℕ → Option Bool → Option Bool → List ℕ
-pin_cell l m settings spot letter was None = texts.NO_PIN.now
-pin_cell l m settings spot letter was (Some effective) = pin_item l m settings spot letter was effective
+abbrev pub pin_cell : Page → ℕ → ℕ → Option Bool → List ℕ
+pin_cell page wheel letter None = texts.NO_PIN.now
+pin_cell page wheel letter (Some effective) = pin_item page wheel letter effective
 
-abbrev pub pin_cells : Language → Parts → Parts → List Setting → ℕ → List ℕ → List ℕ
-pin_cells l m n settings wheel letters = flat_map
-    (λ letter. pin_cell l m settings (pin_spot wheel letter) letter (machine_pin m wheel letter)
-    (machine_pin n wheel letter))
-    letters
+abbrev pub pin_cells : Page → ℕ → List ℕ → List ℕ
+pin_cells page wheel letters =
+    flat_map (λ letter. pin_cell page wheel letter (machine_pin page.after wheel letter)) letters
 
 -- the beginning of the lines of a wheel's pins
 abbrev pub pin_lines : ℕ → ℕ → List ℕ
@@ -66,17 +63,17 @@ pin_head l wheel count =
     filled (text_in l texts.PIN_WHEEL) (decimal wheel ∷ count_text l count ∷ []) ++ pin_lines wheel count
 
 -- a wheel: its head, and two rows of letters, each letter in its own column
-abbrev pub pin_wheel : Language → Parts → Parts → List Setting → ℕ → List ℕ
-pin_wheel l m n settings wheel =
-    pin_head l wheel (count_at (row_spot Pins wheel) settings)
-    ++ texts.PIN_ROW.now ++ pin_cells l m n settings wheel (take 13 alphabet)
-    ++ texts.PIN_ROW.now ++ pin_cells l m n settings wheel (drop 13 alphabet) ++ texts.ROW_END.now
+abbrev pub pin_wheel : Page → ℕ → List ℕ
+pin_wheel page wheel =
+    pin_head page.language wheel (count_at (row_spot Pins wheel) page.settings)
+    ++ texts.PIN_ROW.now ++ pin_cells page wheel (take 13 alphabet)
+    ++ texts.PIN_ROW.now ++ pin_cells page wheel (drop 13 alphabet) ++ texts.ROW_END.now
 
 -- what the marks mean
 unfoldable pub pins_caption : Language → List ℕ
 pins_caption l = filled (text_in l texts.PINS) (mark_text Effective ∷ mark_text Ineffective ∷ [])
 
-unfoldable pub pins_step : Language → Heading → Parts → Parts → List Setting → List ℕ
-pins_step l heading m n settings =
-    step_text l heading words.Pins (count_at (step_spot Pins) settings) ++ pins_caption l
-    ++ flat_map (pin_wheel l m n settings) PIN_WHEELS ++ texts.PINS_END.now
+unfoldable pub pins_step : Page → List ℕ
+pins_step page =
+    step_text page words.Pins (count_at (step_spot Pins) page.settings) ++ pins_caption page.language
+    ++ flat_map (pin_wheel page) PIN_WHEELS ++ texts.PINS_END.now

@@ -10,12 +10,12 @@ use Rattle.kd_state.specs.Machine.{model_of}
 use Rattle.kd_state.specs.TwoCiphers.{physical_cipher}
 use Rattle.kd_card.specs.Proving.{priced_count}
 use Rattle.kd_pictures.specs.declared.numbers.TheConstants.{LATER_WHEELS}
-use Rattle.kd_page.specs.declared.steps.Heading.{Heading}
 use Rattle.kd_pictures.specs.declared.language.Language.{Language}
 use Rattle.kd_pictures.specs.declared.words.Word.{Word}
 use Rattle.kd_pictures.specs.declared.words.Word.TheVariants as words
 use Rattle.kd_pictures.specs.declared.texts.TheConstants as texts
 use Rattle.kd_pictures.specs.Language.{text_in}
+use Rattle.kd_page.specs.Page.{Page}
 use Rattle.kd_page.specs.Steps.{full_step_text}
 use Rattle.kd_pictures.specs.Fives.{fives_from}
 use Rattle.kd_pictures.specs.Template.{filled, letter_text, ordinal_text}
@@ -67,7 +67,8 @@ abbrev pub test_words : Language → Model → List ℕ
 test_words l model = if is_converter model then text_in l texts.TEST_PIN else text_in l texts.TEST_ROTOR
 
 -- the step of the test
-unfoldable pub test_step : Language → Heading → Parts → List Setting → List ℕ
-test_step l heading m settings =
-    full_step_text l heading (test_title heading.model) 0 ++ test_words l heading.model ++ test_text l m
-    ++ letters_again m ++ note_text l heading.model settings
+unfoldable pub test_step : Page → List ℕ
+test_step page =
+    let model = model_of page.after in
+    full_step_text page (test_title model) 0 ++ test_words page.language model ++ test_text page.language page.after
+    ++ letters_again page.after ++ note_text page.language model page.settings

@@ -2,16 +2,14 @@
 use Rattle.std.specs.Prelude.{decimal, ℕ, List, [], ◌∷◌, ◌++◌, flat_map, Option, Some, None, option_and_then}
 use Rattle.std.specs.Option.{option_or}
 use Rattle.kd_state.specs.declared.machine.parts.Parts.{Parts}
-use Rattle.kd_state.specs.declared.setting.Setting.{Setting}
 use Rattle.kd_state.specs.Machine.{machine_letter, machine_pin_letter, machine_slot}
 use Rattle.kd_pictures.specs.declared.numbers.TheConstants.{PIN_WHEELS, SLOTS}
 use Rattle.kd_page.specs.declared.spots.Step.TheVariants.{Turns}
-use Rattle.kd_page.specs.declared.steps.Heading.{Heading}
-use Rattle.kd_pictures.specs.declared.language.Language.{Language}
 use Rattle.kd_pictures.specs.declared.words.Word.TheVariants as words
 use Rattle.kd_pictures.specs.declared.texts.TheConstants as texts
 use Rattle.kd_pictures.specs.Language.{text_in}
 use Rattle.kd_page.specs.Boxes.{boxes_at}
+use Rattle.kd_page.specs.Page.{Page}
 use Rattle.kd_page.specs.Spots.{count_at, row_spot, step_spot}
 use Rattle.kd_page.specs.Steps.{full_step_text}
 use Rattle.kd_pictures.specs.Template.{filled, letter_text, ordinal_text}
@@ -26,30 +24,31 @@ abbrev pub letter_shown : Parts → ℕ → Option ℕ
 letter_shown m number = option_or (letter_in_slot m number) (machine_pin_letter m number)
 
 -- the box of a window; it has the setting's line, if there is a setting
-abbrev pub window_item : Language → Parts → List Setting → ℕ → ℕ → List ℕ
-window_item l m settings slot letter =
-    filled (text_in l texts.WINDOW_BOX) (decimal slot ∷ letter_text letter ∷ ordinal_text letter ∷ [])
-    ++ boxes_at l m (row_spot Turns slot) settings ++ texts.WINDOW_BOX_END.now
+abbrev pub window_item : Page → ℕ → ℕ → List ℕ
+window_item page slot letter =
+    filled (text_in page.language texts.WINDOW_BOX) (decimal slot ∷ letter_text letter ∷ ordinal_text letter ∷ [])
+    ++ boxes_at page (row_spot Turns slot) ++ texts.WINDOW_BOX_END.now
 
-abbrev pub window_box : Language → Parts → List Setting → ℕ → Option ℕ → List ℕ
-window_box l m settings slot None = []
-window_box l m settings slot (Some letter) = window_item l m settings slot letter
+abbrev pub window_box : Page → ℕ → Option ℕ → List ℕ
+window_box page slot None = []
+window_box page slot (Some letter) = window_item page slot letter
 
-unfoldable pub windows_step : Language → Heading → Parts → Parts → List Setting → List ℕ
-windows_step l heading m n settings =
-    full_step_text l heading words.Windows (count_at (step_spot Turns) settings) ++ text_in l texts.WINDOWS
-    ++ flat_map (λ slot. window_box l m settings slot (letter_in_slot n slot)) SLOTS ++ texts.LIST_END.now
+unfoldable pub windows_step : Page → List ℕ
+windows_step page =
+    full_step_text page words.Windows (count_at (step_spot Turns) page.settings) ++ text_in page.language texts.WINDOWS
+    ++ flat_map (λ slot. window_box page slot (letter_in_slot page.after slot)) SLOTS ++ texts.LIST_END.now
 
-abbrev pub letter_item : Language → Parts → List Setting → ℕ → ℕ → List ℕ
-letter_item l m settings wheel letter =
-    filled texts.LETTER_BOX.now (letter_text letter ∷ [])
-    ++ boxes_at l m (row_spot Turns wheel) settings ++ texts.LETTER_BOX_END.now
+abbrev pub letter_item : Page → ℕ → ℕ → List ℕ
+letter_item page wheel letter =
+    filled texts.LETTER_BOX.now (letter_text letter ∷ []) ++ boxes_at page (row_spot Turns wheel)
+    ++ texts.LETTER_BOX_END.now
 
-abbrev pub letter_box : Language → Parts → List Setting → ℕ → Option ℕ → List ℕ
-letter_box l m settings wheel None = []
-letter_box l m settings wheel (Some letter) = letter_item l m settings wheel letter
+abbrev pub letter_box : Page → ℕ → Option ℕ → List ℕ
+letter_box page wheel None = []
+letter_box page wheel (Some letter) = letter_item page wheel letter
 
-unfoldable pub letters_step : Language → Heading → Parts → Parts → List Setting → List ℕ
-letters_step l heading m n settings =
-    full_step_text l heading words.Letters (count_at (step_spot Turns) settings) ++ text_in l texts.LETTERS
-    ++ flat_map (λ wheel. letter_box l m settings wheel (machine_pin_letter n wheel)) PIN_WHEELS ++ texts.LETTERS_END.now
+unfoldable pub letters_step : Page → List ℕ
+letters_step page =
+    full_step_text page words.Letters (count_at (step_spot Turns) page.settings) ++ text_in page.language texts.LETTERS
+    ++ flat_map (λ wheel. letter_box page wheel (machine_pin_letter page.after wheel)) PIN_WHEELS
+    ++ texts.LETTERS_END.now

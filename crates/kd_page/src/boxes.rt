@@ -6,6 +6,7 @@ ghost use Rattle.kd_page.specs.Boxes.{box_at, box_text, boxes_at, lug_word, pin_
 ghost use Rattle.kd_page.specs.Boxes.{seat_text, slot_holding, slot_name};
 ghost use Rattle.kd_pictures.specs.declared.numbers.TheConstants.{SLOTS as ALL_SLOTS};
 
+use crate::page::Page;
 use crate::spots::{Spot, is_at};
 use kd_pictures::numbers::SLOTS;
 use kd_pictures::template::{Value, fill, fill_in};
@@ -16,36 +17,31 @@ use kd_pictures::{Language, draw};
 use kd_state::{Machine, Setting};
 use kd_tables::{Lug, Model, Sink, Wheel};
 
-/// Writes the boxes of those of `settings` that have them at `spot`. `before` is the machine before all settings.
-pub(crate) fn draw_boxes<W: Sink>(
-    sink: &mut W,
-    language: Language,
-    before: &Machine,
-    spot: &Spot,
-    settings: &[Setting],
-)
+/// Writes the boxes of the page's settings at `spot`.
+pub(crate) fn draw_boxes<W: Sink>(sink: &mut W, page: &Page<'_>, spot: &Spot)
+    ensures { Draws W.taken W.has_failed sink.old sink.new (boxes_at page.now spot.now) }
+{
+    draw_boxes_of(sink, page, spot, page.settings());
+}
+
+/// Writes the boxes of those of `settings` that have them at `spot`.
+fn draw_boxes_of<W: Sink>(sink: &mut W, page: &Page<'_>, spot: &Spot, settings: &[Setting])
     ensures { Draws W.taken W.has_failed sink.old sink.new
-        (boxes_at language before.now spot.now settings.now) }
+        (flat_map (box_at page.now.language page.now.before spot.now) settings.now) }
 {
     if let [setting, rest @ ..] = settings {
-        draw_box_at(sink, language, before, spot, setting);
-        draw_boxes(sink, language, before, spot, rest);
+        draw_box_at(sink, page, spot, setting);
+        draw_boxes_of(sink, page, spot, rest);
     }
 }
 
 /// Writes the box of `setting`, if it is at `spot`.
-fn draw_box_at<W: Sink>(
-    sink: &mut W,
-    language: Language,
-    before: &Machine,
-    spot: &Spot,
-    setting: &Setting,
-)
+fn draw_box_at<W: Sink>(sink: &mut W, page: &Page<'_>, spot: &Spot, setting: &Setting)
     ensures { Draws W.taken W.has_failed sink.old sink.new
-        (box_at language before.now spot.now setting.now) }
+        (box_at page.now.language page.now.before spot.now setting.now) }
 {
     if is_at(spot, setting) {
-        draw_box(sink, language, before, setting);
+        draw_box(sink, page.language(), page.before(), setting);
     } else {
         draw(sink, "");
     }

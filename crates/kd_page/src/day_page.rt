@@ -1,16 +1,15 @@
 //! The page of one day.
-ghost use Rattle.std.specs.Prelude.{◌≡◌, ◌≤◌, ◌++◌, length};
-ghost use Rattle.kd_state.specs.Machine.{model_of};
+ghost use Rattle.std.specs.Prelude.{◌≡◌, ◌++◌};
 ghost use Rattle.kd_state.specs.TwoCiphers.{IsReady};
 ghost use Rattle.kd_pictures.specs.Drawing.{Draws};
-ghost use Rattle.kd_page.specs.DayPage.{article_text, compare_pins, day_head, day_text, pin_text, rotor_text, steps_text};
-ghost use Rattle.kd_page.specs.DayPage.{wheels_text};
+ghost use Rattle.kd_page.specs.DayPage.{compare_pins, day_head, day_text, pin_text, rotor_text, steps_text, wheels_text};
 
 use crate::drum::draw_lugs_step;
+use crate::page::Page;
 use crate::pins::draw_pins_step;
 use crate::plug_steps::{draw_in_step, draw_out_step};
 use crate::spots::Step;
-use crate::steps::{Heading, draw_list_step};
+use crate::steps::draw_list_step;
 use crate::test::draw_test_step;
 use crate::windows::{draw_letters_step, draw_windows_step};
 use kd_pictures::template::{Value, fill_in};
@@ -18,167 +17,78 @@ use kd_pictures::texts::{COMPARE_PIN, DAY, DAY_END};
 use kd_pictures::wheels::{draw_both, draw_one};
 use kd_pictures::words::{Mark, Word, is_converter};
 use kd_pictures::{Language, draw};
-use kd_state::{Machine, Setting};
 use kd_tables::Sink;
 
-/// Writes the page of day `day`: the settings that turn the machine `before` into `after`, and both machines.
-pub fn draw_day<W: Sink>(
-    sink: &mut W,
-    language: Language,
-    day: u8,
-    before: &Machine,
-    after: &Machine,
-    settings: &[Setting],
-)
-    requires ready { IsReady after.now }
-    requires few { length settings.now ≤ 192 }
-    ensures { Draws W.taken W.has_failed sink.old sink.new
-        (day_text language day before.now after.now settings.now) }
+/// Writes a day's page: its settings, and both machines.
+pub fn draw_day<W: Sink>(sink: &mut W, page: &Page<'_>)
+    requires { IsReady page.now.after }
+    ensures { Draws W.taken W.has_failed sink.old sink.new (day_text page.now) }
 {
-    let model = after.model();
-    draw_article(
-        sink,
-        language,
-        Heading { model, day },
-        before,
-        after,
-        settings,
-    );
-}
-
-fn draw_article<W: Sink>(
-    sink: &mut W,
-    language: Language,
-    heading: Heading,
-    before: &Machine,
-    after: &Machine,
-    settings: &[Setting],
-)
-    requires ready { IsReady after.now }
-    requires few { length settings.now ≤ 192 }
-    ensures { Draws W.taken W.has_failed sink.old sink.new
-        (article_text language heading before.now after.now settings.now) }
-{
-    draw_day_head(sink, language, heading, settings);
-    draw_steps(sink, language, heading, before, after, settings);
-    draw_test_step(sink, language, heading, after, settings);
+    draw_day_head(sink, page);
+    draw_steps(sink, page);
+    draw_test_step(sink, page);
     draw(sink, DAY_END);
 }
 
-fn draw_day_head<W: Sink>(sink: &mut W, language: Language, heading: Heading, settings: &[Setting])
-    requires { length settings.now ≤ 192 }
-    ensures { Draws W.taken W.has_failed sink.old sink.new (day_head language heading settings.now) }
+fn draw_day_head<W: Sink>(sink: &mut W, page: &Page<'_>)
+    ensures { Draws W.taken W.has_failed sink.old sink.new (day_head page.now) }
 {
-    let day = u16::from(heading.day);
-    let count = settings.len() as u8;
+    let day = u16::from(page.day());
+    let count = page.settings().len() as u8;
     fill_in(
         sink,
-        language,
+        page.language(),
         DAY,
         &[
             Value::Number(day),
-            Value::Model(heading.model),
+            Value::Model(page.model()),
             Value::Number(day),
             Value::Count(count),
         ],
     );
 }
 
-fn draw_steps<W: Sink>(
-    sink: &mut W,
-    language: Language,
-    heading: Heading,
-    before: &Machine,
-    after: &Machine,
-    settings: &[Setting],
-)
-    requires { length settings.now ≤ 192 }
-    ensures { Draws W.taken W.has_failed sink.old sink.new
-        (steps_text language heading before.now after.now settings.now) }
+fn draw_steps<W: Sink>(sink: &mut W, page: &Page<'_>)
+    ensures { Draws W.taken W.has_failed sink.old sink.new (steps_text page.now) }
 {
-    if is_converter(heading.model) {
-        draw_pin_steps(sink, language, heading, before, after, settings);
+    if is_converter(page.model()) {
+        draw_pin_steps(sink, page);
     } else {
-        draw_rotor_steps(sink, language, heading, before, after, settings);
+        draw_rotor_steps(sink, page);
     }
 }
 
 /// Writes the picture of a rotor machine's wheels, and the steps.
-fn draw_rotor_steps<W: Sink>(
-    sink: &mut W,
-    language: Language,
-    heading: Heading,
-    before: &Machine,
-    after: &Machine,
-    settings: &[Setting],
-)
-    requires { length settings.now ≤ 192 }
-    ensures { Draws W.taken W.has_failed sink.old sink.new
-        (rotor_text language heading before.now after.now settings.now) }
+fn draw_rotor_steps<W: Sink>(sink: &mut W, page: &Page<'_>)
+    ensures { Draws W.taken W.has_failed sink.old sink.new (rotor_text page.now) }
 {
-    let rings = Step::Rings.spot();
-    let seats = Step::Seats.spot();
-    draw_wheels(sink, language, before, after, settings);
-    draw_list_step(
-        sink,
-        language,
-        heading,
-        before,
-        &rings,
-        Word::RingsOut,
-        Word::Rings,
-        settings,
-    );
-    draw_list_step(
-        sink,
-        language,
-        heading,
-        before,
-        &seats,
-        Word::Seats,
-        Word::Seats,
-        settings,
-    );
-    draw_out_step(sink, language, heading, before, after, settings);
-    draw_in_step(sink, language, heading, before, after, settings);
-    draw_windows_step(sink, language, heading, before, after, settings);
+    draw_wheels(sink, page);
+    draw_list_step(sink, page, Step::Rings, Word::RingsOut, Word::Rings);
+    draw_list_step(sink, page, Step::Seats, Word::Seats, Word::Seats);
+    draw_out_step(sink, page);
+    draw_in_step(sink, page);
+    draw_windows_step(sink, page);
 }
 
 /// Writes what to compare first, and the picture of the wheels.
-fn draw_wheels<W: Sink>(
-    sink: &mut W,
-    language: Language,
-    before: &Machine,
-    after: &Machine,
-    settings: &[Setting],
-)
-    ensures { Draws W.taken W.has_failed sink.old sink.new
-        (wheels_text language before.now after.now settings.now) }
+fn draw_wheels<W: Sink>(sink: &mut W, page: &Page<'_>)
+    ensures { Draws W.taken W.has_failed sink.old sink.new (wheels_text page.now) }
 {
-    if settings.is_empty() {
-        draw_one(sink, language, after);
+    if page.settings().is_empty() {
+        draw_one(sink, page.language(), page.after());
     } else {
-        draw_both(sink, language, before, after);
+        draw_both(sink, page.language(), page.before(), page.after());
     }
 }
 
 /// Writes the steps of a Converter.
-fn draw_pin_steps<W: Sink>(
-    sink: &mut W,
-    language: Language,
-    heading: Heading,
-    before: &Machine,
-    after: &Machine,
-    settings: &[Setting],
-)
-    requires { length settings.now ≤ 192 }
-    ensures { Draws W.taken W.has_failed sink.old sink.new
-        (pin_text language heading before.now after.now settings.now) }
+fn draw_pin_steps<W: Sink>(sink: &mut W, page: &Page<'_>)
+    ensures { Draws W.taken W.has_failed sink.old sink.new (pin_text page.now) }
 {
-    draw_compare_pins(sink, language);
-    draw_pins_step(sink, language, heading, before, after, settings);
-    draw_lugs_step(sink, language, heading, before, after, settings);
-    draw_letters_step(sink, language, heading, before, after, settings);
+    draw_compare_pins(sink, page.language());
+    draw_pins_step(sink, page);
+    draw_lugs_step(sink, page);
+    draw_letters_step(sink, page);
 }
 
 /// Writes what to compare first on a Converter.

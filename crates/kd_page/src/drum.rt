@@ -1,5 +1,5 @@
 //! The table of a Converter's bars: the lugs that stay, leave and come.
-ghost use Rattle.std.specs.Prelude.{◌≡◌, ◌≤◌, ◌++◌, flat_map, length};
+ghost use Rattle.std.specs.Prelude.{◌≡◌, ◌++◌, flat_map};
 ghost use Rattle.kd_tables.specs.Places.{places};
 ghost use Rattle.kd_state.specs.Machine.{machine_standing};
 ghost use Rattle.kd_pictures.specs.Drawing.{Draws};
@@ -7,8 +7,9 @@ ghost use Rattle.kd_page.specs.Drum.{bar_item, bar_end, bar_head, bar_row, cell_
 ghost use Rattle.kd_page.specs.Drum.{is_same_standing, lug_cell, lugs_step, marked_cell};
 
 use crate::boxes::draw_boxes;
-use crate::spots::{Step, count_at};
-use crate::steps::{Heading, draw_step};
+use crate::page::Page;
+use crate::spots::Step;
+use crate::steps::draw_step;
 use kd_pictures::numbers::BARS;
 use kd_pictures::template::{Value, fill, fill_in};
 use kd_pictures::texts::{
@@ -16,31 +17,17 @@ use kd_pictures::texts::{
 };
 use kd_pictures::words::{Mark, Word};
 use kd_pictures::{Language, draw};
-use kd_state::{Machine, Setting};
 use kd_tables::{Place, Sink, Standing};
 
 /// Writes the step of the lugs.
-pub(crate) fn draw_lugs_step<W: Sink>(
-    sink: &mut W,
-    language: Language,
-    heading: Heading,
-    before: &Machine,
-    after: &Machine,
-    settings: &[Setting],
-)
-    requires { length settings.now ≤ 192 }
+pub(crate) fn draw_lugs_step<W: Sink>(sink: &mut W, page: &Page<'_>)
     ensures { Draws W.taken W.has_failed sink.old sink.new
-        (lugs_step language heading before.now after.now settings.now) }
+        (lugs_step page.now) }
 {
-    draw_step(
-        sink,
-        language,
-        heading,
-        Word::Lugs,
-        count_at(&Step::Lugs.spot(), settings),
-    );
-    draw_drum_head(sink, language);
-    draw_bars(sink, language, before, after, settings, &BARS);
+    let count = page.count_at(&Step::Lugs.spot());
+    draw_step(sink, page, Word::Lugs, count);
+    draw_drum_head(sink, page.language());
+    draw_bars(sink, page, &BARS);
     draw(sink, DRUM_END);
 }
 
@@ -61,73 +48,43 @@ fn draw_drum_head<W: Sink>(sink: &mut W, language: Language)
     );
 }
 
-fn draw_bars<W: Sink>(
-    sink: &mut W,
-    language: Language,
-    before: &Machine,
-    after: &Machine,
-    settings: &[Setting],
-    bars: &[u8],
-)
-    requires { length settings.now ≤ 192 }
+fn draw_bars<W: Sink>(sink: &mut W, page: &Page<'_>, bars: &[u8])
     ensures { Draws W.taken W.has_failed sink.old sink.new
-        (flat_map (λ bar. bar_row language before.now settings.now bar
-        (machine_standing before.now bar) (machine_standing after.now bar))
+        (flat_map (λ bar. bar_row page.now bar
+        (machine_standing page.now.before bar) (machine_standing page.now.after bar))
         bars.now) }
 {
     if let [bar, rest @ ..] = bars {
-        let was = before.standing(*bar);
-        draw_bar(
-            sink,
-            language,
-            before,
-            settings,
-            *bar,
-            was,
-            after.standing(*bar),
-        );
-        draw_bars(sink, language, before, after, settings, rest);
+        let was = page.before().standing(*bar);
+        draw_bar(sink, page, *bar, was, page.after().standing(*bar));
+        draw_bars(sink, page, rest);
     }
 }
 
 /// Writes the row of a bar with its standing before and after.
 fn draw_bar<W: Sink>(
     sink: &mut W,
-    language: Language,
-    before: &Machine,
-    settings: &[Setting],
+    page: &Page<'_>,
     bar: u8,
     was: Option<Standing>,
     is: Option<Standing>,
 )
-    requires { length settings.now ≤ 192 }
-    ensures { Draws W.taken W.has_failed sink.old sink.new
-        (bar_row language before.now settings.now bar was is) }
+    ensures { Draws W.taken W.has_failed sink.old sink.new (bar_row page.now bar was is) }
 {
     match (was, is) {
-        (Some(was), Some(is)) => draw_bar_item(sink, language, before, settings, bar, was, is),
+        (Some(was), Some(is)) => draw_bar_item(sink, page, bar, was, is),
         _ => draw(sink, ""),
     }
 }
 
-fn draw_bar_item<W: Sink>(
-    sink: &mut W,
-    language: Language,
-    before: &Machine,
-    settings: &[Setting],
-    bar: u8,
-    was: Standing,
-    is: Standing,
-)
-    requires { length settings.now ≤ 192 }
-    ensures { Draws W.taken W.has_failed sink.old sink.new
-        (bar_item language before.now settings.now bar was is) }
+fn draw_bar_item<W: Sink>(sink: &mut W, page: &Page<'_>, bar: u8, was: Standing, is: Standing)
+    ensures { Draws W.taken W.has_failed sink.old sink.new (bar_item page.now bar was is) }
 {
     let spot = Step::Lugs.row(bar);
-    draw_bar_head(sink, language, bar, was, is);
-    draw_cells(sink, language, was, is, &Place::all());
-    draw_boxes(sink, language, before, &spot, settings);
-    draw(sink, bar_end(count_at(&spot, settings)));
+    draw_bar_head(sink, page.language(), bar, was, is);
+    draw_cells(sink, page.language(), was, is, &Place::all());
+    draw_boxes(sink, page, &spot);
+    draw(sink, bar_end(page.count_at(&spot)));
 }
 
 fn draw_bar_head<W: Sink>(sink: &mut W, language: Language, bar: u8, was: Standing, is: Standing)

@@ -1,5 +1,5 @@
 //! The table of a Converter's pins.
-ghost use Rattle.std.specs.Prelude.{◌≡◌, ◌≤◌, ◌++◌, flat_map, length};
+ghost use Rattle.std.specs.Prelude.{◌≡◌, ◌++◌, flat_map};
 ghost use Rattle.kd_tables.specs.Permutation.{alphabet};
 ghost use Rattle.kd_pictures.specs.Drawing.{Draws};
 ghost use Rattle.kd_page.specs.Pins.{cell_text, is_same_pin, pin_item, pin_cell, pin_cells, pin_head, pin_inside};
@@ -7,8 +7,9 @@ ghost use Rattle.kd_page.specs.Pins.{pin_lines, pin_shown, pin_spot};
 ghost use Rattle.kd_page.specs.Pins.{pin_wheel, pins_caption, pins_step};
 
 use crate::boxes::{draw_boxes, pin_mark};
-use crate::spots::{Spot, Step, count_at};
-use crate::steps::{Heading, draw_step};
+use crate::page::Page;
+use crate::spots::{Spot, Step};
+use crate::steps::draw_step;
 use kd_pictures::numbers::PIN_WHEELS;
 use kd_pictures::template::{Value, fill, fill_in};
 use kd_pictures::texts::{
@@ -16,31 +17,17 @@ use kd_pictures::texts::{
 };
 use kd_pictures::words::{Mark, Word};
 use kd_pictures::{Language, draw};
-use kd_state::{Machine, Setting};
 use kd_tables::{Letter, Sink};
 
 /// Writes the step of the pins.
-pub(crate) fn draw_pins_step<W: Sink>(
-    sink: &mut W,
-    language: Language,
-    heading: Heading,
-    before: &Machine,
-    after: &Machine,
-    settings: &[Setting],
-)
-    requires { length settings.now ≤ 192 }
+pub(crate) fn draw_pins_step<W: Sink>(sink: &mut W, page: &Page<'_>)
     ensures { Draws W.taken W.has_failed sink.old sink.new
-        (pins_step language heading before.now after.now settings.now) }
+        (pins_step page.now) }
 {
-    draw_step(
-        sink,
-        language,
-        heading,
-        Word::Pins,
-        count_at(&Step::Pins.spot(), settings),
-    );
-    draw_pins_caption(sink, language);
-    draw_pin_wheels(sink, language, before, after, settings, &PIN_WHEELS);
+    let count = page.count_at(&Step::Pins.spot());
+    draw_step(sink, page, Word::Pins, count);
+    draw_pins_caption(sink, page.language());
+    draw_pin_wheels(sink, page, &PIN_WHEELS);
     draw(sink, PINS_END);
 }
 
@@ -57,49 +44,27 @@ fn draw_pins_caption<W: Sink>(sink: &mut W, language: Language)
     );
 }
 
-fn draw_pin_wheels<W: Sink>(
-    sink: &mut W,
-    language: Language,
-    before: &Machine,
-    after: &Machine,
-    settings: &[Setting],
-    wheels: &[u8],
-)
-    requires { length settings.now ≤ 192 }
-    ensures { Draws W.taken W.has_failed sink.old sink.new
-        (flat_map (pin_wheel language before.now after.now settings.now) wheels.now) }
+fn draw_pin_wheels<W: Sink>(sink: &mut W, page: &Page<'_>, wheels: &[u8])
+    ensures { Draws W.taken W.has_failed sink.old sink.new (flat_map (pin_wheel page.now) wheels.now) }
 {
     if let [wheel, rest @ ..] = wheels {
-        draw_pin_wheel(sink, language, before, after, settings, *wheel);
-        draw_pin_wheels(sink, language, before, after, settings, rest);
+        draw_pin_wheel(sink, page, *wheel);
+        draw_pin_wheels(sink, page, rest);
     }
 }
 
 /// Writes a wheel: its head, and two rows of letters.
-fn draw_pin_wheel<W: Sink>(
-    sink: &mut W,
-    language: Language,
-    before: &Machine,
-    after: &Machine,
-    settings: &[Setting],
-    wheel: u8,
-)
-    requires { length settings.now ≤ 192 }
-    ensures { Draws W.taken W.has_failed sink.old sink.new
-        (pin_wheel language before.now after.now settings.now wheel) }
+fn draw_pin_wheel<W: Sink>(sink: &mut W, page: &Page<'_>, wheel: u8)
+    ensures { Draws W.taken W.has_failed sink.old sink.new (pin_wheel page.now wheel) }
 {
     let letters = alphabet();
     let (upper, lower) = letters.split_at(13);
-    draw_pin_head(
-        sink,
-        language,
-        wheel,
-        count_at(&Step::Pins.row(wheel), settings),
-    );
+    let count = page.count_at(&Step::Pins.row(wheel));
+    draw_pin_head(sink, page.language(), wheel, count);
     draw(sink, PIN_ROW);
-    draw_pin_cells(sink, language, before, after, settings, wheel, upper);
+    draw_pin_cells(sink, page, wheel, upper);
     draw(sink, PIN_ROW);
-    draw_pin_cells(sink, language, before, after, settings, wheel, lower);
+    draw_pin_cells(sink, page, wheel, lower);
     draw(sink, ROW_END);
 }
 
@@ -140,85 +105,38 @@ fn draw_pin_lines<W: Sink>(sink: &mut W, language: Language, wheel: u8, count: u
     }
 }
 
-fn draw_pin_cells<W: Sink>(
-    sink: &mut W,
-    language: Language,
-    before: &Machine,
-    after: &Machine,
-    settings: &[Setting],
-    wheel: u8,
-    letters: &[Letter],
-)
-    requires { length settings.now ≤ 192 }
-    ensures { Draws W.taken W.has_failed sink.old sink.new
-        (pin_cells language before.now after.now settings.now wheel letters.now) }
+fn draw_pin_cells<W: Sink>(sink: &mut W, page: &Page<'_>, wheel: u8, letters: &[Letter])
+    ensures { Draws W.taken W.has_failed sink.old sink.new (pin_cells page.now wheel letters.now) }
 {
     if let [letter, rest @ ..] = letters {
-        let was = before.pin_at(wheel, *letter);
-        let is = after.pin_at(wheel, *letter);
-        draw_pin_cell(
-            sink,
-            language,
-            before,
-            settings,
-            &pin_spot(wheel, *letter),
-            *letter,
-            was,
-            is,
-        );
-        draw_pin_cells(sink, language, before, after, settings, wheel, rest);
+        let effective = page.after().pin_at(wheel, *letter);
+        draw_pin_cell(sink, page, wheel, *letter, effective);
+        draw_pin_cells(sink, page, wheel, rest);
     }
 }
 
-fn pin_spot(wheel: u8, letter: Letter) -> Spot
-    ensures { result ≡ pin_spot wheel letter }
-{
-    Spot {
-        step: Step::Pins,
-        row: Some(wheel),
-        cell: Some(letter),
-    }
-}
-
-/// Writes the cell of a pin that was `was` and is `is`.
+/// Writes the cell of a pin that is `effective` after the settings, or not; `None` if the wheel lacks the letter.
 fn draw_pin_cell<W: Sink>(
     sink: &mut W,
-    language: Language,
-    before: &Machine,
-    settings: &[Setting],
-    spot: &Spot,
+    page: &Page<'_>,
+    wheel: u8,
     letter: Letter,
-    was: Option<bool>,
-    is: Option<bool>,
+    effective: Option<bool>,
 )
-    requires { length settings.now ≤ 192 }
-    ensures { Draws W.taken W.has_failed sink.old sink.new
-        (pin_cell language before.now settings.now spot.now letter was is) }
+    ensures { Draws W.taken W.has_failed sink.old sink.new (pin_cell page.now wheel letter effective) }
 {
-    match is {
+    match effective {
         None => draw(sink, NO_PIN),
-        Some(effective) => draw_pin_item(
-            sink, language, before, settings, spot, letter, was, effective,
-        ),
+        Some(effective) => draw_pin_item(sink, page, wheel, letter, effective),
     }
 }
 
-fn draw_pin_item<W: Sink>(
-    sink: &mut W,
-    language: Language,
-    before: &Machine,
-    settings: &[Setting],
-    spot: &Spot,
-    letter: Letter,
-    was: Option<bool>,
-    effective: bool,
-)
-    requires { length settings.now ≤ 192 }
-    ensures { Draws W.taken W.has_failed sink.old sink.new
-        (pin_item language before.now settings.now spot.now letter was effective) }
+fn draw_pin_item<W: Sink>(sink: &mut W, page: &Page<'_>, wheel: u8, letter: Letter, effective: bool)
+    ensures { Draws W.taken W.has_failed sink.old sink.new (pin_item page.now wheel letter effective) }
 {
+    let was = page.before().pin_at(wheel, letter);
     draw(sink, cell_text(is_same_pin(effective, was)));
-    draw_pin_inside(sink, language, before, settings, spot, letter, effective);
+    draw_pin_inside(sink, page, wheel, letter, effective);
 }
 
 fn cell_text(is_same: bool) -> &'static str
@@ -239,21 +157,29 @@ fn is_same_pin(effective: bool, was: Option<bool>) -> bool
 /// Writes the box of a pin; if it has none, the pin.
 fn draw_pin_inside<W: Sink>(
     sink: &mut W,
-    language: Language,
-    before: &Machine,
-    settings: &[Setting],
-    spot: &Spot,
+    page: &Page<'_>,
+    wheel: u8,
     letter: Letter,
     effective: bool,
 )
-    requires { length settings.now ≤ 192 }
     ensures { Draws W.taken W.has_failed sink.old sink.new
-        (pin_inside language before.now settings.now spot.now letter effective) }
+        (pin_inside page.now wheel letter effective) }
 {
-    if count_at(spot, settings) == 0 {
-        draw_pin(sink, language, letter, effective);
+    let spot = pin_spot(wheel, letter);
+    if page.count_at(&spot) == 0 {
+        draw_pin(sink, page.language(), letter, effective);
     } else {
-        draw_boxes(sink, language, before, spot, settings);
+        draw_boxes(sink, page, &spot);
+    }
+}
+
+fn pin_spot(wheel: u8, letter: Letter) -> Spot
+    ensures { result ≡ pin_spot wheel letter }
+{
+    Spot {
+        step: Step::Pins,
+        row: Some(wheel),
+        cell: Some(letter),
     }
 }
 

@@ -1,132 +1,95 @@
 //! The heads of a page's steps, and steps that are lists of boxes.
-ghost use Rattle.std.specs.Prelude.{◌≡◌, ◌≤◌, ◌++◌, length};
+ghost use Rattle.std.specs.Prelude.{◌≡◌, ◌++◌};
 ghost use Rattle.kd_pictures.specs.Drawing.{Draws};
-ghost use Rattle.kd_page.specs.Boxes.{boxes_at};
-ghost use Rattle.kd_page.specs.Spots.{count_at};
 ghost use Rattle.kd_page.specs.Steps.{full_step_text, idle_text, list_step, list_text, step_text};
 
 use crate::boxes::draw_boxes;
-use crate::spots::{Spot, count_at};
+use crate::page::Page;
+use crate::spots::Step;
+use kd_pictures::draw;
 use kd_pictures::template::{Value, fill_in};
 use kd_pictures::texts::{IDLE_STEP, LIST, LIST_END, PLAIN_STEP, STEP};
 use kd_pictures::words::Word;
-use kd_pictures::{Language, draw};
-use kd_state::{Machine, Setting};
-use kd_tables::{Model, Sink};
+use kd_tables::Sink;
 
-/// What the heads of a day's steps repeat, since sheets of paper come apart: the model and the day.
-#[derive(Clone, Copy)]
-pub(crate) struct Heading {
-    pub(crate) model: Model,
-    pub(crate) day: u8,
-}
-
-/// Writes the head of a step with `count` settings.
-pub(crate) fn draw_step<W: Sink>(
-    sink: &mut W,
-    language: Language,
-    heading: Heading,
-    title: Word,
-    count: u8,
-)
-    ensures { Draws W.taken W.has_failed sink.old sink.new (step_text language heading title count) }
+/// Writes the head of a step with `count` settings. Sheets of paper come apart, so it repeats the model and the day.
+pub(crate) fn draw_step<W: Sink>(sink: &mut W, page: &Page<'_>, title: Word, count: u8)
+    ensures { Draws W.taken W.has_failed sink.old sink.new (step_text page.now title count) }
 {
-    let day = Value::Number(u16::from(heading.day));
     fill_in(
         sink,
-        language,
+        page.language(),
         STEP,
         &[
             Value::Word(title),
             Value::Count(count),
-            Value::Model(heading.model),
-            day,
+            Value::Model(page.model()),
+            Value::Number(u16::from(page.day())),
         ],
     );
 }
 
 /// Writes a step without anything inside.
-pub(crate) fn draw_idle<W: Sink>(sink: &mut W, language: Language, heading: Heading, title: Word)
-    ensures { Draws W.taken W.has_failed sink.old sink.new (idle_text language heading title) }
+pub(crate) fn draw_idle<W: Sink>(sink: &mut W, page: &Page<'_>, title: Word)
+    ensures { Draws W.taken W.has_failed sink.old sink.new (idle_text page.now title) }
 {
-    let day = Value::Number(u16::from(heading.day));
     fill_in(
         sink,
-        language,
+        page.language(),
         IDLE_STEP,
         &[
             Value::Word(title),
             Value::Count(0),
-            Value::Model(heading.model),
-            day,
+            Value::Model(page.model()),
+            Value::Number(u16::from(page.day())),
         ],
     );
 }
 
 /// Writes the head of a step that has more boxes than settings.
-pub(crate) fn draw_full_step<W: Sink>(
-    sink: &mut W,
-    language: Language,
-    heading: Heading,
-    title: Word,
-    count: u8,
-)
-    ensures { Draws W.taken W.has_failed sink.old sink.new (full_step_text language heading title count) }
+pub(crate) fn draw_full_step<W: Sink>(sink: &mut W, page: &Page<'_>, title: Word, count: u8)
+    ensures { Draws W.taken W.has_failed sink.old sink.new (full_step_text page.now title count) }
 {
-    let day = Value::Number(u16::from(heading.day));
     if count == 0 {
         fill_in(
             sink,
-            language,
+            page.language(),
             PLAIN_STEP,
-            &[Value::Word(title), Value::Model(heading.model), day],
+            &[
+                Value::Word(title),
+                Value::Model(page.model()),
+                Value::Number(u16::from(page.day())),
+            ],
         );
     } else {
-        draw_step(sink, language, heading, title, count);
+        draw_step(sink, page, title, count);
     }
 }
 
-/// Writes a list of the boxes at `spot` under the title `title`; without boxes, the title `idle` alone.
+/// Writes a list of the boxes of `step` under the title `title`; without boxes, the title `idle` alone.
 pub(crate) fn draw_list_step<W: Sink>(
     sink: &mut W,
-    language: Language,
-    heading: Heading,
-    before: &Machine,
-    spot: &Spot,
+    page: &Page<'_>,
+    step: Step,
     title: Word,
     idle: Word,
-    settings: &[Setting],
 )
-    requires { length settings.now ≤ 192 }
-    ensures { Draws W.taken W.has_failed sink.old sink.new
-        (list_step language heading before.now spot.now title idle settings.now) }
+    ensures { Draws W.taken W.has_failed sink.old sink.new (list_step page.now step title idle) }
 {
-    let count = count_at(spot, settings);
+    let count = page.count_at(&step.spot());
     if count == 0 {
-        draw_idle(sink, language, heading, idle);
+        draw_idle(sink, page, idle);
     } else {
-        draw_list(
-            sink, language, heading, before, spot, title, count, settings,
-        );
+        draw_list(sink, page, step, title, count);
     }
 }
 
-/// Writes a list of the `count` boxes at `spot`.
-fn draw_list<W: Sink>(
-    sink: &mut W,
-    language: Language,
-    heading: Heading,
-    before: &Machine,
-    spot: &Spot,
-    title: Word,
-    count: u8,
-    settings: &[Setting],
-)
-    ensures { Draws W.taken W.has_failed sink.old sink.new
-        (list_text language heading before.now spot.now title count settings.now) }
+/// Writes a list of the `count` boxes of `step`.
+fn draw_list<W: Sink>(sink: &mut W, page: &Page<'_>, step: Step, title: Word, count: u8)
+    ensures { Draws W.taken W.has_failed sink.old sink.new (list_text page.now step title count) }
 {
-    draw_step(sink, language, heading, title, count);
+    draw_step(sink, page, title, count);
     draw(sink, LIST);
-    draw_boxes(sink, language, before, spot, settings);
+    draw_boxes(sink, page, &step.spot());
     draw(sink, LIST_END);
 }

@@ -1,5 +1,6 @@
 //! The test of the real machine: which lamps light up, or which letters are printed, for given keys.
 ghost use Rattle.std.specs.Prelude.{◌≡◌, ◌+◌, ◌%◌, ◌<◌, ◌≤◌, ◌==◌, ◌++◌, flat_map, length};
+ghost use Rattle.kd_state.specs.Machine.{model_of};
 ghost use Rattle.kd_state.specs.TwoCiphers.{IsReady, physical_cipher};
 ghost use Rattle.kd_card.specs.Proving.{is_priced_setting, priced_count};
 ghost use Rattle.kd_pictures.specs.Drawing.{Draws};
@@ -7,8 +8,9 @@ ghost use Rattle.kd_page.specs.Test.{again_all, again_at, again_text, letters_ag
 ghost use Rattle.kd_page.specs.Test.{test_keys, test_step, test_text, test_title, test_words};
 ghost use Rattle.kd_page.specs.Windows.{letter_shown};
 
+use crate::page::Page;
 use crate::pins::alphabet;
-use crate::steps::{Heading, draw_full_step};
+use crate::steps::draw_full_step;
 use crate::windows::letter_shown;
 use kd_pictures::fives::draw_fives;
 use kd_pictures::numbers::LATER_WHEELS;
@@ -21,24 +23,16 @@ use kd_pictures::{Language, draw, draw_in};
 use kd_state::{Machine, Setting};
 use kd_tables::{Letter, Model, Sink};
 
-/// Writes the step of the test of `machine`, to which `settings` lead.
-pub(crate) fn draw_test_step<W: Sink>(
-    sink: &mut W,
-    language: Language,
-    heading: Heading,
-    machine: &Machine,
-    settings: &[Setting],
-)
-    requires ready { IsReady machine.now }
-    requires few { length settings.now ≤ 192 }
-    ensures { Draws W.taken W.has_failed sink.old sink.new
-        (test_step language heading machine.now settings.now) }
+/// Writes the step of the test of the machine after the settings.
+pub(crate) fn draw_test_step<W: Sink>(sink: &mut W, page: &Page<'_>)
+    requires { IsReady page.now.after }
+    ensures { Draws W.taken W.has_failed sink.old sink.new (test_step page.now) }
 {
-    draw_full_step(sink, language, heading, test_title(heading.model), 0);
-    draw_test_words(sink, language, heading.model);
-    draw_test(sink, language, machine);
-    draw_letters_again(sink, language, machine);
-    draw_note(sink, language, heading.model, settings);
+    draw_full_step(sink, page, test_title(page.model()), 0);
+    draw_test_words(sink, page.language(), page.model());
+    draw_test(sink, page.language(), page.after());
+    draw_letters_again(sink, page);
+    draw_note(sink, page);
 }
 
 fn test_title(model: Model) -> Word
@@ -97,60 +91,42 @@ fn enciphered(machine: &Machine, keys: [Letter; 26]) -> [Letter; 26]
     text
 }
 
-/// Writes the letters that the machine shows.
-fn draw_letters_again<W: Sink>(sink: &mut W, language: Language, machine: &Machine)
-    ensures { Draws W.taken W.has_failed sink.old sink.new (letters_again machine.now) }
+/// Writes the letters that the machine shows after the settings.
+fn draw_letters_again<W: Sink>(sink: &mut W, page: &Page<'_>)
+    ensures { Draws W.taken W.has_failed sink.old sink.new (letters_again page.now.after) }
 {
-    if is_converter(machine.model()) {
-        draw_again_all(sink, language, " ", false, machine);
+    if is_converter(page.model()) {
+        draw_again_all(sink, page, " ", false);
     } else {
-        draw_again_all(sink, language, ", ", true, machine);
+        draw_again_all(sink, page, ", ", true);
     }
 }
 
-fn draw_again_all<W: Sink>(
-    sink: &mut W,
-    language: Language,
-    separator: &str,
-    has_number: bool,
-    machine: &Machine,
-)
+fn draw_again_all<W: Sink>(sink: &mut W, page: &Page<'_>, separator: &str, has_number: bool)
     ensures { Draws W.taken W.has_failed sink.old sink.new
-        (again_all separator.now has_number machine.now) }
+        (again_all separator.now has_number page.now.after) }
 {
-    draw_again_at(sink, language, "", has_number, letter_shown(machine, 1));
-    draw_again_from(
-        sink,
-        language,
-        separator,
-        has_number,
-        machine,
-        &LATER_WHEELS,
-    );
+    let first = letter_shown(page.after(), 1);
+    draw_again_at(sink, page.language(), "", has_number, first);
+    draw_again_from(sink, page, separator, has_number, &LATER_WHEELS);
 }
 
 /// Writes the letters that these slots or pin wheels show, each after `separator`.
 fn draw_again_from<W: Sink>(
     sink: &mut W,
-    language: Language,
+    page: &Page<'_>,
     separator: &str,
     has_number: bool,
-    machine: &Machine,
     numbers: &[u8],
 )
     ensures { Draws W.taken W.has_failed sink.old sink.new
-        (flat_map (λ number. again_at separator.now has_number (letter_shown machine.now number))
+        (flat_map (λ number. again_at separator.now has_number (letter_shown page.now.after number))
         numbers.now) }
 {
     if let [number, rest @ ..] = numbers {
-        draw_again_at(
-            sink,
-            language,
-            separator,
-            has_number,
-            letter_shown(machine, *number),
-        );
-        draw_again_from(sink, language, separator, has_number, machine, rest);
+        let shown = letter_shown(page.after(), *number);
+        draw_again_at(sink, page.language(), separator, has_number, shown);
+        draw_again_from(sink, page, separator, has_number, rest);
     }
 }
 
@@ -201,16 +177,17 @@ fn draw_again<W: Sink>(sink: &mut W, language: Language, has_number: bool, lette
 }
 
 /// Writes the numbers of settings.
-fn draw_note<W: Sink>(sink: &mut W, language: Language, model: Model, settings: &[Setting])
-    requires { length settings.now ≤ 192 }
-    ensures { Draws W.taken W.has_failed sink.old sink.new (note_text language model settings.now) }
+fn draw_note<W: Sink>(sink: &mut W, page: &Page<'_>)
+    ensures { Draws W.taken W.has_failed sink.old sink.new
+        (note_text page.now.language (model_of page.now.after) page.now.settings) }
 {
+    let settings = page.settings();
     let priced = priced_count(settings);
     let all = settings.len() as u16;
     fill_in(
         sink,
-        language,
-        if is_converter(model) {
+        page.language(),
+        if is_converter(page.model()) {
             NOTE_PIN
         } else {
             NOTE_ROTOR

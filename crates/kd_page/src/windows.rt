@@ -1,184 +1,104 @@
 //! The letters to set last: all windows of a rotor machine, or all pin wheels, have a box.
-ghost use Rattle.std.specs.Prelude.{◌≡◌, ◌≤◌, ◌++◌, flat_map, length};
+ghost use Rattle.std.specs.Prelude.{◌≡◌, ◌++◌, flat_map};
 ghost use Rattle.kd_state.specs.Machine.{machine_pin_letter};
 ghost use Rattle.kd_pictures.specs.Drawing.{Draws};
 ghost use Rattle.kd_page.specs.Windows.{letter_item, letter_box, letter_in_slot, letter_shown, letters_step};
 ghost use Rattle.kd_page.specs.Windows.{window_item, window_box, windows_step};
 
 use crate::boxes::draw_boxes;
-use crate::spots::{Step, count_at};
-use crate::steps::{Heading, draw_full_step};
+use crate::page::Page;
+use crate::spots::Step;
+use crate::steps::draw_full_step;
 use kd_pictures::numbers::{PIN_WHEELS, SLOTS};
 use kd_pictures::template::{Value, fill, fill_in};
 use kd_pictures::texts::{
     LETTER_BOX, LETTER_BOX_END, LETTERS, LETTERS_END, LIST_END, WINDOW_BOX, WINDOW_BOX_END, WINDOWS,
 };
 use kd_pictures::words::Word;
-use kd_pictures::{Language, draw, draw_in};
-use kd_state::{Machine, Setting};
+use kd_pictures::{draw, draw_in};
+use kd_state::Machine;
 use kd_tables::{Letter, Sink};
 
 /// Writes the step of the windows.
-pub(crate) fn draw_windows_step<W: Sink>(
-    sink: &mut W,
-    language: Language,
-    heading: Heading,
-    before: &Machine,
-    after: &Machine,
-    settings: &[Setting],
-)
-    requires { length settings.now ≤ 192 }
-    ensures { Draws W.taken W.has_failed sink.old sink.new
-        (windows_step language heading before.now after.now settings.now) }
+pub(crate) fn draw_windows_step<W: Sink>(sink: &mut W, page: &Page<'_>)
+    ensures { Draws W.taken W.has_failed sink.old sink.new (windows_step page.now) }
 {
-    let count = count_at(&Step::Turns.spot(), settings);
-    draw_full_step(sink, language, heading, Word::Windows, count);
-    draw_in(sink, language, WINDOWS);
-    draw_window_boxes(sink, language, before, after, settings, &SLOTS);
+    let count = page.count_at(&Step::Turns.spot());
+    draw_full_step(sink, page, Word::Windows, count);
+    draw_in(sink, page.language(), WINDOWS);
+    draw_window_boxes(sink, page, &SLOTS);
     draw(sink, LIST_END);
 }
 
-fn draw_window_boxes<W: Sink>(
-    sink: &mut W,
-    language: Language,
-    before: &Machine,
-    after: &Machine,
-    settings: &[Setting],
-    slots: &[u8],
-)
+fn draw_window_boxes<W: Sink>(sink: &mut W, page: &Page<'_>, slots: &[u8])
     ensures { Draws W.taken W.has_failed sink.old sink.new
-        (flat_map (λ slot.
-        window_box language before.now settings.now slot (letter_in_slot after.now slot))
-        slots.now) }
+        (flat_map (λ slot. window_box page.now slot (letter_in_slot page.now.after slot)) slots.now) }
 {
     if let [slot, rest @ ..] = slots {
-        draw_window_box(
-            sink,
-            language,
-            before,
-            settings,
-            *slot,
-            letter_in_slot(after, *slot),
-        );
-        draw_window_boxes(sink, language, before, after, settings, rest);
+        draw_window_box(sink, page, *slot, letter_in_slot(page.after(), *slot));
+        draw_window_boxes(sink, page, rest);
     }
 }
 
-fn draw_window_box<W: Sink>(
-    sink: &mut W,
-    language: Language,
-    before: &Machine,
-    settings: &[Setting],
-    slot: u8,
-    shown: Option<Letter>,
-)
-    ensures { Draws W.taken W.has_failed sink.old sink.new
-        (window_box language before.now settings.now slot shown) }
+fn draw_window_box<W: Sink>(sink: &mut W, page: &Page<'_>, slot: u8, shown: Option<Letter>)
+    ensures { Draws W.taken W.has_failed sink.old sink.new (window_box page.now slot shown) }
 {
     match shown {
         None => draw(sink, ""),
-        Some(letter) => draw_window_item(sink, language, before, settings, slot, letter),
+        Some(letter) => draw_window_item(sink, page, slot, letter),
     }
 }
 
-fn draw_window_item<W: Sink>(
-    sink: &mut W,
-    language: Language,
-    before: &Machine,
-    settings: &[Setting],
-    slot: u8,
-    letter: Letter,
-)
-    ensures { Draws W.taken W.has_failed sink.old sink.new
-        (window_item language before.now settings.now slot letter) }
+fn draw_window_item<W: Sink>(sink: &mut W, page: &Page<'_>, slot: u8, letter: Letter)
+    ensures { Draws W.taken W.has_failed sink.old sink.new (window_item page.now slot letter) }
 {
     let number = Value::Number(u16::from(slot));
     fill_in(
         sink,
-        language,
+        page.language(),
         WINDOW_BOX,
         &[number, Value::Letter(letter), Value::Ordinal(letter)],
     );
-    draw_boxes(sink, language, before, &Step::Turns.row(slot), settings);
+    draw_boxes(sink, page, &Step::Turns.row(slot));
     draw(sink, WINDOW_BOX_END);
 }
 
 /// Writes the step of the letters of the pin wheels.
-pub(crate) fn draw_letters_step<W: Sink>(
-    sink: &mut W,
-    language: Language,
-    heading: Heading,
-    before: &Machine,
-    after: &Machine,
-    settings: &[Setting],
-)
-    requires { length settings.now ≤ 192 }
-    ensures { Draws W.taken W.has_failed sink.old sink.new
-        (letters_step language heading before.now after.now settings.now) }
+pub(crate) fn draw_letters_step<W: Sink>(sink: &mut W, page: &Page<'_>)
+    ensures { Draws W.taken W.has_failed sink.old sink.new (letters_step page.now) }
 {
-    let count = count_at(&Step::Turns.spot(), settings);
-    draw_full_step(sink, language, heading, Word::Letters, count);
-    draw_in(sink, language, LETTERS);
-    draw_letter_boxes(sink, language, before, after, settings, &PIN_WHEELS);
+    let count = page.count_at(&Step::Turns.spot());
+    draw_full_step(sink, page, Word::Letters, count);
+    draw_in(sink, page.language(), LETTERS);
+    draw_letter_boxes(sink, page, &PIN_WHEELS);
     draw(sink, LETTERS_END);
 }
 
-fn draw_letter_boxes<W: Sink>(
-    sink: &mut W,
-    language: Language,
-    before: &Machine,
-    after: &Machine,
-    settings: &[Setting],
-    wheels: &[u8],
-)
+fn draw_letter_boxes<W: Sink>(sink: &mut W, page: &Page<'_>, wheels: &[u8])
     ensures { Draws W.taken W.has_failed sink.old sink.new
-        (flat_map (λ wheel.
-        letter_box language before.now settings.now wheel (machine_pin_letter after.now wheel))
+        (flat_map (λ wheel. letter_box page.now wheel (machine_pin_letter page.now.after wheel))
         wheels.now) }
 {
     if let [wheel, rest @ ..] = wheels {
-        draw_letter_box(
-            sink,
-            language,
-            before,
-            settings,
-            *wheel,
-            after.shown(*wheel),
-        );
-        draw_letter_boxes(sink, language, before, after, settings, rest);
+        draw_letter_box(sink, page, *wheel, page.after().shown(*wheel));
+        draw_letter_boxes(sink, page, rest);
     }
 }
 
-fn draw_letter_box<W: Sink>(
-    sink: &mut W,
-    language: Language,
-    before: &Machine,
-    settings: &[Setting],
-    wheel: u8,
-    shown: Option<Letter>,
-)
-    ensures { Draws W.taken W.has_failed sink.old sink.new
-        (letter_box language before.now settings.now wheel shown) }
+fn draw_letter_box<W: Sink>(sink: &mut W, page: &Page<'_>, wheel: u8, shown: Option<Letter>)
+    ensures { Draws W.taken W.has_failed sink.old sink.new (letter_box page.now wheel shown) }
 {
     match shown {
         None => draw(sink, ""),
-        Some(letter) => draw_letter_item(sink, language, before, settings, wheel, letter),
+        Some(letter) => draw_letter_item(sink, page, wheel, letter),
     }
 }
 
-fn draw_letter_item<W: Sink>(
-    sink: &mut W,
-    language: Language,
-    before: &Machine,
-    settings: &[Setting],
-    wheel: u8,
-    letter: Letter,
-)
-    ensures { Draws W.taken W.has_failed sink.old sink.new
-        (letter_item language before.now settings.now wheel letter) }
+fn draw_letter_item<W: Sink>(sink: &mut W, page: &Page<'_>, wheel: u8, letter: Letter)
+    ensures { Draws W.taken W.has_failed sink.old sink.new (letter_item page.now wheel letter) }
 {
-    fill(sink, language, LETTER_BOX, &[Value::Letter(letter)]);
-    draw_boxes(sink, language, before, &Step::Turns.row(wheel), settings);
+    fill(sink, page.language(), LETTER_BOX, &[Value::Letter(letter)]);
+    draw_boxes(sink, page, &Step::Turns.row(wheel));
     draw(sink, LETTER_BOX_END);
 }
 

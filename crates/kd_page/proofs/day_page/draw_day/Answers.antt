@@ -1,8 +1,8 @@
 use Rattle.kd_pictures.proofs.Drawings.{both}
-unfoldable use Rattle.kd_page.specs.DayPage.{article_text}
-use Rattle.kd_page.proofs.day_page.draw_article.Goals as goal
+unfoldable use Rattle.kd_page.specs.DayPage.{day_text}
+use Rattle.kd_page.proofs.day_page.draw_day.Goals as goal
 
 pub returns : goal.returns
-unfolding article_text
+unfolding day_text
 returns g c =
     both (both (both c.draw_day_head.ensures c.draw_steps.ensures) c.draw_test_step.ensures) c.draw.ensures

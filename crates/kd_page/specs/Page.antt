@@ -1,0 +1,17 @@
+-- What the page of a day shows.
+use Rattle.std.specs.Prelude.{ℕ, List}
+use Rattle.kd_state.specs.declared.machine.parts.Parts.{Parts}
+use Rattle.kd_state.specs.declared.setting.Setting.{Setting}
+use Rattle.kd_pictures.specs.declared.language.Language.{Language}
+
+-- A day's page in a language: the machine before the settings, the machine after them, and the settings in their order.
+pub record Page : Type 0 where
+  pub language : Language
+  pub day : ℕ
+  pub before : Parts
+  pub after : Parts
+  pub settings : List Setting
+
+abbrev pub page_of : Language → ℕ → Parts → Parts → List Setting → Page
+page_of language day before after settings =
+    record { language = language; day = day; before = before; after = after; settings = settings }
