@@ -232,7 +232,7 @@ def enigma(before, after, settings, name):
     windows = [tick(say('slot %d: turn the wheel until <b>%s</b> shows', slot + 1, named(after['letter'][w])), turns.get(slot))
                for slot, w in enumerate(after['slots'])]
     return '<figure class=wheels>%s</figure>\n' % wheels_picture(before, after, settings) \
-        + step(say('1 Rings, with the wheels out' if rings else '1 Rings'), len(rings), name, ticks(rings) if rings else '') \
+        + step(say('1 Rings, with the wheels out; then put back those that stay' if rings else '1 Rings'), len(rings), name, ticks(rings) if rings else '') \
         + step(say('2 Wheels and reflector'), len(seats), name, ticks(seats) if seats else '') \
         + plug_step(say('3 Plugs out'), before['cables'], of('PULL'), 'out',
                     'Before. Square: take out. Circle: stays. Number: the cable’s.', name) \
@@ -306,24 +306,20 @@ def page(machine_file, sheet, day, folder):
     before, after = machine_of(desk('apply', machine_file, '/dev/null')), machine_of(open(after_file).read())
     card_lines = [line.split() for line in card.splitlines()]
     settings = card_lines[1:[line[0] for line in card_lines].index('SETTINGS')]
-    total = int(card_lines[-1][1])
     is_converter = after['model'] == 'M-209'
     keys = 'A' * 26 if is_converter else ABC
     lamps = desk('type', after_file, text=keys).strip()
     name = say('%s, day %s', NAMES[after['model']], day)
-    first = say('First compare: framed pins the other way, other pins as shown, lugs at ▪ and ×.' if is_converter else
+    first = say('First compare. Framed pins still stand the other way, all others as drawn; the lugs are at ▪ and ×.' if is_converter else
                 'First compare the machine with <i>before</i>; only windows may differ. Thick frames: to set.' if settings else
                 'The machine has to stand as shown; only windows may differ.')
     shown = ' '.join(after['letters']) if is_converter else ', '.join(named(after['letter'][w]) for w in after['slots'])
-    differences = ('No shorter list leads to this day. Differences in pins and letters: %d. Least number of lugs to move, by the prices’ sum: %d. Together: %d.'
-                   if is_converter else
-                   'No shorter list leads to this day. Differences in rings, slots, reflector and windows: %d. Least number of plugs to move, by the prices’ sum: %d. Together: %d.')
     test = '<p>%s</p>\n<pre>%s\n<b>%s</b></pre>\n<p>%s</p>\n<p class=fields><span>%s</span></p>\n<p class=note>%s</p>\n' % (
         say('Set the knob to C, and encipher 26 times A. The machine has to print the second line:' if is_converter else
             'Type the alphabet. The lamps have to give the second line:'),
-        in_fives(keys), in_fives(lamps), say('Then set the windows to <b>%s</b> again.', shown),
+        in_fives(keys), in_fives(lamps), say('Then set the letters to <b>%s</b> again.' if is_converter else 'Then set the windows to <b>%s</b> again.', shown),
         say('Letters when put away' if is_converter else 'Windows when put away'),
-        say(differences, len(settings) - total, total, len(settings)))
+        say('%s; fewer aren’t possible.', count(len(settings))))
     out = '<article id=day-%s>\n<header>\n<h1>%s <small>%s</small></h1>\n<p class=fields><span>%s</span><span>%s</span><span>%s</span></p>\n<p>%s</p>\n</header>\n%s%s</article>\n' % (
         day, name, count(len(settings)), say('Machine'), say('Date'), say('Done by'), first, (converter if is_converter else enigma)(before, after, settings, name),
         step(say('4 Test' if is_converter else '6 Test'), None, name, test))

@@ -17,8 +17,8 @@ DAY_PAGE = {
         'Zuerst die Maschine mit <i>vorher</i> vergleichen; nur die Fenster dürfen abweichen. Dick Umrahmtes ist einzustellen.',
     'The machine has to stand as shown; only windows may differ.':
         'Die Maschine muss wie gezeigt stehen; nur die Fenster dürfen abweichen.',
-    'First compare: framed pins the other way, other pins as shown, lugs at ▪ and ×.':
-        'Zuerst vergleichen: umrahmte Stifte umgekehrt, die übrigen wie gezeigt, Reiter bei ▪ und ×.',
+    'First compare. Framed pins still stand the other way, all others as drawn; the lugs are at ▪ and ×.':
+        'Zuerst vergleichen. Umrahmte Stifte stehen noch umgekehrt, alle übrigen wie gezeichnet; die Reiter sind bei ▪ und ×.',
     'before': 'vorher',
     'after': 'nachher',
     'wheel': 'Walze',
@@ -36,7 +36,7 @@ DAY_PAGE = {
     'reflector %s': 'Umkehrwalze %s',
     'slot %d: wheel %s, ring %s, window %s': 'Platz %d: Walze %s, Ring %s, Fenster %s',
     'slot %d: empty': 'Platz %d: leer',
-    '1 Rings, with the wheels out': '1 Ringstellung, bei herausgenommenen Walzen',
+    '1 Rings, with the wheels out; then put back those that stay': '1 Ringstellung, bei herausgenommenen Walzen; danach wieder einsetzen, was bleibt',
     '1 Rings': '1 Ringstellung',
     '2 Wheels and reflector': '2 Walzenlage und Umkehrwalze',
     '3 Plugs out': '3 Stecker ziehen',
@@ -62,11 +62,9 @@ DAY_PAGE = {
     'Type the alphabet. The lamps have to give the second line:': 'Das Alphabet eintippen. Die Lampen müssen die zweite Zeile ergeben:',
     'Set the knob to C, and encipher 26 times A. The machine has to print the second line:':
         'Den Knopf auf C stellen und 26-mal A schlüsseln. Die Maschine muss die zweite Zeile drucken:',
-    'Then set the windows to <b>%s</b> again.': 'Danach wieder <b>%s</b> einstellen.',
-    'No shorter list leads to this day. Differences in rings, slots, reflector and windows: %d. Least number of plugs to move, by the prices’ sum: %d. Together: %d.':
-        'Keine kürzere Liste führt zu diesem Tag. Abweichungen bei Ringen, Plätzen, Umkehrwalze und Fenstern: %d. Mindestzahl der Stecker, nach der Summe der Preise: %d. Zusammen: %d.',
-    'No shorter list leads to this day. Differences in pins and letters: %d. Least number of lugs to move, by the prices’ sum: %d. Together: %d.':
-        'Keine kürzere Liste führt zu diesem Tag. Abweichungen bei Stiften und Buchstaben: %d. Mindestzahl der Reiter, nach der Summe der Preise: %d. Zusammen: %d.',
+    'Then set the windows to <b>%s</b> again.': 'Danach die Fenster wieder auf <b>%s</b> einstellen.',
+    'Then set the letters to <b>%s</b> again.': 'Danach die Räder wieder auf <b>%s</b> einstellen.',
+    '%s; fewer aren’t possible.': '%s; mit weniger geht es nicht.',
     '1 Pins': '1 Stifte',
     'Pins after: ● effective, ○ not. Framed pins are to change: ON makes a pin effective, OFF not.':
         'Stifte nachher: ● wirksam, ○ unwirksam. Umrahmte Stifte umstellen: EIN macht wirksam, AUS unwirksam.',

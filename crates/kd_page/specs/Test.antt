@@ -1,5 +1,5 @@
 -- The test of the real machine: given keys, and what the machine makes of them. Then the letters to set again.
-use Rattle.std.specs.Prelude.{codes, decimal, ℕ, ◌-◌, Bool, if◌then◌else◌, List, [], ◌∷◌, ◌++◌}
+use Rattle.std.specs.Prelude.{codes, ℕ, Bool, if◌then◌else◌, List, [], ◌∷◌, ◌++◌}
 use Rattle.std.specs.Prelude.{length}
 use Rattle.std.specs.Prelude.{false, true, replicate, flat_map, Option, Some, None}
 use Rattle.kd_tables.specs.declared.model.Model.{Model}
@@ -8,7 +8,6 @@ use Rattle.kd_state.specs.declared.machine.parts.Parts.{Parts}
 use Rattle.kd_state.specs.declared.setting.Setting.{Setting}
 use Rattle.kd_state.specs.Machine.{model_of}
 use Rattle.kd_state.specs.TwoCiphers.{physical_cipher}
-use Rattle.kd_card.specs.Proving.{priced_count}
 use Rattle.kd_pictures.specs.declared.numbers.TheConstants.{LATER_WHEELS}
 use Rattle.kd_pictures.specs.declared.language.Language.{Language}
 use Rattle.kd_pictures.specs.declared.words.Word.{Word}
@@ -18,7 +17,7 @@ use Rattle.kd_pictures.specs.Language.{text_in}
 use Rattle.kd_page.specs.Page.{Page}
 use Rattle.kd_page.specs.Steps.{full_step_text}
 use Rattle.kd_pictures.specs.Fives.{fives_from}
-use Rattle.kd_pictures.specs.Template.{filled, letter_text, ordinal_text}
+use Rattle.kd_pictures.specs.Template.{count_text, filled, letter_text, ordinal_text}
 use Rattle.kd_page.specs.Windows.{letter_shown}
 use Rattle.kd_pictures.specs.Words.{is_converter}
 
@@ -26,11 +25,15 @@ use Rattle.kd_pictures.specs.Words.{is_converter}
 abbrev pub test_keys : Parts → List ℕ
 test_keys m = if is_converter (model_of m) then replicate 26 0 else alphabet
 
+-- what to set again after the test: the windows, or a Converter's letters
+abbrev pub test_end : Language → Model → List ℕ
+test_end l model = if is_converter model then text_in l texts.TEST_END_PIN else text_in l texts.TEST_END_ROTOR
+
 -- the keys in groups of five, and below them what the machine makes of them
 unfoldable pub test_text : Language → Parts → List ℕ
 test_text l m =
     fives_from 0 (test_keys m) ++ texts.TEST_LAMPS.now ++ fives_from 0 (physical_cipher m (test_keys m))
-    ++ text_in l texts.TEST_END
+    ++ test_end l (model_of m)
 
 -- a letter that is to show again, on a rotor machine with its number
 abbrev pub again_text : Bool → ℕ → List ℕ
@@ -52,12 +55,11 @@ again_all separator has_number m =
 abbrev pub letters_again : Parts → List ℕ
 letters_again m = if is_converter (model_of m) then again_all (codes " ") false m else again_all (codes ", ") true m
 
--- the numbers of settings; those for cables and bars are as many as the sum of a shortest card's prices
+-- the line for the letters when the machine is put away, and the number of settings
 abbrev pub note_text : Language → Model → List Setting → List ℕ
 note_text l model settings =
-    let priced = priced_count settings in
     filled (if is_converter model then text_in l texts.NOTE_PIN else text_in l texts.NOTE_ROTOR)
-    (decimal (length settings - priced) ∷ decimal priced ∷ decimal (length settings) ∷ [])
+    (count_text l (length settings) ∷ [])
 
 -- the title of the test, and what to do
 abbrev pub test_title : Model → Word

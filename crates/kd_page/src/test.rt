@@ -1,11 +1,10 @@
 //! The test of the real machine: which lamps light up, or which letters are printed, for given keys.
-ghost use Rattle.std.specs.Prelude.{◌≡◌, ◌+◌, ◌%◌, ◌<◌, ◌≤◌, ◌==◌, ◌++◌, flat_map, length};
+ghost use Rattle.std.specs.Prelude.{◌≡◌, ◌++◌, flat_map};
 ghost use Rattle.kd_state.specs.Machine.{model_of};
 ghost use Rattle.kd_state.specs.TwoCiphers.{IsReady, physical_cipher};
-ghost use Rattle.kd_card.specs.Proving.{is_priced_setting, priced_count};
 ghost use Rattle.kd_pictures.specs.Drawing.{Draws};
 ghost use Rattle.kd_page.specs.Test.{again_all, again_at, again_text, letters_again, note_text};
-ghost use Rattle.kd_page.specs.Test.{test_keys, test_step, test_text, test_title, test_words};
+ghost use Rattle.kd_page.specs.Test.{test_end, test_keys, test_step, test_text, test_title, test_words};
 ghost use Rattle.kd_page.specs.Windows.{letter_shown};
 
 use crate::page::Page;
@@ -16,11 +15,12 @@ use kd_pictures::fives::draw_fives;
 use kd_pictures::numbers::LATER_WHEELS;
 use kd_pictures::template::{Value, draw_letter, fill, fill_in};
 use kd_pictures::texts::{
-    AGAIN_ROTOR, NOTE_PIN, NOTE_ROTOR, TEST_END, TEST_LAMPS, TEST_PIN, TEST_ROTOR,
+    AGAIN_ROTOR, NOTE_PIN, NOTE_ROTOR, TEST_END_PIN, TEST_END_ROTOR, TEST_LAMPS, TEST_PIN,
+    TEST_ROTOR,
 };
 use kd_pictures::words::{Word, is_converter};
 use kd_pictures::{Language, draw, draw_in};
-use kd_state::{Machine, Setting};
+use kd_state::Machine;
 use kd_tables::{Letter, Model, Sink};
 
 /// Writes the step of the test of the machine after the settings.
@@ -65,7 +65,18 @@ fn draw_test<W: Sink>(sink: &mut W, language: Language, machine: &Machine)
     draw_fives(sink, 0, &keys);
     draw(sink, TEST_LAMPS);
     draw_fives(sink, 0, &enciphered(machine, keys));
-    draw_in(sink, language, TEST_END);
+    draw_test_end(sink, language, machine.model());
+}
+
+/// Writes what to set again: the windows, or a Converter's letters.
+fn draw_test_end<W: Sink>(sink: &mut W, language: Language, model: Model)
+    ensures { Draws W.taken W.has_failed sink.old sink.new (test_end language model) }
+{
+    if is_converter(model) {
+        draw_in(sink, language, TEST_END_PIN);
+    } else {
+        draw_in(sink, language, TEST_END_ROTOR);
+    }
 }
 
 /// The alphabet, or on a Converter 26 times A.
@@ -176,44 +187,16 @@ fn draw_again<W: Sink>(sink: &mut W, language: Language, has_number: bool, lette
     }
 }
 
-/// Writes the numbers of settings.
+/// Writes the line for the letters when the machine is put away, and the number of settings.
 fn draw_note<W: Sink>(sink: &mut W, page: &Page<'_>)
     ensures { Draws W.taken W.has_failed sink.old sink.new
         (note_text page.now.language (model_of page.now.after) page.now.settings) }
 {
-    let settings = page.settings();
-    let priced = priced_count(settings);
-    let all = settings.len() as u16;
-    fill_in(
-        sink,
-        page.language(),
-        if is_converter(page.model()) {
-            NOTE_PIN
-        } else {
-            NOTE_ROTOR
-        },
-        &[
-            Value::Number(all - priced),
-            Value::Number(priced),
-            Value::Number(all),
-        ],
-    );
-}
-
-/// How many of `settings` change a cable or a bar.
-fn priced_count(settings: &[Setting]) -> u16
-    requires { length settings.now ≤ 192 }
-    ensures value { result ≡ priced_count settings.now }
-    ensures few { result ≤ length settings.now }
-{
-    settings.iter().filter(|x| is_priced(x)).count() as u16
-}
-
-fn is_priced(setting: &Setting) -> bool
-    ensures { result ≡ is_priced_setting setting.now }
-{
-    matches!(
-        setting,
-        Setting::Pull { .. } | Setting::Put { .. } | Setting::LugTo { .. }
-    )
+    let note = if is_converter(page.model()) {
+        NOTE_PIN
+    } else {
+        NOTE_ROTOR
+    };
+    let count = page.settings().len() as u8;
+    fill_in(sink, page.language(), note, &[Value::Count(count)]);
 }

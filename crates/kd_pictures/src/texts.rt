@@ -230,8 +230,8 @@ pub const DAY: Text = (
 );
 
 pub const COMPARE_PIN: Text = (
-    "First compare: framed pins the other way, other pins as shown, lugs at ~ and ~.</p>\n</header>\n",
-    "Zuerst vergleichen: umrahmte Stifte umgekehrt, die \u{fc}brigen wie gezeigt, Reiter bei ~ und ~.</p>\n</header>\n",
+    "First compare. Framed pins still stand the other way, all others as drawn; the lugs are at ~ and ~.</p>\n</header>\n",
+    "Zuerst vergleichen. Umrahmte Stifte stehen noch umgekehrt, alle \u{fc}brigen wie gezeichnet; die Reiter sind bei ~ und ~.</p>\n</header>\n",
 );
 
 pub const DAY_END: &str = "</article>\n";
@@ -497,7 +497,7 @@ pub const BOXES: &str = "\n";
 
 pub const DRUM_END: &str = "</table>\n</section>\n";
 
-/// The test: the keys, and what the machine makes of them. Then the letters to set again, and the numbers of settings.
+/// The test: the keys, and what the machine makes of them. Then the letters to set again, and the number of settings.
 pub const TEST_ROTOR: Text = (
     "<p>Type the alphabet. The lamps have to give the second line:</p>\n<pre>",
     "<p>Das Alphabet eintippen. Die Lampen m\u{fc}ssen die zweite Zeile ergeben:</p>\n<pre>",
@@ -510,21 +510,26 @@ pub const TEST_PIN: Text = (
 
 pub const TEST_LAMPS: &str = "\n<b>";
 
-pub const TEST_END: Text = (
+pub const TEST_END_ROTOR: Text = (
     "</b></pre>\n<p>Then set the windows to <b>",
-    "</b></pre>\n<p>Danach wieder <b>",
+    "</b></pre>\n<p>Danach die Fenster wieder auf <b>",
+);
+
+pub const TEST_END_PIN: Text = (
+    "</b></pre>\n<p>Then set the letters to <b>",
+    "</b></pre>\n<p>Danach die R\u{e4}der wieder auf <b>",
 );
 
 pub const AGAIN_ROTOR: &str = "~\u{a0}~";
 
 pub const NOTE_ROTOR: Text = (
-    "</b> again.</p>\n<p class=fields><span>Windows when put away</span></p>\n<p class=note>No shorter list leads to this day. Differences in rings, slots, reflector and windows: ~. Least number of plugs to move, by the prices\u{2019} sum: ~. Together: ~.</p>\n</section>\n",
-    "</b> einstellen.</p>\n<p class=fields><span>Buchstaben in den Fenstern beim Wegr\u{e4}umen</span></p>\n<p class=note>Keine k\u{fc}rzere Liste f\u{fc}hrt zu diesem Tag. Abweichungen bei Ringen, Pl\u{e4}tzen, Umkehrwalze und Fenstern: ~. Mindestzahl der Stecker, nach der Summe der Preise: ~. Zusammen: ~.</p>\n</section>\n",
+    "</b> again.</p>\n<p class=fields><span>Windows when put away</span></p>\n<p class=note>~; fewer aren\u{2019}t possible.</p>\n</section>\n",
+    "</b> einstellen.</p>\n<p class=fields><span>Buchstaben in den Fenstern beim Wegr\u{e4}umen</span></p>\n<p class=note>~; mit weniger geht es nicht.</p>\n</section>\n",
 );
 
 pub const NOTE_PIN: Text = (
-    "</b> again.</p>\n<p class=fields><span>Letters when put away</span></p>\n<p class=note>No shorter list leads to this day. Differences in pins and letters: ~. Least number of lugs to move, by the prices\u{2019} sum: ~. Together: ~.</p>\n</section>\n",
-    "</b> einstellen.</p>\n<p class=fields><span>Buchstaben beim Wegr\u{e4}umen</span></p>\n<p class=note>Keine k\u{fc}rzere Liste f\u{fc}hrt zu diesem Tag. Abweichungen bei Stiften und Buchstaben: ~. Mindestzahl der Reiter, nach der Summe der Preise: ~. Zusammen: ~.</p>\n</section>\n",
+    "</b> again.</p>\n<p class=fields><span>Letters when put away</span></p>\n<p class=note>~; fewer aren\u{2019}t possible.</p>\n</section>\n",
+    "</b> einstellen.</p>\n<p class=fields><span>Buchstaben beim Wegr\u{e4}umen</span></p>\n<p class=note>~; mit weniger geht es nicht.</p>\n</section>\n",
 );
 
 /// The names of the models.
@@ -538,8 +543,8 @@ pub const CONVERTER: &str = "Converter M-209";
 
 /// The titles of the steps.
 pub const RINGS_OUT: Text = (
-    "1 Rings, with the wheels out",
-    "1 Ringstellung, bei herausgenommenen Walzen",
+    "1 Rings, with the wheels out; then put back those that stay",
+    "1 Ringstellung, bei herausgenommenen Walzen; danach wieder einsetzen, was bleibt",
 );
 
 pub const RINGS: Text = ("1 Rings", "1 Ringstellung");

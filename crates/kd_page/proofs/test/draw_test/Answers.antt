@@ -8,5 +8,5 @@ unfolding test_text
 returns g c =
     let keys = c.test_keys-keys.ensures in
     let lamps = c.enciphered.ensures in
-    joined (both (both c.draw_fives.ensures c.draw.ensures) c.draw_fives-2.ensures) c.draw_in.ensures
-    (rw (← keys, ← lamps) refl)
+    joined (both (both c.draw_fives.ensures c.draw.ensures) c.draw_fives-2.ensures) c.draw_test_end.ensures
+    (rw (← keys, ← lamps, ← c.model.ensures) refl)
