@@ -223,7 +223,8 @@ def plug_step(title, cables, moves, kind, caption, name):
 def enigma(before, after, settings, name):
     of = lambda word: [s for s in settings if s[0] == word]
     sides = SIDES[len(after['slots'])]
-    place = lambda w: say('slot %d', before['slots'].index(w) + 1) if w in before['slots'] else say('the box')
+    place = lambda w: (say('slot %d', before['slots'].index(w) + 1) if w in before['slots'] else
+                       say('the box, with its ring at <b>%s</b>', named(after['ring'][w])))
     rings = [tick(say('wheel <b>%s</b>: set the ring to <b>%s</b>', s[1], named(s[2])), ' '.join(s)) for s in of('RING')]
     seats = [tick(say('slot %s, %s: put in wheel <b>%s</b>, from %s', s[1], say(sides[int(s[1]) - 1]), s[2], place(s[2])), ' '.join(s))
              for s in of('SEAT')]
@@ -232,7 +233,7 @@ def enigma(before, after, settings, name):
     windows = [tick(say('slot %d: turn the wheel until <b>%s</b> shows', slot + 1, named(after['letter'][w])), turns.get(slot))
                for slot, w in enumerate(after['slots'])]
     return '<figure class=wheels>%s</figure>\n' % wheels_picture(before, after, settings) \
-        + step(say('1 Rings, with the wheels out; then put back those that stay' if rings else '1 Rings'), len(rings), name, ticks(rings) if rings else '') \
+        + step(say('1 Rings: wheels out, and back in' if rings else '1 Rings'), len(rings), name, ticks(rings) if rings else '') \
         + step(say('2 Wheels and reflector'), len(seats), name, ticks(seats) if seats else '') \
         + plug_step(say('3 Plugs out'), before['cables'], of('PULL'), 'out',
                     'Before. Square: take out. Circle: stays. Number: the cable’s.', name) \

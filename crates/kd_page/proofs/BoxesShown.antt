@@ -51,7 +51,7 @@ pub record HasPinPlaces (m n : Parts) (settings : List Setting) : Type 0 where
 
 module _ (page : Page) where
   abbrev own : Setting → List ℕ
-  own = box_text page.language page.before
+  own = box_text page
 
   abbrev pub Shown : List Setting → List ℕ → Type 0
   Shown = HasInTurn own

@@ -31,7 +31,7 @@ rotor_of l day m (Rotor n) settings legal is order leads =
       windows = λ slot none. windows_there slot n legal none m 0 settings (sym (one_kind m (Rotor n) settings leads))
           order.steps leads;
     } in
-    subst (λ xs. HasInTurn (box_text l m) xs (day_text page)) (rotor_boxes_are settings order)
+    subst (λ xs. HasInTurn (box_text page) xs (day_text page)) (rotor_boxes_are settings order)
     (whole page (rotor_boxes settings) false is (rotor page places))
 
 pub rotor_pages : RotorPageHasTheBoxes
@@ -62,7 +62,7 @@ pin_of l day (Pin m) (Pin n) settings legal then is order leads =
       old_bars = λ bar none. row_there Lugs m.bars bar 28 settings (omega (arith, old_bars)) order.lugs none;
       letters = λ wheel none. row_there Turns n.letters wheel 7 settings (omega (arith, letters)) order.turns none;
     } in
-    subst (λ xs. HasInTurn (box_text l (Pin m)) xs (day_text page)) (pin_boxes_are settings order)
+    subst (λ xs. HasInTurn (box_text page) xs (day_text page)) (pin_boxes_are settings order)
     (whole page (pin_boxes settings) true is (converter page places))
 
 pub pin_pages : PinPageHasTheBoxes

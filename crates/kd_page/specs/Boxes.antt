@@ -1,5 +1,5 @@
 -- The boxes to tick: for each setting the words for the hand and, but for pins, its line.
-use Rattle.std.specs.Prelude.{decimal, ℕ, ◌-◌, ◌==◌, Bool, if◌then◌else◌, List, [], ◌∷◌, flat_map}
+use Rattle.std.specs.Prelude.{decimal, ℕ, ◌-◌, ◌==◌, Bool, if◌then◌else◌, List, [], ◌∷◌, ◌++◌, flat_map}
 use Rattle.std.specs.Prelude.{Option, Some, None}
 use Rattle.kd_tables.specs.declared.lug.Lug.{Lug}
 use Rattle.kd_tables.specs.declared.lug.Lug.TheVariants as lugs
@@ -11,7 +11,7 @@ use Rattle.kd_state.specs.declared.machine.parts.Parts.{Parts}
 use Rattle.kd_state.specs.declared.setting.Setting.{Setting}
 use Rattle.kd_state.specs.declared.setting.Setting.TheVariants as settings
 use Rattle.kd_state.specs.Line.{setting_line}
-use Rattle.kd_state.specs.Machine.{model_of}
+use Rattle.kd_state.specs.Machine.{machine_ring, model_of}
 use Rattle.kd_pictures.specs.declared.language.Language.{Language}
 use Rattle.kd_pictures.specs.declared.numbers.TheConstants.{SLOTS}
 use Rattle.kd_page.specs.declared.spots.Spot.{Spot}
@@ -19,7 +19,8 @@ use Rattle.kd_pictures.specs.declared.words.Word.{Word}
 use Rattle.kd_pictures.specs.declared.words.Word.TheVariants.{Greek, Left, LeftLug, Middle, Off, On, Right, RightLug}
 use Rattle.kd_pictures.specs.declared.words.Mark.{Mark}
 use Rattle.kd_pictures.specs.declared.words.Mark.TheVariants.{Effective, Ineffective}
-use Rattle.kd_pictures.specs.declared.texts.TheConstants.{LUG, PIN, PLUG, REFLECTOR, RING, SEAT, SEAT_FROM, TURN}
+use Rattle.kd_pictures.specs.declared.texts.TheConstants.{BOX_RING, LUG, PIN, PLUG, REFLECTOR, RING, SEAT, SEAT_END, SEAT_FROM}
+use Rattle.kd_pictures.specs.declared.texts.TheConstants.{TURN}
 use Rattle.kd_pictures.specs.Language.{text_in}
 use Rattle.kd_page.specs.Page.{Page}
 use Rattle.kd_page.specs.Spots.{is_at}
@@ -38,12 +39,24 @@ abbrev pub slot_holding : Parts → Wheel → List ℕ → Option ℕ
 slot_holding m wheel [] = None
 slot_holding m wheel (slot ∷ slots) = if is_seated m slot wheel then Some slot else slot_holding m wheel slots
 
+-- where the ring of a wheel from the box has to stand
+abbrev pub box_ring_text : Language → Option ℕ → List ℕ
+box_ring_text l None = []
+box_ring_text l (Some ring) = filled (text_in l BOX_RING) (letter_text ring ∷ ordinal_text ring ∷ [])
+
+-- a wheel to be put into a slot from the box, with the ring that it has on the machine after the settings
+abbrev pub from_box_text : Page → Setting → ℕ → Wheel → List ℕ
+from_box_text page x slot wheel =
+    filled (text_in page.language SEAT) (
+    decimal slot ∷ word_text page.language (slot_name (model_of page.after) slot) ∷ wheel_text wheel ∷ [])
+    ++ box_ring_text page.language (machine_ring page.after wheel) ++ filled SEAT_END.now (setting_line x ∷ [])
+
 -- a wheel to be put into a slot, and where it is before
-abbrev pub seat_text : Language → Parts → Setting → ℕ → Wheel → Option ℕ → List ℕ
-seat_text l m x slot wheel None = filled (text_in l SEAT) (
-    decimal slot ∷ word_text l (slot_name (model_of m) slot) ∷ wheel_text wheel ∷ setting_line x ∷ [])
-seat_text l m x slot wheel (Some old) = filled (text_in l SEAT_FROM) (
-    decimal slot ∷ word_text l (slot_name (model_of m) slot) ∷ wheel_text wheel ∷ decimal old ∷ setting_line x ∷ [])
+abbrev pub seat_text : Page → Setting → ℕ → Wheel → Option ℕ → List ℕ
+seat_text page x slot wheel None = from_box_text page x slot wheel
+seat_text page x slot wheel (Some old) = filled (text_in page.language SEAT_FROM) (
+    decimal slot ∷ word_text page.language (slot_name (model_of page.after) slot) ∷ wheel_text wheel ∷ decimal old
+    ∷ setting_line x ∷ [])
 
 -- the left lug of a bar, or the right one
 abbrev pub lug_word : Lug → Word
@@ -57,27 +70,27 @@ pin_mark effective = if effective then Effective else Ineffective
 abbrev pub pin_word : Bool → Word
 pin_word effective = if effective then On else Off
 
--- the box of a setting, in language `l`; machine `m` is the machine before all settings
-abbrev pub box_text : Language → Parts → Setting → List ℕ
-box_text l m (settings.Pull cable letter) =
+-- the box of a setting on a page
+abbrev pub box_text : Page → Setting → List ℕ
+box_text page (settings.Pull cable letter) =
     filled PLUG.now (letter_text letter ∷ setting_line (settings.Pull cable letter) ∷ [])
-box_text l m (settings.Put cable letter) =
+box_text page (settings.Put cable letter) =
     filled PLUG.now (letter_text letter ∷ setting_line (settings.Put cable letter) ∷ [])
-box_text l m (settings.Seat slot wheel) =
-    seat_text l m (settings.Seat slot wheel) slot wheel (slot_holding m wheel SLOTS)
-box_text l m (settings.SeatReflector reflector) =
-    filled (text_in l REFLECTOR) (reflector_text reflector ∷ setting_line (settings.SeatReflector reflector) ∷ [])
-box_text l m (settings.RingTo wheel letter) = filled (text_in l RING) (
+box_text page (settings.Seat slot wheel) =
+    seat_text page (settings.Seat slot wheel) slot wheel (slot_holding page.before wheel SLOTS)
+box_text page (settings.SeatReflector reflector) =
+    filled (text_in page.language REFLECTOR) (reflector_text reflector ∷ setting_line (settings.SeatReflector reflector) ∷ [])
+box_text page (settings.RingTo wheel letter) = filled (text_in page.language RING) (
     wheel_text wheel ∷ letter_text letter ∷ ordinal_text letter ∷ setting_line (settings.RingTo wheel letter) ∷ [])
-box_text l m (settings.Turn slot letter) = filled TURN.now (setting_line (settings.Turn slot letter) ∷ [])
-box_text l m (settings.PinTo wheel letter effective) =
-    filled PIN.now (letter_text letter ∷ mark_text (pin_mark effective) ∷ word_text l (pin_word effective) ∷ [])
-box_text l m (settings.LugTo bar lug place) =
-    filled LUG.now (word_text l (lug_word lug) ∷ place_text place ∷ setting_line (settings.LugTo bar lug place) ∷ [])
+box_text page (settings.Turn slot letter) = filled TURN.now (setting_line (settings.Turn slot letter) ∷ [])
+box_text page (settings.PinTo wheel letter effective) =
+    filled PIN.now (letter_text letter ∷ mark_text (pin_mark effective) ∷ word_text page.language (pin_word effective) ∷ [])
+box_text page (settings.LugTo bar lug place) =
+    filled LUG.now (word_text page.language (lug_word lug) ∷ place_text place ∷ setting_line (settings.LugTo bar lug place) ∷ [])
 
-abbrev pub box_at : Language → Parts → Spot → Setting → List ℕ
-box_at l m spot x = if is_at spot x then box_text l m x else []
+abbrev pub box_at : Page → Spot → Setting → List ℕ
+box_at page spot x = if is_at spot x then box_text page x else []
 
 -- the boxes of the page's settings at a spot, in their order
 abbrev pub boxes_at : Page → Spot → List ℕ
-boxes_at page spot = flat_map (box_at page.language page.before spot) page.settings
+boxes_at page spot = flat_map (box_at page spot) page.settings

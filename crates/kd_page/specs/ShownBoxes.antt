@@ -19,7 +19,7 @@ HasInTurn part (x ∷ xs) text =
 abbrev pub HasItsBoxes : Page → Type 0
 HasItsBoxes page =
     Leads page.before page.settings page.after
-    → HasInTurn (box_text page.language page.before) page.settings (day_text page)
+    → HasInTurn (box_text page) page.settings (day_text page)
 
 abbrev pub RotorPageHasTheBoxes : Type 0
 RotorPageHasTheBoxes =

@@ -2,20 +2,22 @@
 ghost use Rattle.std.specs.Prelude.{◌≡◌, flat_map};
 ghost use Rattle.kd_state.specs.declared.setting.Setting.TheVariants.{Seat};
 ghost use Rattle.kd_pictures.specs.Drawing.{Draws};
-ghost use Rattle.kd_page.specs.Boxes.{box_at, box_text, boxes_at, lug_word, pin_mark, pin_word};
-ghost use Rattle.kd_page.specs.Boxes.{seat_text, slot_holding, slot_name};
+ghost use Rattle.kd_page.specs.Boxes.{box_at, box_ring_text, box_text, boxes_at, from_box_text, lug_word};
+ghost use Rattle.kd_page.specs.Boxes.{pin_mark, pin_word, seat_text, slot_holding, slot_name};
 ghost use Rattle.kd_pictures.specs.declared.numbers.TheConstants.{SLOTS as ALL_SLOTS};
 
 use crate::page::Page;
 use crate::spots::{Spot, is_at};
 use kd_pictures::numbers::SLOTS;
 use kd_pictures::template::{Value, fill, fill_in};
-use kd_pictures::texts::{LUG, PIN, PLUG, REFLECTOR, RING, SEAT, SEAT_FROM, TURN};
+use kd_pictures::texts::{
+    BOX_RING, LUG, PIN, PLUG, REFLECTOR, RING, SEAT, SEAT_END, SEAT_FROM, TURN,
+};
 use kd_pictures::wheels::is_seated;
 use kd_pictures::words::{Mark, Word};
 use kd_pictures::{Language, draw};
 use kd_state::{Machine, Setting};
-use kd_tables::{Lug, Model, Sink, Wheel};
+use kd_tables::{Letter, Lug, Model, Sink, Wheel};
 
 /// Writes the boxes of the page's settings at `spot`.
 pub(crate) fn draw_boxes<W: Sink>(sink: &mut W, page: &Page<'_>, spot: &Spot)
@@ -27,7 +29,7 @@ pub(crate) fn draw_boxes<W: Sink>(sink: &mut W, page: &Page<'_>, spot: &Spot)
 /// Writes the boxes of those of `settings` that have them at `spot`.
 fn draw_boxes_of<W: Sink>(sink: &mut W, page: &Page<'_>, spot: &Spot, settings: &[Setting])
     ensures { Draws W.taken W.has_failed sink.old sink.new
-        (flat_map (box_at page.now.language page.now.before spot.now) settings.now) }
+        (flat_map (box_at page.now spot.now) settings.now) }
 {
     if let [setting, rest @ ..] = settings {
         draw_box_at(sink, page, spot, setting);
@@ -38,24 +40,25 @@ fn draw_boxes_of<W: Sink>(sink: &mut W, page: &Page<'_>, spot: &Spot, settings: 
 /// Writes the box of `setting`, if it is at `spot`.
 fn draw_box_at<W: Sink>(sink: &mut W, page: &Page<'_>, spot: &Spot, setting: &Setting)
     ensures { Draws W.taken W.has_failed sink.old sink.new
-        (box_at page.now.language page.now.before spot.now setting.now) }
+        (box_at page.now spot.now setting.now) }
 {
     if is_at(spot, setting) {
-        draw_box(sink, page.language(), page.before(), setting);
+        draw_box(sink, page, setting);
     } else {
         draw(sink, "");
     }
 }
 
-fn draw_box<W: Sink>(sink: &mut W, language: Language, before: &Machine, setting: &Setting)
-    ensures { Draws W.taken W.has_failed sink.old sink.new (box_text language before.now setting.now) }
+fn draw_box<W: Sink>(sink: &mut W, page: &Page<'_>, setting: &Setting)
+    ensures { Draws W.taken W.has_failed sink.old sink.new (box_text page.now setting.now) }
 {
+    let language = page.language();
     let line = Value::Line(*setting);
     match *setting {
         Setting::Pull { letter, .. } | Setting::Put { letter, .. } => {
             fill(sink, language, PLUG, &[Value::Letter(letter), line])
         }
-        Setting::Seat { slot, wheel } => draw_seat(sink, language, before, slot, wheel),
+        Setting::Seat { slot, wheel } => draw_seat(sink, page, slot, wheel),
         Setting::SeatReflector { reflector } => {
             fill_in(
                 sink,
@@ -102,32 +105,59 @@ fn draw_box<W: Sink>(sink: &mut W, language: Language, before: &Machine, setting
 }
 
 /// Writes the box of a wheel to be put into a slot. If another slot holds the wheel before, it says so.
-fn draw_seat<W: Sink>(sink: &mut W, language: Language, before: &Machine, slot: u8, wheel: Wheel)
+fn draw_seat<W: Sink>(sink: &mut W, page: &Page<'_>, slot: u8, wheel: Wheel)
     ensures { Draws W.taken W.has_failed sink.old sink.new
-        (seat_text language before.now (Seat slot wheel) slot wheel
-        (slot_holding before.now wheel ALL_SLOTS)) }
+        (seat_text page.now (Seat slot wheel) slot wheel
+        (slot_holding page.now.before wheel ALL_SLOTS)) }
 {
-    let name = Value::Word(slot_name(before.model(), slot));
-    let line = Value::Line(Setting::Seat { slot, wheel });
-    let number = Value::Number(u16::from(slot));
-    match slot_holding(before, wheel, &SLOTS) {
-        None => fill_in(
-            sink,
-            language,
-            SEAT,
-            &[number, name, Value::Wheel(wheel), line],
-        ),
+    match slot_holding(page.before(), wheel, &SLOTS) {
+        None => draw_from_box(sink, page, slot, wheel),
         Some(old) => fill_in(
             sink,
-            language,
+            page.language(),
             SEAT_FROM,
             &[
-                number,
-                name,
+                Value::Number(u16::from(slot)),
+                Value::Word(slot_name(page.model(), slot)),
                 Value::Wheel(wheel),
                 Value::Number(u16::from(old)),
-                line,
+                Value::Line(Setting::Seat { slot, wheel }),
             ],
+        ),
+    }
+}
+
+/// Writes the box of a wheel from the box, whose ring nobody sees once the machine is closed.
+fn draw_from_box<W: Sink>(sink: &mut W, page: &Page<'_>, slot: u8, wheel: Wheel)
+    ensures { Draws W.taken W.has_failed sink.old sink.new
+        (from_box_text page.now (Seat slot wheel) slot wheel) }
+{
+    fill_in(
+        sink,
+        page.language(),
+        SEAT,
+        &[
+            Value::Number(u16::from(slot)),
+            Value::Word(slot_name(page.model(), slot)),
+            Value::Wheel(wheel),
+        ],
+    );
+    draw_box_ring(sink, page.language(), page.after().ring(wheel));
+    let line = Value::Line(Setting::Seat { slot, wheel });
+    fill(sink, page.language(), SEAT_END, &[line]);
+}
+
+/// Writes where the ring of a wheel from the box has to stand.
+fn draw_box_ring<W: Sink>(sink: &mut W, language: Language, ring: Option<Letter>)
+    ensures { Draws W.taken W.has_failed sink.old sink.new (box_ring_text language ring) }
+{
+    match ring {
+        None => draw(sink, ""),
+        Some(ring) => fill_in(
+            sink,
+            language,
+            BOX_RING,
+            &[Value::Letter(ring), Value::Ordinal(ring)],
         ),
     }
 }

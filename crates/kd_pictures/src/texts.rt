@@ -265,10 +265,18 @@ pub const RING: Text = (
     "<li><label><input type=checkbox> Walze <b>~</b>: Ring auf <b>~\u{a0}~</b> stellen <code>~</code></label>\n",
 );
 
+/// A wheel from the box: the slot, its name, and the wheel; then where its ring has to stand, and the line.
 pub const SEAT: Text = (
-    "<li><label><input type=checkbox> slot ~, ~: put in wheel <b>~</b>, from the box <code>~</code></label>\n",
-    "<li><label><input type=checkbox> Platz ~, ~: Walze <b>~</b> einsetzen, aus dem Kasten <code>~</code></label>\n",
+    "<li><label><input type=checkbox> slot ~, ~: put in wheel <b>~</b>, from the box",
+    "<li><label><input type=checkbox> Platz ~, ~: Walze <b>~</b> einsetzen, aus dem Kasten",
 );
+
+pub const BOX_RING: Text = (
+    ", with its ring at <b>~\u{a0}~</b>",
+    ", Ring auf <b>~\u{a0}~</b>",
+);
+
+pub const SEAT_END: &str = " <code>~</code></label>\n";
 
 pub const SEAT_FROM: Text = (
     "<li><label><input type=checkbox> slot ~, ~: put in wheel <b>~</b>, from slot ~ <code>~</code></label>\n",
@@ -543,8 +551,8 @@ pub const CONVERTER: &str = "Converter M-209";
 
 /// The titles of the steps.
 pub const RINGS_OUT: Text = (
-    "1 Rings, with the wheels out; then put back those that stay",
-    "1 Ringstellung, bei herausgenommenen Walzen; danach wieder einsetzen, was bleibt",
+    "1 Rings: wheels out, and back in",
+    "1 Ringstellung: Walzen heraus, danach wieder hinein",
 );
 
 pub const RINGS: Text = ("1 Rings", "1 Ringstellung");
