@@ -336,7 +336,7 @@ def main():
             out += article
             nav += '<li><a href="#day-%s">%s</a>, %s\n' % (day, say('Day %s', day), count(settings))
     if len(days) > 1:
-        out = '<nav aria-label="%s">\n<ul>\n%s</ul>\n</nav>\n' % (say('Days'), nav) + out
+        out = '<nav class=days aria-label="%s">\n<ul>\n%s</ul>\n</nav>\n' % (say('Days'), nav) + out
     title = say('%s, day %s', model, days[0]) if len(days) == 1 else say('%s, days %s to %s', model, days[0], days[-1])
     sys.stdout.write('<!DOCTYPE html>\n<html lang=%s>\n<meta charset=utf-8>\n<meta name=viewport content="width=device-width,initial-scale=1">\n<title>%s</title>\n<style>\n%s</style>\n<body>\n<main>\n%s</main>\n' % (
         LANGUAGE, title, open(STYLE).read(), out))

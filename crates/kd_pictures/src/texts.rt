@@ -101,12 +101,17 @@ main{padding:10px}
 .letters input{margin-right:.1em}
 }
 @media print{
-body{font-size:12pt;line-height:1.25}
+body{font-size:11pt;line-height:1.2}
 main{padding:0;max-width:none}
+a{text-decoration:none}
 nav{display:none}
+.days{display:block;page-break-after:always;break-after:page}
+.days::before{content:attr(aria-label);font-size:1.5em;font-weight:700}
+.days li{display:block;margin:.3em 0}
+.days li::before{content:\"\";display:inline-block;width:1.1em;height:1.1em;border:2px solid;margin-right:.6em;vertical-align:-.15em}
 h1{font-size:1.5em}
 figure{margin:.3em 0}
-h2{margin:.5em 0 .15em}
+h2{margin:.4em 0 .1em}
 p{margin:.1em 0}
 pre{line-height:1.25;margin:.15em 0}
 .fields span{margin-top:.7em}
@@ -118,12 +123,13 @@ label{padding-top:.08em;padding-bottom:.08em}
 .drum thead th{width:4.4%}
 .drum td{white-space:nowrap}
 .drum code{font-size:.6em}
-.wheels svg{width:110mm}
+.wheels svg{width:100mm}
+.beside figure{flex-basis:54%}
 article+article{page-break-before:always;break-before:page}
 h2{page-break-after:avoid;break-after:avoid}
-figure,tr,li,pre,.beside,.pins tbody,.drum{page-break-inside:avoid;break-inside:avoid}
+[id^=day]>section:last-child,figure,tr,li,pre,.beside,.pins tbody,.drum{page-break-inside:avoid;break-inside:avoid}
 }
-@page{margin:12mm}
+@page{margin:10mm 12mm}
 ";
 
 /// What the style sheets of key tables and of messages have beyond that of a day's page.
@@ -205,8 +211,8 @@ pub const TITLE_DAYS: Text = ("~, days ~ to ~", "~, Tage ~ bis ~");
 
 /// The list of the days in a file with several days: a day, and its number of settings.
 pub const NAV: Text = (
-    "<nav aria-label=\"Days\">\n<ul>\n",
-    "<nav aria-label=\"Tage\">\n<ul>\n",
+    "<nav class=days aria-label=\"Days\">\n<ul>\n",
+    "<nav class=days aria-label=\"Tage\">\n<ul>\n",
 );
 
 pub const NAV_DAY: Text = (
