@@ -1,8 +1,9 @@
 -- A form that `receive` reads is cut into its parts, and shown whole.
 use Rattle.std.proofs.Common.{All, ◌≡◌, ◌≢◌, ◌∙◌, ◌⊎◌, inl, inr, ℕ, ◌≤◌, ◌==◌, ◌&&◌, ◌||◌, nat_le, IsTrue}
-use Rattle.std.proofs.Common.{List, [], ◌∷◌, ◌++◌, length, map, take, refl, sym, ap, subst, arith, Bool, true, false}
+use Rattle.std.proofs.Common.{List, [], ◌∷◌, ◌++◌, drop, length, map, take, refl, sym, ap, subst, arith, Bool, true, false}
 use Rattle.std.proofs.Common.{Some, Ok, codes, get_or, if◌then◌else◌}
 use Rattle.std.proofs.lemmas.Bool.{Decides.nat_tests, cases_Bool, cases_eq, false≢true}
+use Rattle.std.proofs.lemmas.List.{take-append-drop}
 use Rattle.std.proofs.lemmas.List.Elements.{All-cons, All-head, All-nil, All-tail}
 use Rattle.kd_tables.specs.Text.{is_text_byte}
 use Rattle.kd_state.specs.LineWords.{IsWithout}
@@ -13,7 +14,8 @@ use Rattle.kd_form.specs.PartReading.{PartStart}
 use Rattle.kd_form.specs.Sending.{space_letter}
 use Rattle.kd_form.proofs.Headings.{BeginsHeading-bytes, at_cut, heading_size, no_cut}
 use Rattle.kd_lost.specs.declared.{part.DamagedPart.{DamagedPart}}
-use Rattle.kd_lost.specs.DamagedForm.{AreReadOf, cut_at_digits, ends_part, has_digit_line, shown_byte}
+use Rattle.kd_lost.specs.HeadingLine.{has_digit_line, is_heading_line}
+use Rattle.kd_lost.specs.DamagedForm.{AreReadOf, cut_at_heading_lines, ends_part, shown_byte}
 use Rattle.kd_lost.specs.DamagedForm.{letters_in, shown_letters}
 use Rattle.kd_lost.specs.Laws.{FormsReadAreShownWhole, FormsReadHaveTheirParts, IsReadWell}
 use Rattle.kd_lost.proofs.Forms.{an_end, no_end}
@@ -31,7 +33,7 @@ AreQuiet [] = Unit {0}
 AreQuiet (part ∷ parts) = IsQuiet part × AreQuiet parts
 
 no_digit : (byte : ℕ) (rest : Bool) → IsTrue (is_text_byte byte) → rest ≡ false
-    → (if byte == 10 then false else (nat_le 48 byte && nat_le byte 57) || rest) ≡ false
+    → (if byte == 10 then false else (nat_le 47 byte && nat_le byte 57) || rest) ≡ false
 no_digit byte rest allowed none = grind (arith, nat_tests, cases_Bool, allowed, none)
 
 no_digits : (body : List ℕ) → All (λ byte. IsTrue (is_text_byte byte)) body → has_digit_line body ≡ false
@@ -74,11 +76,11 @@ cut_or_not : (byte : ℕ) (bytes : List ℕ) → ((byte ≡ 10) × BeginsHeading
 cut_or_not byte bytes = grind (arith, cases_eq byte 10, cases_Bool (begins_heading bytes), false≢true)
 
 digit_behind : (byte : ℕ) (rest : Bool) → 32 ≤ byte → rest ≡ true
-    → (if byte == 10 then false else (nat_le 48 byte && nat_le byte 57) || rest) ≡ true
+    → (if byte == 10 then false else (nat_le 47 byte && nat_le byte 57) || rest) ≡ true
 digit_behind byte rest high some = grind (arith, nat_tests, cases_Bool, high, some)
 
 digit_here : (byte : ℕ) (rest : Bool) → 48 ≤ byte → byte ≤ 57
-    → (if byte == 10 then false else (nat_le 48 byte && nat_le byte 57) || rest) ≡ true
+    → (if byte == 10 then false else (nat_le 47 byte && nat_le byte 57) || rest) ≡ true
 digit_here byte rest low high = grind (arith, nat_tests, low, high)
 
 heading_digit : (bytes : List ℕ) → 6 ≤ length bytes → take 5 bytes ≡ codes "PART " → 48 ≤ get_or bytes 5 0
@@ -105,6 +107,18 @@ begins_with_digit bytes begun =
     let told = BeginsHeading-bytes bytes begun in
     heading_digit bytes (heading_size bytes begun) told.0 told.1 told.2
 
+-- a line that begins a heading for `receive` is taken for one
+heading_begun : (more : List ℕ) → is_heading_line (codes "PART " ++ more) ≡ has_digit_line (codes "PART " ++ more)
+heading_begun more = refl
+
+pub begins_line : (bytes : List ℕ) → BeginsHeading bytes → is_heading_line bytes ≡ true
+begins_line bytes begun =
+    let front = (BeginsHeading-bytes bytes begun).0 in
+    let is : bytes ≡ codes "PART " ++ drop 5 bytes =
+    sym (take-append-drop 5 bytes) ∙ ap (λ l. l ++ drop 5 bytes) front in
+    ap is_heading_line is ∙ heading_begun (drop 5 bytes) ∙ sym (ap has_digit_line is)
+    ∙ begins_with_digit bytes begun
+
 same_line_from : (byte : ℕ) (bytes : List ℕ)
     → ((byte ≡ 10) × BeginsHeading bytes) ⊎ ((byte ≡ 10) → ¬ (BeginsHeading bytes))
     → has_digit_line (cut_at_headings bytes).0 ≡ has_digit_line bytes
@@ -114,25 +128,36 @@ same_line_from byte bytes (inl (is, begun)) same =
     (ap (λ c. has_digit_line c.0) (at_cut bytes begun))
 same_line_from byte bytes (inr not) same =
     ap (λ c. has_digit_line c.0) (no_cut byte bytes not)
-    ∙ ap (λ h. if byte == 10 then false else (nat_le 48 byte && nat_le byte 57) || h) same
+    ∙ ap (λ h. if byte == 10 then false else (nat_le 47 byte && nat_le byte 57) || h) same
 
 -- the first line of the first part is the form's
 same_line : (bytes : List ℕ) → has_digit_line (cut_at_headings bytes).0 ≡ has_digit_line bytes
 same_line [] = refl
 same_line (byte ∷ bytes) = same_line_from byte bytes (cut_or_not byte bytes) (same_line bytes)
 
+no_line_from : (begun rest : Bool) → rest ≡ false → (begun && rest) ≡ false
+no_line_from true rest none = none
+no_line_from false rest none = refl
+
+-- a line without a digit isn't taken for a heading
+pub no_line : (bytes : List ℕ) → has_digit_line bytes ≡ false → is_heading_line bytes ≡ false
+no_line bytes none = no_line_from _ (has_digit_line bytes) none
+
+not_ended_from : (byte : ℕ) (begun : Bool) → (byte ≡ 10 → begun ≡ false) → (byte == 10 && begun) ≡ false
+not_ended_from byte begun off = grind (arith, nat_tests, cases_eq byte 10, off)
+
 not_ended : (byte : ℕ) (bytes : List ℕ) → (byte ≡ 10 → has_digit_line bytes ≡ false) → ends_part byte bytes ≡ false
-not_ended byte bytes off = grind (arith, nat_tests, cases_eq byte 10, off)
+not_ended byte bytes off = not_ended_from byte (is_heading_line bytes) (λ is. no_line bytes (off is))
 
 same_cut_from : (byte : ℕ) (bytes : List ℕ)
     → ((byte ≡ 10) × BeginsHeading bytes) ⊎ ((byte ≡ 10) → ¬ (BeginsHeading bytes)) → AreQuiet (parts_of (byte ∷ bytes))
-    → (AreQuiet (parts_of bytes) → cut_at_digits bytes ≡ cut_at_headings bytes)
-    → cut_at_digits (byte ∷ bytes) ≡ cut_at_headings (byte ∷ bytes)
+    → (AreQuiet (parts_of bytes) → cut_at_heading_lines bytes ≡ cut_at_headings bytes)
+    → cut_at_heading_lines (byte ∷ bytes) ≡ cut_at_headings (byte ∷ bytes)
 same_cut_from byte bytes (inl (is, begun)) quiet same =
     let cut = ap (λ b. cut_at_headings (b ∷ bytes)) is ∙ at_cut bytes begun in
-    let ends : ends_part 10 bytes ≡ true = begins_with_digit bytes begun in
+    let ends : ends_part 10 bytes ≡ true = begins_line bytes begun in
     let rest = subst (λ (c : List ℕ × List (List ℕ)). AreQuiet (c.0 ∷ c.1)) cut quiet in
-    ap (λ b. cut_at_digits (b ∷ bytes)) is ∙ an_end 10 bytes ends
+    ap (λ b. cut_at_heading_lines (b ∷ bytes)) is ∙ an_end 10 bytes ends
     ∙ ap (λ (c : List ℕ × List (List ℕ)). (10 ∷ [], c.0 ∷ c.1)) (same rest.1) ∙ sym cut
 same_cut_from byte bytes (inr not) quiet same =
     let cut = no_cut byte bytes not in
@@ -141,7 +166,7 @@ same_cut_from byte bytes (inr not) quiet same =
     no_end byte bytes (not_ended byte bytes off)
     ∙ ap (λ (c : List ℕ × List (List ℕ)). (byte ∷ c.0, c.1)) (same (rest.0.1, rest.1)) ∙ sym cut
 
-same_cut : (form : List ℕ) → AreQuiet (parts_of form) → cut_at_digits form ≡ cut_at_headings form
+same_cut : (form : List ℕ) → AreQuiet (parts_of form) → cut_at_heading_lines form ≡ cut_at_headings form
 same_cut [] quiet = refl
 same_cut (byte ∷ bytes) quiet = same_cut_from byte bytes (cut_or_not byte bytes) quiet (same_cut bytes)
 

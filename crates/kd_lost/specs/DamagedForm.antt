@@ -1,8 +1,8 @@
 -- How a damaged form is cut into parts, and what is read of all of them. The first part begins the form, and another each
--- later line with a digit: only headings have digits, and a damaged heading still has some of them.
+-- later line that is taken for a heading.
 -- Code: the form is cut part by part.
 -- Test: damaged_forms_are_read
-use Rattle.std.specs.Prelude.{◌≡◌, ℕ, ◌<◌, ◌==◌, ◌&&◌, ◌||◌, nat_le, Bool, false, if◌then◌else◌, List, [], ◌∷◌}
+use Rattle.std.specs.Prelude.{◌≡◌, ℕ, ◌<◌, ◌==◌, ◌&&◌, Bool, if◌then◌else◌, List, [], ◌∷◌}
 use Rattle.std.specs.Prelude.{length, IfOk, Option, None, Some, Result, Ok, Err}
 use Rattle.std.specs.List.{flat_map}
 use Rattle.kd_form.specs.FormText.{plaintext_byte}
@@ -13,30 +13,25 @@ use Rattle.kd_lost.specs.declared.form.DamagedFormFault.{DamagedFormFault}
 use Rattle.kd_lost.specs.declared.form.DamagedFormFault.TheVariants as faults
 use Rattle.kd_lost.specs.declared.part.DamagedPart.{DamagedPart}
 use Rattle.kd_lost.specs.DamagedPart.{AreNumbersRead, IsDamagedTextAnswer, IsPartShown, body_of, first_line}
+use Rattle.kd_lost.specs.HeadingLine.{is_heading_line}
 use Rattle.kd_lost.specs.Lost.{received_letters}
 
 -- ---- The parts of a form.
 
--- whether the first line of `bytes` has a digit
-abbrev pub has_digit_line : List ℕ → Bool
-has_digit_line [] = false
-has_digit_line (byte ∷ bytes) =
-    if byte == 10 then false else (nat_le 48 byte && nat_le byte 57) || has_digit_line bytes
-
--- whether a part ends with `byte`, before `bytes`: at each LF before a line with a digit
+-- whether a part ends with `byte`, before `bytes`: at each LF before a line that is taken for a heading
 abbrev pub ends_part : ℕ → List ℕ → Bool
-ends_part byte bytes = byte == 10 && has_digit_line bytes
+ends_part byte bytes = byte == 10 && is_heading_line bytes
 
 -- The first part of a damaged form, and the list of its other parts.
-abbrev pub cut_at_digits : List ℕ → List ℕ × List (List ℕ)
-cut_at_digits [] = ([], [])
-cut_at_digits (byte ∷ bytes) =
-    if ends_part byte bytes then (byte ∷ [], (cut_at_digits bytes).0 ∷ (cut_at_digits bytes).1)
-    else (byte ∷ (cut_at_digits bytes).0, (cut_at_digits bytes).1)
+abbrev pub cut_at_heading_lines : List ℕ → List ℕ × List (List ℕ)
+cut_at_heading_lines [] = ([], [])
+cut_at_heading_lines (byte ∷ bytes) =
+    if ends_part byte bytes then (byte ∷ [], (cut_at_heading_lines bytes).0 ∷ (cut_at_heading_lines bytes).1)
+    else (byte ∷ (cut_at_heading_lines bytes).0, (cut_at_heading_lines bytes).1)
 
 -- all parts of a damaged form
 abbrev pub damaged_parts_of : List ℕ → List (List ℕ)
-damaged_parts_of form = (cut_at_digits form).0 ∷ (cut_at_digits form).1
+damaged_parts_of form = (cut_at_heading_lines form).0 ∷ (cut_at_heading_lines form).1
 
 -- ---- What is read of them.
 

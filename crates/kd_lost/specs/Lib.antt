@@ -1,4 +1,5 @@
 pub mod Lost
+pub mod HeadingLine
 pub mod WholePart
 pub mod Copies
 pub mod DamagedText

@@ -1,8 +1,9 @@
 //! Reads a form in which letters were lost, part by part.
 ghost use Rattle.std.specs.Prelude.{◌≡◌, ◌<◌, ◌≤◌, length, IfOk, IfSome, MatchOption, MatchResult, []};
-ghost use Rattle.kd_lost.specs.DamagedForm.{AreReadOf, IsFormFault, cut_at_digits, damaged_parts_of};
-ghost use Rattle.kd_lost.specs.DamagedForm.{ends_part, has_digit_line};
+ghost use Rattle.kd_lost.specs.DamagedForm.{AreReadOf, IsFormFault, cut_at_heading_lines, damaged_parts_of};
+ghost use Rattle.kd_lost.specs.DamagedForm.{ends_part};
 
+use crate::heading_line::is_heading_line;
 use crate::part::{DamagedPart, read_damaged_part};
 use kd_state::SheetDay;
 use std::alloc::Global;
@@ -21,8 +22,8 @@ pub enum DamagedFormFault {
 
 /// Reads each part of `form` by itself, without the letters that were lost.
 ///
-/// The first part begins the form, and another each later line with a digit. For a form that `receive` reads, these are
-/// its parts.
+/// The first part begins the form, and another each later line that is taken for a heading: one that begins like `PART`
+/// and has a digit. For a form that `receive` reads, these are its parts.
 pub fn read_damaged_form(
     alloc: Global,
     day: &SheetDay,
@@ -50,10 +51,10 @@ pub fn read_damaged_form(
 
 /// The first part of `form`, and the bytes after it; `None` if there is no other part.
 fn split_part(form: &[u8]) -> (&[u8], Option<&[u8]>)
-    ensures part { result.0.now ≡ (cut_at_digits form.now).0 }
+    ensures part { result.0.now ≡ (cut_at_heading_lines form.now).0 }
     ensures others { MatchOption result.1
-        ((cut_at_digits form.now).1 ≡ [])
-        (λ rest. (cut_at_digits form.now).1 ≡ damaged_parts_of rest.now) }
+        ((cut_at_heading_lines form.now).1 ≡ [])
+        (λ rest. (cut_at_heading_lines form.now).1 ≡ damaged_parts_of rest.now) }
     ensures shorter { IfSome result.1 (λ rest. length rest.now < length form.now) }
 {
     for (index, byte) in form.iter().enumerate() {
@@ -70,20 +71,5 @@ fn split_part(form: &[u8]) -> (&[u8], Option<&[u8]>)
 fn ends_part(byte: u8, rest: &[u8]) -> bool
     ensures { result ≡ ends_part byte rest.now }
 {
-    byte == b'\n' && has_digit_line(rest)
-}
-
-/// Whether the first line of `bytes` has a digit.
-fn has_digit_line(bytes: &[u8]) -> bool
-    ensures { result ≡ has_digit_line bytes.now }
-{
-    for byte in bytes {
-        if *byte == b'\n' {
-            return false;
-        }
-        if byte.is_ascii_digit() {
-            return true;
-        }
-    }
-    false
+    byte == b'\n' && is_heading_line(rest)
 }

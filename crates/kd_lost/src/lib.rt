@@ -9,6 +9,7 @@ mod copies;
 mod damage;
 mod damaged_text;
 mod form;
+mod heading_line;
 pub mod laws;
 mod part;
 mod received;

@@ -19,7 +19,7 @@ pub(crate) fn is_lost(byte: u8) -> bool
 }
 
 /// `byte`, with a capital letter in place of a small one.
-fn capital_of(byte: u8) -> u8
+pub(crate) fn capital_of(byte: u8) -> u8
     ensures { result ≡ capital_of byte }
 {
     if byte >= b'a' && byte <= b'z' {
