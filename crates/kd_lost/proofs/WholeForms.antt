@@ -9,15 +9,22 @@ use Rattle.kd_tables.specs.Text.{is_text_byte}
 use Rattle.kd_state.specs.LineWords.{IsWithout}
 use Rattle.kd_state.specs.SheetDay.{Day}
 use Rattle.kd_form.specs.FormParts.{BeginsHeading, begins_heading, cut_at_headings, parts_of}
-use Rattle.kd_form.specs.FormText.{IsAnswerAt, ReadsPartsTo, first_part_start, next_part_start, plaintext_bytes}
-use Rattle.kd_form.specs.PartReading.{PartStart}
+use Rattle.kd_form.specs.declared.heading.Heading.{Heading}
+use Rattle.kd_form.specs.FormText.{IsAnswerAt, IsTextOf, ReadsPartsTo, first_part_start, next_part_start, plaintext_bytes}
+use Rattle.kd_form.specs.PartReading.{IsPartAnswer, PartStart, ReadPart}
+use Rattle.kd_state.proofs.OneAnswer.{ThenNext-Ok}
 use Rattle.kd_form.specs.Sending.{space_letter}
-use Rattle.kd_form.proofs.Headings.{BeginsHeading-bytes, at_cut, heading_size, no_cut}
+use Rattle.kd_form.proofs.Headings.{BeginsHeading-bytes, at_cut, begins_more, begins_there, first_there, heading_size}
+use Rattle.kd_form.proofs.Headings.{no_cut}
 use Rattle.kd_lost.specs.declared.{part.DamagedPart.{DamagedPart}}
 use Rattle.kd_lost.specs.HeadingLine.{has_digit_line, is_heading_line}
-use Rattle.kd_lost.specs.DamagedForm.{AreReadOf, cut_at_heading_lines, ends_part, shown_byte}
+use Rattle.kd_lost.specs.DamagedForm.{AreReadOf, AsItStands, IsMeant, IsReadOf, Respaced, cut_at_heading_lines}
+use Rattle.kd_lost.specs.DamagedForm.{ends_part, parts_cut, shown_byte}
+use Rattle.kd_lost.specs.DamagedPart.{IsDamagedHeading, IsDamagedTextAnswer, first_line}
+use Rattle.kd_lost.specs.Tidy.{from_heading, without_mark}
+use Rattle.kd_lost.proofs.Parts.{lines_there}
 use Rattle.kd_lost.specs.DamagedForm.{letters_in, shown_letters}
-use Rattle.kd_lost.specs.Laws.{FormsReadAreShownWhole, FormsReadHaveTheirParts, IsReadWell}
+use Rattle.kd_lost.specs.Laws.{FormsReadAreShownWhole, FormsReadAreTidy, FormsReadHaveTheirParts, IsReadWell}
 use Rattle.kd_lost.proofs.Forms.{an_end, no_end}
 use Rattle.kd_lost.proofs.WholeParts.{shown_whole, whole_part}
 
@@ -111,11 +118,13 @@ begins_with_digit bytes begun =
 heading_begun : (more : List ℕ) → is_heading_line (codes "PART " ++ more) ≡ has_digit_line (codes "PART " ++ more)
 heading_begun more = refl
 
-pub begins_line : (bytes : List ℕ) → BeginsHeading bytes → is_heading_line bytes ≡ true
+begun_text : (bytes : List ℕ) → BeginsHeading bytes → bytes ≡ codes "PART " ++ drop 5 bytes
+begun_text bytes begun =
+    sym (take-append-drop 5 bytes) ∙ ap (λ l. l ++ drop 5 bytes) (BeginsHeading-bytes bytes begun).0
+
+begins_line : (bytes : List ℕ) → BeginsHeading bytes → is_heading_line bytes ≡ true
 begins_line bytes begun =
-    let front = (BeginsHeading-bytes bytes begun).0 in
-    let is : bytes ≡ codes "PART " ++ drop 5 bytes =
-    sym (take-append-drop 5 bytes) ∙ ap (λ l. l ++ drop 5 bytes) front in
+    let is = begun_text bytes begun in
     ap is_heading_line is ∙ heading_begun (drop 5 bytes) ∙ sym (ap has_digit_line is)
     ∙ begins_with_digit bytes begun
 
@@ -170,9 +179,44 @@ same_cut : (form : List ℕ) → AreQuiet (parts_of form) → cut_at_heading_lin
 same_cut [] quiet = refl
 same_cut (byte ∷ bytes) quiet = same_cut_from byte bytes (cut_or_not byte bytes) quiet (same_cut bytes)
 
+-- -------- nothing before the first heading
+
+begun_part : (s : Day) (p : PartStart) (part : List ℕ) (read : ReadPart) → IsPartAnswer s p part (Ok read)
+    → BeginsHeading part
+begun_part s p part read is =
+    let one = ThenNext-Ok (ThenNext-Ok is).says in
+    begins_there s part one.found.heading one.found.body one.says
+
+begun_first : (s : Day) (p : PartStart) (part : List ℕ) (parts : List (List ℕ)) (letters : List ℕ)
+    → ReadsPartsTo s (IsAnswerAt s (Ok tt)) p (part ∷ parts) letters → BeginsHeading part
+begun_first s p part parts letters (inl (fault, none)) = let off = fault.2 in absurd (cc)
+begun_first s p part parts letters (inr (read, more, is, rest, joined)) = begun_part s p part read is
+
+begun_form : (s : Day) (form text : List ℕ) → IsTextOf s form text → BeginsHeading form
+begun_form s form text (parts, (letters, read, is), joined) =
+    let (rest, there) = first_there form in
+    subst BeginsHeading (sym there)
+    (begins_more (cut_at_headings form).0 rest
+    (begun_first s first_part_start (cut_at_headings form).0 (cut_at_headings form).1 letters read))
+
+no_mark : (more : List ℕ) → without_mark (codes "PART " ++ more) ≡ codes "PART " ++ more
+no_mark more = refl
+
+from_first : (bytes : List ℕ) → is_heading_line bytes ≡ true → from_heading bytes ≡ bytes
+from_first bytes begins = rw begins refl
+
+pub tidy_forms : FormsReadAreTidy
+tidy_forms s form text is =
+    let begun = begun_form s form text is in
+    let there = begun_text form begun in
+    ap from_heading (ap without_mark there ∙ no_mark (drop 5 form) ∙ sym there)
+    ∙ from_first form (begins_line form begun)
+
 pub same_parts : FormsReadHaveTheirParts
-same_parts s form text (parts, (letters, read, is), joined) =
-    ap (λ (c : List ℕ × List (List ℕ)). c.0 ∷ c.1)
+same_parts s form text is =
+    let (parts, (letters, read, made), joined) = is in
+    ap parts_cut (tidy_forms s form text is)
+    ∙ ap (λ (c : List ℕ × List (List ℕ)). c.0 ∷ c.1)
     (same_cut form (quiet_parts s first_part_start (parts_of form) letters read))
 
 -- -------- the texts
@@ -185,6 +229,20 @@ known_joined : (one other : List ℕ) → map Some (one ++ other) ≡ map Some o
 known_joined [] other = refl
 known_joined (letter ∷ one) other = ap (λ l. Some letter ∷ l) (known_joined one other)
 
+-- a part that `receive` reads is read as it stands
+as_it_stands : (s : Day) (p : PartStart) (part : List ℕ) (read : ReadPart) (one : DamagedPart)
+    → IsPartAnswer s p part (Ok read) → (is : IsReadOf s part one) → is.meant ≡ part
+as_it_stands s p part read one is of =
+    let w = whole_part s p part read is in
+    let first : first_line part ≡ w.line =
+    ap first_line w.first.joined ∙ (lines_there w.line w.body w.first.without).0 in
+    meant_whole s part of.meant w.h (subst (λ l. IsDamagedHeading s l w.h) (sym first) w.headed) of.is_meant
+  where
+    meant_whole : (s : Day) (part meant : List ℕ) (h : Heading) → IsDamagedHeading s (first_line part) h
+        → IsMeant s part meant → meant ≡ part
+    meant_whole s part meant h headed (AsItStands other there is) = is
+    meant_whole s part meant h headed (Respaced none is) = absurd (none h headed)
+
 module _ (s : Day) where
   parts_shown : (p : PartStart) (parts : List (List ℕ)) (letters : List ℕ) (reads : List DamagedPart)
       → ReadsPartsTo s (IsAnswerAt s (Ok tt)) p parts letters → AreReadOf s parts reads
@@ -194,7 +252,8 @@ module _ (s : Day) where
   parts_shown p (part ∷ parts) letters [] read are = absurd are
   parts_shown p (part ∷ parts) letters (one ∷ reads) (inl (fault, none)) are = let off = fault.2 in absurd (cc)
   parts_shown p (part ∷ parts) letters (one ∷ reads) (inr (read, more, is, rest, joined)) are =
-      let (shown, told, whole) = shown_whole s p part read one.text is are.0.text in
+      let text = subst (λ l. IsDamagedTextAnswer s l one.text) (as_it_stands s p part read one is are.0) are.0.text in
+      let (shown, told, whole) = shown_whole s p part read one.text is text in
       let others = parts_shown (next_part_start p read.parts part) parts more reads rest are.1 in (
         All-cons IsReadWell one reads (shown, told, whole.group, whole.copies) others.0,
         ap (λ t. letters_in t ++ shown_letters reads) told ∙ ap (λ l. l ++ shown_letters reads) whole.letters

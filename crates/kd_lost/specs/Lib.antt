@@ -4,5 +4,6 @@ pub mod WholePart
 pub mod Copies
 pub mod DamagedText
 pub mod DamagedPart
+pub mod Tidy
 pub mod DamagedForm
 pub mod Laws

@@ -3,7 +3,7 @@ ghost use Rattle.std.specs.Prelude.{◌≡◌, ◌≤◌, length, nat_le};
 ghost use Rattle.kd_lost.specs.HeadingLine.{after_blanks, begins_with_part, begins_with_three, fitting_signs};
 ghost use Rattle.kd_lost.specs.HeadingLine.{has_digit_line, has_three, is_blank, is_heading_line, is_letter, right_signs};
 
-use crate::received::{capital_of, is_lost};
+use crate::received::{is_lost, meant_byte};
 
 /// Whether the first line of `bytes` is taken for a heading.
 ///
@@ -23,7 +23,7 @@ pub(crate) fn is_blank(byte: u8) -> bool
 }
 
 /// `bytes` without the blanks at their beginning.
-fn after_blanks(bytes: &[u8]) -> &[u8]
+pub(crate) fn after_blanks(bytes: &[u8]) -> &[u8]
     ensures { result.now ≡ after_blanks bytes.now }
 {
     let mut left = bytes;
@@ -83,7 +83,7 @@ fn right_signs(word: &[u8], bytes: &[u8]) -> usize
     if let [letter, word @ ..] = word
         && let [byte, bytes @ ..] = bytes
     {
-        let right = usize::from(capital_of(*byte) == *letter);
+        let right = usize::from(meant_byte(*byte) == *letter);
         return right + right_signs(word, bytes);
     }
     0
@@ -97,7 +97,7 @@ fn fitting_signs(word: &[u8], bytes: &[u8]) -> usize
     if let [letter, word @ ..] = word
         && let [byte, bytes @ ..] = bytes
     {
-        let fitting = usize::from(capital_of(*byte) == *letter || is_lost(*byte));
+        let fitting = usize::from(meant_byte(*byte) == *letter || is_lost(*byte));
         return fitting + fitting_signs(word, bytes);
     }
     0
@@ -108,7 +108,7 @@ fn is_letter(byte: Option<u8>) -> bool
     ensures { result ≡ is_letter byte }
 {
     match byte {
-        Some(byte) => capital_of(byte).is_ascii_uppercase(),
+        Some(byte) => meant_byte(byte).is_ascii_uppercase(),
         None => false,
     }
 }
