@@ -3,7 +3,7 @@
 -- Code: the form is cut part by part.
 -- Test: damaged_forms_are_read
 use Rattle.std.specs.Prelude.{◌≡◌, ℕ, ◌<◌, ◌==◌, ◌&&◌, Bool, if◌then◌else◌, List, [], ◌∷◌}
-use Rattle.std.specs.Prelude.{length, IfOk, Option, None, Some, Result, Ok, Err}
+use Rattle.std.specs.Prelude.{◌≢◌, ◌↔◌, IsTrue, length, IfOk, Option, None, Some, Result, Ok, Err}
 use Rattle.std.specs.List.{flat_map}
 use Rattle.kd_form.specs.FormText.{plaintext_byte}
 use Rattle.kd_form.specs.declared.heading.Heading.{Heading}
@@ -57,6 +57,7 @@ pub record IsReadOf (s : Day) (part : List ℕ) (read : DamagedPart) : Type 0 wh
   pub came : read.came ≡ length (received_letters (body_of meant))
   pub text : IsDamagedTextAnswer s meant read.text
   pub shown : IfOk read.text (IsPartShown s meant)
+  pub respaced : IsTrue read.respaced ↔ (meant ≢ part)
 
 -- Each part is read by itself.
 abbrev pub AreReadOf : Day → List (List ℕ) → List DamagedPart → Type 0

@@ -1,5 +1,5 @@
 //! Reads a form in which letters were lost, part by part.
-ghost use Rattle.std.specs.Prelude.{◌≡◌, ◌<◌, ◌≤◌, length, IfOk, IfSome, MatchOption, MatchResult, []};
+ghost use Rattle.std.specs.Prelude.{◌≡◌, ◌≢◌, ◌↔◌, IsTrue, ◌<◌, ◌≤◌, length, IfOk, IfSome, MatchOption, MatchResult, []};
 ghost use Rattle.kd_lost.specs.DamagedForm.{AreReadOf, IsFormFault, IsReadOf, cut_at_heading_lines};
 ghost use Rattle.kd_lost.specs.DamagedForm.{damaged_parts_of, parts_cut};
 ghost use Rattle.kd_lost.specs.DamagedForm.{ends_part};
@@ -71,7 +71,17 @@ fn read_as_meant(
     let Ok(meant) = respaced(alloc, part) else {
         return Err(DamagedFormFault::NoMemory);
     };
-    Ok(read_damaged_part(day, meant.as_slice()))
+    let meant = meant.as_slice();
+    let mut read = read_damaged_part(day, meant);
+    read.respaced = differs(meant, part);
+    Ok(read)
+}
+
+/// Whether `bytes` differ from `others`.
+fn differs(bytes: &[u8], others: &[u8]) -> bool
+    ensures { IsTrue result ↔ (bytes.now ≢ others.now) }
+{
+    bytes != others
 }
 
 /// The first part of `form`, and the bytes after it; `None` if there is no other part.
