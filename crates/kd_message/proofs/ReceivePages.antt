@@ -96,7 +96,7 @@ are_workable s [] (read ∷ reads) are = absurd are
 are_workable s (part ∷ parts) [] are = absurd are
 are_workable s (part ∷ parts) (read ∷ reads) are =
     All-cons (λ part. IfOk part.text (λ shown. AreShowable s shown.keys)) read reads
-    (text_showable s part read.text are.0.text) (are_workable s parts reads are.1)
+    (text_showable s are.0.meant read.text are.0.text) (are_workable s parts reads are.1)
 
 -- ---- The page.
 
