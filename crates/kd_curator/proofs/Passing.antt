@@ -282,7 +282,7 @@ failed_on left done answer before between after ends failed same passed =
 
 whole_fault : (fault : PageFault) → is_after_all fault ≡ true → not (comes_after_writing fault) ≡ true → ⊥
 whole_fault faults.FaultyFile whole early = cc
-whole_fault faults.LettersMissing whole early = cc
+whole_fault faults.NotWhole whole early = cc
 whole_fault _ whole early = cc
 
 -- an answer that says all that was written isn't one from before writing

@@ -13,12 +13,12 @@ use Rattle.kd_message.specs.declared.receiving.ReceivePageFault.{ReceivePageFaul
 use Rattle.kd_message.specs.declared.receiving.ReceivePageFault.TheVariants.{NoMemory, TooManyParts, Device}
 use Rattle.kd_curator.specs.Refusals.{has_written, is_device, refused_receive, refused_whole}
 use Rattle.kd_curator.specs.RunReceive.{Cut, NotRead, Page, WritesReceivePage}
-use Rattle.kd_curator.specs.declared.fault.PageFault.TheVariants.{LettersMissing}
+use Rattle.kd_curator.specs.declared.fault.PageFault.TheVariants.{NotWhole}
 use Rattle.kd_curator.specs.declared.fault.Refused.{Refused}
 
 abbrev pub receive_answer : Result Bool ReceivePageFault → Result (Unit {0}) Refused
 receive_answer (Ok true) = Ok tt
-receive_answer (Ok false) = Err (refused_whole LettersMissing)
+receive_answer (Ok false) = Err (refused_whole NotWhole)
 receive_answer (Err fault) = Err (refused_receive fault)
 
 pub page_told : (l : Language) (month : List (Option Day)) (m : Parts) (number : ℕ) (form : List ℕ) (sink : Port)

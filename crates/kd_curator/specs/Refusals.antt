@@ -31,7 +31,7 @@ page_fault_text (faults.Message fault) = form_fault_text fault
 page_fault_text faults.FaultyTable = codes "because the table has faults"
 page_fault_text faults.FaultyFile = codes "because a file has faults"
 page_fault_text faults.TooManyParts = codes "because the form has more than 255 parts"
-page_fault_text faults.LettersMissing = codes "in part: letters or parts of the text are missing"
+page_fault_text faults.NotWhole = codes "in part: the form isn't read as one whole message of the day"
 page_fault_text faults.Device = refusal_name refusals.Device
 
 -- a refusal that is of no day, or of the only one
@@ -58,13 +58,13 @@ is_device_fault _ = false
 abbrev pub comes_after_writing : PageFault → Bool
 comes_after_writing faults.Device = true
 comes_after_writing faults.FaultyFile = true
-comes_after_writing faults.LettersMissing = true
+comes_after_writing faults.NotWhole = true
 comes_after_writing _ = false
 
 -- whether a refusal for this fault comes after all was written: a report on files, or the page of a form
 abbrev pub is_after_all : PageFault → Bool
 is_after_all faults.FaultyFile = true
-is_after_all faults.LettersMissing = true
+is_after_all faults.NotWhole = true
 is_after_all _ = false
 
 abbrev pub refused_device : Refused

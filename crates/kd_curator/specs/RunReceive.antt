@@ -15,7 +15,7 @@ use Rattle.kd_pictures.specs.declared.language.Language.{Language}
 use Rattle.kd_message.specs.ReceivePage.{page_fault, receive_text}
 use Rattle.kd_message.specs.ShownParts.{IsWhole}
 use Rattle.kd_curator.specs.Refusals.{refused_device, refused_receive, refused_whole}
-use Rattle.kd_curator.specs.declared.fault.PageFault.TheVariants.{LettersMissing, Message, NoSuchDay}
+use Rattle.kd_curator.specs.declared.fault.PageFault.TheVariants.{NotWhole, Message, NoSuchDay}
 use Rattle.kd_curator.specs.declared.fault.Refused.{Refused}
 
 -- The machine is ready and on the day's key; `parts` is what is read of the form.
@@ -24,11 +24,10 @@ pub record IsFormRead (m : Parts) (s : Day) (form : List ℕ) (parts : List Dama
   pub read : AreReadOf s (damaged_parts_of form) parts
   pub few : length (damaged_parts_of form) ≤ 255
 
--- The answer once the page of these parts is written: success, if no letter of a part that is shown, and no part, is
--- missing.
+-- The answer once the page of these parts is written: success exactly if they are one whole message of the day.
 abbrev pub IsReceivedAs : List DamagedPart → Result (Unit {0}) Refused → Type 0
 IsReceivedAs parts answer =
-    (IsWhole parts × (answer ≡ Ok tt)) ⊎ (¬ (IsWhole parts) × (answer ≡ Err (refused_whole LettersMissing)))
+    (IsWhole parts × (answer ≡ Ok tt)) ⊎ (¬ (IsWhole parts) × (answer ≡ Err (refused_whole NotWhole)))
 
 -- `NoDay`: the sheet has no such day. `OffKey`: the machine isn't ready, or not on the day's key. `NotRead`: the form has
 -- too many parts, or memory ran out. `Page`: the page of the form's parts was written. `Cut`: only a prefix of it was,

@@ -28,8 +28,9 @@ pub enum PageFault {
     FaultyFile,
     /// A form would have more than 255 parts.
     TooManyParts,
-    /// Letters or parts of a form are missing. The page is written all the same.
-    LettersMissing,
+    /// A form isn't read as one whole message of the day: letters or parts are missing, or parts aren't of one message or
+    /// of the day. The page is written all the same.
+    NotWhole,
     /// A write failed.
     Device,
 }
@@ -49,8 +50,8 @@ impl PageFault {
             PageFault::FaultyTable => worded_text("because the table has faults"),
             PageFault::FaultyFile => worded_text("because a file has faults"),
             PageFault::TooManyParts => worded_text("because the form has more than 255 parts"),
-            PageFault::LettersMissing => {
-                worded_text("in part: letters or parts of the text are missing")
+            PageFault::NotWhole => {
+                worded_text("in part: the form isn't read as one whole message of the day")
             }
             PageFault::Device => Refusal::Device.text(),
         }

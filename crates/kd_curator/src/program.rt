@@ -473,10 +473,7 @@ fn is_whole(done: &Result<(), Stop>) -> bool
     match done {
         Ok(()) => true,
         Err(Stop::Refused(refused)) => {
-            matches!(
-                refused.fault,
-                PageFault::FaultyFile | PageFault::LettersMissing
-            )
+            matches!(refused.fault, PageFault::FaultyFile | PageFault::NotWhole)
         }
         Err(_) => false,
     }

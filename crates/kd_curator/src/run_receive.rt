@@ -21,7 +21,7 @@ use std::alloc::Global;
 ///
 /// Faults are tested in this order: faults of the machine file, faults of the sheet, `NoSuchDay`, `NotReady`, `NotOnKey`,
 /// and `TooManyParts`. For all of these faults, nothing is written. For `Device`, only a prefix of the page is written. For
-/// `LettersMissing`, the page is written.
+/// `NotWhole`, the page is written.
 pub fn run_receive<W: Sink>(
     alloc: Global,
     language: Language,
@@ -64,7 +64,7 @@ fn write_form<W: Sink>(
     }
     match write_receive_page(alloc, language, day, form, sink) {
         Ok(true) => Ok(()),
-        Ok(false) => Err(Refused::from(PageFault::LettersMissing)),
+        Ok(false) => Err(Refused::from(PageFault::NotWhole)),
         Err(fault) => Err(Refused::from(fault)),
     }
 }

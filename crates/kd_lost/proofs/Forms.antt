@@ -1,25 +1,27 @@
 -- How a damaged form is cut into parts, and read part by part.
-use Rattle.std.proofs.Common.{◌≡◌, ◌∙◌, ℕ, suc, ◌+◌, ◌<◌, ◌≤◌, ◌==◌, ◌&&◌, ◌||◌, nat_le, List, [], ◌∷◌, ◌++◌, length}
-use Rattle.std.proofs.Common.{drop, take, refl, sym, ap, arith, Bool, true, false, get_or, append_assoc, if◌then◌else◌}
-use Rattle.std.proofs.Common.{Option, Some, None, MatchOption, length-append}
+use Rattle.std.proofs.Common.{◌≡◌, ◌∙◌, ℕ, suc, ◌+◌, ◌<◌, ◌≤◌, List, [], ◌∷◌, ◌++◌, length}
+use Rattle.std.proofs.Common.{drop, take, refl, sym, ap, arith, true, false, get_or, append_assoc}
+use Rattle.std.proofs.Common.{Option, Some, None, MatchOption, is_some, length-append}
 use Rattle.std.proofs.lemmas.List.{append-nil, drop_all, drop_more, take_all, take_more}
 use Rattle.kd_state.specs.SheetDay.{Day}
-use Rattle.kd_lost.specs.declared.part.DamagedPart.{DamagedPart}
-use Rattle.kd_lost.specs.DamagedForm.{AreReadOf, IsReadOf, cut_at_digits, damaged_parts_of, ends_part, has_digit_line}
+use Rattle.kd_form.specs.declared.heading.Heading.{Heading}
+use Rattle.kd_lost.specs.declared.part.{DamagedPart.{DamagedPart}, PartNumbers.{PartNumbers}}
+use Rattle.kd_lost.specs.DamagedPart.{AreNumbersRead, IsDamagedHeading}
+use Rattle.kd_lost.specs.DamagedForm.{AreReadOf, IsReadOf, cut_at_heading_lines, parts_cut, ends_part}
 
 -- -------- cutting
 
 -- `form` is cut as its bytes from place `i` on, behind the bytes before
 pub record IsCutTo (form : List ℕ) (i : ℕ) : Type 0 where
-  pub part : (cut_at_digits form).0 ≡ take i form ++ (cut_at_digits (drop i form)).0
-  pub others : (cut_at_digits form).1 ≡ (cut_at_digits (drop i form)).1
+  pub part : (cut_at_heading_lines form).0 ≡ take i form ++ (cut_at_heading_lines (drop i form)).0
+  pub others : (cut_at_heading_lines form).1 ≡ (cut_at_heading_lines (drop i form)).1
 
 pub no_end : (byte : ℕ) (bytes : List ℕ) → ends_part byte bytes ≡ false
-    → cut_at_digits (byte ∷ bytes) ≡ (byte ∷ (cut_at_digits bytes).0, (cut_at_digits bytes).1)
+    → cut_at_heading_lines (byte ∷ bytes) ≡ (byte ∷ (cut_at_heading_lines bytes).0, (cut_at_heading_lines bytes).1)
 no_end byte bytes off = rw off refl
 
 pub an_end : (byte : ℕ) (bytes : List ℕ) → ends_part byte bytes ≡ true
-    → cut_at_digits (byte ∷ bytes) ≡ (byte ∷ [], damaged_parts_of bytes)
+    → cut_at_heading_lines (byte ∷ bytes) ≡ (byte ∷ [], parts_cut bytes)
 an_end byte bytes ends = rw ends refl
 
 pub cut_begun : (form : List ℕ) → IsCutTo form 0
@@ -29,45 +31,34 @@ pub cut_further : (form : List ℕ) (i x : ℕ) → i < length form → get_or f
     → ends_part x (drop (i + 1) form) ≡ false → IsCutTo form i → IsCutTo form (i + 1)
 cut_further form i x inside is off before =
     let rest : drop i form ≡ x ∷ drop (i + 1) form = drop_more form i x inside ∙ ap (λ y. y ∷ drop (i + 1) form) is in
-    let cut = ap cut_at_digits rest ∙ no_end x (drop (i + 1) form) off in
+    let cut = ap cut_at_heading_lines rest ∙ no_end x (drop (i + 1) form) off in
     let front : take (i + 1) form ≡ take i form ++ x ∷ [] =
     take_more form i x inside ∙ ap (λ y. take i form ++ y ∷ []) is in
     record {
       part =
           before.part ∙ ap (λ c. take i form ++ c.0) cut
-          ∙ sym (append_assoc (take i form) (x ∷ []) (cut_at_digits (drop (i + 1) form)).0)
-          ∙ ap (λ l. l ++ (cut_at_digits (drop (i + 1) form)).0) (sym front);
+          ∙ sym (append_assoc (take i form) (x ∷ []) (cut_at_heading_lines (drop (i + 1) form)).0)
+          ∙ ap (λ l. l ++ (cut_at_heading_lines (drop (i + 1) form)).0) (sym front);
       others = before.others ∙ ap (λ c. c.1) cut;
     }
 
 pub cut_there : (form : List ℕ) (i x : ℕ) → i < length form → get_or form i x ≡ x
     → ends_part x (drop (i + 1) form) ≡ true → IsCutTo form i
-    → ((cut_at_digits form).0 ≡ take (i + 1) form) × ((cut_at_digits form).1 ≡ damaged_parts_of (drop (i + 1) form))
+    → ((cut_at_heading_lines form).0 ≡ take (i + 1) form) × ((cut_at_heading_lines form).1 ≡ parts_cut (drop (i + 1) form))
 cut_there form i x inside is ends before =
     let rest : drop i form ≡ x ∷ drop (i + 1) form = drop_more form i x inside ∙ ap (λ y. y ∷ drop (i + 1) form) is in
-    let cut = ap cut_at_digits rest ∙ an_end x (drop (i + 1) form) ends in
+    let cut = ap cut_at_heading_lines rest ∙ an_end x (drop (i + 1) form) ends in
     let front : take (i + 1) form ≡ take i form ++ x ∷ [] =
     take_more form i x inside ∙ ap (λ y. take i form ++ y ∷ []) is in
     (before.part ∙ ap (λ c. take i form ++ c.0) cut ∙ sym front, before.others ∙ ap (λ c. c.1) cut)
 
 pub cut_nowhere : (form : List ℕ) (i : ℕ) → length form ≤ i → IsCutTo form i
-    → ((cut_at_digits form).0 ≡ form) × ((cut_at_digits form).1 ≡ [])
+    → ((cut_at_heading_lines form).0 ≡ form) × ((cut_at_heading_lines form).1 ≡ [])
 cut_nowhere form i past before =
     let none = drop_all i form past in (
-      before.part ∙ ap (λ r. take i form ++ (cut_at_digits r).0) none ∙ append-nil (take i form) ∙ take_all i form past,
-      before.others ∙ ap (λ r. (cut_at_digits r).1) none,
+      before.part ∙ ap (λ r. take i form ++ (cut_at_heading_lines r).0) none ∙ append-nil (take i form) ∙ take_all i form past,
+      before.others ∙ ap (λ r. (cut_at_heading_lines r).1) none,
     )
-
--- -------- lines with digits
-
-abbrev pub is_digit : ℕ → Bool
-is_digit byte = nat_le 48 byte && nat_le byte 57
-
-pub digits_further : (bytes : List ℕ) (i x : ℕ) → i < length bytes → get_or bytes i x ≡ x
-    → has_digit_line (drop i bytes)
-    ≡ (if x == 10 then false else is_digit x || has_digit_line (drop (i + 1) bytes))
-digits_further bytes i x inside is =
-    ap has_digit_line (drop_more bytes i x inside ∙ ap (λ y. y ∷ drop (i + 1) bytes) is)
 
 -- -------- reading the parts
 
@@ -85,16 +76,27 @@ as_many_read s [] (other ∷ reads) are = absurd are
 as_many_read s (one ∷ parts) [] are = absurd are
 as_many_read s (one ∷ parts) (other ∷ reads) are = ap suc (as_many_read s parts reads are.1)
 
+-- if the numbers of a part are read, its first line is a heading; otherwise it isn't
+pub heading_read : (s : Day) (line : List ℕ) (numbers : Option PartNumbers) → AreNumbersRead s line numbers
+    → is_some numbers ≡ true → (h : Heading) × IsDamagedHeading s line h
+heading_read s line None told some = absurd (cc)
+heading_read s line (Some given) told some = (told.0, told.1)
+
+pub no_heading_read : (s : Day) (line : List ℕ) (numbers : Option PartNumbers) → AreNumbersRead s line numbers
+    → is_some numbers ≡ false → (h : Heading) → ¬ (IsDamagedHeading s line h)
+no_heading_read s line None told none = told
+no_heading_read s line (Some given) told none = absurd (cc)
+
 -- what is left after one more part
 pub left_on : {B : Type 0} (now : B → List ℕ) (next : Option B) (all done : List (List ℕ)) (rest part : List ℕ)
-    → all ≡ done ++ damaged_parts_of rest → part ≡ (cut_at_digits rest).0
-    → MatchOption next ((cut_at_digits rest).1 ≡ []) (λ more. (cut_at_digits rest).1 ≡ damaged_parts_of (now more))
-    → MatchOption next (all ≡ done ++ part ∷ []) (λ more. all ≡ (done ++ part ∷ []) ++ damaged_parts_of (now more))
+    → all ≡ done ++ parts_cut rest → part ≡ (cut_at_heading_lines rest).0
+    → MatchOption next ((cut_at_heading_lines rest).1 ≡ []) (λ more. (cut_at_heading_lines rest).1 ≡ parts_cut (now more))
+    → MatchOption next (all ≡ done ++ part ∷ []) (λ more. all ≡ (done ++ part ∷ []) ++ parts_cut (now more))
 left_on now None all done rest part is first others = is ∙ λ i. done ++ sym first i ∷ others i
 left_on now (Some more) all done rest part is first others =
-    is ∙ (λ i. done ++ sym first i ∷ others i) ∙ sym (append_assoc done (part ∷ []) (damaged_parts_of (now more)))
+    is ∙ (λ i. done ++ sym first i ∷ others i) ∙ sym (append_assoc done (part ∷ []) (parts_cut (now more)))
 
 pub too_many : (s : Day) (all done : List (List ℕ)) (reads : List DamagedPart) (rest : List ℕ) → AreReadOf s done reads
-    → all ≡ done ++ damaged_parts_of rest → length reads ≡ 255 → 255 < length all
+    → all ≡ done ++ parts_cut rest → length reads ≡ 255 → 255 < length all
 too_many s all done reads rest are is many =
-    omega (arith, as_many_read s done reads are, ap length is, length-append done (damaged_parts_of rest), many)
+    omega (arith, as_many_read s done reads are, ap length is, length-append done (parts_cut rest), many)

@@ -8,4 +8,5 @@ pub mod PartShown
 pub mod KnownLetters
 pub mod WholeParts
 pub mod Forms
+pub mod Tidying
 pub mod WholeForms

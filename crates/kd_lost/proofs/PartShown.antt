@@ -22,7 +22,7 @@ use Rattle.kd_form.specs.Sending.{letters_from}
 use Rattle.kd_form.proofs.Headings.{ended_heading, one_heading}
 use Rattle.kd_lost.specs.declared.damage.PartDamage.{PartDamage}
 use Rattle.kd_lost.specs.declared.damaged_text.DamagedText.{DamagedText}
-use Rattle.kd_lost.specs.Lost.{AnyLetter, AsReceived, Completes, IsCompletion, capital_of, covered, filled, is_lost}
+use Rattle.kd_lost.specs.Lost.{AnyLetter, AsReceived, Completes, IsCompletion, meant_byte, covered, filled, is_lost}
 use Rattle.kd_lost.specs.Lost.{IsLetterFor, received_letters}
 use Rattle.kd_lost.specs.Copies.{IsKeysAnswer, chosen_copies}
 use Rattle.kd_lost.specs.WholePart.{HasKeysAround, IsLettersText}
@@ -170,9 +170,9 @@ shown_there s None received shown read = (ThenNext-Ok (ThenNext-Ok (ThenNext-Ok 
 
 pub record IsSplitWhole (line body whole : List ℕ) : Type 0 where
   pub rest : List ℕ
-  pub joined : whole ≡ map capital_of line ++ 10 ∷ rest
+  pub joined : whole ≡ map meant_byte line ++ 10 ∷ rest
   pub completes : IsCompletion body rest
-  pub unbroken : IsWithout 10 (map capital_of line)
+  pub unbroken : IsWithout 10 (map meant_byte line)
 
 after_line : (body last : List ℕ) → IsCompletion (10 ∷ body) last
     → (rest : List ℕ) × (last ≡ 10 ∷ rest) × IsCompletion body rest
@@ -213,7 +213,7 @@ two_lines s part line body h shown first headed kept allowed counted read is_bod
     let made = letters_have_text s h.indicator received shown (λ none. omega (arith, least.1 none, counted)) read in
     let seen = shown_there s h.indicator received shown read in
     let back = restored body made.whole allowed made.completes in
-    let front = map capital_of line in
+    let front = map meant_byte line in
     let is_line = subst (λ l. IsLineText l (line_of (heading_words h))) (nothing_filled line kept) headed.text in
     let front_is : IsCompletion line front = capitals_complete line kept in
     let unbroken = unbroken_whole line front first.without front_is in

@@ -8,7 +8,7 @@ use Rattle.std.proofs.lemmas.List.Elements.{All-head, All-tail, All-cons, All-ni
 use Rattle.kd_tables.specs.Text.{is_text_byte, is_capital}
 use Rattle.kd_state.specs.LineWords.{IsWithout, IsFirstPart}
 use Rattle.kd_form.specs.Sending.{letter_of_byte, letters_from}
-use Rattle.kd_lost.specs.Lost.{AnyLetter, AsReceived, Completes, IsCompletion, MayHaveBeen, capital_of, is_lost}
+use Rattle.kd_lost.specs.Lost.{AnyLetter, AsReceived, Completes, IsCompletion, MayHaveBeen, meant_byte, is_lost}
 use Rattle.kd_lost.specs.Lost.{received_letter, received_letters}
 use Rattle.kd_lost.specs.DamagedPart.{body_of, filled_byte, first_line, is_body_byte}
 
@@ -43,7 +43,7 @@ completion_joined (x ∷ front) rest (y ∷ first) last a b = (a.0, completion_j
 
 -- a line without lost letters is completed by its capitals alone
 pub unlost_line : (line whole : List ℕ) → All (λ byte. IsFalse (is_lost byte)) line → IsCompletion line whole
-    → whole ≡ map capital_of line
+    → whole ≡ map meant_byte line
 unlost_line [] [] kept a = refl
 unlost_line [] (x ∷ whole) kept a = absurd a
 unlost_line (byte ∷ line) [] kept a = absurd a
@@ -53,18 +53,18 @@ unlost_line (byte ∷ line) (x ∷ whole) kept (AsReceived seen is, a) =
     λ i. is i ∷ unlost_line line whole (All-tail (λ byte. IsFalse (is_lost byte)) byte line kept) a i
 
 pub capitals_complete : (line : List ℕ) → All (λ byte. IsFalse (is_lost byte)) line
-    → IsCompletion line (map capital_of line)
+    → IsCompletion line (map meant_byte line)
 capitals_complete [] kept = tt
 capitals_complete (byte ∷ line) kept = (
   AsReceived (All-head (λ byte. IsFalse (is_lost byte)) byte line kept) refl,
   capitals_complete line (All-tail (λ byte. IsFalse (is_lost byte)) byte line kept),
 )
 
-filled_one : (byte : ℕ) → IsFalse (is_lost byte) → filled_byte byte ≡ capital_of byte
+filled_one : (byte : ℕ) → IsFalse (is_lost byte) → filled_byte byte ≡ meant_byte byte
 filled_one byte kept = grind (arith, kept)
 
 pub nothing_filled : (line : List ℕ) → All (λ byte. IsFalse (is_lost byte)) line
-    → map filled_byte line ≡ map capital_of line
+    → map filled_byte line ≡ map meant_byte line
 nothing_filled [] kept = refl
 nothing_filled (byte ∷ line) kept =
     let one = filled_one byte (All-head (λ byte. IsFalse (is_lost byte)) byte line kept) in
@@ -104,19 +104,19 @@ pub record Restored (body letters : List ℕ) : Type 0 where
 -- what a byte of a body gives
 data IsKindOf (byte : ℕ) : Type 0 where
   Lost : IsTrue (is_lost byte) → received_letter byte ≡ Some None → IsKindOf byte
-  Kept : (letter : ℕ) → IsFalse (is_lost byte) → letter_of_byte None (capital_of byte) ≡ Some letter
+  Kept : (letter : ℕ) → IsFalse (is_lost byte) → letter_of_byte None (meant_byte byte) ≡ Some letter
       → received_letter byte ≡ Some (Some letter) → IsKindOf byte
-  Other : IsFalse (is_lost byte) → letter_of_byte None (capital_of byte) ≡ None → received_letter byte ≡ None
+  Other : IsFalse (is_lost byte) → letter_of_byte None (meant_byte byte) ≡ None → received_letter byte ≡ None
       → IsKindOf byte
 
 kind_told : (byte : ℕ) (lost : Bool) (found : Option ℕ) → is_lost byte ≡ lost
-    → letter_of_byte None (capital_of byte) ≡ found → IsKindOf byte
+    → letter_of_byte None (meant_byte byte) ≡ found → IsKindOf byte
 kind_told byte true found is given = Lost is (grind (arith, is))
 kind_told byte false None is given = Other is given (grind (arith, is, given))
 kind_told byte false (Some letter) is given = Kept letter is given (grind (arith, is, given))
 
 kind_of : (byte : ℕ) → IsKindOf byte
-kind_of byte = kind_told byte (is_lost byte) (letter_of_byte None (capital_of byte)) refl refl
+kind_of byte = kind_told byte (is_lost byte) (letter_of_byte None (meant_byte byte)) refl refl
 
 letter_back : (letter : ℕ) → letter < 26 → letter_of_byte None (letter + 65) ≡ Some letter
 letter_back letter small = grind (arith, nat_tests)
@@ -127,7 +127,7 @@ capital_back letter small = grind (arith, nat_tests)
 text_back : (letter : ℕ) → letter < 26 → IsTrue (is_text_byte (letter + 65))
 text_back letter small = grind (arith, nat_tests)
 
-body_text : (byte : ℕ) → IsFalse (is_lost byte) → IsTrue (is_body_byte byte) → IsTrue (is_text_byte (capital_of byte))
+body_text : (byte : ℕ) → IsFalse (is_lost byte) → IsTrue (is_body_byte byte) → IsTrue (is_text_byte (meant_byte byte))
 body_text byte kept allowed = grind (arith, kept, allowed)
 
 restored_byte : (byte sent : ℕ) (body letters more : List ℕ) (found : Option ℕ) → MayHaveBeen byte sent
@@ -154,10 +154,10 @@ restored_kind byte body [] (Kept letter kept given is) allowed a more =
     absurd (subst (λ o. Completes (cons_option o (received_letters body)) []) is a)
 restored_kind byte body (x ∷ letters) (Kept letter kept given is) allowed a more =
     let b = subst (λ o. Completes (cons_option o (received_letters body)) (x ∷ letters)) is a in
-    restored_byte byte (capital_of byte) body (x ∷ letters) letters (Some letter) (AsReceived kept refl) given
+    restored_byte byte (meant_byte byte) body (x ∷ letters) letters (Some letter) (AsReceived kept refl) given
     (body_text byte kept allowed) (ap (λ l. l ∷ letters) b.0) (more letters b.1)
 restored_kind byte body letters (Other kept given is) allowed a more =
-    restored_byte byte (capital_of byte) body letters letters None (AsReceived kept refl) given
+    restored_byte byte (meant_byte byte) body letters letters None (AsReceived kept refl) given
     (body_text byte kept allowed) refl
     (more letters (subst (λ o. Completes (cons_option o (received_letters body)) letters) is a))
 

@@ -1,21 +1,30 @@
 -- A form that `receive` reads is cut into its parts, and shown whole.
 use Rattle.std.proofs.Common.{All, ◌≡◌, ◌≢◌, ◌∙◌, ◌⊎◌, inl, inr, ℕ, ◌≤◌, ◌==◌, ◌&&◌, ◌||◌, nat_le, IsTrue}
-use Rattle.std.proofs.Common.{List, [], ◌∷◌, ◌++◌, length, map, take, refl, sym, ap, subst, arith, Bool, true, false}
+use Rattle.std.proofs.Common.{List, [], ◌∷◌, ◌++◌, drop, length, map, take, refl, sym, ap, subst, arith, Bool, true, false}
 use Rattle.std.proofs.Common.{Some, Ok, codes, get_or, if◌then◌else◌}
 use Rattle.std.proofs.lemmas.Bool.{Decides.nat_tests, cases_Bool, cases_eq, false≢true}
+use Rattle.std.proofs.lemmas.List.{take-append-drop}
 use Rattle.std.proofs.lemmas.List.Elements.{All-cons, All-head, All-nil, All-tail}
 use Rattle.kd_tables.specs.Text.{is_text_byte}
 use Rattle.kd_state.specs.LineWords.{IsWithout}
 use Rattle.kd_state.specs.SheetDay.{Day}
 use Rattle.kd_form.specs.FormParts.{BeginsHeading, begins_heading, cut_at_headings, parts_of}
-use Rattle.kd_form.specs.FormText.{IsAnswerAt, ReadsPartsTo, first_part_start, next_part_start, plaintext_bytes}
-use Rattle.kd_form.specs.PartReading.{PartStart}
+use Rattle.kd_form.specs.declared.heading.Heading.{Heading}
+use Rattle.kd_form.specs.FormText.{IsAnswerAt, IsTextOf, ReadsPartsTo, first_part_start, next_part_start, plaintext_bytes}
+use Rattle.kd_form.specs.PartReading.{IsPartAnswer, PartStart, ReadPart}
+use Rattle.kd_state.proofs.OneAnswer.{ThenNext-Ok}
 use Rattle.kd_form.specs.Sending.{space_letter}
-use Rattle.kd_form.proofs.Headings.{BeginsHeading-bytes, at_cut, heading_size, no_cut}
+use Rattle.kd_form.proofs.Headings.{BeginsHeading-bytes, at_cut, begins_more, begins_there, first_there, heading_size}
+use Rattle.kd_form.proofs.Headings.{no_cut}
 use Rattle.kd_lost.specs.declared.{part.DamagedPart.{DamagedPart}}
-use Rattle.kd_lost.specs.DamagedForm.{AreReadOf, cut_at_digits, ends_part, has_digit_line, shown_byte}
+use Rattle.kd_lost.specs.HeadingLine.{has_digit_line, is_heading_line}
+use Rattle.kd_lost.specs.DamagedForm.{AreReadOf, AsItStands, IsMeant, IsReadOf, Respaced, cut_at_heading_lines}
+use Rattle.kd_lost.specs.DamagedForm.{ends_part, parts_cut, shown_byte}
+use Rattle.kd_lost.specs.DamagedPart.{IsDamagedHeading, IsDamagedTextAnswer, first_line}
+use Rattle.kd_lost.specs.Tidy.{from_heading, without_mark}
+use Rattle.kd_lost.proofs.Parts.{lines_there}
 use Rattle.kd_lost.specs.DamagedForm.{letters_in, shown_letters}
-use Rattle.kd_lost.specs.Laws.{FormsReadAreShownWhole, FormsReadHaveTheirParts, IsReadWell}
+use Rattle.kd_lost.specs.Laws.{FormsReadAreShownWhole, FormsReadAreTidy, FormsReadHaveTheirParts, IsReadWell}
 use Rattle.kd_lost.proofs.Forms.{an_end, no_end}
 use Rattle.kd_lost.proofs.WholeParts.{shown_whole, whole_part}
 
@@ -31,7 +40,7 @@ AreQuiet [] = Unit {0}
 AreQuiet (part ∷ parts) = IsQuiet part × AreQuiet parts
 
 no_digit : (byte : ℕ) (rest : Bool) → IsTrue (is_text_byte byte) → rest ≡ false
-    → (if byte == 10 then false else (nat_le 48 byte && nat_le byte 57) || rest) ≡ false
+    → (if byte == 10 then false else (nat_le 47 byte && nat_le byte 57) || rest) ≡ false
 no_digit byte rest allowed none = grind (arith, nat_tests, cases_Bool, allowed, none)
 
 no_digits : (body : List ℕ) → All (λ byte. IsTrue (is_text_byte byte)) body → has_digit_line body ≡ false
@@ -74,11 +83,11 @@ cut_or_not : (byte : ℕ) (bytes : List ℕ) → ((byte ≡ 10) × BeginsHeading
 cut_or_not byte bytes = grind (arith, cases_eq byte 10, cases_Bool (begins_heading bytes), false≢true)
 
 digit_behind : (byte : ℕ) (rest : Bool) → 32 ≤ byte → rest ≡ true
-    → (if byte == 10 then false else (nat_le 48 byte && nat_le byte 57) || rest) ≡ true
+    → (if byte == 10 then false else (nat_le 47 byte && nat_le byte 57) || rest) ≡ true
 digit_behind byte rest high some = grind (arith, nat_tests, cases_Bool, high, some)
 
 digit_here : (byte : ℕ) (rest : Bool) → 48 ≤ byte → byte ≤ 57
-    → (if byte == 10 then false else (nat_le 48 byte && nat_le byte 57) || rest) ≡ true
+    → (if byte == 10 then false else (nat_le 47 byte && nat_le byte 57) || rest) ≡ true
 digit_here byte rest low high = grind (arith, nat_tests, low, high)
 
 heading_digit : (bytes : List ℕ) → 6 ≤ length bytes → take 5 bytes ≡ codes "PART " → 48 ≤ get_or bytes 5 0
@@ -105,6 +114,20 @@ begins_with_digit bytes begun =
     let told = BeginsHeading-bytes bytes begun in
     heading_digit bytes (heading_size bytes begun) told.0 told.1 told.2
 
+-- a line that begins a heading for `receive` is taken for one
+heading_begun : (more : List ℕ) → is_heading_line (codes "PART " ++ more) ≡ has_digit_line (codes "PART " ++ more)
+heading_begun more = refl
+
+begun_text : (bytes : List ℕ) → BeginsHeading bytes → bytes ≡ codes "PART " ++ drop 5 bytes
+begun_text bytes begun =
+    sym (take-append-drop 5 bytes) ∙ ap (λ l. l ++ drop 5 bytes) (BeginsHeading-bytes bytes begun).0
+
+begins_line : (bytes : List ℕ) → BeginsHeading bytes → is_heading_line bytes ≡ true
+begins_line bytes begun =
+    let is = begun_text bytes begun in
+    ap is_heading_line is ∙ heading_begun (drop 5 bytes) ∙ sym (ap has_digit_line is)
+    ∙ begins_with_digit bytes begun
+
 same_line_from : (byte : ℕ) (bytes : List ℕ)
     → ((byte ≡ 10) × BeginsHeading bytes) ⊎ ((byte ≡ 10) → ¬ (BeginsHeading bytes))
     → has_digit_line (cut_at_headings bytes).0 ≡ has_digit_line bytes
@@ -114,25 +137,36 @@ same_line_from byte bytes (inl (is, begun)) same =
     (ap (λ c. has_digit_line c.0) (at_cut bytes begun))
 same_line_from byte bytes (inr not) same =
     ap (λ c. has_digit_line c.0) (no_cut byte bytes not)
-    ∙ ap (λ h. if byte == 10 then false else (nat_le 48 byte && nat_le byte 57) || h) same
+    ∙ ap (λ h. if byte == 10 then false else (nat_le 47 byte && nat_le byte 57) || h) same
 
 -- the first line of the first part is the form's
 same_line : (bytes : List ℕ) → has_digit_line (cut_at_headings bytes).0 ≡ has_digit_line bytes
 same_line [] = refl
 same_line (byte ∷ bytes) = same_line_from byte bytes (cut_or_not byte bytes) (same_line bytes)
 
+no_line_from : (begun rest : Bool) → rest ≡ false → (begun && rest) ≡ false
+no_line_from true rest none = none
+no_line_from false rest none = refl
+
+-- a line without a digit isn't taken for a heading
+pub no_line : (bytes : List ℕ) → has_digit_line bytes ≡ false → is_heading_line bytes ≡ false
+no_line bytes none = no_line_from _ (has_digit_line bytes) none
+
+not_ended_from : (byte : ℕ) (begun : Bool) → (byte ≡ 10 → begun ≡ false) → (byte == 10 && begun) ≡ false
+not_ended_from byte begun off = grind (arith, nat_tests, cases_eq byte 10, off)
+
 not_ended : (byte : ℕ) (bytes : List ℕ) → (byte ≡ 10 → has_digit_line bytes ≡ false) → ends_part byte bytes ≡ false
-not_ended byte bytes off = grind (arith, nat_tests, cases_eq byte 10, off)
+not_ended byte bytes off = not_ended_from byte (is_heading_line bytes) (λ is. no_line bytes (off is))
 
 same_cut_from : (byte : ℕ) (bytes : List ℕ)
     → ((byte ≡ 10) × BeginsHeading bytes) ⊎ ((byte ≡ 10) → ¬ (BeginsHeading bytes)) → AreQuiet (parts_of (byte ∷ bytes))
-    → (AreQuiet (parts_of bytes) → cut_at_digits bytes ≡ cut_at_headings bytes)
-    → cut_at_digits (byte ∷ bytes) ≡ cut_at_headings (byte ∷ bytes)
+    → (AreQuiet (parts_of bytes) → cut_at_heading_lines bytes ≡ cut_at_headings bytes)
+    → cut_at_heading_lines (byte ∷ bytes) ≡ cut_at_headings (byte ∷ bytes)
 same_cut_from byte bytes (inl (is, begun)) quiet same =
     let cut = ap (λ b. cut_at_headings (b ∷ bytes)) is ∙ at_cut bytes begun in
-    let ends : ends_part 10 bytes ≡ true = begins_with_digit bytes begun in
+    let ends : ends_part 10 bytes ≡ true = begins_line bytes begun in
     let rest = subst (λ (c : List ℕ × List (List ℕ)). AreQuiet (c.0 ∷ c.1)) cut quiet in
-    ap (λ b. cut_at_digits (b ∷ bytes)) is ∙ an_end 10 bytes ends
+    ap (λ b. cut_at_heading_lines (b ∷ bytes)) is ∙ an_end 10 bytes ends
     ∙ ap (λ (c : List ℕ × List (List ℕ)). (10 ∷ [], c.0 ∷ c.1)) (same rest.1) ∙ sym cut
 same_cut_from byte bytes (inr not) quiet same =
     let cut = no_cut byte bytes not in
@@ -141,13 +175,48 @@ same_cut_from byte bytes (inr not) quiet same =
     no_end byte bytes (not_ended byte bytes off)
     ∙ ap (λ (c : List ℕ × List (List ℕ)). (byte ∷ c.0, c.1)) (same (rest.0.1, rest.1)) ∙ sym cut
 
-same_cut : (form : List ℕ) → AreQuiet (parts_of form) → cut_at_digits form ≡ cut_at_headings form
+same_cut : (form : List ℕ) → AreQuiet (parts_of form) → cut_at_heading_lines form ≡ cut_at_headings form
 same_cut [] quiet = refl
 same_cut (byte ∷ bytes) quiet = same_cut_from byte bytes (cut_or_not byte bytes) quiet (same_cut bytes)
 
+-- -------- nothing before the first heading
+
+begun_part : (s : Day) (p : PartStart) (part : List ℕ) (read : ReadPart) → IsPartAnswer s p part (Ok read)
+    → BeginsHeading part
+begun_part s p part read is =
+    let one = ThenNext-Ok (ThenNext-Ok is).says in
+    begins_there s part one.found.heading one.found.body one.says
+
+begun_first : (s : Day) (p : PartStart) (part : List ℕ) (parts : List (List ℕ)) (letters : List ℕ)
+    → ReadsPartsTo s (IsAnswerAt s (Ok tt)) p (part ∷ parts) letters → BeginsHeading part
+begun_first s p part parts letters (inl (fault, none)) = let off = fault.2 in absurd (cc)
+begun_first s p part parts letters (inr (read, more, is, rest, joined)) = begun_part s p part read is
+
+begun_form : (s : Day) (form text : List ℕ) → IsTextOf s form text → BeginsHeading form
+begun_form s form text (parts, (letters, read, is), joined) =
+    let (rest, there) = first_there form in
+    subst BeginsHeading (sym there)
+    (begins_more (cut_at_headings form).0 rest
+    (begun_first s first_part_start (cut_at_headings form).0 (cut_at_headings form).1 letters read))
+
+no_mark : (more : List ℕ) → without_mark (codes "PART " ++ more) ≡ codes "PART " ++ more
+no_mark more = refl
+
+from_first : (bytes : List ℕ) → is_heading_line bytes ≡ true → from_heading bytes ≡ bytes
+from_first bytes begins = rw begins refl
+
+pub tidy_forms : FormsReadAreTidy
+tidy_forms s form text is =
+    let begun = begun_form s form text is in
+    let there = begun_text form begun in
+    ap from_heading (ap without_mark there ∙ no_mark (drop 5 form) ∙ sym there)
+    ∙ from_first form (begins_line form begun)
+
 pub same_parts : FormsReadHaveTheirParts
-same_parts s form text (parts, (letters, read, is), joined) =
-    ap (λ (c : List ℕ × List (List ℕ)). c.0 ∷ c.1)
+same_parts s form text is =
+    let (parts, (letters, read, made), joined) = is in
+    ap parts_cut (tidy_forms s form text is)
+    ∙ ap (λ (c : List ℕ × List (List ℕ)). c.0 ∷ c.1)
     (same_cut form (quiet_parts s first_part_start (parts_of form) letters read))
 
 -- -------- the texts
@@ -160,6 +229,20 @@ known_joined : (one other : List ℕ) → map Some (one ++ other) ≡ map Some o
 known_joined [] other = refl
 known_joined (letter ∷ one) other = ap (λ l. Some letter ∷ l) (known_joined one other)
 
+-- a part that `receive` reads is read as it stands
+as_it_stands : (s : Day) (p : PartStart) (part : List ℕ) (read : ReadPart) (one : DamagedPart)
+    → IsPartAnswer s p part (Ok read) → (is : IsReadOf s part one) → is.meant ≡ part
+as_it_stands s p part read one is of =
+    let w = whole_part s p part read is in
+    let first : first_line part ≡ w.line =
+    ap first_line w.first.joined ∙ (lines_there w.line w.body w.first.without).0 in
+    meant_whole s part of.meant w.h (subst (λ l. IsDamagedHeading s l w.h) (sym first) w.headed) of.is_meant
+  where
+    meant_whole : (s : Day) (part meant : List ℕ) (h : Heading) → IsDamagedHeading s (first_line part) h
+        → IsMeant s part meant → meant ≡ part
+    meant_whole s part meant h headed (AsItStands other there is) = is
+    meant_whole s part meant h headed (Respaced none is) = absurd (none h headed)
+
 module _ (s : Day) where
   parts_shown : (p : PartStart) (parts : List (List ℕ)) (letters : List ℕ) (reads : List DamagedPart)
       → ReadsPartsTo s (IsAnswerAt s (Ok tt)) p parts letters → AreReadOf s parts reads
@@ -169,7 +252,8 @@ module _ (s : Day) where
   parts_shown p (part ∷ parts) letters [] read are = absurd are
   parts_shown p (part ∷ parts) letters (one ∷ reads) (inl (fault, none)) are = let off = fault.2 in absurd (cc)
   parts_shown p (part ∷ parts) letters (one ∷ reads) (inr (read, more, is, rest, joined)) are =
-      let (shown, told, whole) = shown_whole s p part read one.text is are.0.text in
+      let text = subst (λ l. IsDamagedTextAnswer s l one.text) (as_it_stands s p part read one is are.0) are.0.text in
+      let (shown, told, whole) = shown_whole s p part read one.text is text in
       let others = parts_shown (next_part_start p read.parts part) parts more reads rest are.1 in (
         All-cons IsReadWell one reads (shown, told, whole.group, whole.copies) others.0,
         ap (λ t. letters_in t ++ shown_letters reads) told ∙ ap (λ l. l ++ shown_letters reads) whole.letters

@@ -30,7 +30,7 @@ use Rattle.kd_form.proofs.MadeParts.{enciphered_length}
 use Rattle.kd_lost.specs.declared.damage.PartDamage.{PartDamage}
 use Rattle.kd_lost.specs.declared.damaged_text.DamagedText.{DamagedText}
 use Rattle.kd_lost.specs.declared.part.PartNumbers.{PartNumbers}
-use Rattle.kd_lost.specs.Lost.{Completes, capital_of, covered, is_lost, received_letter, received_letters}
+use Rattle.kd_lost.specs.Lost.{Completes, meant_byte, covered, is_lost, received_letter, received_letters}
 use Rattle.kd_lost.specs.Copies.{IsKeysAnswer}
 use Rattle.kd_lost.specs.DamagedText.{GroupLost, GroupRight, GroupWrong, IsDamagedLettersAnswer, IsListTest}
 use Rattle.kd_lost.specs.DamagedText.{IsGroupTest, ListLost, ListRight, ListWrong, text_part}
@@ -49,23 +49,23 @@ use Rattle.kd_lost.proofs.PartShown.{least_count}
 -- -------- bytes that are neither lost nor small letters
 
 abbrev IsFirm : ℕ → Type 0
-IsFirm byte = IsFalse (is_lost byte) × (capital_of byte ≡ byte)
+IsFirm byte = IsFalse (is_lost byte) × (meant_byte byte ≡ byte)
 
 abbrev AreFirm : List ℕ → Type 0
 AreFirm bytes = All IsFirm bytes
 
-firm_byte : (byte : ℕ) → byte ≤ 90 → byte ≢ 63 → byte ≢ 45 → IsFirm byte
-firm_byte byte low one other = grind (arith, nat_tests, cases_Bool)
+firm_byte : (byte : ℕ) → 10 ≤ byte → byte ≤ 90 → byte ≢ 63 → byte ≢ 45 → IsFirm byte
+firm_byte byte high low one other = grind (arith, nat_tests, cases_Bool)
 
 firm_letters : (letters : List ℕ) → All (λ letter. letter < 26) letters → AreFirm (letters_text letters)
 firm_letters letters within = All-map IsFirm (λ l. l + 65) letters
     (λ k d inside. let low = within k d inside in
-    firm_byte _ (omega (arith, low)) (omega arith) (omega arith))
+    firm_byte _ (omega arith) (omega (arith, low)) (omega arith) (omega arith))
 
 firm_number : (number : ℕ) → number < 2 ^ 64 → AreFirm (decimal number)
 firm_number number small = All-from_get_or IsFirm (decimal number) 0
     (λ i inside. let digit = digits_decimal IsNumeralModel-digits number small i inside in
-    firm_byte _ (omega (arith, digit)) (omega (arith, digit)) (omega (arith, digit)))
+    firm_byte _ (omega (arith, digit)) (omega (arith, digit)) (omega (arith, digit)) (omega (arith, digit)))
 
 firm_then : (byte : ℕ) (front rest : List ℕ) → IsFirm byte → AreFirm front → AreFirm rest
     → AreFirm (front ++ byte ∷ rest)

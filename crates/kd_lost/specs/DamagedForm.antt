@@ -1,51 +1,63 @@
 -- How a damaged form is cut into parts, and what is read of all of them. The first part begins the form, and another each
--- later line with a digit: only headings have digits, and a damaged heading still has some of them.
+-- later line that is taken for a heading.
 -- Code: the form is cut part by part.
 -- Test: damaged_forms_are_read
-use Rattle.std.specs.Prelude.{◌≡◌, ℕ, ◌<◌, ◌==◌, ◌&&◌, ◌||◌, nat_le, Bool, false, if◌then◌else◌, List, [], ◌∷◌}
-use Rattle.std.specs.Prelude.{length, IfOk, Option, None, Some, Result, Ok, Err}
+use Rattle.std.specs.Prelude.{◌≡◌, ℕ, ◌<◌, ◌==◌, ◌&&◌, Bool, if◌then◌else◌, List, [], ◌∷◌}
+use Rattle.std.specs.Prelude.{◌≢◌, ◌↔◌, IsTrue, length, IfOk, Option, None, Some, Result, Ok, Err}
 use Rattle.std.specs.List.{flat_map}
 use Rattle.kd_form.specs.FormText.{plaintext_byte}
+use Rattle.kd_form.specs.declared.heading.Heading.{Heading}
 use Rattle.kd_lost.specs.declared.damage.PartDamage.{PartDamage}
 use Rattle.kd_lost.specs.declared.damaged_text.DamagedText.{DamagedText}
 use Rattle.kd_state.specs.SheetDay.{Day}
 use Rattle.kd_lost.specs.declared.form.DamagedFormFault.{DamagedFormFault}
 use Rattle.kd_lost.specs.declared.form.DamagedFormFault.TheVariants as faults
 use Rattle.kd_lost.specs.declared.part.DamagedPart.{DamagedPart}
-use Rattle.kd_lost.specs.DamagedPart.{AreNumbersRead, IsDamagedTextAnswer, IsPartShown, body_of, first_line}
+use Rattle.kd_lost.specs.DamagedPart.{AreNumbersRead, IsDamagedHeading, IsDamagedTextAnswer, IsPartShown, body_of}
+use Rattle.kd_lost.specs.DamagedPart.{first_line}
+use Rattle.kd_lost.specs.HeadingLine.{is_heading_line}
 use Rattle.kd_lost.specs.Lost.{received_letters}
+use Rattle.kd_lost.specs.Tidy.{respaced, tidied}
 
 -- ---- The parts of a form.
 
--- whether the first line of `bytes` has a digit
-abbrev pub has_digit_line : List ℕ → Bool
-has_digit_line [] = false
-has_digit_line (byte ∷ bytes) =
-    if byte == 10 then false else (nat_le 48 byte && nat_le byte 57) || has_digit_line bytes
-
--- whether a part ends with `byte`, before `bytes`: at each LF before a line with a digit
+-- whether a part ends with `byte`, before `bytes`: at each LF before a line that is taken for a heading
 abbrev pub ends_part : ℕ → List ℕ → Bool
-ends_part byte bytes = byte == 10 && has_digit_line bytes
+ends_part byte bytes = byte == 10 && is_heading_line bytes
 
 -- The first part of a damaged form, and the list of its other parts.
-abbrev pub cut_at_digits : List ℕ → List ℕ × List (List ℕ)
-cut_at_digits [] = ([], [])
-cut_at_digits (byte ∷ bytes) =
-    if ends_part byte bytes then (byte ∷ [], (cut_at_digits bytes).0 ∷ (cut_at_digits bytes).1)
-    else (byte ∷ (cut_at_digits bytes).0, (cut_at_digits bytes).1)
+abbrev pub cut_at_heading_lines : List ℕ → List ℕ × List (List ℕ)
+cut_at_heading_lines [] = ([], [])
+cut_at_heading_lines (byte ∷ bytes) =
+    if ends_part byte bytes then (byte ∷ [], (cut_at_heading_lines bytes).0 ∷ (cut_at_heading_lines bytes).1)
+    else (byte ∷ (cut_at_heading_lines bytes).0, (cut_at_heading_lines bytes).1)
 
--- all parts of a damaged form
+-- all parts of the bytes
+abbrev pub parts_cut : List ℕ → List (List ℕ)
+parts_cut bytes = (cut_at_heading_lines bytes).0 ∷ (cut_at_heading_lines bytes).1
+
+-- all parts of a damaged form: what stands before its first heading is passed over
 abbrev pub damaged_parts_of : List ℕ → List (List ℕ)
-damaged_parts_of form = (cut_at_digits form).0 ∷ (cut_at_digits form).1
+damaged_parts_of form = parts_cut (tidied form)
 
 -- ---- What is read of them.
 
--- `read` is what `read_damaged_part` reads of `part`.
+-- `meant` is the part `part` as it is read: as it stands, if its first line is a heading; otherwise without the blanks that
+-- only part the words of this line further, or stand around them.
+pub data IsMeant (s : Day) (part meant : List ℕ) : Type 0 where
+  AsItStands : (h : Heading) → IsDamagedHeading s (first_line part) h → meant ≡ part → IsMeant s part meant
+  Respaced : ((h : Heading) → ¬ (IsDamagedHeading s (first_line part) h)) → meant ≡ respaced part
+      → IsMeant s part meant
+
+-- `read` is what `read_damaged_part` reads of `part` as it is meant.
 pub record IsReadOf (s : Day) (part : List ℕ) (read : DamagedPart) : Type 0 where
-  pub numbers : AreNumbersRead s (first_line part) read.numbers
-  pub came : read.came ≡ length (received_letters (body_of part))
-  pub text : IsDamagedTextAnswer s part read.text
-  pub shown : IfOk read.text (IsPartShown s part)
+  pub meant : List ℕ
+  pub is_meant : IsMeant s part meant
+  pub numbers : AreNumbersRead s (first_line meant) read.numbers
+  pub came : read.came ≡ length (received_letters (body_of meant))
+  pub text : IsDamagedTextAnswer s meant read.text
+  pub shown : IfOk read.text (IsPartShown s meant)
+  pub respaced : IsTrue read.respaced ↔ (meant ≢ part)
 
 -- Each part is read by itself.
 abbrev pub AreReadOf : Day → List (List ℕ) → List DamagedPart → Type 0

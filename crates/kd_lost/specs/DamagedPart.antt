@@ -13,7 +13,7 @@ use Rattle.kd_lost.specs.declared.damage.PartDamage.{PartDamage}
 use Rattle.kd_lost.specs.declared.damage.PartDamage.TheVariants.{HeadingDamaged, HeadingKeyLost, BadByte, CountWrong}
 use Rattle.kd_lost.specs.declared.damaged_text.DamagedText.{DamagedText}
 use Rattle.kd_lost.specs.declared.part.PartNumbers.{PartNumbers}
-use Rattle.kd_lost.specs.Lost.{IsCompletion, capital_of, covered, is_lost, received_letters}
+use Rattle.kd_lost.specs.Lost.{IsCompletion, meant_byte, covered, is_lost, received_letters}
 use Rattle.kd_lost.specs.WholePart.{IsPartText}
 use Rattle.kd_lost.specs.DamagedText.{IsDamagedLettersAnswer, text_part}
 
@@ -29,9 +29,9 @@ abbrev pub body_of : List ℕ → List ℕ
 body_of [] = []
 body_of (byte ∷ bytes) = if byte == 10 then bytes else body_of bytes
 
--- the byte as a capital letter, with B in place of a lost letter: B isn't in the word `PART`
+-- the byte that is meant, with B in place of a lost letter: B isn't in the word `PART`
 abbrev pub filled_byte : ℕ → ℕ
-filled_byte byte = if is_lost byte then 66 else capital_of byte
+filled_byte byte = if is_lost byte then 66 else meant_byte byte
 
 -- `line` is the heading line of `h`, but for letters of the keys that were lost.
 pub record IsDamagedHeading (s : Day) (line : List ℕ) (h : Heading) : Type 0 where
@@ -40,7 +40,7 @@ pub record IsDamagedHeading (s : Day) (line : List ℕ) (h : Heading) : Type 0 w
 
 -- whether the byte may be in a body: a letter, a lost letter, a space, CR or LF
 abbrev pub is_body_byte : ℕ → Bool
-is_body_byte byte = is_lost byte || is_text_byte (capital_of byte)
+is_body_byte byte = is_lost byte || is_text_byte (meant_byte byte)
 
 -- ---- What is read.
 

@@ -13,6 +13,7 @@ use Rattle.kd_lost.specs.declared.damaged_text.GroupTest.TheVariants as tests
 use Rattle.kd_lost.specs.declared.part.{DamagedPart.{DamagedPart}, PartNumbers.{PartNumbers}}
 use Rattle.kd_lost.specs.DamagedForm.{AreReadOf, damaged_parts_of, shown_byte, shown_letters}
 use Rattle.kd_lost.specs.DamagedPart.{AreNumbersRead, IsDamagedTextAnswer, first_line}
+use Rattle.kd_lost.specs.Tidy.{tidied}
 
 -- If two texts have the same letter at a place, they are deciphered to the same letter there, whatever their other
 -- letters are.
@@ -50,6 +51,10 @@ PartsReadHaveNumbers =
 abbrev pub FormsReadHaveTheirParts : Type 0
 FormsReadHaveTheirParts =
     (s : Day) (form text : List ℕ) → IsTextOf s form text → damaged_parts_of form ≡ parts_of form
+
+-- A form that `receive` reads has nothing before its first heading that is passed over.
+abbrev pub FormsReadAreTidy : Type 0
+FormsReadAreTidy = (s : Day) (form text : List ℕ) → IsTextOf s form text → tidied form ≡ form
 
 -- The part is read, and its text has no warning.
 abbrev pub IsReadWell : DamagedPart → Type 0

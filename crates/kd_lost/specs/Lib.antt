@@ -1,7 +1,9 @@
 pub mod Lost
+pub mod HeadingLine
 pub mod WholePart
 pub mod Copies
 pub mod DamagedText
 pub mod DamagedPart
+pub mod Tidy
 pub mod DamagedForm
 pub mod Laws

@@ -1,5 +1,5 @@
--- What may have been sent where letters were lost on the air. A lost letter is a `?` or `-`, and a small letter is its
--- capital.
+-- What may have been sent where letters were lost on the air. A lost letter is a `?` or `-`, a small letter means its
+-- capital, and a tab means a space.
 -- Code: the reader puts A in place of each lost letter, deciphers, and leaves out what it deciphered there.
 -- Test: each_byte_is_lost_in_turn
 use Rattle.std.specs.Prelude.{◌≡◌, ℕ, ◌-◌, ◌<◌, ◌==◌, ◌&&◌, ◌||◌, nat_le, Bool, IsTrue, IsFalse, if◌then◌else◌}
@@ -13,15 +13,15 @@ use Rattle.kd_form.specs.Sending.{letter_of_byte}
 abbrev pub is_lost : ℕ → Bool
 is_lost byte = byte == 63 || byte == 45
 
--- the byte, with a capital letter in place of a small one
-abbrev pub capital_of : ℕ → ℕ
-capital_of byte = if nat_le 97 byte && nat_le byte 122 then byte - 32 else byte
+-- the byte that is meant: a capital letter by a small one, a space by a tab, otherwise the byte itself
+abbrev pub meant_byte : ℕ → ℕ
+meant_byte byte = if nat_le 97 byte && nat_le byte 122 then byte - 32 else if byte == 9 then 32 else byte
 
--- `sent` may have been sent where `byte` was received: any capital letter for a lost one, otherwise the byte itself or,
--- for a small letter, its capital.
+-- `sent` may have been sent where `byte` was received: any capital letter for a lost one, otherwise the byte that is
+-- meant.
 pub data MayHaveBeen (byte sent : ℕ) : Type 0 where
   AnyLetter : IsTrue (is_lost byte) → IsTrue (is_capital sent) → MayHaveBeen byte sent
-  AsReceived : IsFalse (is_lost byte) → sent ≡ capital_of byte → MayHaveBeen byte sent
+  AsReceived : IsFalse (is_lost byte) → sent ≡ meant_byte byte → MayHaveBeen byte sent
 
 -- `whole` is a completion of the bytes `received`: it may have been sent, byte by byte.
 abbrev pub IsCompletion : List ℕ → List ℕ → Type 0
@@ -34,7 +34,7 @@ IsCompletion (byte ∷ received) [] = ⊥
 
 -- what a byte of a body gives: a letter, a lost letter, or nothing
 abbrev pub received_letter : ℕ → Option (Option ℕ)
-received_letter byte = if is_lost byte then Some None else option_map Some (letter_of_byte None (capital_of byte))
+received_letter byte = if is_lost byte then Some None else option_map Some (letter_of_byte None (meant_byte byte))
 
 -- the letters of a body as they were received
 abbrev pub received_letters : List ℕ → List (Option ℕ)

@@ -1,9 +1,12 @@
 //! Reads a form in which letters were lost, part by part.
-ghost use Rattle.std.specs.Prelude.{◌≡◌, ◌<◌, ◌≤◌, length, IfOk, IfSome, MatchOption, MatchResult, []};
-ghost use Rattle.kd_lost.specs.DamagedForm.{AreReadOf, IsFormFault, cut_at_digits, damaged_parts_of};
-ghost use Rattle.kd_lost.specs.DamagedForm.{ends_part, has_digit_line};
+ghost use Rattle.std.specs.Prelude.{◌≡◌, ◌≢◌, ◌↔◌, IsTrue, ◌<◌, ◌≤◌, length, IfOk, IfSome, MatchOption, MatchResult, []};
+ghost use Rattle.kd_lost.specs.DamagedForm.{AreReadOf, IsFormFault, IsReadOf, cut_at_heading_lines};
+ghost use Rattle.kd_lost.specs.DamagedForm.{damaged_parts_of, parts_cut};
+ghost use Rattle.kd_lost.specs.DamagedForm.{ends_part};
 
+use crate::heading_line::is_heading_line;
 use crate::part::{DamagedPart, read_damaged_part};
+use crate::tidy::{respaced, tidied};
 use kd_state::SheetDay;
 use std::alloc::Global;
 
@@ -21,8 +24,8 @@ pub enum DamagedFormFault {
 
 /// Reads each part of `form` by itself, without the letters that were lost.
 ///
-/// The first part begins the form, and another each later line with a digit. For a form that `receive` reads, these are
-/// its parts.
+/// Each line that is taken for a heading begins a part: it begins like `PART`, and has a digit. Lines before the first
+/// heading are passed over. For a form that `receive` reads, these are its parts.
 pub fn read_damaged_form(
     alloc: Global,
     day: &SheetDay,
@@ -34,13 +37,16 @@ pub fn read_damaged_form(
     ensures few { IfOk result (λ parts. length parts.items ≤ 255) }
 {
     let mut parts = Vec::new(alloc);
-    let mut left = Some(form);
+    let mut left = Some(tidied(form));
     while let Some(rest) = left {
         if parts.len() == MOST_PARTS {
             return Err(DamagedFormFault::TooManyParts);
         }
         let (part, next) = split_part(rest);
-        let Ok(()) = parts.push(read_damaged_part(day, part)) else {
+        let Ok(read) = read_as_meant(alloc, day, part) else {
+            return Err(DamagedFormFault::NoMemory);
+        };
+        let Ok(()) = parts.push(read) else {
             return Err(DamagedFormFault::NoMemory);
         };
         left = next;
@@ -48,12 +54,42 @@ pub fn read_damaged_form(
     Ok(parts)
 }
 
+/// Reads `part`; if its first line isn't a heading, without the blanks there that mean nothing.
+fn read_as_meant(
+    alloc: Global,
+    day: &SheetDay,
+    part: &[u8],
+) -> Result<DamagedPart, DamagedFormFault>
+    ensures { MatchResult result
+        (IsReadOf day.now part.now)
+        (λ fault. fault ≡ DamagedFormFault.NoMemory) }
+{
+    let read = read_damaged_part(day, part);
+    if read.numbers.is_some() {
+        return Ok(read);
+    }
+    let Ok(meant) = respaced(alloc, part) else {
+        return Err(DamagedFormFault::NoMemory);
+    };
+    let meant = meant.as_slice();
+    let mut read = read_damaged_part(day, meant);
+    read.respaced = differs(meant, part);
+    Ok(read)
+}
+
+/// Whether `bytes` differ from `others`.
+fn differs(bytes: &[u8], others: &[u8]) -> bool
+    ensures { IsTrue result ↔ (bytes.now ≢ others.now) }
+{
+    bytes != others
+}
+
 /// The first part of `form`, and the bytes after it; `None` if there is no other part.
 fn split_part(form: &[u8]) -> (&[u8], Option<&[u8]>)
-    ensures part { result.0.now ≡ (cut_at_digits form.now).0 }
+    ensures part { result.0.now ≡ (cut_at_heading_lines form.now).0 }
     ensures others { MatchOption result.1
-        ((cut_at_digits form.now).1 ≡ [])
-        (λ rest. (cut_at_digits form.now).1 ≡ damaged_parts_of rest.now) }
+        ((cut_at_heading_lines form.now).1 ≡ [])
+        (λ rest. (cut_at_heading_lines form.now).1 ≡ parts_cut rest.now) }
     ensures shorter { IfSome result.1 (λ rest. length rest.now < length form.now) }
 {
     for (index, byte) in form.iter().enumerate() {
@@ -67,23 +103,8 @@ fn split_part(form: &[u8]) -> (&[u8], Option<&[u8]>)
 }
 
 /// Whether a part ends with `byte`, before `rest`.
-fn ends_part(byte: u8, rest: &[u8]) -> bool
+pub(crate) fn ends_part(byte: u8, rest: &[u8]) -> bool
     ensures { result ≡ ends_part byte rest.now }
 {
-    byte == b'\n' && has_digit_line(rest)
-}
-
-/// Whether the first line of `bytes` has a digit.
-fn has_digit_line(bytes: &[u8]) -> bool
-    ensures { result ≡ has_digit_line bytes.now }
-{
-    for byte in bytes {
-        if *byte == b'\n' {
-            return false;
-        }
-        if byte.is_ascii_digit() {
-            return true;
-        }
-    }
-    false
+    byte == b'\n' && is_heading_line(rest)
 }

@@ -1,6 +1,6 @@
 //! Laws of damaged parts, and of the ciphers under them.
 ghost use Rattle.kd_lost.specs.Laws.{CiphersAgreeWhereTextsDo, PartsReadAreShownWhole, PartsReadHaveNumbers};
-ghost use Rattle.kd_lost.specs.Laws.{FormsReadAreShownWhole, FormsReadHaveTheirParts};
+ghost use Rattle.kd_lost.specs.Laws.{FormsReadAreShownWhole, FormsReadAreTidy, FormsReadHaveTheirParts};
 
 /// Equal letters at one place of two texts become equal letters, whatever the other letters are.
 #[tactic(auto, using(crate::proofs::Ciphers::ciphers_agree))]
@@ -15,7 +15,10 @@ pub fn parts_read_are_shown_whole()
 {}
 
 /// A form that `receive` reads is cut into its parts, and read so, to the letter, and without a warning.
+///
+/// Nothing before its first heading is passed over.
 pub fn forms_read_are_shown_whole()
+    ensures tidy { FormsReadAreTidy }
     ensures parts { FormsReadHaveTheirParts }
     ensures shown { FormsReadAreShownWhole }
 {}

@@ -1,6 +1,6 @@
 //! Forms in which letters were lost on the air: everything that can be read of them without guessing.
 //!
-//! A lost letter is a `?` or `-`, and a small letter is its capital. The text of a part is shown without the letters
+//! A lost letter is a `?` or `-`, and a small letter means its capital. The text of a part is shown without the letters
 //! that were lost; a part whose keys were lost isn't read.
 #![tactic(auto)]
 
@@ -9,12 +9,15 @@ mod copies;
 mod damage;
 mod damaged_text;
 mod form;
+mod heading_line;
 pub mod laws;
 mod part;
 mod received;
+mod tidy;
 mod warnings;
 
 pub use damage::PartDamage;
 pub use damaged_text::{DamagedText, GroupTest, LostCopies, PinTextKeys, TextKeys};
 pub use form::{DamagedFormFault, read_damaged_form};
 pub use part::{DamagedPart, PartNumbers, read_damaged_part};
+pub use tidy::is_tidy;

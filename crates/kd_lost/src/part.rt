@@ -1,5 +1,5 @@
 //! Reads a part of a form in which letters were lost.
-ghost use Rattle.std.specs.Prelude.{◌≡◌, MatchResult, IfOk, length};
+ghost use Rattle.std.specs.Prelude.{◌≡◌, MatchResult, IfOk, false, length};
 ghost use Rattle.kd_state.specs.LineWords.{IsWithout};
 ghost use Rattle.kd_form.specs.FormParts.{IsHeading};
 ghost use Rattle.kd_lost.specs.DamagedPart.{AreNumbersRead, IsDamagedBodyAnswer, IsDamagedLinesAnswer};
@@ -25,6 +25,8 @@ pub struct DamagedPart {
     pub came: usize,
     /// The text, or why it can't be read.
     pub text: Result<DamagedText, PartDamage>,
+    /// Whether blanks in the part's first line were passed over, since it is no heading with them.
+    pub respaced: bool,
 }
 
 /// The numbers in the heading of a part.
@@ -47,6 +49,7 @@ pub fn read_damaged_part(day: &SheetDay, part: &[u8]) -> DamagedPart
     ensures came { result.came ≡ length (received_letters (body_of part.now)) }
     ensures text { IsDamagedTextAnswer day.now part.now result.text }
     ensures shown { IfOk result.text (IsPartShown day.now part.now) }
+    ensures as_it_stands { result.respaced ≡ false }
 {
     match split_once(part, b'\n') {
         Some((line, body)) => read_lines(day, line, body),
@@ -60,6 +63,7 @@ fn read_lines(day: &SheetDay, line: &[u8], body: &[u8]) -> DamagedPart
     ensures numbers { AreNumbersRead day.now line.now result.numbers }
     ensures came { result.came ≡ length (received_letters body.now) }
     ensures text { IsDamagedLinesAnswer day.now line.now body.now result.text }
+    ensures as_it_stands { result.respaced ≡ false }
 {
     let came = letter_count(body);
     let Some(heading) = heading_of_ended_line(day, filled_line(line).as_slice()) else {
@@ -67,12 +71,14 @@ fn read_lines(day: &SheetDay, line: &[u8], body: &[u8]) -> DamagedPart
             numbers: None,
             came,
             text: Err(PartDamage::HeadingDamaged),
+            respaced: false,
         };
     };
     DamagedPart {
         numbers: Some(numbers_of(&heading)),
         came,
         text: read_body_after(day, &heading, line, body),
+        respaced: false,
     }
 }
 

@@ -3,7 +3,7 @@ ghost use Rattle.std.specs.Prelude.{◌≡◌, ◌++◌, ◌↔◌, List, map, t
 ghost use Rattle.std.specs.List.{count_by};
 ghost use Rattle.std.specs.Option.{option_to_list};
 ghost use Rattle.std.specs.Bool.{OnTrue, OnFalse};
-ghost use Rattle.kd_lost.specs.Lost.{is_lost, capital_of, received_letter, received_letters};
+ghost use Rattle.kd_lost.specs.Lost.{is_lost, meant_byte, received_letter, received_letters};
 ghost use Rattle.kd_lost.specs.DamagedPart.{filled_byte, is_body_byte};
 
 use arrayvec::ArrayVec;
@@ -18,25 +18,27 @@ pub(crate) fn is_lost(byte: u8) -> bool
     byte == b'?' || byte == b'-'
 }
 
-/// `byte`, with a capital letter in place of a small one.
-fn capital_of(byte: u8) -> u8
-    ensures { result ≡ capital_of byte }
+/// The byte that is meant by `byte`: a capital letter by a small one, a space by a tab, otherwise `byte` itself.
+pub(crate) fn meant_byte(byte: u8) -> u8
+    ensures { result ≡ meant_byte byte }
 {
     if byte >= b'a' && byte <= b'z' {
         byte - 32
+    } else if byte == b'\t' {
+        b' '
     } else {
         byte
     }
 }
 
-/// `byte` as a capital letter, with B in place of a lost letter.
+/// The byte that is meant by `byte`, with B in place of a lost letter.
 fn filled_byte(byte: u8) -> u8
     ensures { result ≡ filled_byte byte }
 {
     if is_lost(byte) {
         b'B'
     } else {
-        capital_of(byte)
+        meant_byte(byte)
     }
 }
 
@@ -76,7 +78,7 @@ pub(crate) fn are_body_bytes(body: &[u8]) -> bool
 fn is_body_byte(byte: u8) -> bool
     ensures { result ≡ is_body_byte byte }
 {
-    is_lost(byte) || is_text_byte(capital_of(byte))
+    is_lost(byte) || is_text_byte(meant_byte(byte))
 }
 
 /// The first letters of a body, at most 525.
@@ -122,6 +124,6 @@ fn received_letter(byte: u8) -> Option<Option<Letter>>
     if is_lost(byte) {
         return Some(None);
     }
-    let letter = letter_of_byte(&None, capital_of(byte))?;
+    let letter = letter_of_byte(&None, meant_byte(byte))?;
     Some(Some(letter))
 }

@@ -5,3 +5,5 @@ pub mod SendPages
 pub mod ReceivePages
 pub mod Chunks
 pub mod ReceivedRows
+pub mod WholeForms
+pub mod PagesWhole

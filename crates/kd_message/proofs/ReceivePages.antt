@@ -22,7 +22,7 @@ use Rattle.kd_pictures.specs.declared.language.Language.{Language}
 use Rattle.kd_message.specs.ReceivedWork.{AreShowable}
 unfoldable use Rattle.kd_message.specs.ReceivePage.{receive_text}
 use Rattle.kd_message.specs.ReceivePage.{AreWorkable}
-use Rattle.kd_message.specs.ShownParts.{later_or, number_of, shown_from}
+use Rattle.kd_message.specs.ShownParts.{better, is_number, is_worse, shown_under}
 use Rattle.kd_message.proofs.SendPages.{begins}
 use Rattle.kd_message.proofs.Sheets.{range_first}
 
@@ -45,25 +45,29 @@ number_missing P number count some is missing =
 
 -- ---- What holds for each part holds for the part that is shown.
 
-chosen_holds : (P : DamagedPart → Type 0) (is_it : Bool) (one part : DamagedPart) → P one
-    → (if is_it then Some one else None) ≡ Some part → P part
-chosen_holds P true one part holds is = let e : one ≡ part = cc in rw (← e) holds
-chosen_holds P false one part holds is = absurd (cc)
+chosen_holds : (P : DamagedPart → Type 0) (is_it : Bool) (one other part : DamagedPart) → P one → P other
+    → (if is_it then Some one else Some other) ≡ Some part → P part
+chosen_holds P true one other part holds others is = let e : one ≡ part = cc in rw (← e) holds
+chosen_holds P false one other part holds others is = let e : other ≡ part = cc in rw (← e) others
 
-later_holds : (P : DamagedPart → Type 0) (place number : ℕ) (one : DamagedPart) (later : Option DamagedPart)
+better_holds : (P : DamagedPart → Type 0) (one : DamagedPart) (later : Option DamagedPart) (part : DamagedPart) → P one
+    → ((other : DamagedPart) → later ≡ Some other → P other) → better one later ≡ Some part → P part
+better_holds P one None part holds rest is = let e : one ≡ part = cc in rw (← e) holds
+better_holds P one (Some later) part holds rest is =
+    chosen_holds P (is_worse one.text later.text) later one part (rest later refl) holds is
+
+numbered_holds : (P : DamagedPart → Type 0) (is_it : Bool) (one : DamagedPart) (later : Option DamagedPart)
     (part : DamagedPart) → P one → ((other : DamagedPart) → later ≡ Some other → P other)
-    → later_or place number one later ≡ Some part → P part
-later_holds P place number one (Some later) part holds rest is =
-    let e : later ≡ part = cc in rw (← e) (rest later refl)
-later_holds P place number one None part holds rest is =
-    chosen_holds P (number_of place one.numbers == number) one part holds is
+    → (if is_it then better one later else later) ≡ Some part → P part
+numbered_holds P true one later part holds rest is = better_holds P one later part holds rest is
+numbered_holds P false one later part holds rest is = rest part is
 
-pub shown_holds : (P : DamagedPart → Type 0) (place number : ℕ) (parts : List DamagedPart) (part : DamagedPart)
-    → All P parts → shown_from place number parts ≡ Some part → P part
-shown_holds P place number [] part all is = absurd (cc)
-shown_holds P place number (one ∷ parts) part all is =
-    later_holds P place number one (shown_from (place + 1) number parts) part (All-head P one parts all)
-    (λ other there. shown_holds P (place + 1) number parts other (All-tail P one parts all) there) is
+pub shown_holds : (P : DamagedPart → Type 0) (number : ℕ) (parts : List DamagedPart) (part : DamagedPart)
+    → All P parts → shown_under parts number ≡ Some part → P part
+shown_holds P number [] part all is = absurd (cc)
+shown_holds P number (one ∷ parts) part all is =
+    numbered_holds P (is_number number one.numbers) one (shown_under parts number) part (All-head P one parts all)
+    (λ other there. shown_holds P number parts other (All-tail P one parts all) there) is
 
 -- ---- The machine can show the keys of each part that is read.
 
@@ -92,7 +96,7 @@ are_workable s [] (read ∷ reads) are = absurd are
 are_workable s (part ∷ parts) [] are = absurd are
 are_workable s (part ∷ parts) (read ∷ reads) are =
     All-cons (λ part. IfOk part.text (λ shown. AreShowable s shown.keys)) read reads
-    (text_showable s part read.text are.0.text) (are_workable s parts reads are.1)
+    (text_showable s are.0.meant read.text are.0.text) (are_workable s parts reads are.1)
 
 -- ---- The page.
 

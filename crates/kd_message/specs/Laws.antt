@@ -1,9 +1,13 @@
--- Laws of the rows of a page.
-use Rattle.std.specs.Prelude.{◌≡◌, ℕ, List, ◌++◌, filter, length, map, Option, Some, None, Ok}
-use Rattle.kd_state.specs.SheetDay.{Day}
+-- Laws of the rows of a page, and of what the page for receiving says of a whole message.
+use Rattle.std.specs.Prelude.{◌≡◌, ℕ, ◌≤◌, List, [], ◌∷◌, ◌++◌, Contains, filter, flat_map, length, map, Option, Some, None, Ok}
+use Rattle.std.specs.List.{range_with_len}
+use Rattle.kd_state.specs.SheetDay.{Day, day_model}
 use Rattle.kd_form.specs.PartMaking.{cipher_from}
+use Rattle.kd_form.specs.FormText.{IsTextOf, plaintext_bytes}
 use Rattle.kd_form.specs.Sending.{space_letter}
 use Rattle.kd_lost.specs.declared.damaged_text.DamagedText.{DamagedText}
+use Rattle.kd_lost.specs.declared.part.DamagedPart.{DamagedPart}
+use Rattle.kd_lost.specs.DamagedForm.{AreReadOf, damaged_parts_of, letters_in, shown_byte}
 use Rattle.kd_lost.specs.DamagedPart.{IsDamagedTextAnswer}
 use Rattle.kd_lost.specs.Lost.{Completes, covered}
 use Rattle.kd_part_sheet.specs.declared.cells.Cell.{Cell}
@@ -11,7 +15,14 @@ use Rattle.kd_part_sheet.specs.declared.cells.Sign.{Sign}
 use Rattle.kd_part_sheet.specs.declared.cells.Sign.TheVariants as signs
 use Rattle.kd_part_sheet.specs.Cells.{received_cells}
 use Rattle.kd_part_sheet.specs.LettersAfter.{letters_after}
+use Rattle.kd_part_sheet.specs.declared.part_sheet.PartName.{PartName}
+use Rattle.kd_pictures.specs.declared.language.Language.{Language}
+use Rattle.kd_message.specs.declared.texts.TheConstants.{TEXT_END}
+use Rattle.kd_message.specs.ReceivePage.{receive_text, sheet_to_receive}
 use Rattle.kd_message.specs.ReceivedWork.{received_work}
+use Rattle.kd_message.specs.SendPage.{part_name}
+use Rattle.kd_message.specs.ShownParts.{IsWhole, lost_in, shown_under, times_of, total_of}
+use Rattle.kd_message.specs.TextSheet.{came_text, read_text, text_begin, text_part_head}
 
 -- The lamps of a row are the machine's cipher of the letters that are pressed in this row, from the letters that the
 -- machine shows after the rows before it.
@@ -42,3 +53,48 @@ RowsAreDeciphered =
     Completes above keys
     → pressed ≡ received_cells (space_letter s) above
     (covered above (cipher_from s (received_work s shown).start keys))
+
+-- ---- Whole messages.
+
+-- the letters of a part's text; none, if there is no part or it isn't read
+abbrev pub letters_of_part : Option DamagedPart → List (Option ℕ)
+letters_of_part None = []
+letters_of_part (Some part) = letters_in part.text
+
+-- the letters of the texts that are shown under the numbers of a message, one after another
+abbrev pub message_letters : List DamagedPart → List (Option ℕ)
+message_letters parts =
+    flat_map (λ number. letters_of_part (shown_under parts number)) (range_with_len 1 (total_of parts))
+
+-- A form that `desk receive` reads is one whole message, and its texts are together the text that `desk receive` gives.
+abbrev pub FormsReadAreWhole : Type 0
+FormsReadAreWhole =
+    (s : Day) (form text : List ℕ) (parts : List DamagedPart) → IsTextOf s form text
+    → AreReadOf s (damaged_parts_of form) parts
+    → IsWhole parts × (text ≡ map (shown_byte (space_letter s)) (message_letters parts) ++ 10 ∷ [])
+
+-- `piece` stands somewhere in `page`.
+abbrev pub IsOn : List ℕ → List ℕ → Type 0
+IsOn page piece = (before : List ℕ) × (after : List ℕ) × (page ≡ before ++ piece ++ after)
+
+-- If a part of a form is read, the page has its text, or the text of a part in which no more letters are lost.
+abbrev pub NothingReadIsHidden : Type 0
+NothingReadIsHidden =
+    (l : Language) (s : Day) (form : List ℕ) (parts : List DamagedPart) (part : DamagedPart) (shown : DamagedText)
+    → AreReadOf s (damaged_parts_of form) parts → Contains parts part → part.text ≡ Ok shown
+    → (name : PartName) × (text : DamagedText) × (lost_in text ≤ lost_in shown)
+    × IsOn (receive_text l s parts) (read_text l (sheet_to_receive (day_model s)) s name text)
+
+-- the text of a part in clear, under its head
+abbrev pub clear_text : Language → Day → PartName → ℕ → List ℕ → List ℕ
+clear_text l s name times letters =
+    text_part_head l name ++ came_text l times ++ (text_begin name.model ++ plaintext_bytes s letters ++ TEXT_END.now)
+
+-- The page of a whole message has the text of each part, from the first to the last, without a lost letter.
+abbrev pub WholeMessagesAreOnThePage : Type 0
+WholeMessagesAreOnThePage =
+    (l : Language) (s : Day) (parts : List DamagedPart) (number : ℕ) → IsWhole parts → 1 ≤ number
+    → number ≤ total_of parts
+    → (letters : List ℕ) × (letters_of_part (shown_under parts number) ≡ map Some letters)
+    × IsOn (receive_text l s parts)
+    (clear_text l s (part_name s number (total_of parts)) (times_of parts number) letters)

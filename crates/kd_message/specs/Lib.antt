@@ -2,7 +2,9 @@ pub mod Checked
 pub mod ReceivedWork
 pub mod FormSheet
 pub mod SendPage
+pub mod OneMessage
 pub mod ShownParts
+pub mod LoneParts
 pub mod TextSheet
 pub mod ReceivePage
 pub mod Laws

@@ -1,18 +1,18 @@
 -- The page for receiving a form.
-use Rattle.std.specs.Prelude.{◌≡◌, decimal, ℕ, ◌≤◌, ◌||◌, nat_le, if◌then◌else◌, List, [], ◌∷◌, ◌++◌, flat_map, length}
+use Rattle.std.specs.Prelude.{◌≡◌, decimal, ℕ, ◌+◌, ◌≤◌, ◌==◌, ◌&&◌, ◌||◌, if◌then◌else◌, is_none, List, [], ◌∷◌, ◌++◌, flat_map, length}
 use Rattle.std.specs.Prelude.{◌↔◌, All, Bool, true, false, IsTrue, IfOk, Option, Some, None, Result, Ok, Err, is_err}
 use Rattle.std.specs.Prelude.{MatchResult}
 use Rattle.std.specs.List.{range_with_len}
 use Rattle.kd_tables.specs.declared.model.Model.{Model}
 use Rattle.kd_tables.specs.Ports.{Port}
 use Rattle.kd_tables.specs.Writing.{Writes}
-use Rattle.kd_state.specs.SheetDay.{Day, day_model}
+use Rattle.kd_state.specs.SheetDay.{Day, day_model, day_number}
 use Rattle.kd_form.specs.Streams.{IsUntouched}
 use Rattle.kd_lost.specs.declared.damage.PartDamage.{PartDamage}
 use Rattle.kd_lost.specs.declared.damaged_text.DamagedText.{DamagedText}
 use Rattle.kd_lost.specs.declared.form.DamagedFormFault.{DamagedFormFault}
 use Rattle.kd_lost.specs.declared.form.DamagedFormFault.TheVariants as form_faults
-use Rattle.kd_lost.specs.declared.part.DamagedPart.{DamagedPart}
+use Rattle.kd_lost.specs.declared.part.{DamagedPart.{DamagedPart}, PartNumbers.{PartNumbers}}
 use Rattle.kd_lost.specs.DamagedForm.{AreReadOf, IsFormFault, damaged_parts_of}
 use Rattle.kd_pictures.specs.declared.texts.TheConstants.{FOOT}
 use Rattle.kd_pictures.specs.declared.language.Language.{Language}
@@ -30,9 +30,11 @@ use Rattle.kd_message.specs.declared.receiving.ReceivePageFault.TheVariants as f
 use Rattle.kd_message.specs.declared.receiving.Section.{Section}
 use Rattle.kd_message.specs.declared.receiving.Section.TheVariants as sections
 use Rattle.kd_message.specs.ReceivedWork.{AreShowable, received_work}
-use Rattle.kd_message.specs.SendPage.{list_head, listed_text as listed_part, part_name, title_text}
-use Rattle.kd_message.specs.ShownParts.{IsWhole, is_any_read, last_of, shown_under, total_of}
-use Rattle.kd_message.specs.TextSheet.{damage_text, missing_text, order_text, read_text, text_part_head}
+use Rattle.kd_message.specs.LoneParts.{listed_lone, lone_text}
+use Rattle.kd_message.specs.OneMessage.{are_of_one_message}
+use Rattle.kd_message.specs.SendPage.{list_head, listed_sheet, part_name, title_text}
+use Rattle.kd_message.specs.ShownParts.{IsWhole, is_any_read, sheet_count, shown_under, times_of, total_of}
+use Rattle.kd_message.specs.TextSheet.{came_text, damage_text, missing_text, order_text, read_text, text_part_head}
 use Rattle.kd_message.specs.TextSheet.{text_sheet_head, warnings_of}
 
 abbrev pub sheet_to_receive : Model → Sheet
@@ -46,7 +48,7 @@ listed_unread l name = filled (text_in l texts.LISTED_UNREAD) (decimal name.part
 
 -- a part in the list of the sheets
 abbrev pub listed_text : Language → PartName → Result DamagedText PartDamage → List ℕ
-listed_text l name (Ok shown) = listed_part l name.parts name.part
+listed_text l name (Ok shown) = listed_sheet l name.sheet name.part name.parts
 listed_text l name (Err damage) = listed_unread l name
 
 -- the sheet on which a part is worked, if it is read
@@ -60,12 +62,12 @@ abbrev pub text_or_damage : Language → Day → PartName → DamagedPart → Re
 text_or_damage l s name part (Ok shown) = read_text l (sheet_to_receive (day_model s)) s name shown
 text_or_damage l s name part (Err damage) = damage_text l name part damage
 
--- what a section has for a part that came
-abbrev pub part_in : Section → Language → Day → PartName → DamagedPart → List ℕ
-part_in sections.Listed l s name part = listed_text l name part.text
-part_in sections.Worked l s name part = worked_text l s name part.text
-part_in sections.Texts l s name part =
-    text_part_head l name ++ text_or_damage l s name part part.text ++ SECTION_END.now
+-- what a section has for a part that came `times` times
+abbrev pub part_in : Section → Language → Day → PartName → ℕ → DamagedPart → List ℕ
+part_in sections.Listed l s name times part = listed_text l name part.text
+part_in sections.Worked l s name times part = worked_text l s name part.text
+part_in sections.Texts l s name times part =
+    text_part_head l name ++ came_text l times ++ text_or_damage l s name part part.text ++ SECTION_END.now
 
 -- what a section has for a part that didn't come
 abbrev pub missing_in : Section → Language → PartName → List ℕ
@@ -73,20 +75,65 @@ missing_in sections.Listed l name = listed_unread l name
 missing_in sections.Worked l name = []
 missing_in sections.Texts l name = text_part_head l name ++ missing_text l name ++ SECTION_END.now
 
--- what a section has for the part that is shown under a number, if there is one. `total`: how many parts the form has.
-abbrev pub shown_in : Section → Language → Day → ℕ → ℕ → Option DamagedPart → List ℕ
-shown_in section l s total number (Some part) = part_in section l s (part_name s number total) part
-shown_in section l s total number None =
-    if nat_le number total then missing_in section l (part_name s number total) else []
+-- what a section has for a part without a number, which stands after the part with the number `after`
+abbrev pub lone_in : Section → Language → Day → ℕ → ℕ → List ℕ
+lone_in sections.Listed l s after came = listed_lone l after
+lone_in sections.Worked l s after came = []
+lone_in sections.Texts l s after came = lone_text l s after came
 
+-- ---- The parts of one message, by their numbers.
+
+-- the number that a heading gives; `before`, if the heading is damaged
+abbrev pub number_or : ℕ → Option PartNumbers → ℕ
+number_or before (Some numbers) = numbers.part
+number_or before None = before
+
+-- What a section has for the parts without a number that stand after the part `after` and before the next part with a
+-- number. `before`: the last number before these parts.
+abbrev pub lone_after : Section → Language → Day → ℕ → ℕ → List DamagedPart → List ℕ
+lone_after section l s after before [] = []
+lone_after section l s after before (part ∷ parts) =
+    (if is_none part.numbers && before == after then lone_in section l s after part.came else [])
+    ++ lone_after section l s after (number_or before part.numbers) parts
+
+-- what a section has for the part that is shown under a number, if there is one
+abbrev pub shown_in : Section → Language → Day → PartName → ℕ → Option DamagedPart → List ℕ
+shown_in section l s name times (Some part) = part_in section l s name times part
+shown_in section l s name times None = missing_in section l name
+
+-- what a section has for a number, and for the parts without a number after it
 abbrev pub number_in : Section → Language → Day → List DamagedPart → ℕ → List ℕ
 number_in section l s parts number =
-    shown_in section l s (total_of parts) number (shown_under parts number)
+    shown_in section l s (part_name s number (total_of parts)) (times_of parts number) (shown_under parts number)
+    ++ lone_after section l s number 0 parts
 
--- a section: what it has for each number
+-- the parts without a number at the beginning; then what a section has for each number
+abbrev pub by_number : Section → Language → Day → List DamagedPart → List ℕ
+by_number section l s parts =
+    lone_after section l s 0 0 parts ++ flat_map (number_in section l s parts) (range_with_len 1 (total_of parts))
+
+-- ---- Parts that aren't of one message, as they came. Each has the sheet with the number of its place.
+
+abbrev pub name_at : Day → ℕ → PartNumbers → PartName
+name_at s place numbers =
+    record { model = day_model s; day = day_number s; sheet = place; part = numbers.part; parts = numbers.parts }
+
+-- what a section has for the part at `place`. `before`: the last number before it.
+abbrev pub part_at : Section → Language → Day → ℕ → ℕ → Option PartNumbers → DamagedPart → List ℕ
+part_at section l s place before (Some numbers) part = part_in section l s (name_at s place numbers) 1 part
+part_at section l s place before None part = lone_in section l s before part.came
+
+-- what a section has for the parts from `place` on
+abbrev pub as_they_came : Section → Language → Day → ℕ → ℕ → List DamagedPart → List ℕ
+as_they_came section l s place before [] = []
+as_they_came section l s place before (part ∷ parts) =
+    part_at section l s place before part.numbers part
+    ++ as_they_came section l s (place + 1) (number_or before part.numbers) parts
+
+-- a section: the parts by their numbers or, if they aren't of one message, as they came
 abbrev pub section_text : Section → Language → Day → List DamagedPart → List ℕ
 section_text section l s parts =
-    flat_map (number_in section l s parts) (range_with_len 1 (last_of parts))
+    if are_of_one_message parts then by_number section l s parts else as_they_came section l s 1 0 parts
 
 -- ---- The page.
 
@@ -94,7 +141,7 @@ section_text section l s parts =
 -- what to ask the other station for.
 unfoldable pub receive_text : Language → Day → List DamagedPart → List ℕ
 receive_text l s parts =
-    title_text l (text_in l texts.TITLE_TO_RECEIVE) s ++ list_head l (last_of parts)
+    title_text l (text_in l texts.TITLE_TO_RECEIVE) s ++ list_head l (sheet_count parts)
     ++ section_text sections.Listed l s parts ++ text_in l texts.LIST_END_WITH_TEXT
     ++ section_text sections.Worked l s parts ++ text_sheet_head l s ++ order_text l parts
     ++ section_text sections.Texts l s parts
@@ -112,8 +159,8 @@ abbrev pub is_device_fault : Result Bool ReceivePageFault → Bool
 is_device_fault (Err faults.Device) = true
 is_device_fault _ = false
 
--- `ReceivedPageWritten`: the page was written, of what is read of the form's parts, and the answer says whether all of
--- the text was read; or only a prefix of the page was written, since the sink failed. `FormNotRead`: nothing was written.
+-- `ReceivedPageWritten`: the page was written, of what is read of the form's parts, and the answer says whether they are
+-- one whole message; or only a prefix of the page was written, since the sink failed. `FormNotRead`: nothing was written.
 pub data IsReceivePageAnswer (l : Language) (s : Day) (form : List ℕ) (sink : Port)
     (answer : Result Bool ReceivePageFault) : Type 0 where
   ReceivedPageWritten : (parts : List DamagedPart) → AreReadOf s (damaged_parts_of form) parts

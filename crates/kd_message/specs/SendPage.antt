@@ -40,9 +40,14 @@ title_text l title s =
     file_head l ++ filled title (model_name (day_model s) ∷ decimal (day_number s) ∷ [])
     ++ page_texts.STYLE.now ++ page_texts.MORE_STYLE.now ++ page_texts.BODY.now
 
--- a part in the list of the sheets
+-- a part in the list of the sheets, with a link to its sheet
+abbrev pub listed_sheet : Language → ℕ → ℕ → ℕ → List ℕ
+listed_sheet l sheet part parts =
+    filled (text_in l texts.LISTED_PART) (decimal sheet ∷ decimal part ∷ decimal parts ∷ [])
+
+-- a part that is sent in the list of the sheets
 abbrev pub listed_text : Language → ℕ → ℕ → List ℕ
-listed_text l parts part = filled (text_in l texts.LISTED_PART) (decimal part ∷ decimal part ∷ decimal parts ∷ [])
+listed_text l parts part = listed_sheet l part part parts
 
 abbrev pub list_head : Language → ℕ → List ℕ
 list_head l parts = if parts == 1 then text_in l texts.LIST_OF_ONE else text_in l texts.LIST_OF_SEVERAL
@@ -53,7 +58,7 @@ list_text l parts =
     list_head l parts ++ flat_map (listed_text l parts) (range_with_len 1 parts) ++ text_in l texts.LIST_END_WITH_FORM
 
 abbrev pub part_name : Day → ℕ → ℕ → PartName
-part_name s part parts = record { model = day_model s; day = day_number s; part = part; parts = parts }
+part_name s part parts = record { model = day_model s; day = day_number s; sheet = part; part = part; parts = parts }
 
 abbrev pub sheet_to_send : Model → Sheet
 sheet_to_send model = if is_converter model then PinSend else RotorSend

@@ -1,71 +1,79 @@
--- Under which numbers the parts of a received form are shown, and whether all of the text was read.
-use Rattle.std.specs.Prelude.{◌≡◌, ◌≢◌, ℕ, ◌+◌, ◌<◌, ◌==◌, if◌then◌else◌, max, List, [], ◌∷◌, All, Option, None, Some}
-use Rattle.std.specs.Prelude.{MatchOption, Ok, is_ok, nat_lt, ◌&&◌, ◌||◌, Bool, true, false}
-use Rattle.std.specs.List.{range_with_len}
+-- Which parts of a received form are shown under which numbers, and whether the form is one whole message.
+use Rattle.std.specs.Prelude.{◌≡◌, ◌≢◌, ℕ, ◌<◌, ◌==◌, if◌then◌else◌, max, List, [], ◌∷◌, All, Option, None, Some}
+use Rattle.std.specs.Prelude.{MatchOption, Result, Ok, Err, IfOk, IsTrue, is_none, is_ok, length, nat_lt, ◌&&◌, ◌||◌}
+use Rattle.std.specs.Prelude.{Bool, true, false}
+use Rattle.std.specs.List.{count_by, range_with_len}
+use Rattle.kd_lost.specs.declared.damage.PartDamage.{PartDamage}
 use Rattle.kd_lost.specs.declared.damaged_text.DamagedText.{DamagedText}
+use Rattle.kd_lost.specs.declared.damaged_text.GroupTest.TheVariants.{Wrong}
 use Rattle.kd_lost.specs.declared.part.{DamagedPart.{DamagedPart}, PartNumbers.{PartNumbers}}
+use Rattle.kd_message.specs.OneMessage.{are_of_one_message}
 
--- ---- Numbers.
+-- ---- Numbers. Only a heading gives them: a part with a damaged heading has no number.
 
--- the number under which a part is shown: that in its heading or, if it is damaged, the part's place in the form
-abbrev pub number_of : ℕ → Option PartNumbers → ℕ
-number_of place (Some numbers) = numbers.part
-number_of place None = place
-
--- how many parts the form has by a heading; `total`, if it is damaged
+-- how many parts the message has by a heading; `later`, if the heading is damaged
 abbrev pub parts_or : ℕ → Option PartNumbers → ℕ
-parts_or total (Some numbers) = numbers.parts
-parts_or total None = total
+parts_or later (Some numbers) = numbers.parts
+parts_or later None = later
 
--- how many parts the form has, by the last heading that isn't damaged; `total`, if there is none
-abbrev pub total_or : ℕ → List DamagedPart → ℕ
-total_or total [] = total
-total_or total (part ∷ parts) = total_or (parts_or total part.numbers) parts
-
--- how many parts the form has; one, if all headings are damaged
+-- how many parts the message has by the first heading that isn't damaged; 0, if all are
 abbrev pub total_of : List DamagedPart → ℕ
-total_of parts = total_or 1 parts
+total_of [] = 0
+total_of (part ∷ parts) = parts_or (total_of parts) part.numbers
 
--- the numbers of parts that stand from `place` on
-abbrev pub numbers_from : ℕ → List DamagedPart → List ℕ
-numbers_from place [] = []
-numbers_from place (part ∷ parts) = number_of place part.numbers ∷ numbers_from (place + 1) parts
+-- a heading's number, before the others
+abbrev pub number_before : Option PartNumbers → List ℕ → List ℕ
+number_before (Some numbers) others = numbers.part ∷ others
+number_before None others = others
 
--- the numbers of a form's parts, in the order in which they came
+-- the numbers of the parts that have one, in the order in which they came
 abbrev pub numbers_of : List DamagedPart → List ℕ
-numbers_of parts = numbers_from 1 parts
+numbers_of [] = []
+numbers_of (part ∷ parts) = number_before part.numbers (numbers_of parts)
 
 -- whether each number is greater than the one before it, and the first than `before`
 abbrev pub are_rising : ℕ → List ℕ → Bool
 are_rising before [] = true
 are_rising before (number ∷ numbers) = nat_lt before number && are_rising number numbers
 
--- the greatest number of parts that stand from `place` on, and at least `least`
-abbrev pub greatest_number : ℕ → ℕ → List DamagedPart → ℕ
-greatest_number least place [] = least
-greatest_number least place (part ∷ parts) =
-    max (number_of place part.numbers) (greatest_number least (place + 1) parts)
+-- whether the heading gives this number
+abbrev pub is_number : ℕ → Option PartNumbers → Bool
+is_number number (Some numbers) = numbers.part == number
+is_number number None = false
 
--- the last number that the page has
-abbrev pub last_of : List DamagedPart → ℕ
-last_of parts = greatest_number (total_of parts) 1 parts
+-- how often the part with this number came
+abbrev pub times_of : List DamagedPart → ℕ → ℕ
+times_of parts number = count_by (λ part. is_number number part.numbers) parts
 
--- a later part with this number or, if there is none, the part at `place`, if it has the number
-abbrev pub later_or : ℕ → ℕ → DamagedPart → Option DamagedPart → Option DamagedPart
-later_or place number part (Some later) = Some later
-later_or place number part None = if number_of place part.numbers == number then Some part else None
+-- ---- Repetitions.
 
--- the last part with this number, of parts that stand from `place` on
-abbrev pub shown_from : ℕ → ℕ → List DamagedPart → Option DamagedPart
-shown_from place number [] = None
-shown_from place number (part ∷ parts) =
-    later_or place number part (shown_from (place + 1) number parts)
+-- how many letters of a text are lost
+abbrev pub lost_in : DamagedText → ℕ
+lost_in shown = count_by (λ letter. is_none letter) shown.letters.items
 
--- the part that is shown under this number: the last one that has it
+-- whether the other part tells more: it is read where the first isn't, or fewer letters of its text are lost
+abbrev pub is_worse : Result DamagedText PartDamage → Result DamagedText PartDamage → Bool
+is_worse (Ok one) (Ok other) = nat_lt (lost_in other) (lost_in one)
+is_worse (Err damage) (Ok other) = true
+is_worse (Ok one) (Err damage) = false
+is_worse (Err damage) (Err other) = false
+
+-- the part or, if it tells more, the later one
+abbrev pub better : DamagedPart → Option DamagedPart → Option DamagedPart
+better part None = Some part
+better part (Some later) = if is_worse part.text later.text then Some later else Some part
+
+-- the part that is shown under this number: of the parts with the number, the first that none is better than
 abbrev pub shown_under : List DamagedPart → ℕ → Option DamagedPart
-shown_under parts number = shown_from 1 number parts
+shown_under [] number = None
+shown_under (part ∷ parts) number =
+    if is_number number part.numbers then better part (shown_under parts number) else shown_under parts number
 
--- ---- Whether all of the text was read.
+-- how many sheets the page has at most
+abbrev pub sheet_count : List DamagedPart → ℕ
+sheet_count parts = max (total_of parts) (length parts)
+
+-- ---- Whether the form is one whole message.
 
 -- whether one of the parts is read
 abbrev pub is_any_read : List DamagedPart → Bool
@@ -77,10 +85,19 @@ abbrev pub IsReadWhole : DamagedPart → Type 0
 IsReadWhole part =
     (shown : DamagedText) × (part.text ≡ Ok shown) × All (λ got. got ≢ None) shown.letters.items
 
--- The part that is shown under the number is read whole. If there is no such part, the form doesn't have this number.
+-- A part with this number came, and the one that is shown is read whole.
 abbrev pub IsNumberWhole : List DamagedPart → ℕ → Type 0
-IsNumberWhole parts number = MatchOption (shown_under parts number) (total_of parts < number) IsReadWhole
+IsNumberWhole parts number = MatchOption (shown_under parts number) ⊥ IsReadWhole
 
--- Each part that is shown is read, no letter of its text is lost, and no part is missing.
-abbrev pub IsWhole : List DamagedPart → Type 0
-IsWhole parts = All (IsNumberWhole parts) (range_with_len 1 (last_of parts))
+-- The part isn't of another day or network, as far as its group or its list letters tell.
+abbrev pub MayBeOfTheDay : DamagedPart → Type 0
+MayBeOfTheDay part = IfOk part.text (λ shown. shown.group ≢ Wrong)
+
+-- The form is one whole message: any two parts can be of one message; each has a number; none is of another day or
+-- network; and under each number from 1 to the number of parts, there is a text without a lost letter.
+pub record IsWhole (parts : List DamagedPart) : Type 0 where
+  pub one_message : IsTrue (are_of_one_message parts)
+  pub numbered : All (λ part. part.numbers ≢ None) parts
+  pub of_the_day : All MayBeOfTheDay parts
+  pub some : 0 < total_of parts
+  pub each : All (IsNumberWhole parts) (range_with_len 1 (total_of parts))

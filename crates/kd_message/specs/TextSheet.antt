@@ -1,5 +1,5 @@
 -- The sheet with the text of a received form, and what to ask the other station for.
-use Rattle.std.specs.Prelude.{decimal, ℕ, ◌+◌, ◌-◌, ◌/◌, ◌==◌, nat_le, ◌&&◌, ◌||◌, not, Bool, true, false, is_none}
+use Rattle.std.specs.Prelude.{decimal, ℕ, ◌+◌, ◌-◌, ◌/◌, ◌==◌, nat_le, nat_lt, ◌&&◌, ◌||◌, not, Bool, true, false, is_none}
 use Rattle.std.specs.Prelude.{if◌then◌else◌}
 use Rattle.std.specs.Prelude.{List, [], ◌∷◌, ◌++◌, map, Option, Some, None}
 use Rattle.kd_tables.specs.declared.model.Model.{Model}
@@ -24,6 +24,7 @@ use Rattle.kd_part_sheet.specs.declared.sheet.Sheet.{Sheet}
 use Rattle.kd_message.specs.declared.texts.TheConstants as texts
 use Rattle.kd_part_sheet.specs.PartSheet.{warnings_text}
 use Rattle.kd_part_sheet.specs.Rows.{pieces}
+use Rattle.kd_message.specs.OneMessage.{are_of_one_message}
 use Rattle.kd_message.specs.ShownParts.{are_rising, numbers_of}
 
 -- the head of the sheet
@@ -44,10 +45,38 @@ numbers_after first (number ∷ numbers) = first ++ decimal number ++ numbers_af
 unfoldable pub order_words : Language → List ℕ → List ℕ
 order_words l numbers = text_in l texts.ORDER ++ numbers_after [] numbers ++ text_in l texts.ORDER_END
 
--- the order in which the parts came, if it isn't that of their numbers
+-- what a heading says: its number, and the number of parts
+unfoldable pub heading_words : PartNumbers → List ℕ
+heading_words numbers = decimal numbers.part ++ texts.OF_PARTS.now ++ decimal numbers.parts
+
+-- a heading that isn't damaged, after `first`; then `more`. For a damaged one, `others`.
+abbrev pub heading_then : List ℕ → Option PartNumbers → List ℕ → List ℕ → List ℕ
+heading_then first (Some numbers) more others = first ++ heading_words numbers ++ more
+heading_then first None more others = others
+
+-- the headings that aren't damaged, with commas between them; the first after `first`
+abbrev pub headings_after : List ℕ → List DamagedPart → List ℕ
+headings_after first [] = []
+headings_after first (part ∷ parts) =
+    heading_then first part.numbers (headings_after COMMA.now parts) (headings_after first parts)
+
+-- that the parts aren't of one message, with their headings
+unfoldable pub several_words : Language → List DamagedPart → List ℕ
+several_words l parts = text_in l texts.SEVERAL ++ headings_after [] parts ++ text_in l texts.SEVERAL_END
+
+-- that the parts aren't of one message; or the order in which they came, if it isn't that of their numbers
 abbrev pub order_text : Language → List DamagedPart → List ℕ
 order_text l parts =
-    if are_rising 0 (numbers_of parts) then [] else order_words l (numbers_of parts)
+    if are_of_one_message parts
+    then (if are_rising 0 (numbers_of parts) then [] else order_words l (numbers_of parts))
+    else several_words l parts
+
+-- how often a part came, if it came more than once
+unfoldable pub came_words : Language → ℕ → List ℕ
+came_words l times = text_in l texts.CAME ++ decimal times ++ text_in l texts.CAME_END
+
+abbrev pub came_text : Language → ℕ → List ℕ
+came_text l times = if nat_lt 1 times then came_words l times else []
 
 -- ---- What to ask the other station for.
 

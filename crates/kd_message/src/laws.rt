@@ -1,6 +1,7 @@
-//! Laws of the rows of a page, and of templates.
+//! Laws of the rows of a page, of whole messages, and of templates.
 ghost use Rattle.kd_message.specs.Checked.{TemplatesTakeTheirValues};
-ghost use Rattle.kd_message.specs.Laws.{RowsAreDeciphered, RowsAreEnciphered};
+ghost use Rattle.kd_message.specs.Laws.{FormsReadAreWhole, NothingReadIsHidden, RowsAreDeciphered, RowsAreEnciphered};
+ghost use Rattle.kd_message.specs.Laws.{WholeMessagesAreOnThePage};
 
 /// A row can be worked again by itself: its lamps follow from its keys and from the windows before it.
 pub fn rows_are_enciphered()
@@ -15,4 +16,22 @@ pub fn rows_are_deciphered()
 /// Each template takes the values that pages fill into it, in both languages.
 pub fn templates_take_their_values()
     ensures { TemplatesTakeTheirValues }
+{}
+
+/// What `desk receive` reads is shown whole, with the same text.
+#[tactic(auto, using(crate::proofs::WholeForms::forms_whole))]
+pub fn forms_read_are_whole()
+    ensures { FormsReadAreWhole }
+{}
+
+/// No part that can be read is hidden by one of which less can be read.
+#[tactic(auto, using(crate::proofs::PagesWhole::nothing_hidden))]
+pub fn nothing_read_is_hidden()
+    ensures { NothingReadIsHidden }
+{}
+
+/// A whole message is whole on the page, too.
+#[tactic(auto, using(crate::proofs::PagesWhole::whole_on_page))]
+pub fn whole_messages_are_on_the_page()
+    ensures { WholeMessagesAreOnThePage }
 {}

@@ -3,6 +3,8 @@
 
 mod form_sheet;
 pub mod laws;
+mod lone_parts;
+mod one_message;
 mod order;
 mod received_work;
 mod receiving;

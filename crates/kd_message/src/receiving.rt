@@ -1,22 +1,31 @@
 //! The page for receiving a form, in which letters may be lost.
-ghost use Rattle.std.specs.Prelude.{◌≡◌, ◌≤◌, ◌+◌, ◌||◌, [], false, flat_map, if◌then◌else◌, IfOk, IsErr, length};
+ghost use Rattle.std.specs.Prelude.{◌≡◌, ◌==◌, ◌≤◌, ◌+◌, ◌&&◌, ◌||◌, [], false, flat_map, if◌then◌else◌, is_none};
+ghost use Rattle.std.specs.Prelude.{IfOk, IsErr, length};
 ghost use Rattle.std.specs.List.{range_with_len};
 ghost use Rattle.kd_tables.specs.Ports.{port};
 ghost use Rattle.kd_pictures.specs.Drawing.{Draws};
 ghost use Rattle.kd_message.specs.ReceivedWork.{AreShowable};
-ghost use Rattle.kd_message.specs.ReceivePage.{AreWorkable, IsReceivePageAnswer, is_device_fault, listed_text};
-ghost use Rattle.kd_message.specs.ReceivePage.{listed_unread, missing_in, number_in, page_fault, part_in, receive_text};
-ghost use Rattle.kd_message.specs.ReceivePage.{section_text, sheet_to_receive, text_or_damage, worked_text};
+ghost use Rattle.kd_message.specs.ReceivePage.{AreWorkable, IsReceivePageAnswer, as_they_came, by_number};
+ghost use Rattle.kd_message.specs.ReceivePage.{is_device_fault, listed_text, listed_unread, lone_after, lone_in};
+ghost use Rattle.kd_message.specs.ReceivePage.{missing_in, name_at, number_in, number_or, page_fault, part_at, part_in};
+ghost use Rattle.kd_message.specs.ReceivePage.{receive_text, section_text, sheet_to_receive, shown_in};
+ghost use Rattle.kd_message.specs.ReceivePage.{text_or_damage, worked_text};
+ghost use Rattle.kd_message.specs.SendPage.{part_name};
+ghost use Rattle.kd_message.specs.ShownParts.{shown_under, times_of, total_of};
 
+use crate::lone_parts::{draw_listed_lone, draw_lone_text};
+use crate::one_message::are_of_one_message;
 use crate::received_work::received_work;
 use crate::sending::{draw_listed_part, draw_title, list_head, part_name};
-use crate::shown_parts::{is_any_read, is_whole, last_of, shown_under, total_of};
+use crate::shown_parts::{is_any_read, is_whole, sheet_count, shown_under, times_of, total_of};
 use crate::text_sheet::{
-    draw_damage, draw_missing, draw_order, draw_read_text, draw_text_part_head,
+    draw_came, draw_damage, draw_missing, draw_order, draw_read_text, draw_text_part_head,
     draw_text_sheet_head, warnings_of,
 };
 use crate::texts::{ARTICLE_END, LIST_END_WITH_TEXT, LISTED_UNREAD, TITLE_TO_RECEIVE};
-use kd_lost::{DamagedFormFault, DamagedPart, DamagedText, PartDamage, read_damaged_form};
+use kd_lost::{
+    DamagedFormFault, DamagedPart, DamagedText, PartDamage, PartNumbers, read_damaged_form,
+};
 use kd_part_sheet::markup::SECTION_END;
 use kd_part_sheet::part_sheet::{PartName, draw_if, draw_part_sheet, note};
 use kd_part_sheet::sheet::Sheet;
@@ -41,7 +50,7 @@ pub enum ReceivePageFault {
 
 /// Writes the page in this language that says how to decipher `form` by hand on a machine on the day's key, and its text.
 ///
-/// Returns whether all of the text was read. For `Device`, a prefix of the page is written. For other faults, nothing is
+/// Returns whether the form is one whole message of the day, and all of its text was read. For `Device`, a prefix of the page is written. For other faults, nothing is
 /// written.
 pub fn write_receive_page<W: Sink>(
     alloc: Global,
@@ -95,7 +104,7 @@ fn draw_page<W: Sink>(sink: &mut W, language: Language, day: &SheetDay, parts: &
         (receive_text language day.now parts.now) }
 {
     draw_title(sink, language, TITLE_TO_RECEIVE, day);
-    draw(sink, list_head(language, last_of(parts)));
+    draw(sink, list_head(language, sheet_count(parts)));
     draw_section(sink, Section::Listed, language, day, parts);
     draw_in(sink, language, LIST_END_WITH_TEXT);
     draw_section(sink, Section::Worked, language, day, parts);
@@ -111,7 +120,7 @@ fn draw_page<W: Sink>(sink: &mut W, language: Language, day: &SheetDay, parts: &
     draw(sink, FOOT);
 }
 
-/// Writes what a section has for each number.
+/// Writes a section: the parts by their numbers or, if they aren't of one message, as they came.
 fn draw_section<W: Sink>(
     sink: &mut W,
     section: Section,
@@ -124,7 +133,35 @@ fn draw_section<W: Sink>(
     ensures { Draws W.taken W.has_failed sink.old sink.new
         (section_text section language day.now parts.now) }
 {
-    draw_numbers(sink, section, language, day, parts, 1, last_of(parts));
+    if are_of_one_message(parts) {
+        draw_by_number(sink, section, language, day, parts);
+    } else {
+        draw_as_they_came(sink, section, language, day, 1, 0, parts);
+    }
+}
+
+/// Writes the parts without a number at the beginning, then what a section has for each number.
+fn draw_by_number<W: Sink>(
+    sink: &mut W,
+    section: Section,
+    language: Language,
+    day: &SheetDay,
+    parts: &[DamagedPart],
+)
+    requires { AreWorkable day.now parts.now }
+    ensures { Draws W.taken W.has_failed sink.old sink.new
+        (by_number section language day.now parts.now) }
+{
+    draw_lone_after(sink, section, language, day, 0, 0, parts);
+    draw_numbers(
+        sink,
+        section,
+        language,
+        day,
+        parts,
+        1,
+        u16::from(total_of(parts)),
+    );
 }
 
 /// Writes what a section has for the `count` numbers from `number` on.
@@ -137,7 +174,6 @@ fn draw_numbers<W: Sink>(
     number: u16,
     count: u16,
 )
-    requires few { length parts.now ≤ 255 }
     requires workable { AreWorkable day.now parts.now }
     requires numbers { number + count ≤ 256 }
     ensures { Draws W.taken W.has_failed sink.old sink.new
@@ -149,7 +185,7 @@ fn draw_numbers<W: Sink>(
     }
 }
 
-/// Writes what a section has for the part that is shown under `number`.
+/// Writes what a section has for `number`, and for the parts without a number after it.
 fn draw_number<W: Sink>(
     sink: &mut W,
     section: Section,
@@ -158,37 +194,198 @@ fn draw_number<W: Sink>(
     parts: &[DamagedPart],
     number: u16,
 )
-    requires few { length parts.now ≤ 255 }
     requires workable { AreWorkable day.now parts.now }
     requires number { number ≤ 255 }
     ensures { Draws W.taken W.has_failed sink.old sink.new
         (number_in section language day.now parts.now number) }
 {
-    let total = total_of(parts);
-    let name = part_name(day, number as u8, total);
+    draw_shown(sink, section, language, day, parts, number);
+    draw_lone_after(sink, section, language, day, number as u8, 0, parts);
+}
+
+/// Writes what a section has for the part that is shown under `number`.
+fn draw_shown<W: Sink>(
+    sink: &mut W,
+    section: Section,
+    language: Language,
+    day: &SheetDay,
+    parts: &[DamagedPart],
+    number: u16,
+)
+    requires workable { AreWorkable day.now parts.now }
+    requires number { number ≤ 255 }
+    ensures { Draws W.taken W.has_failed sink.old sink.new
+        (shown_in section language day.now (part_name day.now number (total_of parts.now))
+        (times_of parts.now number) (shown_under parts.now number)) }
+{
+    let name = part_name(day, number as u8, total_of(parts));
     match shown_under(parts, number) {
-        Some(part) => draw_part(sink, section, language, day, name, part),
-        None => draw_missing_if(sink, number <= u16::from(total), section, language, name),
+        Some(part) => {
+            let times = times_of(parts, number);
+            draw_part(sink, section, language, day, name, times, part)
+        }
+        None => draw_missing_in(sink, section, language, name),
     }
 }
 
-/// Writes what a section has for a part that came.
+/// Writes what a section has for the parts without a number that stand after the part `after`.
+///
+/// `before`: the last number before these parts.
+fn draw_lone_after<W: Sink>(
+    sink: &mut W,
+    section: Section,
+    language: Language,
+    day: &SheetDay,
+    after: u8,
+    before: u8,
+    parts: &[DamagedPart],
+)
+    ensures { Draws W.taken W.has_failed sink.old sink.new
+        (lone_after section language day.now after before parts.now) }
+{
+    if let [part, rest @ ..] = parts {
+        let is_there = is_lone_after(after, before, &part.numbers);
+        draw_lone_if(sink, is_there, section, language, day, after, part.came);
+        let last = number_or(before, &part.numbers);
+        draw_lone_after(sink, section, language, day, after, last, rest);
+    }
+}
+
+/// Whether a part has no number, and stands after the part `after`. `before`: the last number before it.
+fn is_lone_after(after: u8, before: u8, numbers: &Option<PartNumbers>) -> bool
+    ensures { result ≡ (is_none numbers.now && before == after) }
+{
+    match numbers {
+        Some(_) => false,
+        None => before == after,
+    }
+}
+
+/// The number that a heading gives; `before`, if the heading is damaged.
+fn number_or(before: u8, numbers: &Option<PartNumbers>) -> u8
+    ensures { result ≡ number_or before numbers.now }
+{
+    match numbers {
+        Some(numbers) => numbers.part,
+        None => before,
+    }
+}
+
+/// Writes what a section has for a part without a number, if it is to be written here.
+fn draw_lone_if<W: Sink>(
+    sink: &mut W,
+    is_there: bool,
+    section: Section,
+    language: Language,
+    day: &SheetDay,
+    after: u8,
+    came: usize,
+)
+    ensures { Draws W.taken W.has_failed sink.old sink.new
+        (if is_there then lone_in section language day.now after came else []) }
+{
+    if is_there {
+        draw_lone(sink, section, language, day, after, came);
+    } else {
+        draw(sink, "");
+    }
+}
+
+/// Writes what a section has for a part without a number, which stands after the part with the number `after`.
+fn draw_lone<W: Sink>(
+    sink: &mut W,
+    section: Section,
+    language: Language,
+    day: &SheetDay,
+    after: u8,
+    came: usize,
+)
+    ensures { Draws W.taken W.has_failed sink.old sink.new
+        (lone_in section language day.now after came) }
+{
+    match section {
+        Section::Listed => draw_listed_lone(sink, language, after),
+        Section::Worked => draw(sink, ""),
+        Section::Texts => draw_lone_text(sink, language, day, after, came),
+    }
+}
+
+/// Writes what a section has for the parts from `place` on, as they came. `before`: the last number before them.
+fn draw_as_they_came<W: Sink>(
+    sink: &mut W,
+    section: Section,
+    language: Language,
+    day: &SheetDay,
+    place: u16,
+    before: u8,
+    parts: &[DamagedPart],
+)
+    requires places { place + length parts.now ≤ 256 }
+    requires workable { AreWorkable day.now parts.now }
+    ensures { Draws W.taken W.has_failed sink.old sink.new
+        (as_they_came section language day.now place before parts.now) }
+{
+    if let [part, rest @ ..] = parts {
+        draw_part_at(sink, section, language, day, place, before, part);
+        let last = number_or(before, &part.numbers);
+        draw_as_they_came(sink, section, language, day, place + 1, last, rest);
+    }
+}
+
+/// Writes what a section has for the part at `place`. `before`: the last number before it.
+fn draw_part_at<W: Sink>(
+    sink: &mut W,
+    section: Section,
+    language: Language,
+    day: &SheetDay,
+    place: u16,
+    before: u8,
+    part: &DamagedPart,
+)
+    requires place { place ≤ 255 }
+    requires workable { IfOk part.now.text (λ shown. AreShowable day.now shown.keys) }
+    ensures { Draws W.taken W.has_failed sink.old sink.new
+        (part_at section language day.now place before part.now.numbers part.now) }
+{
+    match &part.numbers {
+        Some(numbers) => {
+            let name = name_at(day, place as u8, numbers);
+            draw_part(sink, section, language, day, name, 1, part)
+        }
+        None => draw_lone(sink, section, language, day, before, part.came),
+    }
+}
+
+fn name_at(day: &SheetDay, place: u8, numbers: &PartNumbers) -> PartName
+    ensures { result ≡ name_at day.now place numbers.now }
+{
+    PartName {
+        model: day.model(),
+        day: day.day(),
+        sheet: place,
+        part: numbers.part,
+        parts: numbers.parts,
+    }
+}
+
+/// Writes what a section has for a part that came `times` times.
 fn draw_part<W: Sink>(
     sink: &mut W,
     section: Section,
     language: Language,
     day: &SheetDay,
     name: PartName,
+    times: usize,
     part: &DamagedPart,
 )
     requires { IfOk part.now.text (λ shown. AreShowable day.now shown.keys) }
     ensures { Draws W.taken W.has_failed sink.old sink.new
-        (part_in section language day.now name part.now) }
+        (part_in section language day.now name times part.now) }
 {
     match section {
         Section::Listed => draw_listed(sink, language, name, &part.text),
         Section::Worked => draw_worked(sink, language, day, name, &part.text),
-        Section::Texts => draw_part_text(sink, language, day, name, part),
+        Section::Texts => draw_part_text(sink, language, day, name, times, part),
     }
 }
 
@@ -202,7 +399,7 @@ fn draw_listed<W: Sink>(
     ensures { Draws W.taken W.has_failed sink.old sink.new (listed_text language name text.now) }
 {
     match text {
-        Ok(_) => draw_listed_part(sink, language, name.part, name.parts),
+        Ok(_) => draw_listed_part(sink, language, name.sheet, name.part, name.parts),
         Err(_) => draw_listed_unread(sink, language, name),
     }
 }
@@ -258,18 +455,20 @@ fn sheet_to_receive(model: Model) -> Sheet
     }
 }
 
-/// Writes a part of the text: its head, and its text or why it isn't read.
+/// Writes a part of the text: its head, how often it came, and its text or why it isn't read.
 fn draw_part_text<W: Sink>(
     sink: &mut W,
     language: Language,
     day: &SheetDay,
     name: PartName,
+    times: usize,
     part: &DamagedPart,
 )
     ensures { Draws W.taken W.has_failed sink.old sink.new
-        (part_in Section.Texts language day.now name part.now) }
+        (part_in Section.Texts language day.now name times part.now) }
 {
     draw_text_part_head(sink, language, name);
+    draw_came(sink, language, times);
     draw_text_or_damage(sink, language, day, name, part);
     draw(sink, SECTION_END);
 }
@@ -290,24 +489,6 @@ fn draw_text_or_damage<W: Sink>(
             draw_read_text(sink, language, sheet, day, name, shown)
         }
         Err(damage) => draw_damage(sink, language, name, part, *damage),
-    }
-}
-
-/// Writes what a section has for a part that didn't come, if the form has such a part.
-fn draw_missing_if<W: Sink>(
-    sink: &mut W,
-    is_missing: bool,
-    section: Section,
-    language: Language,
-    name: PartName,
-)
-    ensures { Draws W.taken W.has_failed sink.old sink.new
-        (if is_missing then missing_in section language name else []) }
-{
-    if is_missing {
-        draw_missing_in(sink, section, language, name);
-    } else {
-        draw(sink, "");
     }
 }
 

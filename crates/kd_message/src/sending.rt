@@ -11,8 +11,8 @@ ghost use Rattle.kd_pictures.specs.Language.{in_language};
 ghost use Rattle.kd_part_sheet.specs.PartWork.{Work};
 ghost use Rattle.kd_message.specs.FormSheet.{form_part};
 ghost use Rattle.kd_message.specs.SendPage.{AreKeysOfText, AreMade, AreWorks, HasForm, IsSendPage, IsSendPageAnswer};
-ghost use Rattle.kd_message.specs.SendPage.{form_parts, is_device, list_head, list_text, listed_text, part_name};
-ghost use Rattle.kd_message.specs.SendPage.{part_sheets, sheet_to_send};
+ghost use Rattle.kd_message.specs.SendPage.{form_parts, is_device, list_head, list_text, listed_sheet, listed_text};
+ghost use Rattle.kd_message.specs.SendPage.{part_name, part_sheets, sheet_to_send};
 ghost use Rattle.kd_message.specs.SendPage.{send_text, text_pieces, title_text};
 
 use crate::form_sheet::{draw_form_head, draw_form_part};
@@ -162,20 +162,28 @@ fn draw_listed<W: Sink>(sink: &mut W, language: Language, part: u8, parts: u8, c
         (flat_map (listed_text language parts) (range_with_len part count)) }
 {
     if count > 0 {
-        draw_listed_part(sink, language, part, parts);
+        draw_listed_part(sink, language, part, part, parts);
         draw_listed(sink, language, part + 1, parts, count - 1);
     }
 }
 
-pub(crate) fn draw_listed_part<W: Sink>(sink: &mut W, language: Language, part: u8, parts: u8)
-    ensures { Draws W.taken W.has_failed sink.old sink.new (listed_text language parts part) }
+/// Writes a part in the list of the sheets, with a link to its sheet.
+pub(crate) fn draw_listed_part<W: Sink>(
+    sink: &mut W,
+    language: Language,
+    sheet: u8,
+    part: u8,
+    parts: u8,
+)
+    ensures { Draws W.taken W.has_failed sink.old sink.new
+        (listed_sheet language sheet part parts) }
 {
     fill_in(
         sink,
         language,
         LISTED_PART,
         &[
-            Value::Number(u16::from(part)),
+            Value::Number(u16::from(sheet)),
             Value::Number(u16::from(part)),
             Value::Number(u16::from(parts)),
         ],
@@ -237,6 +245,7 @@ pub(crate) fn part_name(day: &SheetDay, part: u8, parts: u8) -> PartName
     PartName {
         model: day.model(),
         day: day.day(),
+        sheet: part,
         part,
         parts,
     }

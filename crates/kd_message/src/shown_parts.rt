@@ -1,111 +1,114 @@
-//! Under which numbers the parts of a received form are shown, and whether all of the text was read.
-ghost use Rattle.std.specs.Prelude.{◌≡◌, ◌≢◌, ◌↔◌, ◌≤◌, ◌+◌, All, IsTrue, MatchOption, None, Some, length};
+//! Which parts of a received form are shown under which numbers, and whether the form is one whole message.
+ghost use Rattle.std.specs.Prelude.{◌≡◌, ◌≢◌, ◌↔◌, ◌≤◌, ◌+◌, All, IsTrue, MatchOption, None, Some, is_none, length};
 ghost use Rattle.std.specs.List.{range_with_len};
-ghost use Rattle.kd_message.specs.ShownParts.{IsNumberWhole, IsReadWhole, IsWhole, are_rising, greatest_number};
-ghost use Rattle.kd_message.specs.ShownParts.{is_any_read, last_of, number_of, numbers_from, shown_from, shown_under};
-ghost use Rattle.kd_message.specs.ShownParts.{total_of, total_or};
+ghost use Rattle.kd_message.specs.ShownParts.{IsNumberWhole, IsReadWhole, IsWhole, MayBeOfTheDay, are_rising};
+ghost use Rattle.kd_message.specs.ShownParts.{is_any_read, is_number, is_worse, lost_in, numbers_of, sheet_count};
+ghost use Rattle.kd_message.specs.ShownParts.{shown_under, times_of, total_of};
 
-use kd_lost::{DamagedPart, PartNumbers};
+use crate::one_message::are_of_one_message;
+use kd_lost::{DamagedPart, DamagedText, GroupTest, PartDamage, PartNumbers};
 use kd_tables::Letter;
 
-/// The number under which the part at `place` is shown: that in its heading or, if it is damaged, the part's place.
-pub(crate) fn number_of(place: u16, numbers: &Option<PartNumbers>) -> u16
-    requires { place ≤ 255 }
-    ensures value { result ≡ number_of place numbers.now }
-    ensures few { result ≤ 255 }
-{
-    match numbers {
-        Some(numbers) => u16::from(numbers.part),
-        None => place,
-    }
-}
-
-/// How many parts the form has, by its last heading that isn't damaged.
+/// How many parts the message has by the first heading that isn't damaged; 0, if all are.
 pub(crate) fn total_of(parts: &[DamagedPart]) -> u8
     ensures { result ≡ total_of parts.now }
 {
-    total_or(1, parts)
-}
-
-fn total_or(total: u8, parts: &[DamagedPart]) -> u8
-    ensures { result ≡ total_or total parts.now }
-{
     match parts {
         [part, rest @ ..] => match &part.numbers {
-            Some(numbers) => total_or(numbers.parts, rest),
-            None => total_or(total, rest),
+            Some(numbers) => numbers.parts,
+            None => total_of(rest),
         },
-        [] => total,
+        [] => 0,
     }
 }
 
-/// Whether the parts, which stand from `place` on, came in the order of their numbers, and the first has one above `before`.
-pub(crate) fn are_rising(before: u16, place: u16, parts: &[DamagedPart]) -> bool
-    requires { place + length parts.now ≤ 256 }
-    ensures { result ≡ are_rising before (numbers_from place parts.now) }
+/// Whether the parts that have numbers came in the order of their numbers, and the first has one above `before`.
+pub(crate) fn are_rising(before: u8, parts: &[DamagedPart]) -> bool
+    ensures { result ≡ are_rising before (numbers_of parts.now) }
 {
     match parts {
-        [part, rest @ ..] => {
-            let number = number_of(place, &part.numbers);
-            before < number && are_rising(number, place + 1, rest)
-        }
+        [part, rest @ ..] => match &part.numbers {
+            Some(numbers) => before < numbers.part && are_rising(numbers.part, rest),
+            None => are_rising(before, rest),
+        },
         [] => true,
     }
 }
 
-/// The last number that the page has.
-pub(crate) fn last_of(parts: &[DamagedPart]) -> u16
+/// How many sheets the page has at most.
+pub(crate) fn sheet_count(parts: &[DamagedPart]) -> u16
     requires { length parts.now ≤ 255 }
-    ensures value { result ≡ last_of parts.now }
-    ensures few { result ≤ 255 }
+    ensures { result ≡ sheet_count parts.now }
 {
-    greatest_number(u16::from(total_of(parts)), 1, parts)
+    u16::from(total_of(parts)).max(parts.len() as u16)
 }
 
-/// The greatest number of `parts`, which stand from `place` on; at least `least`.
-fn greatest_number(least: u16, place: u16, parts: &[DamagedPart]) -> u16
-    requires least { least ≤ 255 }
-    requires places { place + length parts.now ≤ 256 }
-    ensures value { result ≡ greatest_number least place parts.now }
-    ensures few { result ≤ 255 }
+/// Whether the heading gives this number.
+fn is_number(number: u16, numbers: &Option<PartNumbers>) -> bool
+    ensures { result ≡ is_number number numbers.now }
 {
-    match parts {
-        [part, rest @ ..] => {
-            let number = number_of(place, &part.numbers);
-            number.max(greatest_number(least, place + 1, rest))
-        }
-        [] => least,
+    match numbers {
+        Some(numbers) => u16::from(numbers.part) == number,
+        None => false, // A damaged heading gives no number.
     }
 }
 
-/// The part that is shown under this number: the last one that has it.
+/// How often the part with this number came.
+pub(crate) fn times_of(parts: &[DamagedPart], number: u16) -> usize
+    ensures { result ≡ times_of parts.now number }
+{
+    parts
+        .iter()
+        .filter(|part| is_number(number, &part.numbers))
+        .count()
+}
+
+/// The part that is shown under this number: of the parts with the number, the first that none is better than.
 pub(crate) fn shown_under(parts: &[DamagedPart], number: u16) -> Option<&DamagedPart>
-    requires { length parts.now ≤ 255 }
     ensures { MatchOption result
         (shown_under parts.now number ≡ None)
         (λ part. shown_under parts.now number ≡ Some part.now) }
 {
-    shown_from(parts, 1, number)
-}
-
-/// The last part with this number, of parts that stand from `place` on.
-fn shown_from(parts: &[DamagedPart], place: u16, number: u16) -> Option<&DamagedPart>
-    requires { place + length parts.now ≤ 256 }
-    ensures { MatchOption result
-        (shown_from place number parts.now ≡ None)
-        (λ part. shown_from place number parts.now ≡ Some part.now) }
-{
     let [part, rest @ ..] = parts else {
         return None;
     };
-    if let Some(later) = shown_from(rest, place + 1, number) {
-        return Some(later);
+    let later = shown_under(rest, number);
+    if !is_number(number, &part.numbers) {
+        return later;
     }
-    if number_of(place, &part.numbers) == number {
-        Some(part)
-    } else {
-        None
+    match later {
+        Some(later) if is_worse(&part.text, &later.text) => Some(later),
+        _ => Some(part),
     }
+}
+
+/// Whether the other part tells more: it is read where the first isn't, or fewer letters of its text are lost.
+fn is_worse(one: &Result<DamagedText, PartDamage>, other: &Result<DamagedText, PartDamage>) -> bool
+    ensures { result ≡ is_worse one.now other.now }
+{
+    match (one, other) {
+        (Ok(one), Ok(other)) => lost_in(other) < lost_in(one),
+        (Err(_), Ok(_)) => true,
+        (_, Err(_)) => false,
+    }
+}
+
+/// How many letters of a text are lost.
+fn lost_in(shown: &DamagedText) -> usize
+    ensures { result ≡ lost_in shown.now }
+{
+    shown
+        .letters
+        .as_slice()
+        .iter()
+        .filter(|letter| is_lost(letter))
+        .count()
+}
+
+fn is_lost(letter: &Option<Letter>) -> bool
+    ensures { result ≡ is_none letter.now }
+{
+    letter.is_none()
 }
 
 /// Whether one of the parts is read.
@@ -118,18 +121,53 @@ pub(crate) fn is_any_read(parts: &[DamagedPart]) -> bool
     }
 }
 
-/// Whether each part that is shown is read, no letter of its text is lost, and no part is missing.
+/// Whether the form is one whole message.
 pub(crate) fn is_whole(parts: &[DamagedPart]) -> bool
-    requires { length parts.now ≤ 255 }
     ensures { IsTrue result ↔ IsWhole parts.now }
 {
-    are_whole(parts, 1, last_of(parts))
+    let total = total_of(parts);
+    are_of_one_message(parts)
+        && are_numbered(parts)
+        && may_be_of_the_day(parts)
+        && total > 0
+        && are_whole(parts, 1, u16::from(total))
 }
 
-/// Whether nothing is missing under the `count` numbers from `number` on.
+/// Whether each part has a number.
+fn are_numbered(parts: &[DamagedPart]) -> bool
+    ensures { IsTrue result ↔ All (λ part. part.numbers ≢ None) parts.now }
+{
+    match parts {
+        [part, rest @ ..] => part.numbers.is_some() && are_numbered(rest),
+        [] => true,
+    }
+}
+
+/// Whether no part is of another day or network, as far as its group or its list letters tell.
+fn may_be_of_the_day(parts: &[DamagedPart]) -> bool
+    ensures { IsTrue result ↔ All MayBeOfTheDay parts.now }
+{
+    match parts {
+        [part, rest @ ..] => may_be(part) && may_be_of_the_day(rest),
+        [] => true,
+    }
+}
+
+fn may_be(part: &DamagedPart) -> bool
+    ensures { IsTrue result ↔ MayBeOfTheDay part.now }
+{
+    match &part.text {
+        Ok(shown) => match shown.group {
+            GroupTest::Wrong => false,
+            GroupTest::Right | GroupTest::NotTested => true,
+        },
+        Err(_) => true,
+    }
+}
+
+/// Whether no letter is lost under the `count` numbers from `number` on.
 fn are_whole(parts: &[DamagedPart], number: u16, count: u16) -> bool
-    requires parts { length parts.now ≤ 255 }
-    requires numbers { number + count ≤ 256 }
+    requires { number + count ≤ 256 }
     ensures { IsTrue result
         ↔ All (IsNumberWhole parts.now) (range_with_len number count) }
 {
@@ -140,12 +178,11 @@ fn are_whole(parts: &[DamagedPart], number: u16, count: u16) -> bool
 }
 
 fn is_number_whole(parts: &[DamagedPart], number: u16) -> bool
-    requires { length parts.now ≤ 255 }
     ensures { IsTrue result ↔ IsNumberWhole parts.now number }
 {
     match shown_under(parts, number) {
         Some(part) => is_read_whole(part),
-        None => u16::from(total_of(parts)) < number,
+        None => false,
     }
 }
 

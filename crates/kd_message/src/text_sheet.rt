@@ -4,20 +4,22 @@ ghost use Rattle.kd_pictures.specs.Drawing.{Draws};
 ghost use Rattle.kd_form.specs.Sending.{space_letter};
 ghost use Rattle.kd_lost.specs.DamagedForm.{shown_byte};
 ghost use Rattle.kd_part_sheet.specs.Rows.{pieces};
-ghost use Rattle.kd_message.specs.ShownParts.{numbers_from, numbers_of};
-ghost use Rattle.kd_message.specs.TextSheet.{ask_for_lost, ask_text, asked_words, counts_text, damage_text};
+ghost use Rattle.kd_message.specs.ShownParts.{numbers_of};
+ghost use Rattle.kd_message.specs.TextSheet.{ask_for_lost, ask_text, asked_words, came_text, came_words, counts_text};
+ghost use Rattle.kd_message.specs.TextSheet.{damage_text, heading_words, headings_after, several_words};
 ghost use Rattle.kd_message.specs.TextSheet.{first_text_group, group_words, has_lost, heading_count, indicator_groups};
 ghost use Rattle.kd_message.specs.TextSheet.{indicator_place, is_copy_lost, is_not_tested, is_wrong_day, key_letter_groups};
 ghost use Rattle.kd_message.specs.TextSheet.{lost_groups, missing_text, numbers_after, order_text, order_words, read_text};
 ghost use Rattle.kd_message.specs.TextSheet.{reason_text, text_begin, text_part_head, text_sheet_head};
 ghost use Rattle.kd_message.specs.TextSheet.{warnings_of};
 
-use crate::shown_parts::{are_rising, number_of};
+use crate::one_message::are_of_one_message;
+use crate::shown_parts::are_rising;
 use crate::texts::{
-    ALL_OF_IT, ASK, ASK_END, BAD_BYTE, COPIES_DIFFER, COUNT_CAME, COUNT_END, COUNT_WRONG,
-    DID_NOT_COME, GROUP, HEADING_DAMAGED, HEADING_KEY_LOST, ITS_HEADING, KEY_LETTER_LOST,
-    KEY_NOT_ON_WHEEL, NO_INTERNAL_KEY, ORDER, ORDER_END, REASON_END, TEXT_END, TEXT_LETTERS,
-    TEXT_PART, TEXT_SHEET, TEXT_WORDS, UNREAD,
+    ALL_OF_IT, ASK, ASK_END, BAD_BYTE, CAME, CAME_END, COPIES_DIFFER, COUNT_CAME, COUNT_END,
+    COUNT_WRONG, DID_NOT_COME, GROUP, HEADING_DAMAGED, HEADING_KEY_LOST, ITS_HEADING,
+    KEY_LETTER_LOST, KEY_NOT_ON_WHEEL, NO_INTERNAL_KEY, OF_PARTS, ORDER, ORDER_END, REASON_END,
+    SEVERAL, SEVERAL_END, TEXT_END, TEXT_LETTERS, TEXT_PART, TEXT_SHEET, TEXT_WORDS, UNREAD,
 };
 use itoa::Buffer;
 use kd_form::text_bytes::space_letter;
@@ -47,39 +49,95 @@ pub(crate) fn draw_text_sheet_head<W: Sink>(sink: &mut W, language: Language, da
     );
 }
 
-/// Writes the order in which the parts came, if it isn't that of their numbers.
+/// Writes that the parts aren't of one message; or the order in which they came, if it isn't that of their numbers.
 pub(crate) fn draw_order<W: Sink>(sink: &mut W, language: Language, parts: &[DamagedPart])
-    requires { length parts.now ≤ 255 }
     ensures { Draws W.taken W.has_failed sink.old sink.new (order_text language parts.now) }
 {
-    if are_rising(0, 1, parts) {
+    if !are_of_one_message(parts) {
+        draw_several_words(sink, language, parts);
+    } else if are_rising(0, parts) {
         draw(sink, "");
     } else {
         draw_order_words(sink, language, parts);
     }
 }
 
+/// Writes that the parts aren't of one message, with their headings.
+fn draw_several_words<W: Sink>(sink: &mut W, language: Language, parts: &[DamagedPart])
+    ensures { Draws W.taken W.has_failed sink.old sink.new (several_words language parts.now) }
+{
+    draw_in(sink, language, SEVERAL);
+    draw_headings(sink, "", parts);
+    draw_in(sink, language, SEVERAL_END);
+}
+
+/// Writes what the headings that aren't damaged say, the first after `first`.
+fn draw_headings<W: Sink>(sink: &mut W, first: &str, parts: &[DamagedPart])
+    ensures { Draws W.taken W.has_failed sink.old sink.new
+        (headings_after first.now parts.now) }
+{
+    if let [part, rest @ ..] = parts {
+        if let Some(numbers) = &part.numbers {
+            draw(sink, first);
+            draw_heading_words(sink, numbers);
+            draw_headings(sink, COMMA, rest);
+        } else {
+            draw_headings(sink, first, rest);
+        }
+    }
+}
+
+/// Writes what a heading says: its number, and the number of parts.
+fn draw_heading_words<W: Sink>(sink: &mut W, numbers: &PartNumbers)
+    ensures { Draws W.taken W.has_failed sink.old sink.new (heading_words numbers.now) }
+{
+    draw_count(sink, usize::from(numbers.part));
+    draw(sink, OF_PARTS);
+    draw_count(sink, usize::from(numbers.parts));
+}
+
+/// Writes how often a part came, if it came more than once.
+pub(crate) fn draw_came<W: Sink>(sink: &mut W, language: Language, times: usize)
+    ensures { Draws W.taken W.has_failed sink.old sink.new (came_text language times) }
+{
+    if times > 1 {
+        draw_came_words(sink, language, times);
+    } else {
+        draw(sink, "");
+    }
+}
+
+fn draw_came_words<W: Sink>(sink: &mut W, language: Language, times: usize)
+    ensures { Draws W.taken W.has_failed sink.old sink.new (came_words language times) }
+{
+    draw_in(sink, language, CAME);
+    draw_count(sink, times);
+    draw_in(sink, language, CAME_END);
+}
+
 /// Writes that the parts came in the order of their numbers here.
 fn draw_order_words<W: Sink>(sink: &mut W, language: Language, parts: &[DamagedPart])
-    requires { length parts.now ≤ 255 }
     ensures { Draws W.taken W.has_failed sink.old sink.new
         (order_words language (numbers_of parts.now)) }
 {
     draw_in(sink, language, ORDER);
-    draw_numbers(sink, "", 1, parts);
+    draw_numbers(sink, "", parts);
     draw_in(sink, language, ORDER_END);
 }
 
-/// Writes the numbers of `parts`, which stand from `place` on, the first after `first`.
-fn draw_numbers<W: Sink>(sink: &mut W, first: &str, place: u16, parts: &[DamagedPart])
-    requires { place + length parts.now ≤ 256 }
+/// Writes the numbers of the parts that have one, the first after `first`.
+fn draw_numbers<W: Sink>(sink: &mut W, first: &str, parts: &[DamagedPart])
     ensures { Draws W.taken W.has_failed sink.old sink.new
-        (numbers_after first.now (numbers_from place parts.now)) }
+        (numbers_after first.now (numbers_of parts.now)) }
 {
     if let [part, rest @ ..] = parts {
-        draw(sink, first);
-        draw_count(sink, usize::from(number_of(place, &part.numbers)));
-        draw_numbers(sink, COMMA, place + 1, rest);
+        if let Some(numbers) = &part.numbers {
+            draw(sink, first);
+            draw_count(sink, usize::from(numbers.part));
+            draw_numbers(sink, COMMA, rest);
+        } else {
+            draw_numbers(sink, first, rest);
+        }
     }
 }
 

@@ -18,7 +18,7 @@ pub const LIST_OF_SEVERAL: Text = (
     "<nav class=sheets aria-label=\"Blätter\">\n<ul>\n",
 );
 
-/// A part in the list of the sheets: the part, the part again, and the number of parts.
+/// A part in the list of the sheets: its sheet, its number, and the number of parts.
 pub const LISTED_PART: Text = (
     "<li><a href=\"#part-~\">Part ~ of ~</a>\n",
     "<li><a href=\"#part-~\">Teil ~ von ~</a>\n",
@@ -28,6 +28,37 @@ pub const LISTED_PART: Text = (
 pub const LISTED_UNREAD: Text = (
     "<li><a href=\"#text\">Part ~ of ~</a>, not read\n",
     "<li><a href=\"#text\">Teil ~ von ~</a>, nicht lesbar\n",
+);
+
+/// A part without a number: the number of the part before it.
+pub const LONE_AFTER: Text = (
+    "A part without a number, after part ~",
+    "Ein Teil ohne Nummer, nach Teil ~",
+);
+
+/// A part without a number, with no numbered part before it.
+pub const LONE_FIRST: Text = (
+    "A part without a number, at the beginning",
+    "Ein Teil ohne Nummer, am Anfang",
+);
+
+/// What stands before and after these words in the list of the sheets.
+pub const LISTED_LONE: &str = "<li><a href=\"#text\">";
+
+pub const LISTED_LONE_END: Text = ("</a>, not read\n", "</a>, nicht lesbar\n");
+
+/// What stands before these words in the text, and after them: the model, and the day.
+pub const LONE_HEAD: &str = "<section>\n<h2>";
+
+pub const LONE_HEAD_END: Text = (
+    "<span>~, day ~: text</span></h2>\n",
+    "<span>~, Tag ~: Klartext</span></h2>\n",
+);
+
+/// What to ask for again of a part without a number.
+pub const LONE_ASK: Text = (
+    "<label><input type=checkbox> ask for this part again: <b>",
+    "<label><input type=checkbox> diesen Teil wiederholen lassen: <b>",
 );
 
 /// The end of the list of the sheets, with the form, and with the text.
@@ -65,9 +96,28 @@ pub const ORDER: Text = (
     "<p>Die Teile kamen in dieser Reihenfolge: ",
 );
 
-pub const ORDER_END: Text = (
-    ". If a part came again, the last one is shown.</p>\n",
-    ". Kam ein Teil mehrmals, ist der letzte gezeigt.</p>\n",
+pub const ORDER_END: Text = (".</p>\n", ".</p>\n");
+
+/// That the parts aren't of one message: what stands before the numbers in their headings, and after them.
+pub const SEVERAL: Text = (
+    "<p class=reason><b>Not one message.</b> The headings give different numbers of parts, or parts with one number differ: ",
+    "<p class=reason><b>Nicht ein Spruch.</b> Die Spruchköpfe nennen verschiedene Zahlen von Teilen, oder Teile mit einer Nummer weichen voneinander ab: ",
+);
+
+pub const SEVERAL_END: Text = (
+    ". All parts are shown, in the order in which they came.</p>\n",
+    ". Alle Teile sind gezeigt, wie sie eingegangen sind.</p>\n",
+);
+
+/// The sign between a part's number and the number of parts.
+pub const OF_PARTS: &str = "/";
+
+/// How often a part came: what stands before the number, and after it.
+pub const CAME: Text = ("<p>This part came ", "<p>Dieser Teil kam ");
+
+pub const CAME_END: Text = (
+    " times. The copy with the fewest lost letters is shown.</p>\n",
+    "-mal. Gezeigt ist die Fassung, in der die wenigsten Buchstaben fehlen.</p>\n",
 );
 
 /// What to ask for again: the part; then what of it.

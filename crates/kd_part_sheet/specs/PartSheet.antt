@@ -31,7 +31,7 @@ name_values name = model_name name.model ∷ decimal name.day ∷ decimal name.p
 
 -- the head of the sheet
 abbrev pub head_text : Language → Sheet → PartName → List ℕ
-head_text l sheet name = filled (sheet_text l sheet texts.HEAD) (decimal name.part ∷ name_values name)
+head_text l sheet name = filled (sheet_text l sheet texts.HEAD) (decimal name.sheet ∷ name_values name)
 
 -- reflector, wheels, rings and cables of the day
 unfoldable pub rotor_key_text : Language → RotorDay → List ℕ

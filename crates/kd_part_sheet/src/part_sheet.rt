@@ -34,6 +34,8 @@ pub struct PartName {
     pub model: Model,
     /// The day's number.
     pub day: u8,
+    /// The sheet's number: links lead to it. It is the part's number, unless parts with one number have sheets of their own.
+    pub sheet: u8,
     /// The part's number, counted from 1.
     pub part: u8,
     /// How many parts the message has.
@@ -110,7 +112,7 @@ fn draw_head<W: Sink>(sink: &mut W, language: Language, sheet: Sheet, name: Part
         language,
         sheet.text(language, HEAD),
         &[
-            Value::Number(u16::from(name.part)),
+            Value::Number(u16::from(name.sheet)),
             Value::Model(name.model),
             Value::Number(u16::from(name.day)),
             Value::Number(u16::from(name.part)),

@@ -171,13 +171,13 @@ pub const WRONG_DAY: SheetText = (
 );
 
 const ROTOR_WRONG_DAY: Text = (
-    "<p>Letters 3 to 5 are no group of the day. Is the form of this day?</p>\n",
-    "<p>Buchstabe 3 bis 5 sind keine Kenngruppe des Tages. Ist der Spruch von diesem Tag?</p>\n",
+    "<p>Letters 3 to 5 are no group of the day: the form is another day\u{2019}s, or another network\u{2019}s.</p>\n",
+    "<p>Buchstabe 3 bis 5 sind keine Kenngruppe des Tages: Der Spruch ist von einem anderen Tag oder aus einem anderen Schlüsselkreis.</p>\n",
 );
 
 const PIN_WRONG_DAY: Text = (
-    "<p>The list letters aren\u{2019}t the day\u{2019}s. Is the form of this day?</p>\n",
-    "<p>Die Listenbuchstaben sind nicht die des Tages. Ist der Spruch von diesem Tag?</p>\n",
+    "<p>The list letters aren\u{2019}t the day\u{2019}s: the form is another day\u{2019}s, or another network\u{2019}s.</p>\n",
+    "<p>Die Listenbuchstaben sind nicht die des Tages: Der Spruch ist von einem anderen Tag oder aus einem anderen Schlüsselkreis.</p>\n",
 );
 
 pub const NOT_TESTED: SheetText = (

@@ -1,5 +1,5 @@
 use Rattle.std.proofs.Common.{◌≡◌, ◌∙◌, ◌++◌, ◌∷◌, [], refl, subst, sym, ap, arith, length, length-append, MatchOption}
-use Rattle.kd_lost.specs.DamagedForm.{AreReadOf, TooMany, damaged_parts_of}
+use Rattle.kd_lost.specs.DamagedForm.{AreReadOf, TooMany, damaged_parts_of, parts_cut}
 use Rattle.kd_lost.proofs.Forms.{left_on, read_more, too_many}
 use Rattle.kd_lost.proofs.form.read_damaged_form.Goals as goal
 
@@ -7,7 +7,7 @@ pub returns-then-len-eq-MOST_PARTS : goal.returns-then-len-eq-MOST_PARTS
 returns-then-len-eq-MOST_PARTS c =
     let (few, done, are, left) = c.loop-left.invariant in
     let all = damaged_parts_of c.args.form.now in
-    let is = subst (λ l. MatchOption l (all ≡ done) (λ rest. all ≡ done ++ damaged_parts_of rest.now)) c.in-Some.is
+    let is = subst (λ l. MatchOption l (all ≡ done) (λ rest. all ≡ done ++ parts_cut rest.now)) c.in-Some.is
     left in
     record {
       read = TooMany (too_many c.args.day.now all done c.loop-left.parts.items c.in-Some.rest.now are is
@@ -19,7 +19,7 @@ pub loop-left-preserved : goal.loop-left-preserved
 loop-left-preserved c =
     let (few, done, are, left) = c.loop-left.invariant in
     let all = damaged_parts_of c.args.form.now in
-    let is = subst (λ l. MatchOption l (all ≡ done) (λ rest. all ≡ done ++ damaged_parts_of rest.now)) c.in-Some.is
+    let is = subst (λ l. MatchOption l (all ≡ done) (λ rest. all ≡ done ++ parts_cut rest.now)) c.in-Some.is
     left in
     let part = c.split_part.result.0.now in (
       omega (
@@ -27,17 +27,12 @@ loop-left-preserved c =
         few,
         sym c.loop-left.parts.ok.0 ∙ sym c.len.ensures,
         c.if-len-eq-MOST_PARTS.false,
-        ap length c.in-Ok.ensures.items,
-        length-append c.loop-left.parts.items (c.read_damaged_part.result ∷ []),
+        ap length c.in-Ok-push.ensures.items,
+        length-append c.loop-left.parts.items (c.in-Ok.read ∷ []),
       ),
       done ++ part ∷ [],
-      subst (AreReadOf c.args.day.now (done ++ part ∷ [])) (sym c.in-Ok.ensures.items)
-          (read_more c.args.day.now done c.loop-left.parts.items part c.read_damaged_part.result are (record {
-            numbers = c.read_damaged_part.ensures.numbers;
-            came = c.read_damaged_part.ensures.came;
-            text = c.read_damaged_part.ensures.text;
-            shown = c.read_damaged_part.ensures.shown;
-          })),
+      subst (AreReadOf c.args.day.now (done ++ part ∷ [])) (sym c.in-Ok-push.ensures.items)
+          (read_more c.args.day.now done c.loop-left.parts.items part c.in-Ok.read are c.in-Ok.ensures),
       left_on (λ more. more.now) c.split_part.result.1 all done c.in-Some.rest.now part is c.split_part.ensures.part
           c.split_part.ensures.others,
     )

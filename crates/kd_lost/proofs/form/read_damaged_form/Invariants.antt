@@ -1,11 +1,11 @@
 use Rattle.std.proofs.Common.{◌≡◌, ◌≤◌, ◌+◌, ◌++◌, ℕ, List, length, MatchOption, unwrap_or, option_map}
-use Rattle.kd_lost.specs.DamagedForm.{AreReadOf, damaged_parts_of}
+use Rattle.kd_lost.specs.DamagedForm.{AreReadOf, damaged_parts_of, parts_cut}
 use Rattle.kd_lost.proofs.form.read_damaged_form.Given as goal
 
 abbrev pub invariant-loop-left : goal.invariant-loop-left
 invariant-loop-left l = (length l.parts.items ≤ 255) × (done : List (List ℕ)) × AreReadOf l.day done l.parts.items
     × MatchOption l.left (damaged_parts_of l.form ≡ done) (λ rest. damaged_parts_of l.form ≡ done ++
-    damaged_parts_of rest.now)
+    parts_cut rest.now)
 
 abbrev pub decreases-loop-left : goal.decreases-loop-left
 decreases-loop-left l = unwrap_or (option_map (λ rest. length rest.now + 1) l.left) 0

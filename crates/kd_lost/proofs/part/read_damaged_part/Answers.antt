@@ -19,6 +19,7 @@ returns-in-Some c =
           ∙ ap (λ b. length (received_letters b)) (sym (ap body_of first.joined ∙ there.1));
       text = told.1;
       shown = told.2;
+      as_it_stands = c.read_lines.ensures.as_it_stands;
     }
 
 pub returns-in-None : goal.returns-in-None
@@ -32,4 +33,5 @@ returns-in-None c =
       came = c.read_lines-in-None.ensures.came ∙ ap (λ b. length (received_letters b)) (sym there.1);
       text = told.1;
       shown = told.2;
+      as_it_stands = c.read_lines-in-None.ensures.as_it_stands;
     }

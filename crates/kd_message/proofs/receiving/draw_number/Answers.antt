@@ -1,9 +1,9 @@
-use Rattle.std.specs.Prelude.{IfOk}
-use Rattle.kd_message.specs.ReceivedWork.{AreShowable}
-use Rattle.kd_message.proofs.ReceivePages.{shown_holds}
+use Rattle.std.proofs.Common.{arith}
+use Rattle.std.proofs.lemmas.Grind.{common_steps}
+use Rattle.kd_pictures.proofs.Drawings.{joined}
 use Rattle.kd_message.proofs.receiving.draw_number.Goals as goal
 
-pub draw_part-requires : goal.draw_part-requires
-draw_part-requires g c =
-    shown_holds (λ part. IfOk part.text (λ shown. AreShowable c.args.day.now shown.keys)) 1 c.args.number
-    c.args.parts.now c.in-Some.part.now c.requires.workable c.in-Some.ensures
+pub returns : goal.returns
+returns g c =
+    joined c.draw_shown.ensures c.draw_lone_after.ensures
+    (grind (arith, common_steps))

@@ -5,5 +5,5 @@ use Rattle.kd_message.proofs.receiving.draw_part_text.Goals as goal
 
 pub returns : goal.returns
 returns g c =
-    joined (both c.draw_text_part_head.ensures c.draw_text_or_damage.ensures) c.draw.ensures
+    joined (both (both c.draw_text_part_head.ensures c.draw_came.ensures) c.draw_text_or_damage.ensures) c.draw.ensures
     (grind (arith, common_steps))

@@ -3,7 +3,7 @@ use Rattle.std.proofs.lemmas.Grind.{common_steps}
 use Rattle.kd_pictures.proofs.Drawings.{both, joined}
 use Rattle.kd_message.proofs.text_sheet.+draw_numbers.Goals as goal
 
-pub returns-in-len1-up : goal.returns-in-len1-up
-returns-in-len1-up g t c =
+pub returns-in-Some : goal.returns-in-Some
+returns-in-Some g t c =
     joined (both c.draw.ensures c.draw_count.ensures) c.draw_numbers.ensures
     (grind (arith, common_steps))

@@ -1,0 +1,61 @@
+-- Which lines of a damaged form are taken for headings: those that begin like `PART`, and have a digit or a slash. So a
+-- wrong sign in a line of a body begins no part, and a heading begins one even if some of its signs are lost or wrong.
+-- Test: damaged_forms_are_read
+use Rattle.std.specs.Prelude.{codes, ℕ, ◌+◌, ◌==◌, ◌&&◌, ◌||◌, nat_le, Bool, false, if◌then◌else◌, List, [], ◌∷◌}
+use Rattle.std.specs.Prelude.{Option, None, Some, not, slice_get}
+use Rattle.kd_tables.specs.Text.{is_capital}
+use Rattle.kd_lost.specs.Lost.{meant_byte, is_lost}
+
+-- whether the byte is a blank: a space or a tab
+abbrev pub is_blank : ℕ → Bool
+is_blank byte = byte == 32 || byte == 9
+
+-- `bytes`, without the blanks at their beginning
+abbrev pub after_blanks : List ℕ → List ℕ
+after_blanks [] = []
+after_blanks (byte ∷ bytes) = if is_blank byte then after_blanks bytes else byte ∷ bytes
+
+-- how many signs of `bytes` mean those of `word`, each at its place
+abbrev pub right_signs : List ℕ → List ℕ → ℕ
+right_signs (letter ∷ word) (byte ∷ bytes) = (if meant_byte byte == letter then 1 else 0) + right_signs word bytes
+right_signs [] bytes = 0
+right_signs (letter ∷ word) [] = 0
+
+-- how many signs of `bytes` may be those of `word`, each at its place: the right ones, and lost ones
+abbrev pub fitting_signs : List ℕ → List ℕ → ℕ
+fitting_signs (letter ∷ word) (byte ∷ bytes) =
+    (if meant_byte byte == letter || is_lost byte then 1 else 0) + fitting_signs word bytes
+fitting_signs [] bytes = 0
+fitting_signs (letter ∷ word) [] = 0
+
+-- whether a letter, capital or small, stands at this place
+abbrev pub is_letter : Option ℕ → Bool
+is_letter None = false
+is_letter (Some byte) = is_capital (meant_byte byte)
+
+-- whether `bytes` begin with `PART`, of which at least two letters are right, and at most one is wrong; no letter follows
+abbrev pub begins_with_part : List ℕ → Bool
+begins_with_part bytes =
+    nat_le 2 (right_signs (codes "PART") bytes) && nat_le 3 (fitting_signs (codes "PART") bytes)
+    && not (is_letter (slice_get bytes 4))
+
+-- whether the first three signs of `bytes` are `PART` without one letter
+abbrev pub has_three : List ℕ → Bool
+has_three bytes =
+    nat_le 3 (right_signs (codes "ART") bytes) || nat_le 3 (right_signs (codes "PRT") bytes)
+    || nat_le 3 (right_signs (codes "PAT") bytes) || nat_le 3 (right_signs (codes "PAR") bytes)
+
+-- whether `bytes` begin with `PART`, of which one letter is left out, and the others are right; no letter follows
+abbrev pub begins_with_three : List ℕ → Bool
+begins_with_three bytes = has_three bytes && not (is_letter (slice_get bytes 3))
+
+-- whether the first line of `bytes` has a digit or a slash
+abbrev pub has_digit_line : List ℕ → Bool
+has_digit_line [] = false
+has_digit_line (byte ∷ bytes) =
+    if byte == 10 then false else (nat_le 47 byte && nat_le byte 57) || has_digit_line bytes
+
+-- whether the first line of `bytes` is taken for a heading; blanks may stand before it
+abbrev pub is_heading_line : List ℕ → Bool
+is_heading_line bytes =
+    (begins_with_part (after_blanks bytes) || begins_with_three (after_blanks bytes)) && has_digit_line bytes

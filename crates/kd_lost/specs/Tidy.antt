@@ -1,0 +1,65 @@
+-- A form without noise: what copying a form or typing around it leaves there, and no operator sent. A byte order mark
+-- is left out, and so are the lines before the first heading. In a heading, blanks are left out that only part its words
+-- further, or stand around them. Bodies may have any spaces and line ends.
+-- Test: noise_is_passed_over
+use Rattle.std.specs.Prelude.{ℕ, ◌==◌, ◌&&◌, ◌||◌, Bool, true, if◌then◌else◌, List, [], ◌∷◌, ◌++◌, take, drop}
+use Rattle.std.specs.Prelude.{Option, None, Some, unwrap_or}
+use Rattle.std.specs.Str.{bytes_eq}
+use Rattle.kd_lost.specs.HeadingLine.{after_blanks, is_blank, is_heading_line}
+use Rattle.kd_lost.specs.DamagedPart.{first_line}
+
+-- ---- The form.
+
+-- `form`, without a byte order mark at its start
+abbrev pub without_mark : List ℕ → List ℕ
+without_mark form = if bytes_eq (take 3 form) (239 ∷ 187 ∷ 191 ∷ []) then drop 3 form else form
+
+-- `bytes`, from the first later line on that is taken for a heading
+abbrev pub later_heading : List ℕ → Option (List ℕ)
+later_heading [] = None
+later_heading (byte ∷ bytes) = if byte == 10 && is_heading_line bytes then Some bytes else later_heading bytes
+
+-- `bytes`, from the first heading on; all of them, if no line is taken for a heading
+abbrev pub from_heading : List ℕ → List ℕ
+from_heading bytes = if is_heading_line bytes then bytes else unwrap_or (later_heading bytes) bytes
+
+-- the form, without a byte order mark, and without the lines before its first heading
+abbrev pub tidied : List ℕ → List ℕ
+tidied form = from_heading (without_mark form)
+
+-- ---- The heading of a part.
+
+-- whether the byte parts words: a blank, or CR
+abbrev pub is_gap : ℕ → Bool
+is_gap byte = is_blank byte || byte == 13
+
+-- whether `line` begins with a gap, or is empty
+abbrev pub ends_word : List ℕ → Bool
+ends_word [] = true
+ends_word (byte ∷ line) = is_gap byte
+
+-- the byte, with a space in place of a gap
+abbrev pub as_space : ℕ → ℕ
+as_space byte = if is_gap byte then 32 else byte
+
+-- what is kept of `byte`, before `line`: nothing of a gap before another one or at the end, and a space of other gaps
+abbrev pub spaced_byte : ℕ → List ℕ → List ℕ
+spaced_byte byte line = if is_gap byte && ends_word line then [] else as_space byte ∷ []
+
+-- `line`, with one space in place of all gaps between two words, and without the gaps at its end
+abbrev pub spaced_from : List ℕ → List ℕ
+spaced_from [] = []
+spaced_from (byte ∷ line) = spaced_byte byte line ++ spaced_from line
+
+-- the words of `line`, with single spaces between them
+abbrev pub single_spaced : List ℕ → List ℕ
+single_spaced line = spaced_from (after_blanks line)
+
+-- the bytes of a part from its first LF on
+abbrev pub from_line_end : List ℕ → List ℕ
+from_line_end [] = []
+from_line_end (byte ∷ bytes) = if byte == 10 then byte ∷ bytes else from_line_end bytes
+
+-- the part, with single spaces between the words of its first line
+abbrev pub respaced : List ℕ → List ℕ
+respaced part = single_spaced (first_line part) ++ from_line_end part

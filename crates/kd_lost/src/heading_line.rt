@@ -1,0 +1,129 @@
+//! Which lines of a damaged form are taken for headings.
+ghost use Rattle.std.specs.Prelude.{◌≡◌, ◌≤◌, length, nat_le};
+ghost use Rattle.kd_lost.specs.HeadingLine.{after_blanks, begins_with_part, begins_with_three, fitting_signs};
+ghost use Rattle.kd_lost.specs.HeadingLine.{has_digit_line, has_three, is_blank, is_heading_line, is_letter, right_signs};
+
+use crate::received::{is_lost, meant_byte};
+
+/// Whether the first line of `bytes` is taken for a heading.
+///
+/// Only headings have digits. So it is one if it begins like `PART`, and has a digit.
+pub(crate) fn is_heading_line(bytes: &[u8]) -> bool
+    ensures { result ≡ is_heading_line bytes.now }
+{
+    let line = after_blanks(bytes);
+    (begins_with_part(line) || begins_with_three(line)) && has_digit_line(bytes)
+}
+
+/// Whether `byte` is a space or a tab.
+pub(crate) fn is_blank(byte: u8) -> bool
+    ensures { result ≡ is_blank byte }
+{
+    byte == b' ' || byte == b'\t'
+}
+
+/// `bytes` without the blanks at their beginning.
+pub(crate) fn after_blanks(bytes: &[u8]) -> &[u8]
+    ensures { result.now ≡ after_blanks bytes.now }
+{
+    let mut left = bytes;
+    while let [byte, rest @ ..] = left
+        && is_blank(*byte)
+    {
+        left = rest;
+    }
+    left
+}
+
+/// Whether `bytes` begin with `PART`, in which letters may be lost, and one may be wrong.
+fn begins_with_part(bytes: &[u8]) -> bool
+    ensures { result ≡ begins_with_part bytes.now }
+{
+    are_right(2, b"PART", bytes)
+        && are_fitting(3, b"PART", bytes)
+        && !is_letter(bytes.get(4).copied())
+}
+
+/// Whether `bytes` begin with `PART`, in which one letter is left out.
+fn begins_with_three(bytes: &[u8]) -> bool
+    ensures { result ≡ begins_with_three bytes.now }
+{
+    has_three(bytes) && !is_letter(bytes.get(3).copied())
+}
+
+/// Whether the first three signs of `bytes` are `PART` without one letter.
+fn has_three(bytes: &[u8]) -> bool
+    ensures { result ≡ has_three bytes.now }
+{
+    are_right(3, b"ART", bytes)
+        || are_right(3, b"PRT", bytes)
+        || are_right(3, b"PAT", bytes)
+        || are_right(3, b"PAR", bytes)
+}
+
+/// Whether at least `least` signs of `bytes` are those of `word`, each at its place.
+fn are_right(least: usize, word: &[u8], bytes: &[u8]) -> bool
+    ensures { result ≡ nat_le least (right_signs word.now bytes.now) }
+{
+    right_signs(word, bytes) >= least
+}
+
+/// Whether at least `least` signs of `bytes` may be those of `word`, each at its place.
+fn are_fitting(least: usize, word: &[u8], bytes: &[u8]) -> bool
+    ensures { result ≡ nat_le least (fitting_signs word.now bytes.now) }
+{
+    fitting_signs(word, bytes) >= least
+}
+
+/// How many signs of `bytes` are those of `word`, each at its place.
+fn right_signs(word: &[u8], bytes: &[u8]) -> usize
+    ensures signs { result ≡ right_signs word.now bytes.now }
+    ensures few { result ≤ length word.now }
+{
+    if let [letter, word @ ..] = word
+        && let [byte, bytes @ ..] = bytes
+    {
+        let right = usize::from(meant_byte(*byte) == *letter);
+        return right + right_signs(word, bytes);
+    }
+    0
+}
+
+/// How many signs of `bytes` may be those of `word`, each at its place.
+fn fitting_signs(word: &[u8], bytes: &[u8]) -> usize
+    ensures signs { result ≡ fitting_signs word.now bytes.now }
+    ensures few { result ≤ length word.now }
+{
+    if let [letter, word @ ..] = word
+        && let [byte, bytes @ ..] = bytes
+    {
+        let fitting = usize::from(meant_byte(*byte) == *letter || is_lost(*byte));
+        return fitting + fitting_signs(word, bytes);
+    }
+    0
+}
+
+/// Whether a letter, capital or small, stands at this place.
+fn is_letter(byte: Option<u8>) -> bool
+    ensures { result ≡ is_letter byte }
+{
+    match byte {
+        Some(byte) => meant_byte(byte).is_ascii_uppercase(),
+        None => false,
+    }
+}
+
+/// Whether the first line of `bytes` has a digit or a slash.
+fn has_digit_line(bytes: &[u8]) -> bool
+    ensures { result ≡ has_digit_line bytes.now }
+{
+    for byte in bytes {
+        if *byte == b'\n' {
+            return false;
+        }
+        if *byte >= b'/' && *byte <= b'9' {
+            return true;
+        }
+    }
+    false
+}

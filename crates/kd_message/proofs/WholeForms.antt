@@ -1,0 +1,275 @@
+-- A form that `desk receive` reads is one whole message.
+use Rattle.std.proofs.Common.{◌≡◌, ◌≢◌, ◌∙◌, ◌⊎◌, inl, inr, ℕ, zero, suc, ◌+◌, ◌-◌, ◌<◌, ◌≤◌, ◌==◌, ◌&&◌, not}
+use Rattle.std.proofs.Common.{Bool, true, false, List, [], ◌∷◌, ◌++◌, All, arith, refl, sym, ap, subst, map, Option, Some}
+use Rattle.std.proofs.Common.{None, Ok, if◌then◌else◌, MatchOption, flat_map}
+use Rattle.std.proofs.lemmas.Bool.{Decides.nat_tests, cases_Bool}
+use Rattle.std.proofs.lemmas.List.Elements.{All-cons, All-head, All-nil, All-tail}
+use Rattle.std.specs.List.{range_with_len}
+use Rattle.std.specs.Prelude.{IfOk}
+use Rattle.kd_state.specs.SheetDay.{Day}
+use Rattle.kd_state.proofs.OneAnswer.{ThenNext-Ok, Yields-Ok}
+use Rattle.kd_form.specs.FormParts.{parts_of}
+use Rattle.kd_form.specs.FormText.{IsAnswerAt, ReadsPartsTo, first_part_start, next_part_start}
+use Rattle.kd_form.specs.PartReading.{HasDueNumbers, IsExpectedCount, IsPartAnswer, PartStart, ReadPart}
+use Rattle.kd_form.specs.Sending.{space_letter}
+use Rattle.kd_lost.specs.declared.damaged_text.DamagedText.{DamagedText}
+use Rattle.kd_lost.specs.declared.damaged_text.GroupTest.{GroupTest}
+use Rattle.kd_lost.specs.declared.damaged_text.GroupTest.TheVariants.{Right, Wrong, NotTested}
+use Rattle.kd_lost.specs.declared.part.{DamagedPart.{DamagedPart}, PartNumbers.{PartNumbers}}
+use Rattle.kd_lost.specs.DamagedForm.{AreReadOf, damaged_parts_of, letters_in, shown_byte, shown_letters}
+use Rattle.kd_lost.proofs.WholeForms.{forms_shown, same_parts}
+use Rattle.kd_lost.proofs.WholeParts.{numbers_there, shown_whole}
+use Rattle.kd_message.specs.Laws.{FormsReadAreWhole, letters_of_part, message_letters}
+use Rattle.kd_message.specs.OneMessage.{agrees_with_each, are_of_one_message, numbers_agree, headings_agree, texts_agree}
+use Rattle.kd_message.specs.ShownParts.{IsNumberWhole, IsReadWhole, IsWhole, MayBeOfTheDay, better, is_number, parts_or}
+use Rattle.kd_message.specs.ShownParts.{shown_under, total_of}
+use Rattle.kd_message.proofs.Sheets.{range_first}
+
+-- -------- parts in the order of their numbers
+
+-- the parts have the numbers from `number` to `total`, one after another
+abbrev pub AreInOrder : ℕ → ℕ → List DamagedPart → Type 0
+AreInOrder total number [] = number ≡ total + 1
+AreInOrder total number (part ∷ parts) =
+    (numbers : PartNumbers) × (part.numbers ≡ Some numbers) × (numbers.part ≡ number) × (numbers.parts ≡ total)
+    × AreInOrder total (number + 1) parts
+
+in_order_few : (total number : ℕ) (parts : List DamagedPart) → AreInOrder total number parts → number ≤ total + 1
+in_order_few total number [] are = omega (arith, are)
+in_order_few total number (part ∷ parts) (numbers, there, numbered, counted, rest) =
+    omega (arith, in_order_few total (number + 1) parts rest)
+
+in_order_total : (total number : ℕ) (part : DamagedPart) (parts : List DamagedPart)
+    → AreInOrder total number (part ∷ parts) → total_of (part ∷ parts) ≡ total
+in_order_total total number part parts (numbers, there, numbered, counted, rest) =
+    ap (parts_or (total_of parts)) there ∙ counted
+
+-- -------- they are of one message
+
+numbers_apart : (one other : PartNumbers) (agree : Bool) → one.parts ≡ other.parts → one.part < other.part
+    → numbers_agree one other agree ≡ true
+numbers_apart one other agree parts part = grind (arith, nat_tests, cases_Bool)
+
+agrees_with_later : (total number : ℕ) (part : DamagedPart) (numbers : PartNumbers) (parts : List DamagedPart)
+    → part.numbers ≡ Some numbers → numbers.parts ≡ total → numbers.part < number → AreInOrder total number parts
+    → agrees_with_each part parts ≡ true
+agrees_with_later total number part numbers [] there counted before are = refl
+agrees_with_later total number part numbers (other ∷ others) there counted before (its, is, numbered, total_is, rest) =
+    let agree = texts_agree part.text other.text in
+    let one : headings_agree part.numbers other.numbers agree ≡ true =
+    ap (λ n. headings_agree n other.numbers agree) there ∙ ap (λ n. headings_agree (Some numbers) n agree) is
+    ∙ numbers_apart numbers its agree (counted ∙ sym total_is) (omega (arith, before, numbered)) in
+    ap (λ b. b && agrees_with_each part others) one
+    ∙ agrees_with_later total (number + 1) part numbers others there counted (omega (arith, before)) rest
+
+in_order_agree : (total number : ℕ) (parts : List DamagedPart) → AreInOrder total number parts
+    → are_of_one_message parts ≡ true
+in_order_agree total number [] are = refl
+in_order_agree total number (part ∷ parts) (numbers, there, numbered, counted, rest) =
+    ap (λ b. b && are_of_one_message parts)
+    (agrees_with_later total (number + 1) part numbers parts there counted (omega (arith, numbered)) rest)
+    ∙ in_order_agree total (number + 1) parts rest
+
+some_number : (found : Option PartNumbers) (numbers : PartNumbers) → found ≡ Some numbers → found ≢ None
+some_number found numbers is none = absurd (cc)
+
+in_order_numbered : (total number : ℕ) (parts : List DamagedPart) → AreInOrder total number parts
+    → All (λ part. part.numbers ≢ None) parts
+in_order_numbered total number [] are = All-nil (λ part. part.numbers ≢ None)
+in_order_numbered total number (part ∷ parts) (numbers, there, numbered, counted, rest) =
+    All-cons (λ (one : DamagedPart). one.numbers ≢ None) part parts (some_number part.numbers numbers there)
+    (in_order_numbered total (number + 1) parts rest)
+
+-- -------- the part that is shown under each number
+
+its_number : (numbers : PartNumbers) (number : ℕ) → numbers.part ≡ number → is_number number (Some numbers) ≡ true
+its_number numbers number is = grind (arith, nat_tests)
+
+other_number : (numbers : PartNumbers) (number : ℕ) → number ≢ numbers.part → is_number number (Some numbers) ≡ false
+other_number numbers number off = grind (arith, nat_tests, cases_Bool)
+
+shown_later : (total number later : ℕ) (part : DamagedPart) (parts : List DamagedPart) → number ≢ later
+    → AreInOrder total number (part ∷ parts) → shown_under (part ∷ parts) later ≡ shown_under parts later
+shown_later total number later part parts off (numbers, there, numbered, counted, rest) =
+    ap (λ b. if b then better part (shown_under parts later) else shown_under parts later)
+    (ap (is_number later) there ∙ other_number numbers later (λ is. off (sym numbered ∙ sym is)))
+
+none_before : (total number before : ℕ) (parts : List DamagedPart) → before < number → AreInOrder total number parts
+    → shown_under parts before ≡ None
+none_before total number before [] less are = refl
+none_before total number before (part ∷ parts) less are =
+    let off : number ≢ before = λ is. absurd (omega (arith, is, less)) in
+    shown_later total number before part parts off are
+    ∙ none_before total (number + 1) before parts (omega (arith, less)) are.4
+
+shown_first : (total number : ℕ) (part : DamagedPart) (parts : List DamagedPart)
+    → AreInOrder total number (part ∷ parts) → shown_under (part ∷ parts) number ≡ Some part
+shown_first total number part parts (numbers, there, numbered, counted, rest) =
+    ap (λ b. if b then better part (shown_under parts number) else shown_under parts number)
+    (ap (is_number number) there ∙ its_number numbers number numbered)
+    ∙ ap (better part) (none_before total (number + 1) number parts (omega arith) rest)
+
+pub All_range : (P Q : ℕ → Type 0) (from count : ℕ) → ((m : ℕ) → from ≤ m → P m → Q m)
+    → All P (range_with_len from count) → All Q (range_with_len from count)
+All_range P Q from zero weaker all = All-nil Q
+All_range P Q from (suc count) weaker all =
+    let later = range_with_len (from + 1) (suc count - 1) in
+    let first = range_first from (suc count) (omega arith) in
+    let split = subst (All P) first all in
+    let step : suc count - 1 ≡ count = omega arith in
+    subst (All Q) (sym first) (All-cons Q from later (weaker from (omega arith) (All-head P from later split))
+    (subst (λ n. All Q (range_with_len (from + 1) n)) (sym step)
+    (All_range P Q (from + 1) count (λ m least. weaker m (omega (arith, least)))
+    (subst (λ n. All P (range_with_len (from + 1) n)) step (All-tail P from later split)))))
+
+flat_map_range : {A : Type 0} (f g : ℕ → List A) (from count : ℕ) → ((m : ℕ) → from ≤ m → f m ≡ g m)
+    → flat_map f (range_with_len from count) ≡ flat_map g (range_with_len from count)
+flat_map_range f g from zero same = refl
+flat_map_range f g from (suc count) same =
+    let first = range_first from (suc count) (omega arith) in
+    let step : suc count - 1 ≡ count = omega arith in
+    let rest : ℕ → List ℕ = λ n. range_with_len (from + 1) n in
+    ap (flat_map f) first ∙ ap (λ n. f from ++ flat_map f (rest n)) step
+    ∙ ap (λ l. l ++ flat_map f (rest count)) (same from (omega arith))
+    ∙ ap (λ l. g from ++ l) (flat_map_range f g (from + 1) count (λ m least. same m (omega (arith, least))))
+    ∙ ap (λ n. g from ++ flat_map g (rest n)) (sym step) ∙ ap (flat_map g) (sym first)
+
+same_shown : (parts : List DamagedPart) (number : ℕ) (other : Option DamagedPart) → shown_under parts number ≡ other
+    → MatchOption other ⊥ IsReadWhole → IsNumberWhole parts number
+same_shown parts number other is holds = subst (λ o. MatchOption o ⊥ IsReadWhole) (sym is) holds
+
+in_order_whole : (total number count : ℕ) (parts : List DamagedPart) → number + count ≡ total + 1
+    → AreInOrder total number parts → All IsReadWhole parts
+    → All (IsNumberWhole parts) (range_with_len number count)
+in_order_whole total number count [] sum are whole =
+    let none : 0 ≡ count = omega (arith, sum, are) in
+    subst (λ n. All (IsNumberWhole []) (range_with_len number n)) none (All-nil (IsNumberWhole []))
+in_order_whole total number count (part ∷ parts) sum are whole =
+    let some : 0 < count = omega (arith, sum, in_order_few total (number + 1) parts are.4) in
+    let later = range_with_len (number + 1) (count - 1) in
+    subst (All (IsNumberWhole (part ∷ parts))) (sym (range_first number count some))
+    (All-cons (IsNumberWhole (part ∷ parts)) number later
+    (same_shown (part ∷ parts) number (Some part) (shown_first total number part parts are)
+    (All-head IsReadWhole part parts whole))
+    (All_range (IsNumberWhole parts) (IsNumberWhole (part ∷ parts)) (number + 1) (count - 1)
+    (λ m least is. same_shown (part ∷ parts) m (shown_under parts m)
+    (shown_later total number m part parts (λ same. absurd (omega (arith, same, least))) are) is)
+    (in_order_whole total (number + 1) (count - 1) parts (omega (arith, sum, some)) are.4
+    (All-tail IsReadWhole part parts whole))))
+
+in_order_letters : (total number count : ℕ) (parts : List DamagedPart) → number + count ≡ total + 1
+    → AreInOrder total number parts
+    → flat_map (λ m. letters_of_part (shown_under parts m)) (range_with_len number count) ≡ shown_letters parts
+in_order_letters total number count [] sum are =
+    let none : count ≡ 0 = omega (arith, sum, are) in
+    ap (λ n. flat_map (λ m. letters_of_part (shown_under [] m)) (range_with_len number n)) none
+in_order_letters total number count (part ∷ parts) sum are =
+    let some : 0 < count = omega (arith, sum, in_order_few total (number + 1) parts are.4) in
+    let rest = range_with_len (number + 1) (count - 1) in
+    let all : ℕ → List (Option ℕ) = λ m. letters_of_part (shown_under (part ∷ parts) m) in
+    let others : ℕ → List (Option ℕ) = λ m. letters_of_part (shown_under parts m) in
+    ap (flat_map all) (range_first number count some)
+    ∙ ap (λ o. letters_of_part o ++ flat_map all rest) (shown_first total number part parts are)
+    ∙ ap (λ l. letters_in part.text ++ l)
+    (flat_map_range all others (number + 1) (count - 1)
+    (λ m least. ap letters_of_part
+    (shown_later total number m part parts (λ same. absurd (omega (arith, same, least))) are))
+    ∙ in_order_letters total (number + 1) (count - 1) parts (omega (arith, sum, some)) are.4)
+
+-- -------- a form that `desk receive` reads
+
+expected_parts : (s : Day) (p : PartStart) (part : List ℕ) (read : ReadPart) → IsPartAnswer s p part (Ok read)
+    → IsExpectedCount p.expected read.parts
+expected_parts s p part read is =
+    let content = ThenNext-Ok is in
+    let one = ThenNext-Ok content.says in
+    let two = ThenNext-Ok one.next in
+    let three = ThenNext-Ok two.next in
+    let same = Yields-Ok three.next in
+    let text = ThenNext-Ok content.next in
+    let told = Yields-Ok text.next in
+    let due = subst (λ c. HasDueNumbers p.number p.expected c.heading) (sym same) two.says in
+    subst (IsExpectedCount p.expected) (sym (ap (λ (r : ReadPart). r.parts) told)) due.as_expected
+
+letters_known : (letters : List ℕ) → All (λ (got : Option ℕ). got ≢ None) (map Some letters)
+letters_known [] = All-nil (λ (got : Option ℕ). got ≢ None)
+letters_known (letter ∷ letters) =
+    All-cons (λ (got : Option ℕ). got ≢ None) (Some letter) (map Some letters) (λ is. absurd (cc)) (letters_known letters)
+
+right_day : (part : DamagedPart) (shown : DamagedText) → part.text ≡ Ok shown → shown.group ≡ Right → MayBeOfTheDay part
+right_day part shown is right =
+    subst (λ t. IfOk t (λ (text : DamagedText). text.group ≢ Wrong)) (sym is) (λ wrong. absurd (cc))
+
+-- what holds of the parts of a form that `desk receive` reads
+record AreAllWhole (total number : ℕ) (parts : List DamagedPart) : Type 0 where
+  pub in_order : AreInOrder total number parts
+  pub whole : All IsReadWhole parts
+  pub of_the_day : All MayBeOfTheDay parts
+
+module _ (s : Day) where
+  read_in_order : (p : PartStart) (total : ℕ) (parts : List (List ℕ)) (letters : List ℕ) (reads : List DamagedPart)
+      → p.expected ≡ Some total → ReadsPartsTo s (IsAnswerAt s (Ok tt)) p parts letters → AreReadOf s parts reads
+      → AreAllWhole total p.number reads
+  read_in_order p total [] letters [] expected ((count, is, due), none) are =
+      let same : count ≡ total = let e : Some count ≡ Some total = sym is ∙ expected in cc in record {
+        in_order = due ∙ ap (λ n. n + 1) same;
+        whole = All-nil IsReadWhole;
+        of_the_day = All-nil MayBeOfTheDay;
+      }
+  read_in_order p total [] letters (one ∷ reads) expected read are = absurd are
+  read_in_order p total (part ∷ parts) letters [] expected read are = absurd are
+  read_in_order p total (part ∷ parts) letters (one ∷ reads) expected (inl (fault, none)) are =
+      let off = fault.2 in absurd (cc)
+  read_in_order p total (part ∷ parts) letters (one ∷ reads) expected (inr (read, more, is, rest, joined)) are =
+      let same : total ≡ read.parts = subst (λ e. IsExpectedCount e read.parts) expected (expected_parts s p part read is) in
+      let (numbers, there, numbered, counted) = numbers_there s p part read one.numbers is are.0.numbers in
+      let (shown, told, whole) = shown_whole s p part read one.text is are.0.text in
+      let known = subst (All (λ (got : Option ℕ). got ≢ None)) (sym whole.letters) (letters_known read.letters) in
+      let others = read_in_order (next_part_start p read.parts part) total parts more reads (ap Some (sym same)) rest are.1 in
+      record {
+        in_order = (numbers, there, numbered, counted ∙ sym same, others.in_order);
+        whole = All-cons IsReadWhole one reads (shown, told, known) others.whole;
+        of_the_day = All-cons MayBeOfTheDay one reads (right_day one shown told whole.group) others.of_the_day;
+      }
+
+  first_in_order : (parts : List (List ℕ)) (part letters : List ℕ) (reads : List DamagedPart)
+      → ReadsPartsTo s (IsAnswerAt s (Ok tt)) first_part_start (part ∷ parts) letters
+      → AreReadOf s (part ∷ parts) reads → (total : ℕ) × (0 < total) × (total_of reads ≡ total) × AreAllWhole total 1 reads
+  first_in_order parts part letters [] read are = absurd are
+  first_in_order parts part letters (one ∷ reads) (inl (fault, none)) are = let off = fault.2 in absurd (cc)
+  first_in_order parts part letters (one ∷ reads) (inr (read, more, is, rest, joined)) are =
+      let (numbers, there, numbered, counted) = numbers_there s first_part_start part read one.numbers is are.0.numbers in
+      let (shown, told, whole) = shown_whole s first_part_start part read one.text is are.0.text in
+      let known = subst (All (λ (got : Option ℕ). got ≢ None)) (sym whole.letters) (letters_known read.letters) in
+      let others = read_in_order (next_part_start first_part_start read.parts part) read.parts parts more reads refl rest are.1 in
+      let order : AreInOrder read.parts 1 (one ∷ reads) = (numbers, there, numbered, counted, others.in_order) in
+      let few = in_order_few read.parts 2 reads others.in_order in (
+        read.parts,
+        omega (arith, few),
+        in_order_total read.parts 1 one reads order,
+        record {
+          in_order = order;
+          whole = All-cons IsReadWhole one reads (shown, told, known) others.whole;
+          of_the_day = All-cons MayBeOfTheDay one reads (right_day one shown told whole.group) others.of_the_day;
+        },
+      )
+
+pub forms_whole : FormsReadAreWhole
+forms_whole s form text reads is are =
+    let (parts, (letters, read, made), joined) = is in
+    let there = subst (λ l. AreReadOf s l reads) (same_parts s form text is) are in
+    let (total, some, counted, all) = first_in_order s _ _ letters reads read there in
+    let shown = forms_shown s form text reads is are in
+    let letters_are : message_letters reads ≡ shown_letters reads =
+    ap (λ n. flat_map (λ m. letters_of_part (shown_under reads m)) (range_with_len 1 n)) counted
+    ∙ in_order_letters total 1 total reads (omega arith) all.in_order in (
+      record {
+        one_message = in_order_agree total 1 reads all.in_order;
+        numbered = in_order_numbered total 1 reads all.in_order;
+        of_the_day = all.of_the_day;
+        some = omega (arith, some, counted);
+        each = subst (λ n. All (IsNumberWhole reads) (range_with_len 1 n)) (sym counted)
+            (in_order_whole total 1 total reads (omega arith) all.in_order all.whole);
+      },
+      shown.1 ∙ ap (λ l. map (shown_byte (space_letter s)) l ++ 10 ∷ []) (sym letters_are),
+    )

@@ -1,0 +1,9 @@
+use Rattle.std.proofs.Common.{arith}
+use Rattle.std.proofs.lemmas.Grind.{common_steps}
+use Rattle.kd_pictures.proofs.Drawings.{joined}
+use Rattle.kd_message.proofs.receiving.draw_by_number.Goals as goal
+
+pub returns : goal.returns
+returns g c =
+    joined c.draw_lone_after.ensures c.draw_numbers.ensures
+    (grind (arith, common_steps))

@@ -1,0 +1,31 @@
+-- What the page has for a part whose heading is damaged. It has no number, and isn't read.
+use Rattle.std.specs.Prelude.{decimal, ℕ, ◌==◌, if◌then◌else◌, List, [], ◌∷◌, ◌++◌}
+use Rattle.kd_state.specs.SheetDay.{Day, day_model, day_number}
+use Rattle.kd_pictures.specs.declared.language.Language.{Language}
+use Rattle.kd_pictures.specs.Language.{text_in}
+use Rattle.kd_pictures.specs.Template.{filled}
+use Rattle.kd_pictures.specs.Words.{model_name}
+use Rattle.kd_part_sheet.specs.declared.markup.TheConstants.{SECTION_END}
+use Rattle.kd_message.specs.declared.texts.TheConstants as texts
+
+-- where a part without a number stands: after the part with the number `after`, or before all parts with numbers, if
+-- `after` is 0
+abbrev pub lone_words : Language → ℕ → List ℕ
+lone_words l after =
+    if after == 0 then text_in l texts.LONE_FIRST else filled (text_in l texts.LONE_AFTER) (decimal after ∷ [])
+
+-- the part in the list of the sheets
+unfoldable pub listed_lone : Language → ℕ → List ℕ
+listed_lone l after = texts.LISTED_LONE.now ++ lone_words l after ++ text_in l texts.LISTED_LONE_END
+
+-- what to ask for: the heading or, if no letter of the body came, the whole part
+abbrev pub lone_asked : Language → ℕ → List ℕ
+lone_asked l came = if came == 0 then text_in l texts.ALL_OF_IT else text_in l texts.ITS_HEADING
+
+-- the part among the texts. `came`: how many letters of its body came.
+unfoldable pub lone_text : Language → Day → ℕ → ℕ → List ℕ
+lone_text l s after came =
+    texts.LONE_HEAD.now ++ lone_words l after
+    ++ filled (text_in l texts.LONE_HEAD_END) (model_name (day_model s) ∷ decimal (day_number s) ∷ [])
+    ++ text_in l texts.UNREAD ++ text_in l texts.HEADING_DAMAGED ++ texts.REASON_END.now ++ text_in l texts.LONE_ASK
+    ++ lone_asked l came ++ texts.ASK_END.now ++ SECTION_END.now

@@ -1,0 +1,73 @@
+-- Whether the parts of a received form are of one message.
+use Rattle.std.specs.Prelude.{ℕ, ◌==◌, ◌&&◌, ◌||◌, not, Bool, true, false, List, [], ◌∷◌, Option, Some, None}
+use Rattle.std.specs.Prelude.{Result, Ok, Err}
+use Rattle.kd_lost.specs.declared.damage.PartDamage.{PartDamage}
+use Rattle.kd_lost.specs.declared.damaged_text.{DamagedText.{DamagedText}, TextKeys.{TextKeys}}
+use Rattle.kd_lost.specs.declared.damaged_text.TextKeys.TheVariants as text_keys
+use Rattle.kd_lost.specs.declared.part.{DamagedPart.{DamagedPart}, PartNumbers.{PartNumbers}}
+
+-- ---- Two parts that were read.
+
+-- whether both letters may have been sent as one: they are equal, or one is lost
+abbrev pub letter_agrees : Option ℕ → Option ℕ → Bool
+letter_agrees (Some one) (Some other) = one == other
+letter_agrees (Some one) None = true
+letter_agrees None other = true
+
+-- whether two bodies agree at each place that both have
+abbrev pub letters_agree : List (Option ℕ) → List (Option ℕ) → Bool
+letters_agree (letter ∷ one) (again ∷ other) = letter_agrees letter again && letters_agree one other
+letters_agree [] other = true
+letters_agree (letter ∷ one) [] = true
+
+-- whether the letters are the same
+abbrev pub same_letters : List ℕ → List ℕ → Bool
+same_letters [] [] = true
+same_letters (letter ∷ one) (again ∷ other) = letter == again && same_letters one other
+same_letters [] (again ∷ other) = false
+same_letters (letter ∷ one) [] = false
+
+-- whether the keys are the same: on a rotor machine, both keys of the heading; on the Converter M-209, the letters of the
+-- indicators
+abbrev pub same_keys : TextKeys → TextKeys → Bool
+same_keys (text_keys.Rotor one) (text_keys.Rotor other) =
+    same_letters one.ground_setting other.ground_setting && same_letters one.enciphered_key other.enciphered_key
+same_keys (text_keys.Pin one) (text_keys.Pin other) =
+    one.indicator.chosen == other.indicator.chosen && same_letters one.indicator.external other.indicator.external
+same_keys (text_keys.Rotor one) (text_keys.Pin other) = false
+same_keys (text_keys.Pin one) (text_keys.Rotor other) = false
+
+-- whether two parts may be the same part, sent twice. Nothing is known of a part that isn't read.
+abbrev pub texts_agree : Result DamagedText PartDamage → Result DamagedText PartDamage → Bool
+texts_agree (Ok one) (Ok other) =
+    letters_agree one.received.items other.received.items && same_keys one.keys other.keys
+texts_agree (Ok one) (Err damage) = true
+texts_agree (Err damage) other = true
+
+-- ---- The parts of a form.
+
+-- Whether two headings can be of one message. Both say how many parts the message has. If they give one number, they also
+-- give one count of letters, and the texts agree.
+abbrev pub numbers_agree : PartNumbers → PartNumbers → Bool → Bool
+numbers_agree one other agree =
+    one.parts == other.parts && (not (one.part == other.part) || one.letters == other.letters && agree)
+
+-- the same, if both headings give numbers; a damaged heading contradicts none
+abbrev pub headings_agree : Option PartNumbers → Option PartNumbers → Bool → Bool
+headings_agree (Some one) (Some other) agree = numbers_agree one other agree
+headings_agree (Some one) None agree = true
+headings_agree None other agree = true
+
+-- whether two parts can be of one message
+abbrev pub parts_agree : DamagedPart → DamagedPart → Bool
+parts_agree one other = headings_agree one.numbers other.numbers (texts_agree one.text other.text)
+
+-- whether the part can be of one message with each of the others
+abbrev pub agrees_with_each : DamagedPart → List DamagedPart → Bool
+agrees_with_each part [] = true
+agrees_with_each part (other ∷ others) = parts_agree part other && agrees_with_each part others
+
+-- whether the parts are of one message: any two of them can be
+abbrev pub are_of_one_message : List DamagedPart → Bool
+are_of_one_message [] = true
+are_of_one_message (part ∷ parts) = agrees_with_each part parts && are_of_one_message parts

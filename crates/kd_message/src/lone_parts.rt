@@ -1,0 +1,81 @@
+//! What the page has for a part whose heading is damaged. It has no number, and isn't read.
+ghost use Rattle.std.specs.Prelude.{◌≡◌};
+ghost use Rattle.kd_pictures.specs.Drawing.{Draws};
+ghost use Rattle.kd_message.specs.LoneParts.{listed_lone, lone_asked, lone_text, lone_words};
+
+use crate::texts::{
+    ALL_OF_IT, ASK_END, HEADING_DAMAGED, ITS_HEADING, LISTED_LONE, LISTED_LONE_END, LONE_AFTER,
+    LONE_ASK, LONE_FIRST, LONE_HEAD, LONE_HEAD_END, REASON_END, UNREAD,
+};
+use kd_part_sheet::markup::SECTION_END;
+use kd_pictures::template::{Value, fill_in};
+use kd_pictures::{Language, draw, draw_in};
+use kd_state::SheetDay;
+use kd_tables::Sink;
+
+/// Writes where a part without a number stands: after the part with the number `after`; 0 if there is no such part.
+fn draw_lone_words<W: Sink>(sink: &mut W, language: Language, after: u8)
+    ensures { Draws W.taken W.has_failed sink.old sink.new (lone_words language after) }
+{
+    if after == 0 {
+        draw_in(sink, language, LONE_FIRST);
+    } else {
+        fill_in(
+            sink,
+            language,
+            LONE_AFTER,
+            &[Value::Number(u16::from(after))],
+        );
+    }
+}
+
+/// Writes a part without a number in the list of the sheets.
+pub(crate) fn draw_listed_lone<W: Sink>(sink: &mut W, language: Language, after: u8)
+    ensures { Draws W.taken W.has_failed sink.old sink.new (listed_lone language after) }
+{
+    draw(sink, LISTED_LONE);
+    draw_lone_words(sink, language, after);
+    draw_in(sink, language, LISTED_LONE_END);
+}
+
+/// Writes a part without a number among the texts: why it isn't read, and what to ask for.
+pub(crate) fn draw_lone_text<W: Sink>(
+    sink: &mut W,
+    language: Language,
+    day: &SheetDay,
+    after: u8,
+    came: usize,
+)
+    ensures { Draws W.taken W.has_failed sink.old sink.new
+        (lone_text language day.now after came) }
+{
+    draw(sink, LONE_HEAD);
+    draw_lone_words(sink, language, after);
+    fill_in(
+        sink,
+        language,
+        LONE_HEAD_END,
+        &[
+            Value::Model(day.model()),
+            Value::Number(u16::from(day.day())),
+        ],
+    );
+    draw_in(sink, language, UNREAD);
+    draw_in(sink, language, HEADING_DAMAGED);
+    draw(sink, REASON_END);
+    draw_in(sink, language, LONE_ASK);
+    draw(sink, lone_asked(language, came));
+    draw(sink, ASK_END);
+    draw(sink, SECTION_END);
+}
+
+/// What to ask for of a part without a number, of whose body `came` letters came.
+fn lone_asked(language: Language, came: usize) -> &'static str
+    ensures { result.now ≡ lone_asked language came }
+{
+    if came == 0 {
+        language.text(ALL_OF_IT)
+    } else {
+        language.text(ITS_HEADING)
+    }
+}

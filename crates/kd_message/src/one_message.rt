@@ -1,0 +1,122 @@
+//! Whether the parts of a received form are of one message.
+ghost use Rattle.std.specs.Prelude.{◌≡◌};
+ghost use Rattle.kd_message.specs.OneMessage.{agrees_with_each, are_of_one_message, headings_agree, letter_agrees};
+ghost use Rattle.kd_message.specs.OneMessage.{letters_agree, numbers_agree, parts_agree, same_keys, same_letters};
+ghost use Rattle.kd_message.specs.OneMessage.{texts_agree};
+
+use kd_lost::{DamagedPart, DamagedText, PartDamage, PartNumbers, TextKeys};
+use kd_tables::Letter;
+
+/// Whether any two of the parts can be of one message.
+pub(crate) fn are_of_one_message(parts: &[DamagedPart]) -> bool
+    ensures { result ≡ are_of_one_message parts.now }
+{
+    match parts {
+        [part, rest @ ..] => agrees_with_each(part, rest) && are_of_one_message(rest),
+        [] => true,
+    }
+}
+
+fn agrees_with_each(part: &DamagedPart, others: &[DamagedPart]) -> bool
+    ensures { result ≡ agrees_with_each part.now others.now }
+{
+    match others {
+        [other, rest @ ..] => parts_agree(part, other) && agrees_with_each(part, rest),
+        [] => true,
+    }
+}
+
+/// Whether two parts can be of one message.
+fn parts_agree(one: &DamagedPart, other: &DamagedPart) -> bool
+    ensures { result ≡ parts_agree one.now other.now }
+{
+    match (&one.numbers, &other.numbers) {
+        (Some(numbers), Some(others)) => {
+            numbers_agree(numbers, others, texts_agree(&one.text, &other.text))
+        }
+        _ => true,
+    }
+}
+
+/// Whether two headings can be of one message. `agree`: whether their texts agree.
+fn numbers_agree(one: &PartNumbers, other: &PartNumbers, agree: bool) -> bool
+    ensures { result ≡ numbers_agree one.now other.now agree }
+{
+    one.parts == other.parts && (one.part != other.part || one.letters == other.letters && agree)
+}
+
+/// Whether two parts may be the same part, sent twice.
+fn texts_agree(
+    one: &Result<DamagedText, PartDamage>,
+    other: &Result<DamagedText, PartDamage>,
+) -> bool
+    ensures { result ≡ texts_agree one.now other.now }
+{
+    match (one, other) {
+        (Ok(one), Ok(other)) => {
+            letters_agree(one.received.as_slice(), other.received.as_slice())
+                && same_keys(&one.keys, &other.keys)
+        }
+        _ => true,
+    }
+}
+
+/// Whether two bodies agree at each place that both have.
+fn letters_agree(one: &[Option<Letter>], other: &[Option<Letter>]) -> bool
+    ensures { result ≡ letters_agree one.now other.now }
+{
+    if let [letter, one @ ..] = one
+        && let [again, other @ ..] = other
+    {
+        return letter_agrees(letter, again) && letters_agree(one, other);
+    }
+    true
+}
+
+/// Whether both letters may have been sent as one: they are equal, or one is lost.
+fn letter_agrees(one: &Option<Letter>, other: &Option<Letter>) -> bool
+    ensures { result ≡ letter_agrees one.now other.now }
+{
+    match (one, other) {
+        (Some(one), Some(other)) => *one == *other,
+        _ => true,
+    }
+}
+
+/// Whether the keys are the same.
+fn same_keys(one: &TextKeys, other: &TextKeys) -> bool
+    ensures { result ≡ same_keys one.now other.now }
+{
+    match (one, other) {
+        (TextKeys::Rotor(one), TextKeys::Rotor(other)) => {
+            same_letters(
+                one.ground_setting.as_slice(),
+                other.ground_setting.as_slice(),
+            ) && same_letters(
+                one.enciphered_key.as_slice(),
+                other.enciphered_key.as_slice(),
+            )
+        }
+        (TextKeys::Pin(one), TextKeys::Pin(other)) => {
+            one.indicator.chosen == other.indicator.chosen
+                && same_letters(&one.indicator.external, &other.indicator.external)
+        }
+        _ => false,
+    }
+}
+
+/// Whether the letters are the same.
+fn same_letters(one: &[Letter], other: &[Letter]) -> bool
+    ensures { result ≡ same_letters one.now other.now }
+{
+    match one {
+        [letter, one @ ..] => match other {
+            [again, other @ ..] => *letter == *again && same_letters(one, other),
+            [] => false,
+        },
+        [] => match other {
+            [_, ..] => false,
+            [] => true,
+        },
+    }
+}
