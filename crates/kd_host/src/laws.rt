@@ -10,6 +10,5 @@ use kd_tables::Source;
 /// So a command whose files are in memory never blames a read of a file.
 pub fn files_in_memory_never_fail()
     ensures file { (file : _) → ⟦<MemoryFile<'static> as Source>⟧.has_failed file ≡ false }
-    ensures returned {
-        (files : _) → (⟦<MemoryFiles<'static> as Files<'static>>⟧.returned files).failed ≡ false }
+    ensures returned { (f : _) → (⟦<MemoryFiles<'static> as Files<'static>>⟧.returned f).failed ≡ false }
 {}
