@@ -128,8 +128,8 @@ module _ (s : Day) where
       → read.text ≡ Ok shown
       → (numbers : PartNumbers) × (read.numbers ≡ Some numbers) × (1 ≤ numbers.part) × (numbers.part ≤ numbers.parts)
   number_there part read shown is text =
-      let one = ThenNext-Ok (subst (λ t. IsDamagedTextAnswer s part t) text is.text) in
-      read_numbers (first_line part) read.numbers one.found one.says is.numbers
+      let one = ThenNext-Ok (subst (λ t. IsDamagedTextAnswer s is.meant t) text is.text) in
+      read_numbers (first_line is.meant) read.numbers one.found one.says is.numbers
 
 -- -------- how many parts the message has
 

@@ -16,9 +16,13 @@ use Rattle.kd_lost.specs.declared.damaged_text.DamagedText.{DamagedText}
 use Rattle.kd_lost.specs.declared.damaged_text.GroupTest.{GroupTest}
 use Rattle.kd_lost.specs.declared.damaged_text.GroupTest.TheVariants.{Right, Wrong, NotTested}
 use Rattle.kd_lost.specs.declared.part.{DamagedPart.{DamagedPart}, PartNumbers.{PartNumbers}}
-use Rattle.kd_lost.specs.DamagedForm.{AreReadOf, damaged_parts_of, letters_in, shown_byte, shown_letters}
+use Rattle.kd_form.specs.declared.heading.Heading.{Heading}
+use Rattle.kd_lost.specs.DamagedForm.{AreReadOf, AsItStands, IsMeant, IsReadOf, Respaced, damaged_parts_of, letters_in}
+use Rattle.kd_lost.specs.DamagedForm.{shown_byte, shown_letters}
+use Rattle.kd_lost.specs.DamagedPart.{AreNumbersRead, IsDamagedHeading, IsDamagedTextAnswer, first_line}
+use Rattle.kd_lost.proofs.Parts.{lines_there}
 use Rattle.kd_lost.proofs.WholeForms.{forms_shown, same_parts}
-use Rattle.kd_lost.proofs.WholeParts.{numbers_there, shown_whole}
+use Rattle.kd_lost.proofs.WholeParts.{numbers_there, shown_whole, whole_part}
 use Rattle.kd_message.specs.Laws.{FormsReadAreWhole, letters_of_part, message_letters}
 use Rattle.kd_message.specs.OneMessage.{agrees_with_each, are_of_one_message, numbers_agree, headings_agree, texts_agree}
 use Rattle.kd_message.specs.ShownParts.{IsNumberWhole, IsReadWhole, IsWhole, MayBeOfTheDay, better, is_number, parts_or}
@@ -200,6 +204,47 @@ right_day : (part : DamagedPart) (shown : DamagedText) → part.text ≡ Ok show
 right_day part shown is right =
     subst (λ t. IfOk t (λ (text : DamagedText). text.group ≢ Wrong)) (sym is) (λ wrong. absurd (cc))
 
+meant_whole : (s : Day) (part meant : List ℕ) (h : Heading) → IsDamagedHeading s (first_line part) h
+    → IsMeant s part meant → meant ≡ part
+meant_whole s part meant h headed (AsItStands other there is) = is
+meant_whole s part meant h headed (Respaced none is) = absurd (none h headed)
+
+-- a part that `desk receive` reads is read as it stands
+as_it_stands : (s : Day) (p : PartStart) (part : List ℕ) (read : ReadPart) (one : DamagedPart)
+    → IsPartAnswer s p part (Ok read) → (is : IsReadOf s part one) → is.meant ≡ part
+as_it_stands s p part read one is of =
+    let w = whole_part s p part read is in
+    let first : first_line part ≡ w.line =
+    ap first_line w.first.joined ∙ (lines_there w.line w.body w.first.without).0 in
+    meant_whole s part of.meant w.h (subst (λ l. IsDamagedHeading s l w.h) (sym first) w.headed) of.is_meant
+
+-- the part is shown whole, under its number
+record IsShownAs (one : DamagedPart) (number : ℕ) (read : ReadPart) : Type 0 where
+  pub numbers : PartNumbers
+  pub there : one.numbers ≡ Some numbers
+  pub numbered : numbers.part ≡ number
+  pub counted : numbers.parts ≡ read.parts
+  pub whole : IsReadWhole one
+  pub of_the_day : MayBeOfTheDay one
+
+shown_as : (s : Day) (p : PartStart) (part : List ℕ) (read : ReadPart) (one : DamagedPart)
+    → IsPartAnswer s p part (Ok read) → IsReadOf s part one → IsShownAs one p.number read
+shown_as s p part read one is of =
+    let stands = as_it_stands s p part read one is of in
+    let (numbers, there, numbered, counted) = numbers_there s p part read one.numbers is
+    (subst (λ l. AreNumbersRead s (first_line l) one.numbers) stands of.numbers) in
+    let (shown, told, whole) = shown_whole s p part read one.text is
+    (subst (λ l. IsDamagedTextAnswer s l one.text) stands of.text) in
+    let known = subst (All (λ (got : Option ℕ). got ≢ None)) (sym whole.letters) (letters_known read.letters) in
+    record {
+      numbers = numbers;
+      there = there;
+      numbered = numbered;
+      counted = counted;
+      whole = (shown, told, known);
+      of_the_day = right_day one shown told whole.group;
+    }
+
 -- what holds of the parts of a form that `desk receive` reads
 record AreAllWhole (total number : ℕ) (parts : List DamagedPart) : Type 0 where
   pub in_order : AreInOrder total number parts
@@ -222,14 +267,12 @@ module _ (s : Day) where
       let off = fault.2 in absurd (cc)
   read_in_order p total (part ∷ parts) letters (one ∷ reads) expected (inr (read, more, is, rest, joined)) are =
       let same : total ≡ read.parts = subst (λ e. IsExpectedCount e read.parts) expected (expected_parts s p part read is) in
-      let (numbers, there, numbered, counted) = numbers_there s p part read one.numbers is are.0.numbers in
-      let (shown, told, whole) = shown_whole s p part read one.text is are.0.text in
-      let known = subst (All (λ (got : Option ℕ). got ≢ None)) (sym whole.letters) (letters_known read.letters) in
+      let its = shown_as s p part read one is are.0 in
       let others = read_in_order (next_part_start p read.parts part) total parts more reads (ap Some (sym same)) rest are.1 in
       record {
-        in_order = (numbers, there, numbered, counted ∙ sym same, others.in_order);
-        whole = All-cons IsReadWhole one reads (shown, told, known) others.whole;
-        of_the_day = All-cons MayBeOfTheDay one reads (right_day one shown told whole.group) others.of_the_day;
+        in_order = (its.numbers, its.there, its.numbered, its.counted ∙ sym same, others.in_order);
+        whole = All-cons IsReadWhole one reads its.whole others.whole;
+        of_the_day = All-cons MayBeOfTheDay one reads its.of_the_day others.of_the_day;
       }
 
   first_in_order : (parts : List (List ℕ)) (part letters : List ℕ) (reads : List DamagedPart)
@@ -238,19 +281,18 @@ module _ (s : Day) where
   first_in_order parts part letters [] read are = absurd are
   first_in_order parts part letters (one ∷ reads) (inl (fault, none)) are = let off = fault.2 in absurd (cc)
   first_in_order parts part letters (one ∷ reads) (inr (read, more, is, rest, joined)) are =
-      let (numbers, there, numbered, counted) = numbers_there s first_part_start part read one.numbers is are.0.numbers in
-      let (shown, told, whole) = shown_whole s first_part_start part read one.text is are.0.text in
-      let known = subst (All (λ (got : Option ℕ). got ≢ None)) (sym whole.letters) (letters_known read.letters) in
+      let its = shown_as s first_part_start part read one is are.0 in
       let others = read_in_order (next_part_start first_part_start read.parts part) read.parts parts more reads refl rest are.1 in
-      let order : AreInOrder read.parts 1 (one ∷ reads) = (numbers, there, numbered, counted, others.in_order) in
+      let order : AreInOrder read.parts 1 (one ∷ reads) =
+      (its.numbers, its.there, its.numbered, its.counted, others.in_order) in
       let few = in_order_few read.parts 2 reads others.in_order in (
         read.parts,
         omega (arith, few),
         in_order_total read.parts 1 one reads order,
         record {
           in_order = order;
-          whole = All-cons IsReadWhole one reads (shown, told, known) others.whole;
-          of_the_day = All-cons MayBeOfTheDay one reads (right_day one shown told whole.group) others.of_the_day;
+          whole = All-cons IsReadWhole one reads its.whole others.whole;
+          of_the_day = All-cons MayBeOfTheDay one reads its.of_the_day others.of_the_day;
         },
       )
 

@@ -19,19 +19,16 @@ pub fn templates_take_their_values()
 {}
 
 /// What `desk receive` reads is shown whole, with the same text.
-#[tactic(auto, using(crate::proofs::WholeForms::forms_whole))]
 pub fn forms_read_are_whole()
     ensures { FormsReadAreWhole }
 {}
 
 /// No part that can be read is hidden by one of which less can be read.
-#[tactic(auto, using(crate::proofs::PagesWhole::nothing_hidden))]
 pub fn nothing_read_is_hidden()
     ensures { NothingReadIsHidden }
 {}
 
 /// A whole message is whole on the page, too.
-#[tactic(auto, using(crate::proofs::PagesWhole::whole_on_page))]
 pub fn whole_messages_are_on_the_page()
     ensures { WholeMessagesAreOnThePage }
 {}
