@@ -4,6 +4,7 @@ pub mod KeyLetters
 pub mod Completions
 pub mod PinText
 pub mod Parts
+pub mod WrongSigns
 pub mod PartShown
 pub mod KnownLetters
 pub mod WholeParts

@@ -5,5 +5,6 @@ pub mod Copies
 pub mod DamagedText
 pub mod DamagedPart
 pub mod Tidy
+pub mod WrongSign
 pub mod DamagedForm
 pub mod Laws

@@ -15,9 +15,11 @@ mod part;
 mod received;
 mod tidy;
 mod warnings;
+mod wrong_sign;
 
 pub use damage::PartDamage;
 pub use damaged_text::{DamagedText, GroupTest, LostCopies, PinTextKeys, TextKeys};
 pub use form::{DamagedFormFault, read_damaged_form};
 pub use part::{DamagedPart, PartNumbers, read_damaged_part};
 pub use tidy::is_tidy;
+pub use wrong_sign::WrongSign;
