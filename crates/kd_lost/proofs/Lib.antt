@@ -10,4 +10,5 @@ pub mod KnownLetters
 pub mod WholeParts
 pub mod Forms
 pub mod Tidying
+pub mod PartLines
 pub mod WholeForms

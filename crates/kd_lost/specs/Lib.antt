@@ -7,4 +7,5 @@ pub mod DamagedPart
 pub mod Tidy
 pub mod WrongSign
 pub mod DamagedForm
+pub mod PartLines
 pub mod Laws
