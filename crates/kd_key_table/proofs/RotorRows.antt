@@ -21,7 +21,7 @@ use Rattle.kd_table.specs.Names.{model_named, reflector_named}
 use Rattle.kd_table.specs.Options.{OptionTexts}
 unfoldable use Rattle.kd_table.specs.RotorRow.{rotor_values}
 use Rattle.kd_table.specs.RotorRow.{wheels_with}
-use Rattle.kd_table.specs.Row.{is_blank_row, row_values, values_of_model}
+use Rattle.kd_table.specs.Row.{fits_columns, is_blank_row, row_values, values_of_model}
 use Rattle.kd_key_table.proofs.CellWords.{IsWordOf, letters_cell, short_words, words_cell}
 use Rattle.kd_key_table.proofs.PlainCells.{IsPlain, IsPlainRow, line}
 use Rattle.kd_key_table.proofs.TableHead.{table_columns}
@@ -223,12 +223,18 @@ by_model options has_lists day M209 is has = let wrong = rw is at has.reflector 
 by_model options has_lists day model is has =
     rw (← is) (ap (option_map Rotor) (rotor_again options has_lists day has))
 
+rotor_fits : (has_lists : Bool) (day : RotorDay)
+    → fits_columns (table_columns has_lists) (rotor_cells has_lists day) ≡ true
+unfolding field_at
+rotor_fits false day = refl
+rotor_fits true day = refl
+
 pub rotor_row : (options : OptionTexts) (has_lists : Bool) (day : RotorDay) → IsLegalRotorDay day
     → row_values options (table_columns has_lists) (rotor_cells has_lists day) ≡ Some (Rotor day)
 unfolding field_at
 rotor_row options has_lists day legal =
     let model = model_again day.model in
-    rw (model.1, model.0) (by_model options has_lists day day.model refl (has_parts day legal))
+    rw (rotor_fits has_lists day, model.1, model.0) (by_model options has_lists day day.model refl (has_parts day legal))
 
 pub rotor_seen : (has_lists : Bool) (day : RotorDay) → IsLegalRotorDay day
     → is_blank_row (table_columns has_lists) (rotor_cells has_lists day) ≡ false

@@ -27,6 +27,7 @@ list_column has_lists place = if has_lists then Some place else None
 -- where the values stand
 abbrev pub table_columns : Bool → Columns
 table_columns has_lists = record {
+  count = if has_lists then 16 else 8;
   day = Some 0;
   model = Some 1;
   reflector = Some 2;

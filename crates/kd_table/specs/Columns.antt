@@ -1,6 +1,6 @@
 -- In which columns of a table its values stand, by the names in the table's first row.
 -- Test: tests/cases/curator-sheet.toml
-use Rattle.std.specs.Prelude.{codes, ℕ, ◌||◌, List, [], ◌∷◌, find, Option, Some, if◌then◌else◌}
+use Rattle.std.specs.Prelude.{codes, ℕ, ◌||◌, List, [], ◌∷◌, find, length, Option, Some, if◌then◌else◌}
 use Rattle.std.specs.List.{range_with_len}
 use Rattle.std.specs.Option.{option_and_then, option_map_or}
 use Rattle.csv.specs.Records.{field_at}
@@ -22,9 +22,10 @@ column_named english german head =
     find (λ place. is_named english (cell_at (Some place) head) || is_named german (cell_at (Some place) head))
     (range_with_len 0 64)
 
--- the columns of a table whose first row is `head`
+-- the columns of a table whose first row is `head`: how many there are, and in which one the values stand
 unfoldable pub columns_of : List (List ℕ) → Columns
 columns_of head = record {
+  count = length head;
   day = column_named (codes "day") (codes "Tag") head;
   model = column_named (codes "model") (codes "Modell") head;
   reflector = column_named (codes "reflector") (codes "Umkehrwalze") head;

@@ -1,7 +1,7 @@
 -- What a row of a table says of a day.
 -- Test: tests/cases/curator-sheet.toml
-use Rattle.std.specs.Prelude.{◌≡◌, ◌&&◌, ℕ, Bool, List, [], ◌∷◌, Option, Some, None, ⊤}
-use Rattle.std.specs.List.{list_all}
+use Rattle.std.specs.Prelude.{◌≡◌, ◌-◌, ◌&&◌, ℕ, nat_le, Bool, List, [], ◌∷◌, length, Option, Some, None, ⊤, if◌then◌else◌}
+use Rattle.std.specs.List.{list_all, range_with_len}
 use Rattle.std.specs.Option.{option_map}
 use Rattle.kd_tables.specs.declared.model.Model.{Model}
 use Rattle.kd_tables.specs.declared.model.Model.TheVariants.{M209}
@@ -31,11 +31,21 @@ abbrev pub values_of_model : OptionTexts → Columns → List (List ℕ) → Mod
 values_of_model options columns row M209 = option_map Pin (pin_values options columns row)
 values_of_model options columns row model = option_map Rotor (rotor_values options columns row model)
 
--- the values of a row's day
-abbrev pub row_values : OptionTexts → Columns → List (List ℕ) → Option Day
-row_values options columns row = do
+-- whether a row has a cell in each of the table's columns, and nothing beyond them
+abbrev pub fits_columns : Columns → List (List ℕ) → Bool
+fits_columns columns row =
+    nat_le columns.count (length row)
+    && list_all (λ place. is_blank (cell_at (Some place) row)) (range_with_len columns.count (length row - columns.count))
+
+-- the values that the cells of a row's day have
+abbrev pub cell_values : OptionTexts → Columns → List (List ℕ) → Option Day
+cell_values options columns row = do
   model ← model_named (cell_or options.model columns.model row)
   values_of_model options columns row model
+
+-- the values of a row's day; a row that ends early, or goes beyond the columns, has none
+abbrev pub row_values : OptionTexts → Columns → List (List ℕ) → Option Day
+row_values options columns row = if fits_columns columns row then cell_values options columns row else None
 
 -- The row describes this day, which is legal.
 pub record IsDayOfRow (options : OptionTexts) (columns : Columns) (row : List (List ℕ)) (day : Day) : Type 0 where

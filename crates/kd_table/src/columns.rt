@@ -11,9 +11,11 @@ use csv::ByteRecord;
 /// The most columns that are looked at.
 const COLUMNS: usize = 64;
 
-/// The columns in which a table's values stand, counted from 0. `None` for columns that the table lacks.
+/// The number of a table's columns, and the columns in which values stand, counted from 0. `None` for columns that the table
+/// lacks.
 #[derive(Clone, Copy)]
 pub struct Columns {
+    pub count: usize,
     pub day: Option<usize>,
     pub model: Option<usize>,
     pub reflector: Option<usize>,
@@ -72,6 +74,7 @@ impl Columns {
         ensures { result ≡ columns_of (fields_of head.now) }
     {
         Columns {
+            count: head.len(),
             day: column_named(head, "day", "Tag"),
             model: column_named(head, "model", "Modell"),
             reflector: column_named(head, "reflector", "Umkehrwalze"),

@@ -136,6 +136,7 @@ fn tell_row<N: Sink>(
     let mut lines = Lines::new();
     tell_day(&mut lines, found, place, columns, row);
     if row_day(options, columns, row).is_none() {
+        tell_end(&mut lines, place, columns, row);
         tell_values(&mut lines, found, place, options, columns, row);
         if lines.is_empty() && columns.day.is_some() && found.has_model {
             lines.tell(cell_place(place, None, "day"), "this row isn't a day");
@@ -173,6 +174,21 @@ fn tell_day(
             lines.add_number(*earlier);
             lines.add(" has this day, too");
             lines.end();
+        }
+    }
+}
+
+/// Tells that a row ends before the last column, or what it has beyond this column.
+fn tell_end(lines: &mut Lines, place: RowPlace<'_>, columns: &Columns, row: &ByteRecord) {
+    if row.len() < columns.count {
+        let at = cell_place(place, Some(row.len()), "");
+        lines.tell(at, "the row ends before this column");
+    }
+    for column in columns.count..row.len() {
+        let cell = cell_at(row, Some(column));
+        if !is_blank(cell) {
+            let at = cell_place(place, None, "beyond the last column");
+            lines.tell_item(at, "", cell, " is there");
         }
     }
 }

@@ -1,10 +1,10 @@
 //! Reads a row of a table as a day.
-ghost use Rattle.std.specs.Prelude.{◌≡◌, MatchOption};
+ghost use Rattle.std.specs.Prelude.{◌≡◌, ◌-◌, MatchOption, Some};
 ghost use Rattle.csv.specs.Records.{fields_of};
-ghost use Rattle.std.specs.List.{list_all};
+ghost use Rattle.std.specs.List.{list_all, range_with_len};
 ghost use Rattle.kd_table.specs.{Columns.{cell_at}, Items.{is_blank}};
 ghost use Rattle.kd_table.specs.Options.{texts_of};
-ghost use Rattle.kd_table.specs.Row.{is_blank_row, places_of, row_values, IsDayOfRow, IsNoDay};
+ghost use Rattle.kd_table.specs.Row.{fits_columns, is_blank_row, places_of, row_values, IsDayOfRow, IsNoDay};
 
 use crate::columns::{Columns, cell_at, cell_or};
 use crate::items::is_blank;
@@ -48,6 +48,22 @@ pub fn is_blank_row(columns: &Columns, row: &ByteRecord) -> bool
     has_nothing(row, &places_of(columns)) && has_nothing(row, &columns.pins)
 }
 
+/// Whether `row` has nothing in the columns from `start` to `end`.
+fn are_blank(row: &ByteRecord, start: usize, end: usize) -> bool
+    ensures { result ≡ list_all (λ place. is_blank (cell_at (Some place) (fields_of row.now)))
+        (range_with_len start (end - start)) }
+{
+    (start..end).all(|place| is_blank(cell_at(row, Some(place))))
+}
+
+/// Whether `row` has a cell in each of the table's columns, and nothing beyond them.
+fn fits_columns(columns: &Columns, row: &ByteRecord) -> bool
+    ensures { result ≡ fits_columns columns.now (fields_of row.now) }
+{
+    let count = row.len();
+    columns.count <= count && are_blank(row, columns.count, count)
+}
+
 /// Reads a row as a day. `None` if it doesn't describe a legal day.
 pub fn row_day(
     options: &TableOptions<&[u8]>,
@@ -58,6 +74,9 @@ pub fn row_day(
         (IsNoDay (row_values (texts_of options.now) columns.now (fields_of row.now)))
         (λ day. IsDayOfRow (texts_of options.now) columns.now (fields_of row.now) day) }
 {
+    if !fits_columns(columns, row) {
+        return None;
+    }
     let model = model_named(cell_or(options.model, row, columns.model))?;
     let day = match model {
         Model::M209 => pin_day(options, columns, row)?,
