@@ -2,7 +2,7 @@
 use super::places::is_text;
 use crate::form::samples::TWO_PARTS;
 use crate::machines::{PLAIN, keyed};
-use kd_lost::{DamagedPart, PartDamage, read_damaged_form};
+use kd_lost::{DamagedPart, PartDamage, part_lines, read_damaged_form};
 use std::process::Abort;
 use std::test::Fail;
 
@@ -80,6 +80,29 @@ fn damaged_forms_are_read(rt: HostRuntime) -> Result<(), Fail> {
             .ok()
             .ok_or("memory")?;
         are_read(&rt, parts.as_slice(), due);
+    }
+    Ok(())
+}
+
+/// A form, and the line on which each of its parts begins.
+static LINES: [(&str, &[usize]); 2] = [
+    (
+        "PART 1/2 10 AAA BDZ\nQXUGZ BDZGO\nPART 2/2 10 AAA BDZ\nQXUGZ BDZGO\n",
+        &[1, 3],
+    ),
+    (
+        "\u{FEFF}To the 2nd.\n\n part 1/2 10 AAA BDZ\r\nQXUGZ\n\nBDZGO\nPART 2/2 10 AAA BDZ\n",
+        &[3, 7],
+    ),
+];
+
+#[test]
+fn parts_have_their_lines(rt: HostRuntime) -> Result<(), Fail> {
+    for (form, due) in &LINES {
+        let lines = part_lines(rt.alloc(), form.as_bytes())
+            .ok()
+            .ok_or("memory")?;
+        assert!(&rt; lines.as_slice() == *due);
     }
     Ok(())
 }
