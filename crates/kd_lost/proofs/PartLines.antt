@@ -15,18 +15,20 @@ without_length : (form : List ℕ) (has : Bool) → length (if has then drop 3 f
 without_length form true = omega (arith, length-drop {A = ℕ})
 without_length form false = omega arith
 
-later_from : (bytes other : List ℕ) (ends : Bool) → length bytes ≤ length other
+later_from : (bytes other : List ℕ) (ends slash : Bool) → length bytes ≤ length other
     → length (unwrap_or (later_heading bytes) other) ≤ length other
-    → length (unwrap_or (if ends then Some bytes else later_heading bytes) other) ≤ length other
-later_from bytes other true few rest = few
-later_from bytes other false few rest = rest
+    → length (unwrap_or (if ends then Some bytes else if slash then None else later_heading bytes) other)
+    ≤ length other
+later_from bytes other true slash few rest = few
+later_from bytes other false true few rest = omega arith
+later_from bytes other false false few rest = rest
 
 later_length : (bytes other : List ℕ) → length bytes ≤ length other
     → length (unwrap_or (later_heading bytes) other) ≤ length other
 later_length [] other few = omega arith
 later_length (byte ∷ bytes) other few =
     let short : length bytes ≤ length other = omega (arith, few) in
-    later_from bytes other (byte == 10 && is_heading_line bytes) short (later_length bytes other short)
+    later_from bytes other (byte == 10 && is_heading_line bytes) (byte == 47) short (later_length bytes other short)
 
 from_length : (bytes : List ℕ) (begins : Bool)
     → length (if begins then bytes else unwrap_or (later_heading bytes) bytes) ≤ length bytes

@@ -1,6 +1,7 @@
 -- A form without noise: what copying a form or typing around it leaves there, and no operator sent. A byte order mark
--- is left out, and so are the lines before the first heading. In a heading, blanks are left out that only part its words
--- further, or stand around them. Bodies may have any spaces and line ends.
+-- is left out, and so are the lines before the first heading, unless a slash stands there: then a line may have been a
+-- heading. In a heading, blanks are left out that only part its words further, or stand around them. Bodies may have any
+-- spaces and line ends.
 -- Test: damaged_forms_are_read
 use Rattle.std.specs.Prelude.{ℕ, ◌==◌, ◌&&◌, ◌||◌, Bool, true, if◌then◌else◌, List, [], ◌∷◌, ◌++◌, take, drop}
 use Rattle.std.specs.Prelude.{Option, None, Some, unwrap_or}
@@ -14,12 +15,13 @@ use Rattle.kd_lost.specs.DamagedPart.{first_line}
 abbrev pub without_mark : List ℕ → List ℕ
 without_mark form = if bytes_eq (take 3 form) (239 ∷ 187 ∷ 191 ∷ []) then drop 3 form else form
 
--- `bytes`, from the first later line on that is taken for a heading
+-- `bytes`, from the first later line on that is taken for a heading, if no slash stands before it
 abbrev pub later_heading : List ℕ → Option (List ℕ)
 later_heading [] = None
-later_heading (byte ∷ bytes) = if byte == 10 && is_heading_line bytes then Some bytes else later_heading bytes
+later_heading (byte ∷ bytes) =
+    if byte == 10 && is_heading_line bytes then Some bytes else if byte == 47 then None else later_heading bytes
 
--- `bytes`, from the first heading on; all of them, if no line is taken for a heading
+-- `bytes`, from the first heading on; all of them, if no line is taken for a heading, or a slash stands before it
 abbrev pub from_heading : List ℕ → List ℕ
 from_heading bytes = if is_heading_line bytes then bytes else unwrap_or (later_heading bytes) bytes
 

@@ -17,7 +17,7 @@ pub fn is_tidy(form: &[u8]) -> bool
     tidied(form) == form
 }
 
-/// `form` without a byte order mark, and without the lines before its first heading.
+/// `form` without a byte order mark, and without the lines before its first heading, if no slash stands there.
 pub(crate) fn tidied(form: &[u8]) -> &[u8]
     ensures { result.now ≡ tidied form.now }
 {
@@ -47,7 +47,9 @@ fn without_mark(form: &[u8]) -> &[u8]
     }
 }
 
-/// `bytes` from the first later line on that is taken for a heading.
+/// `bytes` from the first later line on that is taken for a heading; `None` if a slash stands before it.
+///
+/// A line with a slash may have been a heading, whose part isn't to be lost in silence.
 fn later_heading(bytes: &[u8]) -> Option<&[u8]>
     ensures { MatchOption result
         (later_heading bytes.now ≡ None)
@@ -57,6 +59,9 @@ fn later_heading(bytes: &[u8]) -> Option<&[u8]>
         let (_, rest) = bytes.split_at(index + 1);
         if ends_part(*byte, rest) {
             return Some(rest);
+        }
+        if *byte == b'/' {
+            return None;
         }
     }
     None

@@ -85,7 +85,7 @@ fn damaged_forms_are_read(rt: HostRuntime) -> Result<(), Fail> {
 }
 
 /// A form, and the line on which each of its parts begins.
-static LINES: [(&str, &[usize]); 2] = [
+static LINES: [(&str, &[usize]); 3] = [
     (
         "PART 1/2 10 AAA BDZ\nQXUGZ BDZGO\nPART 2/2 10 AAA BDZ\nQXUGZ BDZGO\n",
         &[1, 3],
@@ -93,6 +93,10 @@ static LINES: [(&str, &[usize]); 2] = [
     (
         "\u{FEFF}To the 2nd.\n\n part 1/2 10 AAA BDZ\r\nQXUGZ\n\nBDZGO\nPART 2/2 10 AAA BDZ\n",
         &[3, 7],
+    ),
+    (
+        "P??? 1/2 10 AAA BDZ\nQXUGZ BDZGO\nPART 2/2 10 AAA BDZ\nQXUGZ BDZGO\n",
+        &[1, 3],
     ),
 ];
 
