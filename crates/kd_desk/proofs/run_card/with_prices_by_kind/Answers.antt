@@ -1,4 +1,4 @@
-use Rattle.kd_desk.proofs.Prelude.arith
+use Rattle.kd_desk.proofs.Prelude.{arith}
 use Rattle.kd_desk.proofs.run_card.with_prices_by_kind.Goals as goal
 
 pub unwrap-requires : goal.unwrap-requires
