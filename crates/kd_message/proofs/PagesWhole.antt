@@ -63,7 +63,7 @@ on_range f from count (suc place) piece inside is =
     (on_right (f from) (flat_map f (range_with_len (from + 1) (count - 1))) piece
     (on_range f (from + 1) (count - 1) place piece (omega (arith, inside)) (subst (λ n. IsOn (f n) piece) same is)))
 
-at_range : (P : ℕ → Type 0) (from count place : ℕ) → place < count → All P (range_with_len from count)
+pub at_range : (P : ℕ → Type 0) (from count place : ℕ) → place < count → All P (range_with_len from count)
     → P (from + place)
 at_range P from count zero inside all =
     let same : from ≡ from + 0 = omega arith in
@@ -174,7 +174,7 @@ total_is_cases one parts part numbers agree (inr later) is rest =
     total_here one part numbers one.numbers (total_of parts) refl is (agree_with_it one part parts agree later)
     (rest later)
 
-total_is : (parts : List DamagedPart) (part : DamagedPart) (numbers : PartNumbers) → are_of_one_message parts ≡ true
+pub total_is : (parts : List DamagedPart) (part : DamagedPart) (numbers : PartNumbers) → are_of_one_message parts ≡ true
     → Contains parts part → part.numbers ≡ Some numbers → total_of parts ≡ numbers.parts
 total_is [] part numbers agree there is = absurd (contains_none part there)
 total_is (one ∷ parts) part numbers agree there is =
@@ -364,7 +364,7 @@ nothing_hidden l s form parts part shown read there is =
 
 -- -------- a whole message
 
-shown_known : (s : Day) (letters : List ℕ) → map (shown_byte (space_letter s)) (map Some letters) ≡ plaintext_bytes s letters
+pub shown_known : (s : Day) (letters : List ℕ) → map (shown_byte (space_letter s)) (map Some letters) ≡ plaintext_bytes s letters
 shown_known s [] = refl
 shown_known s (letter ∷ letters) = ap (λ l. shown_byte (space_letter s) (Some letter) ∷ l) (shown_known s letters)
 
@@ -375,7 +375,7 @@ known_letters (Some letter ∷ items) all =
     let rest = known_letters items (All-tail (λ (got : Option ℕ). got ≢ None) (Some letter) items all) in
     (letter ∷ rest.0, ap (λ l. Some letter ∷ l) rest.1)
 
-whole_under : (found : Option DamagedPart) → MatchOption found ⊥ IsReadWhole
+pub whole_under : (found : Option DamagedPart) → MatchOption found ⊥ IsReadWhole
     → (part : DamagedPart) × (found ≡ Some part) × IsReadWhole part
 whole_under None whole = absurd whole
 whole_under (Some part) whole = (part, refl, whole)

@@ -50,7 +50,7 @@ chosen_holds : (P : DamagedPart → Type 0) (is_it : Bool) (one other part : Dam
 chosen_holds P true one other part holds others is = let e : one ≡ part = cc in rw (← e) holds
 chosen_holds P false one other part holds others is = let e : other ≡ part = cc in rw (← e) others
 
-better_holds : (P : DamagedPart → Type 0) (one : DamagedPart) (later : Option DamagedPart) (part : DamagedPart) → P one
+pub better_holds : (P : DamagedPart → Type 0) (one : DamagedPart) (later : Option DamagedPart) (part : DamagedPart) → P one
     → ((other : DamagedPart) → later ≡ Some other → P other) → better one later ≡ Some part → P part
 better_holds P one None part holds rest is = let e : one ≡ part = cc in rw (← e) holds
 better_holds P one (Some later) part holds rest is =

@@ -1,15 +1,15 @@
 -- Laws of the rows of a page, and of what the page for receiving says of a whole message.
-use Rattle.std.specs.Prelude.{◌≡◌, ℕ, ◌≤◌, List, [], ◌∷◌, ◌++◌, Contains, filter, flat_map, length, map, Option, Some, None, Ok}
+use Rattle.std.specs.Prelude.{◌≡◌, ℕ, ◌≤◌, List, [], ◌∷◌, ◌++◌, All, Contains, IsFalse, filter, flat_map, length, map, Option, Some, None, Ok}
 use Rattle.std.specs.List.{range_with_len}
 use Rattle.kd_state.specs.SheetDay.{Day, day_model}
 use Rattle.kd_form.specs.PartMaking.{cipher_from}
-use Rattle.kd_form.specs.FormText.{IsTextOf, plaintext_bytes}
+use Rattle.kd_form.specs.FormText.{IsAnswerAt, IsTextOf, ReadsPartsTo, first_part_start, plaintext_bytes}
 use Rattle.kd_form.specs.Sending.{space_letter}
 use Rattle.kd_lost.specs.declared.damaged_text.DamagedText.{DamagedText}
 use Rattle.kd_lost.specs.declared.part.DamagedPart.{DamagedPart}
 use Rattle.kd_lost.specs.DamagedForm.{AreReadOf, damaged_parts_of, letters_in, shown_byte}
 use Rattle.kd_lost.specs.DamagedPart.{IsDamagedTextAnswer}
-use Rattle.kd_lost.specs.Lost.{Completes, covered}
+use Rattle.kd_lost.specs.Lost.{Completes, covered, is_lost, meant_byte}
 use Rattle.kd_part_sheet.specs.declared.cells.Cell.{Cell}
 use Rattle.kd_part_sheet.specs.declared.cells.Sign.{Sign}
 use Rattle.kd_part_sheet.specs.declared.cells.Sign.TheVariants as signs
@@ -98,3 +98,20 @@ WholeMessagesAreOnThePage =
     → (letters : List ℕ) × (letters_of_part (shown_under parts number) ≡ map Some letters)
     × IsOn (receive_text l s parts)
     (clear_text l s (part_name s number (total_of parts)) (times_of parts number) letters)
+
+-- ---- The converse.
+
+-- No byte of the part stands for a lost letter, and each is meant as it stands: no letter is small, and no byte is a tab.
+abbrev pub IsClear : List ℕ → Type 0
+IsClear part = All (λ byte. IsFalse (is_lost byte) × (meant_byte byte ≡ byte)) part
+
+-- If a form is one whole message, and nothing in it was lost, then parts of the form, one for each number, stand in an
+-- order in which `desk receive` reads them, one after another, to the letters that the page shows. So the text is the one
+-- that `desk receive` gives of the form, but for the order in which parts came, and for parts that came more than once.
+abbrev pub WholeMessagesAreRead : Type 0
+WholeMessagesAreRead =
+    (s : Day) (form : List ℕ) (parts : List DamagedPart) → AreReadOf s (damaged_parts_of form) parts
+    → All IsClear (damaged_parts_of form) → All (λ part. IsFalse part.respaced) parts → IsWhole parts
+    → (ordered : List (List ℕ)) × (letters : List ℕ) × All (Contains (damaged_parts_of form)) ordered
+    × (length ordered ≡ total_of parts) × ReadsPartsTo s (IsAnswerAt s (Ok tt)) first_part_start ordered letters
+    × (map (shown_byte (space_letter s)) (message_letters parts) ≡ plaintext_bytes s letters)
