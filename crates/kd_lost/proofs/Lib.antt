@@ -4,9 +4,11 @@ pub mod KeyLetters
 pub mod Completions
 pub mod PinText
 pub mod Parts
+pub mod WrongSigns
 pub mod PartShown
 pub mod KnownLetters
 pub mod WholeParts
 pub mod Forms
 pub mod Tidying
+pub mod PartLines
 pub mod WholeForms

@@ -18,6 +18,7 @@ use Rattle.kd_lost.specs.DamagedPart.{first_line}
 use Rattle.kd_lost.specs.HeadingLine.{is_heading_line}
 use Rattle.kd_lost.specs.Lost.{received_letters}
 use Rattle.kd_lost.specs.Tidy.{respaced, tidied}
+use Rattle.kd_lost.specs.WrongSign.{IsFirstWrongSign}
 
 -- ---- The parts of a form.
 
@@ -57,6 +58,7 @@ pub record IsReadOf (s : Day) (part : List ℕ) (read : DamagedPart) : Type 0 wh
   pub came : read.came ≡ length (received_letters (body_of meant))
   pub text : IsDamagedTextAnswer s meant read.text
   pub shown : IfOk read.text (IsPartShown s meant)
+  pub wrong_sign : IsFirstWrongSign (body_of meant) read.wrong_sign
   pub respaced : IsTrue read.respaced ↔ (meant ≢ part)
 
 -- Each part is read by itself.

@@ -5,5 +5,7 @@ pub mod Copies
 pub mod DamagedText
 pub mod DamagedPart
 pub mod Tidy
+pub mod WrongSign
 pub mod DamagedForm
+pub mod PartLines
 pub mod Laws

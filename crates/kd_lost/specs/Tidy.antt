@@ -1,7 +1,7 @@
 -- A form without noise: what copying a form or typing around it leaves there, and no operator sent. A byte order mark
 -- is left out, and so are the lines before the first heading. In a heading, blanks are left out that only part its words
 -- further, or stand around them. Bodies may have any spaces and line ends.
--- Test: noise_is_passed_over
+-- Test: damaged_forms_are_read
 use Rattle.std.specs.Prelude.{ℕ, ◌==◌, ◌&&◌, ◌||◌, Bool, true, if◌then◌else◌, List, [], ◌∷◌, ◌++◌, take, drop}
 use Rattle.std.specs.Prelude.{Option, None, Some, unwrap_or}
 use Rattle.std.specs.Str.{bytes_eq}

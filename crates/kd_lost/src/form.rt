@@ -1,5 +1,5 @@
 //! Reads a form in which letters were lost, part by part.
-ghost use Rattle.std.specs.Prelude.{◌≡◌, ◌≢◌, ◌↔◌, IsTrue, ◌<◌, ◌≤◌, length, IfOk, IfSome, MatchOption, MatchResult, []};
+ghost use Rattle.std.specs.Prelude.{◌≡◌, ◌≢◌, ◌↔◌, ◌+◌, IsTrue, ◌<◌, ◌≤◌, length, IfOk, IfSome, MatchOption, MatchResult, []};
 ghost use Rattle.kd_lost.specs.DamagedForm.{AreReadOf, IsFormFault, IsReadOf, cut_at_heading_lines};
 ghost use Rattle.kd_lost.specs.DamagedForm.{damaged_parts_of, parts_cut};
 ghost use Rattle.kd_lost.specs.DamagedForm.{ends_part};
@@ -85,12 +85,14 @@ fn differs(bytes: &[u8], others: &[u8]) -> bool
 }
 
 /// The first part of `form`, and the bytes after it; `None` if there is no other part.
-fn split_part(form: &[u8]) -> (&[u8], Option<&[u8]>)
+pub(crate) fn split_part(form: &[u8]) -> (&[u8], Option<&[u8]>)
     ensures part { result.0.now ≡ (cut_at_heading_lines form.now).0 }
     ensures others { MatchOption result.1
         ((cut_at_heading_lines form.now).1 ≡ [])
         (λ rest. (cut_at_heading_lines form.now).1 ≡ parts_cut rest.now) }
     ensures shorter { IfSome result.1 (λ rest. length rest.now < length form.now) }
+    ensures joined { IfSome result.1
+        (λ rest. length result.0.now + length rest.now ≡ length form.now) }
 {
     for (index, byte) in form.iter().enumerate() {
         let (_, rest) = form.split_at(index + 1);

@@ -11,13 +11,17 @@ mod damaged_text;
 mod form;
 mod heading_line;
 pub mod laws;
+mod lines;
 mod part;
 mod received;
 mod tidy;
 mod warnings;
+mod wrong_sign;
 
 pub use damage::PartDamage;
 pub use damaged_text::{DamagedText, GroupTest, LostCopies, PinTextKeys, TextKeys};
 pub use form::{DamagedFormFault, read_damaged_form};
+pub use lines::part_lines;
 pub use part::{DamagedPart, PartNumbers, read_damaged_part};
 pub use tidy::is_tidy;
+pub use wrong_sign::WrongSign;

@@ -6,11 +6,13 @@ ghost use Rattle.kd_lost.specs.DamagedPart.{AreNumbersRead, IsDamagedBodyAnswer,
 ghost use Rattle.kd_lost.specs.DamagedPart.{IsHeadedPartAnswer};
 ghost use Rattle.kd_lost.specs.DamagedPart.{IsDamagedTextAnswer, IsPartShown, body_of, first_line, numbers_of};
 ghost use Rattle.kd_lost.specs.Lost.{received_letters};
+ghost use Rattle.kd_lost.specs.WrongSign.{IsFirstWrongSign};
 
 use crate::body::{decipher_pin, decipher_rotor};
 use crate::damage::PartDamage;
 use crate::damaged_text::DamagedText;
 use crate::received::{are_body_bytes, filled_line, has_lost_byte, letter_count, received_letters};
+use crate::wrong_sign::{WrongSign, first_wrong_sign};
 use kd_form::day_machine::slots_of;
 use kd_form::heading::Heading;
 use kd_form::receiving::heading_reader::heading_of_ended_line;
@@ -25,6 +27,8 @@ pub struct DamagedPart {
     pub came: usize,
     /// The text, or why it can't be read.
     pub text: Result<DamagedText, PartDamage>,
+    /// The first wrong sign of the body, if it has one.
+    pub wrong_sign: Option<WrongSign>,
     /// Whether blanks in the part's first line were passed over, since it is no heading with them.
     pub respaced: bool,
 }
@@ -49,6 +53,7 @@ pub fn read_damaged_part(day: &SheetDay, part: &[u8]) -> DamagedPart
     ensures came { result.came ≡ length (received_letters (body_of part.now)) }
     ensures text { IsDamagedTextAnswer day.now part.now result.text }
     ensures shown { IfOk result.text (IsPartShown day.now part.now) }
+    ensures wrong_sign { IsFirstWrongSign (body_of part.now) result.wrong_sign }
     ensures as_it_stands { result.respaced ≡ false }
 {
     match split_once(part, b'\n') {
@@ -63,14 +68,17 @@ fn read_lines(day: &SheetDay, line: &[u8], body: &[u8]) -> DamagedPart
     ensures numbers { AreNumbersRead day.now line.now result.numbers }
     ensures came { result.came ≡ length (received_letters body.now) }
     ensures text { IsDamagedLinesAnswer day.now line.now body.now result.text }
+    ensures wrong_sign { IsFirstWrongSign body.now result.wrong_sign }
     ensures as_it_stands { result.respaced ≡ false }
 {
     let came = letter_count(body);
+    let wrong_sign = first_wrong_sign(body);
     let Some(heading) = heading_of_ended_line(day, filled_line(line).as_slice()) else {
         return DamagedPart {
             numbers: None,
             came,
             text: Err(PartDamage::HeadingDamaged),
+            wrong_sign,
             respaced: false,
         };
     };
@@ -78,6 +86,7 @@ fn read_lines(day: &SheetDay, line: &[u8], body: &[u8]) -> DamagedPart
         numbers: Some(numbers_of(&heading)),
         came,
         text: read_body_after(day, &heading, line, body),
+        wrong_sign,
         respaced: false,
     }
 }

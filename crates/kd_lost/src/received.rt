@@ -75,7 +75,7 @@ pub(crate) fn are_body_bytes(body: &[u8]) -> bool
 }
 
 /// Whether `byte` may be in a body: a letter, a lost letter, a space, CR or LF.
-fn is_body_byte(byte: u8) -> bool
+pub(crate) fn is_body_byte(byte: u8) -> bool
     ensures { result ≡ is_body_byte byte }
 {
     is_lost(byte) || is_text_byte(meant_byte(byte))
@@ -101,7 +101,7 @@ pub(crate) fn letter_count(body: &[u8]) -> usize
 }
 
 /// Whether `byte` is a letter, or a lost one.
-fn is_received(byte: &u8) -> bool
+pub(crate) fn is_received(byte: &u8) -> bool
     ensures { result ≡ is_some (received_letter byte.now) }
 {
     received_letter(*byte).is_some()

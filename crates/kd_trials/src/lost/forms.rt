@@ -10,7 +10,7 @@ use std::test::Fail;
 /// read. The text of each part is `AAAAA`.
 type Due = (Option<u8>, Result<&'static [usize], PartDamage>);
 
-static FORMS: [(&str, &[Due]); 7] = [
+static FORMS: [(&str, &[Due]); 11] = [
     (TWO_PARTS, &[(Some(1), Ok(&[])), (Some(2), Ok(&[]))]),
     (
         "PART 1/2 10 AAA BDZ\nQXUGZ B?ZGO\nPART 2/2 10 AAA BDZ\nQXUGZ BDZG-\n",
@@ -34,6 +34,22 @@ static FORMS: [(&str, &[Due]); 7] = [
     (
         "PART 1/3 10 AAA BDZ\nQXUGZ BDZGO\nPART 1/3 10 AAA BDZ\nQXUGZ BDZG\n",
         &[(Some(1), Ok(&[])), (Some(1), Err(PartDamage::CountWrong))],
+    ),
+    (
+        "PART 1/2 10 AAA BDZ\nQX1GZ BDZGO\nPART 2/2 10 AAA BDZ\nQXUGZ BDZGO\n",
+        &[(Some(1), Err(PartDamage::BadByte)), (Some(2), Ok(&[]))],
+    ),
+    (
+        "PART 1/2 10 AAA BDZ\nQXUGZ BDZGO\nPRT 2/2 10 AAA BDZ\nQXUGZ BDZGO\n",
+        &[(Some(1), Ok(&[])), (None, Err(PartDamage::HeadingDamaged))],
+    ),
+    (
+        "PART 1/2 10 AAA BDZ\nQXUGZ BDZGO\nPAXT 2/2 10 AAA BDZ\nQXUGZ BDZGO\n",
+        &[(Some(1), Ok(&[])), (None, Err(PartDamage::HeadingDamaged))],
+    ),
+    (
+        "\u{FEFF}To the 2nd.\n\n  part  1/2\t10 AAA  BDZ  \r\nqxugz\tbdzgo  \n\nPART 2/2 10 AAA BDZ \nQXUGZ\nBDZGO",
+        &[(Some(1), Ok(&[])), (Some(2), Ok(&[]))],
     ),
     ("", &[(None, Err(PartDamage::HeadingDamaged))]),
 ];

@@ -76,6 +76,28 @@ fn damaged_parts_have_a_reason(rt: HostRuntime) {
     }
 }
 
+/// A part, and its first wrong sign: its line, its place among the letters of the line, and its byte.
+type Wrong = (&'static str, Option<(usize, usize, u8)>);
+
+static WRONG: [Wrong; 4] = [
+    ("PART 1/1 10 AAA BDZ\nQXUGZ BDZGO\n", None),
+    ("PART 1/1 10 AAA BDZ\nQXUGZ BD1GO\n", Some((2, 8, b'1'))),
+    ("PART 1/1 10 AAA BDZ\nQ?ugz\nB-\t.3O\n", Some((3, 3, b'.'))),
+    ("P?RT 1/1 10 AAA BDZ\n/", Some((2, 1, b'/'))),
+];
+
+#[test]
+fn wrong_signs_are_named(rt: HostRuntime) {
+    let keyed = keyed(&rt, rt.alloc(), &PLAIN);
+    for (part, due) in &WRONG {
+        let read = read_damaged_part(&keyed.1, part.as_bytes());
+        let wrong = read
+            .wrong_sign
+            .map(|wrong| (wrong.line, wrong.letter, wrong.byte));
+        assert!(&rt; wrong == *due);
+    }
+}
+
 /// A Converter's part, and what is warned of: the list letters, and lost letters at the start and at the end. The text
 /// of each is `HELLO`.
 type Copied = (&'static str, GroupTest, bool, bool);

@@ -19,6 +19,7 @@ returns-then-is_some c =
       came = read.came;
       text = read.text;
       shown = read.shown;
+      wrong_sign = read.wrong_sign;
       respaced = stands;
     }
 
@@ -35,5 +36,6 @@ returns c =
       came = read.came;
       text = read.text;
       shown = read.shown;
+      wrong_sign = read.wrong_sign;
       respaced = c.differs.ensures;
     }

@@ -1,4 +1,5 @@
-use Rattle.std.proofs.Common.{◌∙◌, ap, length, sym}
+use Rattle.std.proofs.Common.{◌∙◌, ap, length, subst, sym}
+use Rattle.kd_lost.specs.WrongSign.{IsFirstWrongSign}
 use Rattle.kd_lost.specs.DamagedPart.{body_of, first_line}
 use Rattle.kd_lost.specs.Lost.{received_letters}
 use Rattle.kd_lost.proofs.Parts.{lines_there, one_line}
@@ -19,6 +20,8 @@ returns-in-Some c =
           ∙ ap (λ b. length (received_letters b)) (sym (ap body_of first.joined ∙ there.1));
       text = told.1;
       shown = told.2;
+      wrong_sign = subst (λ b. IsFirstWrongSign b c.read_lines.result.wrong_sign)
+          (sym (ap body_of first.joined ∙ there.1)) c.read_lines.ensures.wrong_sign;
       as_it_stands = c.read_lines.ensures.as_it_stands;
     }
 
@@ -33,5 +36,7 @@ returns-in-None c =
       came = c.read_lines-in-None.ensures.came ∙ ap (λ b. length (received_letters b)) (sym there.1);
       text = told.1;
       shown = told.2;
+      wrong_sign = subst (λ b. IsFirstWrongSign b c.read_lines-in-None.result.wrong_sign) (sym there.1)
+          c.read_lines-in-None.ensures.wrong_sign;
       as_it_stands = c.read_lines-in-None.ensures.as_it_stands;
     }

@@ -1,0 +1,57 @@
+//! `WrongSign`: the first sign of a body that is neither a letter nor a lost one.
+ghost use Rattle.std.specs.Prelude.{◌≡◌, ◌+◌, ◌<◌, ◌^◌, ◌==◌, if◌then◌else◌, is_some};
+ghost use Rattle.kd_lost.specs.Lost.{received_letter};
+ghost use Rattle.kd_lost.specs.WrongSign.{IsFirstWrongSign};
+
+use crate::received::{is_body_byte, is_received};
+
+/// A sign in the body of a part that is neither a letter nor a lost one, nor a blank or a line end.
+#[derive(Clone, Copy, Debug, PartialEq, Eq)]
+pub struct WrongSign {
+    /// The line of the part on which the sign stands, counted from 1. On line 1 stands the heading.
+    pub line: usize,
+    /// The place of the sign among the letters of its line, counted from 1.
+    pub letter: usize,
+    /// The sign.
+    pub byte: u8,
+}
+
+/// The first wrong sign in `body`, the bytes after the heading line of a part.
+pub(crate) fn first_wrong_sign(body: &[u8]) -> Option<WrongSign>
+    ensures { IsFirstWrongSign body.now result }
+{
+    let mut line = 2;
+    let mut letter = 1;
+    for byte in body {
+        if !is_body_byte(*byte) {
+            let byte = *byte;
+            return Some(WrongSign { line, letter, byte });
+        }
+        line = line_after(line, *byte);
+        letter = letter_after(letter, *byte);
+    }
+    None
+}
+
+/// The line after `byte`, which stands on line `line`.
+fn line_after(line: usize, byte: u8) -> usize
+    requires { line < 2 ^ 63 + 2 }
+    ensures { result ≡ (if byte == 10 then line + 1 else line) }
+{
+    if byte == b'\n' { line + 1 } else { line }
+}
+
+/// The number of the letter after `byte`, before which letter `letter` would stand.
+fn letter_after(letter: usize, byte: u8) -> usize
+    requires { letter < 2 ^ 63 + 2 }
+    ensures { result ≡ (if byte == 10 then 1
+        else if is_some (received_letter byte) then letter + 1 else letter) }
+{
+    if byte == b'\n' {
+        1
+    } else if is_received(&byte) {
+        letter + 1
+    } else {
+        letter
+    }
+}
