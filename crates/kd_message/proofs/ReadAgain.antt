@@ -1,8 +1,8 @@
 -- A whole message in which nothing was lost is one that `desk receive` reads, if its parts stand in order.
-use Rattle.std.proofs.Common.{◌≡◌, ◌≢◌, ◌∙◌, ◌⊎◌, inl, inr, ℕ, zero, suc, ◌+◌, ◌-◌, ◌<◌, ◌≤◌, Bool, true, false, List, []}
+use Rattle.std.proofs.Common.{◌≡◌, ◌≢◌, ◌∙◌, ◌⊎◌, inl, inr, ℕ, zero, suc, ◌+◌, ◌-◌, ◌≤◌, true, List, []}
 use Rattle.std.proofs.Common.{◌∷◌, ◌++◌, All, Any, IsTrue, IsFalse, arith, refl, sym, ap, subst, map, drop, take, length, flat_map, get_or}
-use Rattle.std.proofs.Common.{Option, Some, None, Result, Ok, Err, if◌then◌else◌, option_map}
-use Rattle.std.proofs.lemmas.Bool.{Decides.nat_tests, cases_Bool, cases_eq, false≢true}
+use Rattle.std.proofs.Common.{Option, Some, None, Ok, option_map}
+use Rattle.std.proofs.lemmas.Bool.{Decides.nat_tests, cases_eq, false≢true}
 use Rattle.std.proofs.lemmas.List.{drop-drop, drop-take, take-append-drop, take-take}
 use Rattle.std.proofs.lemmas.List.Elements.{All-contains_itself, All-cons, All-head, All-nil, All-tail}
 use Rattle.std.specs.List.{Contains, cons_option, range_with_len, slice_range}
@@ -15,9 +15,9 @@ use Rattle.kd_state.proofs.OneAnswer.{ThenNext-Ok}
 use Rattle.kd_form.specs.declared.heading.{Heading.{Heading}, Indicator.{Indicator}}
 use Rattle.kd_form.specs.BodyCipher.{IsLettersAnswer, deciphered_key, group_of_body, list_of_body, text_of_body}
 use Rattle.kd_form.specs.FormParts.{HasFirstLine, IsHeading, IsLineText}
-use Rattle.kd_form.specs.FormText.{IsAnswerAt, ReadsPartsTo, first_part_start, next_part_start, plaintext_bytes}
+use Rattle.kd_form.specs.FormText.{IsAnswerAt, ReadsPartsTo, first_part_start, next_part_start}
 use Rattle.kd_form.specs.Part.{heading_words}
-use Rattle.kd_form.specs.PartMaking.{cipher_from, list_letters}
+use Rattle.kd_form.specs.PartMaking.{list_letters}
 use Rattle.kd_form.specs.PartReading.{IsExpectedCount, IsPartAnswer, PartContent, PartStart, ReadPart}
 use Rattle.kd_form.specs.Sending.{IsBytesAnswer, letter_of_byte, letters_from, space_letter}
 use Rattle.kd_form.proofs.Headings.{ended_heading, one_heading}
@@ -38,10 +38,10 @@ use Rattle.kd_lost.proofs.KnownLetters.{covered_none, drop_known, known_complete
 use Rattle.kd_lost.proofs.KnownLetters.{not_any_lost, same_known, take_known}
 use Rattle.kd_lost.proofs.Parts.{lines_there}
 use Rattle.kd_lost.proofs.PartShown.{least_count, shown_there}
-use Rattle.kd_message.specs.Laws.{IsClear, WholeMessagesAreRead, letters_of_part, message_letters}
-use Rattle.kd_message.specs.ShownParts.{IsNumberWhole, IsWhole, MayBeOfTheDay, better, is_number, shown_under, total_of}
-use Rattle.kd_message.proofs.PagesWhole.{at_range, shown_known, total_is, whole_under}
-use Rattle.kd_message.proofs.ReceivePages.{better_holds, shown_holds}
+use Rattle.kd_message.specs.Laws.{IsClear, WholeMessagesAreRead, letters_of_part}
+use Rattle.kd_message.specs.ShownParts.{IsNumberWhole, IsWhole, MayBeOfTheDay, is_number, shown_under, total_of}
+use Rattle.kd_message.proofs.PagesWhole.{at_range, shown_known, shown_numbered, total_is, whole_under}
+use Rattle.kd_message.proofs.ReceivePages.{shown_holds}
 use Rattle.kd_message.proofs.Sheets.{range_first}
 
 -- -------- bytes of which none is lost
@@ -329,21 +329,6 @@ held s all (part ∷ bytes) (one ∷ reads) within are clear stand day =
     (held s all bytes reads (λ other there. within other (suc there.0, omega (arith, there.1), there.2)) are.1
     (All-tail IsClear part bytes clear) (All-tail (λ (d : DamagedPart). IsFalse d.respaced) one reads stand)
     (All-tail MayBeOfTheDay one reads day))
-
-number_cases : (number : ℕ) (is_it : Bool) (one : DamagedPart) (later : Option DamagedPart) (part : DamagedPart)
-    → is_number number one.numbers ≡ is_it
-    → ((other : DamagedPart) → later ≡ Some other → is_number number other.numbers ≡ true)
-    → (if is_it then better one later else later) ≡ Some part → is_number number part.numbers ≡ true
-number_cases number true one later part its rest is =
-    better_holds (λ (d : DamagedPart). is_number number d.numbers ≡ true) one later part its rest is
-number_cases number false one later part its rest is = rest part is
-
-shown_numbered : (number : ℕ) (parts : List DamagedPart) (part : DamagedPart) → shown_under parts number ≡ Some part
-    → is_number number part.numbers ≡ true
-shown_numbered number [] part is = absurd (cc)
-shown_numbered number (one ∷ parts) part is =
-    number_cases number (is_number number one.numbers) one (shown_under parts number) part refl
-    (λ other there. shown_numbered number parts other there) is
 
 its_numbers : (number : ℕ) (found : Option PartNumbers) → is_number number found ≡ true
     → (numbers : PartNumbers) × (found ≡ Some numbers) × (numbers.part ≡ number)

@@ -1,5 +1,5 @@
 -- The page for receiving a form: its parts, one after another.
-use Rattle.std.proofs.Common.{◌≡◌, ◌∙◌, ℕ, ◌+◌, ◌-◌, ◌<◌, ◌==◌, ◌↔◌, Bool, true, false, List, [], ◌∷◌, ◌++◌}
+use Rattle.std.proofs.Common.{◌≡◌, ◌∙◌, ℕ, ◌+◌, ◌-◌, ◌<◌, ◌↔◌, Bool, true, false, List, [], ◌∷◌, ◌++◌}
 use Rattle.std.proofs.Common.{All, IsTrue, if◌then◌else◌, arith, refl, sym, Option, Some, None, Ok, Err}
 use Rattle.std.proofs.Common.{Result, append_assoc}
 use Rattle.std.proofs.lemmas.Bool.{false≢true}

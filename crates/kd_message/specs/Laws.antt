@@ -1,5 +1,5 @@
 -- Laws of the rows of a page, and of what the page for receiving says of a whole message.
-use Rattle.std.specs.Prelude.{◌≡◌, ℕ, ◌≤◌, List, [], ◌∷◌, ◌++◌, All, Contains, IsFalse, filter, flat_map, length, map, Option, Some, None, Ok}
+use Rattle.std.specs.Prelude.{◌≡◌, ℕ, ◌≤◌, List, [], ◌∷◌, ◌++◌, All, Contains, IsFalse, IsTrue, filter, flat_map, length, map, Option, Some, None, Ok}
 use Rattle.std.specs.List.{range_with_len}
 use Rattle.kd_state.specs.SheetDay.{Day, day_model}
 use Rattle.kd_form.specs.PartMaking.{cipher_from}
@@ -21,7 +21,7 @@ use Rattle.kd_message.specs.declared.texts.TheConstants.{TEXT_END}
 use Rattle.kd_message.specs.ReceivePage.{receive_text, sheet_to_receive}
 use Rattle.kd_message.specs.ReceivedWork.{received_work}
 use Rattle.kd_message.specs.SendPage.{part_name}
-use Rattle.kd_message.specs.ShownParts.{IsWhole, lost_in, shown_under, times_of, total_of}
+use Rattle.kd_message.specs.ShownParts.{IsWhole, is_number, lost_in, shown_under, times_of, total_of}
 use Rattle.kd_message.specs.TextSheet.{came_text, read_text, text_begin, text_part_head}
 
 -- The lamps of a row are the machine's cipher of the letters that are pressed in this row, from the letters that the
@@ -77,12 +77,15 @@ FormsReadAreWhole =
 abbrev pub IsOn : List ℕ → List ℕ → Type 0
 IsOn page piece = (before : List ℕ) × (after : List ℕ) × (page ≡ before ++ piece ++ after)
 
--- If a part of a form is read, the page has its text, or the text of a part in which no more letters are lost.
+-- If a part of a form is read, the page has, under the part's number, its text, or the text of another part of the form with
+-- this number, in which no more letters are lost.
 abbrev pub NothingReadIsHidden : Type 0
 NothingReadIsHidden =
     (l : Language) (s : Day) (form : List ℕ) (parts : List DamagedPart) (part : DamagedPart) (shown : DamagedText)
     → AreReadOf s (damaged_parts_of form) parts → Contains parts part → part.text ≡ Ok shown
-    → (name : PartName) × (text : DamagedText) × (lost_in text ≤ lost_in shown)
+    → (name : PartName) × (best : DamagedPart) × (text : DamagedText) × IsTrue (is_number name.part part.numbers)
+    × IsTrue (is_number name.part best.numbers) × Contains parts best × (best.text ≡ Ok text)
+    × (lost_in text ≤ lost_in shown)
     × IsOn (receive_text l s parts) (read_text l (sheet_to_receive (day_model s)) s name text)
 
 -- the text of a part in clear, under its head
