@@ -1,9 +1,9 @@
 -- No part that is read is hidden on the page, and a whole message is whole on it.
-use Rattle.std.proofs.Common.{◌≡◌, ◌≢◌, ◌∙◌, ◌⊎◌, inl, inr, ℕ, zero, suc, ◌+◌, ◌-◌, ◌<◌, ◌≤◌, ◌==◌, ◌&&◌, nat_lt}
-use Rattle.std.proofs.Common.{Bool, true, false, List, [], ◌∷◌, ◌++◌, All, IsTrue, arith, refl, sym, ap, subst, map, length}
+use Rattle.std.proofs.Common.{◌≡◌, ◌≢◌, ◌∙◌, ◌⊎◌, inl, inr, ℕ, zero, suc, ◌+◌, ◌-◌, ◌<◌, ◌≤◌, ◌&&◌, nat_lt}
+use Rattle.std.proofs.Common.{Bool, true, false, List, [], ◌∷◌, ◌++◌, All, IsTrue, arith, refl, sym, ap, subst, map}
 use Rattle.std.proofs.Common.{Option, Some, None, Result, Ok, Err, if◌then◌else◌, MatchOption, flat_map, append_assoc, append-nil}
 use Rattle.std.proofs.lemmas.Bool.{Decides.nat_tests, cases_Bool, false≢true}
-use Rattle.std.proofs.lemmas.List.Elements.{All-head, All-tail}
+use Rattle.std.proofs.lemmas.List.Elements.{All-contains_itself, All-head, All-tail}
 use Rattle.std.specs.List.{Contains, range_with_len}
 use Rattle.kd_state.specs.SheetDay.{Day, day_model}
 use Rattle.kd_state.proofs.OneAnswer.{ThenNext-Ok}
@@ -21,17 +21,18 @@ use Rattle.kd_message.specs.declared.receiving.Section.TheVariants as sections
 use Rattle.kd_message.specs.Laws.{IsOn, NothingReadIsHidden, WholeMessagesAreOnThePage, clear_text, letters_of_part}
 use Rattle.kd_message.specs.OneMessage.{agrees_with_each, are_of_one_message, headings_agree, numbers_agree, parts_agree}
 use Rattle.kd_message.specs.OneMessage.{texts_agree}
-use Rattle.kd_message.specs.ReceivePage.{as_they_came, by_number, lone_after, name_at, number_in, number_or, part_at}
+use Rattle.kd_message.specs.ReceivePage.{as_they_came, by_number, name_at, number_in, number_or, part_at}
 use Rattle.kd_message.specs.ReceivePage.{part_in, section_text, sheet_to_receive, shown_in, text_or_damage}
 unfoldable use Rattle.kd_message.specs.ReceivePage.{receive_text}
 use Rattle.kd_message.specs.SendPage.{part_name}
-use Rattle.kd_message.specs.ShownParts.{IsNumberWhole, IsReadWhole, IsWhole, better, is_number, is_worse, lost_in}
+use Rattle.kd_message.specs.ShownParts.{IsNumberWhole, IsReadWhole, better, is_number, is_worse, lost_in}
 use Rattle.kd_message.specs.ShownParts.{parts_or, shown_under, times_of, total_of}
 unfoldable use Rattle.kd_message.specs.TextSheet.{read_text}
 use Rattle.kd_message.specs.declared.texts.TheConstants.{TEXT_END}
 use Rattle.kd_message.specs.TextSheet.{ask_for_lost, came_text, text_begin, text_part_head, warnings_of}
 use Rattle.kd_part_sheet.specs.declared.markup.TheConstants.{SECTION_END}
 use Rattle.kd_part_sheet.specs.PartSheet.{warnings_text}
+use Rattle.kd_message.proofs.ReceivePages.{better_holds, shown_holds}
 use Rattle.kd_message.proofs.Sheets.{range_first}
 
 -- -------- pieces of a page
@@ -63,7 +64,7 @@ on_range f from count (suc place) piece inside is =
     (on_right (f from) (flat_map f (range_with_len (from + 1) (count - 1))) piece
     (on_range f (from + 1) (count - 1) place piece (omega (arith, inside)) (subst (λ n. IsOn (f n) piece) same is)))
 
-at_range : (P : ℕ → Type 0) (from count place : ℕ) → place < count → All P (range_with_len from count)
+pub at_range : (P : ℕ → Type 0) (from count place : ℕ) → place < count → All P (range_with_len from count)
     → P (from + place)
 at_range P from count zero inside all =
     let same : from ≡ from + 0 = omega arith in
@@ -174,7 +175,7 @@ total_is_cases one parts part numbers agree (inr later) is rest =
     total_here one part numbers one.numbers (total_of parts) refl is (agree_with_it one part parts agree later)
     (rest later)
 
-total_is : (parts : List DamagedPart) (part : DamagedPart) (numbers : PartNumbers) → are_of_one_message parts ≡ true
+pub total_is : (parts : List DamagedPart) (part : DamagedPart) (numbers : PartNumbers) → are_of_one_message parts ≡ true
     → Contains parts part → part.numbers ≡ Some numbers → total_of parts ≡ numbers.parts
 total_is [] part numbers agree there is = absurd (contains_none part there)
 total_is (one ∷ parts) part numbers agree there is =
@@ -260,6 +261,22 @@ best_told number (one ∷ parts) part shown there is text =
     best_told_cases number one parts part shown (first_or_later one parts part there) is text
     (λ later. best_told number parts part shown later is text)
 
+-- the part that is shown under a number has this number
+number_cases : (number : ℕ) (is_it : Bool) (one : DamagedPart) (later : Option DamagedPart) (part : DamagedPart)
+    → is_number number one.numbers ≡ is_it
+    → ((other : DamagedPart) → later ≡ Some other → is_number number other.numbers ≡ true)
+    → (if is_it then better one later else later) ≡ Some part → is_number number part.numbers ≡ true
+number_cases number true one later part its rest is =
+    better_holds (λ (d : DamagedPart). is_number number d.numbers ≡ true) one later part its rest is
+number_cases number false one later part its rest is = rest part is
+
+pub shown_numbered : (number : ℕ) (parts : List DamagedPart) (part : DamagedPart) → shown_under parts number ≡ Some part
+    → is_number number part.numbers ≡ true
+shown_numbered number [] part is = absurd (cc)
+shown_numbered number (one ∷ parts) part is =
+    number_cases number (is_number number one.numbers) one (shown_under parts number) part refl
+    (λ other there. shown_numbered number parts other there) is
+
 -- -------- the texts on the page
 
 text_on_part : (l : Language) (s : Day) (name : PartName) (times : ℕ) (part : DamagedPart) (shown : DamagedText)
@@ -322,34 +339,48 @@ its_number : (numbers : PartNumbers) → is_number numbers.part (Some numbers) �
 its_number numbers = grind (arith, nat_tests)
 
 -- what the law says of a page
-abbrev IsNotHidden : Language → Day → List DamagedPart → DamagedText → Type 0
-IsNotHidden l s parts shown =
-    (name : PartName) × (text : DamagedText) × (lost_in text ≤ lost_in shown)
+abbrev IsNotHidden : Language → Day → List DamagedPart → DamagedPart → DamagedText → Type 0
+IsNotHidden l s parts part shown =
+    (name : PartName) × (best : DamagedPart) × (text : DamagedText) × IsTrue (is_number name.part part.numbers)
+    × IsTrue (is_number name.part best.numbers) × Contains parts best × (best.text ≡ Ok text)
+    × (lost_in text ≤ lost_in shown)
     × IsOn (receive_text l s parts) (read_text l (sheet_to_receive (day_model s)) s name text)
 
 hidden_by_none : (l : Language) (s : Day) (parts : List DamagedPart) (part : DamagedPart) (shown : DamagedText)
     (numbers : PartNumbers) (agree : Bool) → are_of_one_message parts ≡ agree → Contains parts part
     → part.text ≡ Ok shown → part.numbers ≡ Some numbers → 1 ≤ numbers.part → numbers.part ≤ numbers.parts
-    → IsNotHidden l s parts shown
+    → IsNotHidden l s parts part shown
 hidden_by_none l s parts part shown numbers true agree there is number first last =
-    let told = best_told numbers.part parts part shown there (ap (is_number numbers.part) number ∙ its_number numbers) is in
+    let its = ap (is_number numbers.part) number ∙ its_number numbers in
+    let told = best_told numbers.part parts part shown there its is in
     let total = total_is parts part numbers agree there number in
     let name = part_name s numbers.part (total_of parts) in (
       name,
+      told.best,
       told.text,
+      its,
+      shown_numbered numbers.part parts told.best told.is,
+      shown_holds (Contains parts) numbers.part parts told.best (All-contains_itself parts) told.is,
+      told.read,
       told.no_fewer,
       on_part _ _ _
           (number_on_page l s parts numbers.part told.best agree first (omega (arith, last, total)) told.is)
           (text_on_part l s name (times_of parts numbers.part) told.best told.text told.read),
     )
 hidden_by_none l s parts part shown numbers false agree there is number first last =
+    let its = ap (is_number numbers.part) number ∙ its_number numbers in
     let (at, on) = came_there l s 1 0 parts part numbers there number in
     let name = name_at s at numbers in
     let piece = read_text l (sheet_to_receive (day_model s)) s name shown in
     let all : IsOn (as_they_came sections.Texts l s 1 0 parts) piece =
     on_part _ _ _ on (text_on_part l s name 1 part shown is) in (
       name,
+      part,
       shown,
+      its,
+      its,
+      there,
+      is,
       omega arith,
       page_has l s parts piece
           (subst (λ b. IsOn (if b then by_number sections.Texts l s parts else as_they_came sections.Texts l s 1 0 parts) piece)
@@ -364,7 +395,7 @@ nothing_hidden l s form parts part shown read there is =
 
 -- -------- a whole message
 
-shown_known : (s : Day) (letters : List ℕ) → map (shown_byte (space_letter s)) (map Some letters) ≡ plaintext_bytes s letters
+pub shown_known : (s : Day) (letters : List ℕ) → map (shown_byte (space_letter s)) (map Some letters) ≡ plaintext_bytes s letters
 shown_known s [] = refl
 shown_known s (letter ∷ letters) = ap (λ l. shown_byte (space_letter s) (Some letter) ∷ l) (shown_known s letters)
 
@@ -375,7 +406,7 @@ known_letters (Some letter ∷ items) all =
     let rest = known_letters items (All-tail (λ (got : Option ℕ). got ≢ None) (Some letter) items all) in
     (letter ∷ rest.0, ap (λ l. Some letter ∷ l) rest.1)
 
-whole_under : (found : Option DamagedPart) → MatchOption found ⊥ IsReadWhole
+pub whole_under : (found : Option DamagedPart) → MatchOption found ⊥ IsReadWhole
     → (part : DamagedPart) × (found ≡ Some part) × IsReadWhole part
 whole_under None whole = absurd whole
 whole_under (Some part) whole = (part, refl, whole)

@@ -1,5 +1,5 @@
 -- The page for receiving a form: its parts, one after another.
-use Rattle.std.proofs.Common.{◌≡◌, ◌∙◌, ℕ, ◌+◌, ◌-◌, ◌<◌, ◌==◌, ◌↔◌, Bool, true, false, List, [], ◌∷◌, ◌++◌}
+use Rattle.std.proofs.Common.{◌≡◌, ◌∙◌, ℕ, ◌+◌, ◌-◌, ◌<◌, ◌↔◌, Bool, true, false, List, [], ◌∷◌, ◌++◌}
 use Rattle.std.proofs.Common.{All, IsTrue, if◌then◌else◌, arith, refl, sym, Option, Some, None, Ok, Err}
 use Rattle.std.proofs.Common.{Result, append_assoc}
 use Rattle.std.proofs.lemmas.Bool.{false≢true}
@@ -50,7 +50,7 @@ chosen_holds : (P : DamagedPart → Type 0) (is_it : Bool) (one other part : Dam
 chosen_holds P true one other part holds others is = let e : one ≡ part = cc in rw (← e) holds
 chosen_holds P false one other part holds others is = let e : other ≡ part = cc in rw (← e) others
 
-better_holds : (P : DamagedPart → Type 0) (one : DamagedPart) (later : Option DamagedPart) (part : DamagedPart) → P one
+pub better_holds : (P : DamagedPart → Type 0) (one : DamagedPart) (later : Option DamagedPart) (part : DamagedPart) → P one
     → ((other : DamagedPart) → later ≡ Some other → P other) → better one later ≡ Some part → P part
 better_holds P one None part holds rest is = let e : one ≡ part = cc in rw (← e) holds
 better_holds P one (Some later) part holds rest is =

@@ -1,5 +1,5 @@
 -- A form that `desk receive` reads is one whole message.
-use Rattle.std.proofs.Common.{◌≡◌, ◌≢◌, ◌∙◌, ◌⊎◌, inl, inr, ℕ, zero, suc, ◌+◌, ◌-◌, ◌<◌, ◌≤◌, ◌==◌, ◌&&◌, not}
+use Rattle.std.proofs.Common.{◌≡◌, ◌≢◌, ◌∙◌, inl, inr, ℕ, zero, suc, ◌+◌, ◌-◌, ◌<◌, ◌≤◌, ◌&&◌}
 use Rattle.std.proofs.Common.{Bool, true, false, List, [], ◌∷◌, ◌++◌, All, arith, refl, sym, ap, subst, map, Option, Some}
 use Rattle.std.proofs.Common.{None, Ok, if◌then◌else◌, MatchOption, flat_map}
 use Rattle.std.proofs.lemmas.Bool.{Decides.nat_tests, cases_Bool}
@@ -8,16 +8,14 @@ use Rattle.std.specs.List.{range_with_len}
 use Rattle.std.specs.Prelude.{IfOk}
 use Rattle.kd_state.specs.SheetDay.{Day}
 use Rattle.kd_state.proofs.OneAnswer.{ThenNext-Ok, Yields-Ok}
-use Rattle.kd_form.specs.FormParts.{parts_of}
 use Rattle.kd_form.specs.FormText.{IsAnswerAt, ReadsPartsTo, first_part_start, next_part_start}
 use Rattle.kd_form.specs.PartReading.{HasDueNumbers, IsExpectedCount, IsPartAnswer, PartStart, ReadPart}
 use Rattle.kd_form.specs.Sending.{space_letter}
 use Rattle.kd_lost.specs.declared.damaged_text.DamagedText.{DamagedText}
-use Rattle.kd_lost.specs.declared.damaged_text.GroupTest.{GroupTest}
-use Rattle.kd_lost.specs.declared.damaged_text.GroupTest.TheVariants.{Right, Wrong, NotTested}
+use Rattle.kd_lost.specs.declared.damaged_text.GroupTest.TheVariants.{Right, Wrong}
 use Rattle.kd_lost.specs.declared.part.{DamagedPart.{DamagedPart}, PartNumbers.{PartNumbers}}
 use Rattle.kd_form.specs.declared.heading.Heading.{Heading}
-use Rattle.kd_lost.specs.DamagedForm.{AreReadOf, AsItStands, IsMeant, IsReadOf, Respaced, damaged_parts_of, letters_in}
+use Rattle.kd_lost.specs.DamagedForm.{AreReadOf, AsItStands, IsMeant, IsReadOf, Respaced, letters_in}
 use Rattle.kd_lost.specs.DamagedForm.{shown_byte, shown_letters}
 use Rattle.kd_lost.specs.DamagedPart.{AreNumbersRead, IsDamagedHeading, IsDamagedTextAnswer, first_line}
 use Rattle.kd_lost.proofs.Parts.{lines_there}
@@ -25,7 +23,7 @@ use Rattle.kd_lost.proofs.WholeForms.{forms_shown, same_parts}
 use Rattle.kd_lost.proofs.WholeParts.{numbers_there, shown_whole, whole_part}
 use Rattle.kd_message.specs.Laws.{FormsReadAreWhole, letters_of_part, message_letters}
 use Rattle.kd_message.specs.OneMessage.{agrees_with_each, are_of_one_message, numbers_agree, headings_agree, texts_agree}
-use Rattle.kd_message.specs.ShownParts.{IsNumberWhole, IsReadWhole, IsWhole, MayBeOfTheDay, better, is_number, parts_or}
+use Rattle.kd_message.specs.ShownParts.{IsNumberWhole, IsReadWhole, MayBeOfTheDay, better, is_number, parts_or}
 use Rattle.kd_message.specs.ShownParts.{shown_under, total_of}
 use Rattle.kd_message.proofs.Sheets.{range_first}
 

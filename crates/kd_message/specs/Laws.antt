@@ -1,15 +1,15 @@
 -- Laws of the rows of a page, and of what the page for receiving says of a whole message.
-use Rattle.std.specs.Prelude.{◌≡◌, ℕ, ◌≤◌, List, [], ◌∷◌, ◌++◌, Contains, filter, flat_map, length, map, Option, Some, None, Ok}
+use Rattle.std.specs.Prelude.{◌≡◌, ℕ, ◌≤◌, List, [], ◌∷◌, ◌++◌, All, Contains, IsFalse, IsTrue, filter, flat_map, length, map, Option, Some, None, Ok}
 use Rattle.std.specs.List.{range_with_len}
 use Rattle.kd_state.specs.SheetDay.{Day, day_model}
 use Rattle.kd_form.specs.PartMaking.{cipher_from}
-use Rattle.kd_form.specs.FormText.{IsTextOf, plaintext_bytes}
+use Rattle.kd_form.specs.FormText.{IsAnswerAt, IsTextOf, ReadsPartsTo, first_part_start, plaintext_bytes}
 use Rattle.kd_form.specs.Sending.{space_letter}
 use Rattle.kd_lost.specs.declared.damaged_text.DamagedText.{DamagedText}
 use Rattle.kd_lost.specs.declared.part.DamagedPart.{DamagedPart}
 use Rattle.kd_lost.specs.DamagedForm.{AreReadOf, damaged_parts_of, letters_in, shown_byte}
 use Rattle.kd_lost.specs.DamagedPart.{IsDamagedTextAnswer}
-use Rattle.kd_lost.specs.Lost.{Completes, covered}
+use Rattle.kd_lost.specs.Lost.{Completes, covered, is_lost, meant_byte}
 use Rattle.kd_part_sheet.specs.declared.cells.Cell.{Cell}
 use Rattle.kd_part_sheet.specs.declared.cells.Sign.{Sign}
 use Rattle.kd_part_sheet.specs.declared.cells.Sign.TheVariants as signs
@@ -21,7 +21,7 @@ use Rattle.kd_message.specs.declared.texts.TheConstants.{TEXT_END}
 use Rattle.kd_message.specs.ReceivePage.{receive_text, sheet_to_receive}
 use Rattle.kd_message.specs.ReceivedWork.{received_work}
 use Rattle.kd_message.specs.SendPage.{part_name}
-use Rattle.kd_message.specs.ShownParts.{IsWhole, lost_in, shown_under, times_of, total_of}
+use Rattle.kd_message.specs.ShownParts.{IsWhole, is_number, lost_in, shown_under, times_of, total_of}
 use Rattle.kd_message.specs.TextSheet.{came_text, read_text, text_begin, text_part_head}
 
 -- The lamps of a row are the machine's cipher of the letters that are pressed in this row, from the letters that the
@@ -77,12 +77,15 @@ FormsReadAreWhole =
 abbrev pub IsOn : List ℕ → List ℕ → Type 0
 IsOn page piece = (before : List ℕ) × (after : List ℕ) × (page ≡ before ++ piece ++ after)
 
--- If a part of a form is read, the page has its text, or the text of a part in which no more letters are lost.
+-- If a part of a form is read, the page has, under the part's number, its text, or the text of another part of the form with
+-- this number, in which no more letters are lost.
 abbrev pub NothingReadIsHidden : Type 0
 NothingReadIsHidden =
     (l : Language) (s : Day) (form : List ℕ) (parts : List DamagedPart) (part : DamagedPart) (shown : DamagedText)
     → AreReadOf s (damaged_parts_of form) parts → Contains parts part → part.text ≡ Ok shown
-    → (name : PartName) × (text : DamagedText) × (lost_in text ≤ lost_in shown)
+    → (name : PartName) × (best : DamagedPart) × (text : DamagedText) × IsTrue (is_number name.part part.numbers)
+    × IsTrue (is_number name.part best.numbers) × Contains parts best × (best.text ≡ Ok text)
+    × (lost_in text ≤ lost_in shown)
     × IsOn (receive_text l s parts) (read_text l (sheet_to_receive (day_model s)) s name text)
 
 -- the text of a part in clear, under its head
@@ -98,3 +101,20 @@ WholeMessagesAreOnThePage =
     → (letters : List ℕ) × (letters_of_part (shown_under parts number) ≡ map Some letters)
     × IsOn (receive_text l s parts)
     (clear_text l s (part_name s number (total_of parts)) (times_of parts number) letters)
+
+-- ---- The converse.
+
+-- No byte of the part stands for a lost letter, and each is meant as it stands: no letter is small, and no byte is a tab.
+abbrev pub IsClear : List ℕ → Type 0
+IsClear part = All (λ byte. IsFalse (is_lost byte) × (meant_byte byte ≡ byte)) part
+
+-- If a form is one whole message, and nothing in it was lost, then parts of the form, one for each number, stand in an
+-- order in which `desk receive` reads them, one after another, to the letters that the page shows. So the text is the one
+-- that `desk receive` gives of the form, but for the order in which parts came, and for parts that came more than once.
+abbrev pub WholeMessagesAreRead : Type 0
+WholeMessagesAreRead =
+    (s : Day) (form : List ℕ) (parts : List DamagedPart) → AreReadOf s (damaged_parts_of form) parts
+    → All IsClear (damaged_parts_of form) → All (λ part. IsFalse part.respaced) parts → IsWhole parts
+    → (ordered : List (List ℕ)) × (letters : List ℕ) × All (Contains (damaged_parts_of form)) ordered
+    × (length ordered ≡ total_of parts) × ReadsPartsTo s (IsAnswerAt s (Ok tt)) first_part_start ordered letters
+    × (map (shown_byte (space_letter s)) (message_letters parts) ≡ plaintext_bytes s letters)

@@ -1,7 +1,7 @@
 //! Laws of the rows of a page, of whole messages, and of templates.
 ghost use Rattle.kd_message.specs.Checked.{TemplatesTakeTheirValues};
 ghost use Rattle.kd_message.specs.Laws.{FormsReadAreWhole, NothingReadIsHidden, RowsAreDeciphered, RowsAreEnciphered};
-ghost use Rattle.kd_message.specs.Laws.{WholeMessagesAreOnThePage};
+ghost use Rattle.kd_message.specs.Laws.{WholeMessagesAreOnThePage, WholeMessagesAreRead};
 
 /// A row can be worked again by itself: its lamps follow from its keys and from the windows before it.
 pub fn rows_are_enciphered()
@@ -31,4 +31,9 @@ pub fn nothing_read_is_hidden()
 /// A whole message is whole on the page, too.
 pub fn whole_messages_are_on_the_page()
     ensures { WholeMessagesAreOnThePage }
+{}
+
+/// What is shown as one whole message is what `desk receive` reads, once the parts stand in order.
+pub fn whole_messages_are_read()
+    ensures { WholeMessagesAreRead }
 {}
