@@ -6,3 +6,5 @@ pub mod OneTable
 pub mod DayLines
 pub mod EmptyMonths
 pub mod Writings
+pub mod Noting
+pub mod Records

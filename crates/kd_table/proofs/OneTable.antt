@@ -63,10 +63,14 @@ module _ (cfg : Config) where
       (subst (λ (read : Read). Reached cfg read.1 read.2 qs s3 zs) (sym same) rest) over in
       ap₂ (λ z zs. z ∷ zs) first tails
 
-one_rows : (table : List ℕ) (rows others : List (List (List ℕ))) → AreRows table rows → AreRows table others
+pub one_rows : (table : List ℕ) (rows others : List (List (List ℕ))) → AreRows table rows → AreRows table others
     → rows ≡ others
 one_rows table rows others (s2, ys, reached, ended) (s3, zs, other, over) =
     one_reached _ _ _ rows others s2 s3 ys zs reached ended other over
+
+pub no_rows : (table : List ℕ) (head : List (List ℕ)) (rows : List (List (List ℕ))) → AreRows table (head ∷ rows)
+    → AreRows table [] → ⊥
+no_rows table head rows are none = let e = one_rows table (head ∷ rows) [] are none in cc
 
 -- ---- rows mean one list of days
 

@@ -1,7 +1,6 @@
 pub mod Steps
 pub mod Laws
 pub mod Names
-pub mod Notes
 pub mod Options
 pub mod Items
 pub mod Columns
@@ -10,4 +9,6 @@ pub mod PinRow
 pub mod Row
 pub mod Rows
 pub mod Table
+pub mod Cells
+pub mod Notes
 pub mod EmptySheet

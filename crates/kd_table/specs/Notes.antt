@@ -1,11 +1,189 @@
--- What is told of a table, in words that no definition gives.
+-- What is told of a table on standard error. The columns that aren't read are told exactly. Of a refused table, each row that
+-- is no day has a line that begins with the row's place, and each cell that can't be read has one that begins with the
+-- cell's place. What follows the place is in words that no definition gives.
 -- Test: tests/cases/curator-sheet.toml
-use Rattle.std.specs.Prelude.{List, ℕ, IsTrue}
+use Rattle.std.specs.Prelude.{◌≡◌, ◌⊎◌, ◌<◌, ◌+◌, ◌==◌, ◌&&◌, ◌||◌, codes, decimal, nat_lt, ℕ, Bool, true, false, List, [], ◌∷◌, ◌++◌, flat_map, length, map, take, Option, Some, None, IsTrue, if◌then◌else◌}
 use Rattle.std.specs.Io.KnownBytes.{Appends}
+use Rattle.std.specs.List.{list_all, list_any, range_with_len}
+use Rattle.std.specs.Option.{option_map_or}
+use Rattle.std.specs.Borrow.{Bor}
+use Rattle.csv.specs.Reading.{Reached, Ready, source_of, strip_bom}
+use Rattle.csv.specs.declared.parser.State.{State}
+use Rattle.csv.specs.declared.parser.State.TheVariants as st
+use Rattle.csv.specs.declared.iter.ByteRecordsIntoIter.{ByteRecordsIntoIter}
+use Rattle.csv.specs.declared.reader.Trim.TheVariants as trim
 use Rattle.kd_tables.specs.Ports.{Port}
+use Rattle.kd_table.specs.Cells.{column_of, day_in, has_columns, is_faulty, row_cells, row_model}
+use Rattle.kd_table.specs.Columns.{cell_at, columns_of}
+use Rattle.kd_table.specs.Items.{is_blank}
+use Rattle.kd_table.specs.Options.{OptionTexts}
+use Rattle.kd_table.specs.Row.{IsNoDay, is_blank_row, places_of, row_values}
+use Rattle.kd_table.specs.Rows.{is_well_quoted, separated, separator_of}
+use Rattle.kd_table.specs.Table.{AreRows}
+use Rattle.kd_table.specs.declared.cell.Cell.{Cell}
+use Rattle.kd_table.specs.declared.cell.Cell.TheVariants as cells
+use Rattle.kd_table.specs.declared.columns.Columns.{Columns}
+
+-- ---- The port of the notes.
 
 -- Some text was written to the port of the notes, or none. A port that had failed has failed.
 pub record Tells (notes : Port) : Type 0 where
   pub text : List ℕ
   pub written : Appends notes.had notes.has text
   pub failed : IsTrue notes.had_failed → IsTrue notes.has_failed
+
+-- The text was written to the port of the notes, or a prefix of it if the port has failed.
+pub record TellsText (notes : Port) (text : List ℕ) : Type 0 where
+  pub whole : notes.has_failed ≡ false → Appends notes.had notes.has text
+  pub part : (count : ℕ) × Appends notes.had notes.has (take count text)
+
+-- ---- What is shown of a cell: of a cell with more than 60 bytes, only the start.
+
+-- `?` for a byte that can't be shown
+abbrev pub shown_byte : Bool → ℕ → ℕ
+shown_byte is_long byte = if nat_lt byte 32 || byte == 127 || is_long && nat_lt 127 byte then 63 else byte
+
+abbrev pub shown : List ℕ → List ℕ
+shown cell =
+    if nat_lt 60 (length cell) then map (shown_byte true) (take 60 cell) ++ codes "..."
+    else map (shown_byte false) cell
+
+-- a line: where something is, and what is said of it
+abbrev pub line_at : List ℕ → List ℕ → List ℕ
+line_at place words = place ++ words ++ 10 ∷ []
+
+-- ---- Columns that aren't read.
+
+abbrev pub is_at : ℕ → Option ℕ → Bool
+is_at place column = option_map_or (λ other. other == place) column false
+
+-- whether the column at `place` is read
+abbrev pub is_column_read : Columns → ℕ → Bool
+is_column_read columns place = list_any (is_at place) (places_of columns) || list_any (is_at place) columns.pins
+
+abbrev pub unread_words : List ℕ
+unread_words = codes ": this column isn't read\n"
+
+-- the line on the column at `place`, if it has a name, and isn't read
+abbrev pub unread_line : List (List ℕ) → ℕ → List ℕ
+unread_line head place =
+    if is_blank (cell_at (Some place) head) || is_column_read (columns_of head) place then []
+    else codes "column " ++ shown (cell_at (Some place) head) ++ unread_words
+
+-- the note on all columns that aren't read, of the first 64, in a table whose first row is `head`
+unfoldable pub unread_note : List (List ℕ) → List ℕ
+unread_note head = flat_map (unread_line head) (range_with_len 0 64)
+
+-- The table's first row is `head`.
+abbrev pub HasHead : List ℕ → List (List ℕ) → Type 0
+HasHead table head = (state : State) × (left : List ℕ)
+    × Reached (separated (separator_of table)) st.StartRecord (strip_bom table) (head ∷ []) state left
+
+-- The note on the columns that aren't read was written.
+abbrev pub TellsUnread : List ℕ → Port → Type 0
+TellsUnread table notes = (head : List (List ℕ)) × HasHead table head × TellsText notes (unread_note head)
+
+-- ---- Faults.
+
+-- where a row is: its number, and its day if the day can be read
+abbrev pub row_place : ℕ → Option ℕ → List ℕ
+row_place number None = codes "row " ++ decimal number ++ codes ", "
+row_place number (Some day) = codes "row " ++ decimal number ++ codes " (day " ++ decimal day ++ codes "), "
+
+-- the option that stands for a cell
+abbrev pub option_name : Cell → List ℕ
+option_name cells.Model = codes "--model"
+option_name cells.Reflector = codes "--reflector"
+option_name cells.Window = codes "--window"
+option_name cell = []
+
+-- the name of a cell's column, or the option that stands for it
+abbrev pub cell_name : Columns → List (List ℕ) → Cell → List ℕ
+cell_name columns head cell =
+    option_map_or (λ place. shown (cell_at (Some place) head)) (column_of columns cell) (option_name cell)
+
+-- where a cell is: its row, and its column's name
+abbrev pub cell_place : Columns → List (List ℕ) → List ℕ → Cell → List ℕ
+cell_place columns head row cell = row ++ cell_name columns head cell ++ codes ": "
+
+-- The note on these cells of a row: lines that begin with their cell's place, at least one for a cell that can't be read.
+pub data TellsCells (options : OptionTexts) (columns : Columns) (head : List (List ℕ)) (place : List ℕ)
+    (row : List (List ℕ)) : List Cell → List ℕ → Type 0 where
+  NoCells : TellsCells options columns head place row [] []
+  NextCell : (cell : Cell) (rest : List Cell) (words : List (List ℕ)) (note : List ℕ)
+      → (is_faulty options columns row cell ≡ true → 0 < length words)
+      → TellsCells options columns head place row rest note
+      → TellsCells options columns head place row (cell ∷ rest)
+      (flat_map (line_at (cell_place columns head place cell)) words ++ note)
+
+-- The note on a row: first on columns that the table lacks, then on the row's cells, then on the row as a whole. A row that
+-- is no day has a line, unless the table lacks a column that the row needs.
+pub record TellsRow (options : OptionTexts) (columns : Columns) (head : List (List ℕ)) (number : ℕ)
+    (row : List (List ℕ)) (note : List ℕ) : Type 0 where
+  pub missing : List (List ℕ)
+  pub of_cells : List ℕ
+  pub of_row : List ℕ
+  pub words : List (List ℕ)
+  pub joined : note ≡ flat_map (line_at (codes "row 1: ")) missing ++ (of_cells ++ of_row)
+  pub cells : TellsCells options columns head (row_place number (day_in (cell_at columns.day row))) row
+      (row_cells (row_model options columns row)) of_cells
+  pub whole : of_row ≡ flat_map (line_at (row_place number (day_in (cell_at columns.day row)))) words
+  pub some : IsNoDay (row_values options columns row) → has_columns options columns row ≡ true
+      → 0 < length of_cells + length words
+
+-- The note on the rows under the first row `head`, in order. Blank rows are passed over.
+pub data TellsRows (options : OptionTexts) (columns : Columns) (head : List (List ℕ))
+    : List (List (List ℕ)) → List ℕ → Type 0 where
+  NoneTold : TellsRows options columns head [] []
+  BlankTold : (rows : List (List (List ℕ))) (note : List ℕ) (row : List (List ℕ))
+      → TellsRows options columns head rows note → is_blank_row columns row ≡ true
+      → TellsRows options columns head (rows ++ row ∷ []) note
+  RowTold : (rows : List (List (List ℕ))) (note : List ℕ) (row : List (List ℕ)) (number : ℕ) (more : List ℕ)
+      → TellsRows options columns head rows note → is_blank_row columns row ≡ false
+      → TellsRow options columns head number row more
+      → TellsRows options columns head (rows ++ row ∷ []) (note ++ more)
+
+abbrev pub quotes_note : List ℕ
+quotes_note = codes "a quote isn't closed, or something follows the closing quote of a cell\n"
+
+abbrev pub nothing_note : List ℕ
+nothing_note = codes "the table has no row with a day\n"
+
+-- The note on a refused table: one line on wrong quotes, or on a table without rows. Otherwise, it tells which columns aren't
+-- read and which are missing, tells of each row, and says if no row has anything.
+pub data TellsTable (options : OptionTexts) (table : List ℕ) : List ℕ → Type 0 where
+  OfQuotes : is_well_quoted table ≡ false → TellsTable options table quotes_note
+  OfNothing : AreRows table [] → TellsTable options table nothing_note
+  OfRows : (head : List (List ℕ)) (rows : List (List (List ℕ))) (missing : List (List ℕ)) (note : List ℕ)
+      (words : List (List ℕ)) → AreRows table (head ∷ rows) → TellsRows options (columns_of head) head rows note
+      → (list_all (is_blank_row (columns_of head)) rows ≡ true → 0 < length words)
+      → TellsTable options table
+      (unread_note head ++ (flat_map (line_at (codes "row 1: ")) missing ++ (note ++ flat_map (line_at []) words)))
+
+-- The note on a refused table was written.
+abbrev pub TellsRefused : OptionTexts → List ℕ → Port → Type 0
+TellsRefused options table notes = (text : List ℕ) × TellsTable options table text × TellsText notes text
+
+-- ---- Reading row by row. No public contract cites this definition.
+
+-- Of the table, these rows were read.
+pub record IsReadTo (table : List ℕ) (records : ByteRecordsIntoIter (Bor (List ℕ))) (rows : List (List (List ℕ)))
+    : Type 0 where
+  pub untrimmed : records.rdr.trim ≡ trim.None
+  pub ready : Ready records.rdr
+  pub left : 0 < records.left
+  pub config : records.rdr.config ≡ separated (separator_of table)
+  pub rest : List ℕ
+  pub source : source_of (λ s. Some s.now) records.rdr ≡ Some rest
+  pub reached : Reached (separated (separator_of table)) st.StartRecord (strip_bom table) rows records.rdr.state rest
+
+-- The note on the rows under the first row `head` was appended, and a line if no row has anything.
+pub record HasRowsNote (options : OptionTexts) (columns : Columns) (head : List (List ℕ)) (table old new : List ℕ)
+    : Type 0 where
+  pub rows : List (List (List ℕ))
+  pub text : List ℕ
+  pub words : List (List ℕ)
+  pub are : AreRows table (head ∷ rows)
+  pub appended : new ≡ old ++ (text ++ flat_map (line_at []) words)
+  pub told : TellsRows options columns head rows text
+  pub empty : list_all (is_blank_row columns) rows ≡ true → 0 < length words

@@ -1,6 +1,7 @@
 //! Makes a key sheet of a table of days, as a spreadsheet saves it, or writes a key sheet to fill in.
 #![tactic(auto)]
 
+mod cell;
 mod columns;
 mod empty_month;
 mod fault;

@@ -1,225 +1,194 @@
-//! Tells in words what is wrong with a table. The words aren't proved; tests try them.
-ghost use Rattle.std.specs.Prelude.{◌≡◌, IfErr};
+//! Tells in words what is wrong with a table. Which rows and cells are told is proved; the words aren't, but tests try them.
+ghost use Rattle.std.specs.Prelude.{◌≡◌, ◌&&◌, ◌++◌, ◌∷◌, [], codes, flat_map, ℕ, List, IfOk, MatchOption};
+ghost use Rattle.csv.specs.Records.{fields_of};
 ghost use Rattle.kd_tables.specs.Ports.{port};
-ghost use Rattle.kd_table.specs.Notes.{Tells};
+ghost use Rattle.kd_table.specs.Notes.{line_at, unread_note, HasHead, HasRowsNote, IsReadTo, Tells, TellsRows, TellsTable, TellsText};
+ghost use Rattle.kd_table.specs.Options.{texts_of};
+ghost use Rattle.kd_table.specs.Row.{is_blank_row};
+ghost use Rattle.kd_table.specs.Table.{AreRows};
 
-mod cell_faults;
-mod head_faults;
-mod pin_faults;
-mod rotor_faults;
-mod row_notes;
+mod cell_words;
+mod found;
+mod head_words;
+mod letter_words;
+mod note;
+mod row_note;
 mod row_numbers;
+mod unread;
+mod words;
 
-use crate::columns::{Columns, cell_at, cell_or};
+use crate::columns::Columns;
 use crate::fault::SpreadsheetFault;
-use crate::items::{is_blank, number_in};
-use crate::names::model_named;
 use crate::options::TableOptions;
 use crate::quotes::{is_well_quoted, separator_of, strip_bom};
-use crate::row::{is_blank_row, row_day};
-use csv::{ByteRecord, ReaderBuilder};
-use head_faults::{tell_missing_columns, tell_missing_of_model, tell_unread};
-use kd_tables::{Model, Sink};
-use pin_faults::tell_pin_row;
-use rotor_faults::{cell_place, tell_rotor_row};
-use row_notes::{Lines, RowPlace};
+use crate::row::is_blank_row;
+use csv::{ByteRecord, ByteRecordsIntoIter, ReaderBuilder};
+use found::Found;
+use head_words::missing_columns;
+use kd_tables::{Sink, put_all};
+use note::{push_bytes, push_due_words, push_line, push_words};
+use row_note::push_row;
 use row_numbers::RowNumbers;
 use std::alloc::Global;
+pub use unread::unread_note;
+use words::Words;
 
-/// What was found in the rows so far.
-#[derive(Drop)]
-struct Found {
-    /// For each day, the number of the first row that has it; 0 if no row has it.
-    rows: [u64; 32],
-    /// Whether there was a row under the first row, other than blank rows.
-    has_row: bool,
-    /// Whether a row had a model. The missing columns of the first model are told.
-    has_model: bool,
+/// Said of a table whose quotes are wrong.
+const OPEN_QUOTE: &[u8] = b"a quote isn't closed, or something follows the closing quote of a cell";
+
+/// Writes a note, unless `notes` fails.
+pub fn put_note<N: Sink>(notes: &mut N, note: &[u8])
+    ensures told { Tells (port N.taken N.has_failed notes.old notes.new) }
+    ensures text { TellsText (port N.taken N.has_failed notes.old notes.new) note.now }
+{
+    let _ = put_all(notes, note);
 }
 
-/// Writes a line for each column that isn't read, and, of a refused table, for each fault.
-///
-/// `NoMemory` if memory ran out for a row; then lines are missing.
-pub fn tell_table<N: Sink>(
-    alloc: Global,
-    table: &[u8],
-    options: &TableOptions<&[u8]>,
-    is_refused: bool,
-    notes: &mut N,
-) -> Result<(), SpreadsheetFault>
-    ensures told { Tells (port N.taken N.has_failed notes.old notes.new) }
-    ensures fault { IfErr result (λ fault. fault ≡ SpreadsheetFault.NoMemory) }
+/// The records of a table.
+fn records_of(alloc: Global, table: &[u8]) -> ByteRecordsIntoIter<&[u8]>
+    ensures { IsReadTo table.now result [] }
 {
-    if !is_well_quoted(table) {
-        let mut lines = Lines::new();
-        lines.add("a quote isn't closed, or something follows the closing quote of a cell");
-        lines.end();
-        lines.put(notes);
-        return Ok(());
-    }
-    let separator = separator_of(table);
     let rdr = ReaderBuilder::new()
         .has_headers(false)
         .flexible(true)
-        .delimiter(separator)
+        .delimiter(separator_of(table))
         .from_reader(alloc, table);
-    let mut numbers = RowNumbers::new(separator, strip_bom(table));
-    let mut found = Found {
-        rows: [0; 32],
-        has_row: false,
-        has_model: false,
-    };
-    let mut first: Option<(ByteRecord, Columns)> = None;
-    for row in rdr.into_byte_records() {
-        let Ok(row) = row else {
-            return Err(SpreadsheetFault::NoMemory);
-        };
-        let number = numbers.next_row();
-        match &first {
-            None => {
-                let columns = Columns::of_head(&row);
-                tell_head(options, &columns, &row, is_refused, notes);
-                first = Some((row, columns));
-            }
-            Some((head, columns)) if is_refused => {
-                tell_row(&mut found, options, columns, head, number, &row, notes);
-            }
-            Some(_) => return Ok(()),
-        }
-    }
-    if !is_refused || found.has_row {
-        return Ok(());
-    }
-    let mut lines = Lines::new();
-    lines.add("the table has no row with a day");
-    lines.end();
-    lines.put(notes);
-    Ok(())
+    rdr.into_byte_records()
 }
 
-/// Tells the columns that aren't read, and, of a refused table, the columns that any table needs.
-fn tell_head<N: Sink>(
+/// The table's first row, if it has one.
+pub fn read_head(alloc: Global, table: &[u8]) -> Result<Option<ByteRecord>, SpreadsheetFault>
+    ensures { IfOk result (λ head. MatchOption head
+        (AreRows table.now [])
+        (λ row. HasHead table.now (fields_of row))) }
+{
+    let mut records = records_of(alloc, table);
+    let first = match records.next() {
+        Some(first) => first,
+        None => return Ok(None),
+    };
+    let Ok(head) = first else {
+        return Err(SpreadsheetFault::NoMemory);
+    };
+    Ok(Some(head))
+}
+
+/// Said of a table in which no row has anything under the first row.
+const NO_DAY: &str = "the table has no row with a day";
+
+/// Appends the lines on the first row: the columns that aren't read, and those that any table needs and this one lacks.
+fn push_head(
+    note: &mut Vec<u8>,
+    alloc: Global,
     options: &TableOptions<&[u8]>,
     columns: &Columns,
     head: &ByteRecord,
-    is_refused: bool,
-    notes: &mut N,
-)
-    ensures { Tells (port N.taken N.has_failed notes.old notes.new) }
+) -> Result<(), SpreadsheetFault>
+    ensures { IfOk result (λ _. (missing : List (List ℕ)) × (note.new.items ≡ note.old.items
+        ++ (unread_note (fields_of head.now) ++ flat_map (line_at (codes "row 1: ")) missing))) }
 {
-    let mut lines = Lines::new();
-    tell_unread(&mut lines, columns, head);
-    if is_refused {
-        tell_missing_columns(&mut lines, columns, options);
-    }
-    lines.put(notes);
+    let unread = unread_note(alloc, head)?;
+    push_bytes(note, unread.as_slice())?;
+    push_words(note, b"row 1: ", &missing_columns(options, columns, head))
 }
 
-/// Tells the faults of a row, and keeps the row's day in mind.
-fn tell_row<N: Sink>(
+/// Appends the note on a row under the first row. Nothing is said of a blank row.
+fn push_body_row(
+    note: &mut Vec<u8>,
     found: &mut Found,
+    alloc: Global,
     options: &TableOptions<&[u8]>,
     columns: &Columns,
     head: &ByteRecord,
     number: u64,
     row: &ByteRecord,
-    notes: &mut N,
-)
-    ensures { Tells (port N.taken N.has_failed notes.old notes.new) }
+) -> Result<(), SpreadsheetFault>
+    ensures { IfOk result (λ _. (more : List ℕ) × (note.new.items ≡ note.old.items ++ more)
+        × ((rows : List (List (List ℕ))) (text : List ℕ)
+        → TellsRows (texts_of options.now) columns.now (fields_of head.now) rows text
+        → TellsRows (texts_of options.now) columns.now (fields_of head.now)
+        (rows ++ fields_of row.now ∷ []) (text ++ more))) }
 {
     if is_blank_row(columns, row) {
-        return;
+        return Ok(());
     }
-    found.has_row = true;
-    let day = number_in(cell_at(row, columns.day)).filter(|day| 1 <= *day && *day <= 31);
-    let place = RowPlace { head, number, day };
-    let mut lines = Lines::new();
-    tell_day(&mut lines, found, place, columns, row);
-    if row_day(options, columns, row).is_none() {
-        tell_end(&mut lines, place, columns, row);
-        tell_values(&mut lines, found, place, options, columns, row);
-        if lines.is_empty() && columns.day.is_some() && found.has_model {
-            lines.tell(cell_place(place, None, "day"), "this row isn't a day");
-        }
-    }
-    lines.put(notes);
+    push_row(note, found, alloc, options, columns, head, number, row)
 }
 
-/// Tells a day that isn't from 1 to 31, or that an earlier row has.
-fn tell_day(
-    lines: &mut Lines,
-    found: &mut Found,
-    place: RowPlace<'_>,
-    columns: &Columns,
-    row: &ByteRecord,
-) {
-    let at = cell_place(place, columns.day, "day");
-    let Some(day) = place.day else {
-        let cell = cell_at(row, columns.day);
-        if is_blank(cell) {
-            if columns.day.is_some() {
-                lines.tell(at, "nothing is there");
-            }
-        } else {
-            lines.tell_item(at, "", cell, " isn't a day from 1 to 31");
-        }
-        return;
-    };
-    if let Some(earlier) = found.rows.get_mut(usize::from(day)) {
-        if *earlier == 0 {
-            *earlier = place.number;
-        } else {
-            lines.begin(at);
-            lines.add("row ");
-            lines.add_number(*earlier);
-            lines.add(" has this day, too");
-            lines.end();
-        }
-    }
+/// Whether the rows so far have nothing, and `row` neither.
+fn is_still_blank(blank: bool, columns: &Columns, row: &ByteRecord) -> bool
+    ensures { result ≡ (blank && is_blank_row columns.now (fields_of row.now)) }
+{
+    blank && is_blank_row(columns, row)
 }
 
-/// Tells that a row ends before the last column, or what it has beyond this column.
-fn tell_end(lines: &mut Lines, place: RowPlace<'_>, columns: &Columns, row: &ByteRecord) {
-    if row.len() < columns.count {
-        let at = cell_place(place, Some(row.len()), "");
-        lines.tell(at, "the row ends before this column");
-    }
-    for column in columns.count..row.len() {
-        let cell = cell_at(row, Some(column));
-        if !is_blank(cell) {
-            let at = cell_place(place, None, "beyond the last column");
-            lines.tell_item(at, "", cell, " is there");
-        }
-    }
-}
-
-/// Tells the faults of all cells of a row but its day.
-fn tell_values(
-    lines: &mut Lines,
-    found: &mut Found,
-    place: RowPlace<'_>,
+/// Appends the note on the rows under the first row `head`, which `records` still give.
+fn push_rows(
+    note: &mut Vec<u8>,
+    alloc: Global,
+    table: &[u8],
     options: &TableOptions<&[u8]>,
     columns: &Columns,
-    row: &ByteRecord,
-) {
-    let cell = cell_or(options.model, row, columns.model);
-    let Some(model) = model_named(cell) else {
-        let at = cell_place(place, columns.model, "--model");
-        if !is_blank(cell) {
-            lines.tell_item(at, "there is no model ", cell, "");
-        } else if columns.model.is_some() {
-            lines.tell(at, "nothing is there");
-        }
-        return;
+    head: &ByteRecord,
+    records: ByteRecordsIntoIter<&[u8]>,
+) -> Result<(), SpreadsheetFault>
+    requires { IsReadTo table.now records (fields_of head.now ∷ []) }
+    ensures { IfOk result (λ _. HasRowsNote (texts_of options.now) columns.now (fields_of head.now)
+        table.now note.old.items note.new.items) }
+{
+    let mut numbers = RowNumbers::new(separator_of(table), strip_bom(table));
+    numbers.next_row();
+    let mut found = Found::new();
+    let mut blank = true;
+    for row in records {
+        let Ok(row) = row else {
+            return Err(SpreadsheetFault::NoMemory);
+        };
+        let number = numbers.next_row();
+        push_body_row(
+            note, &mut found, alloc, options, columns, head, number, &row,
+        )?;
+        blank = is_still_blank(blank, columns, &row);
+    }
+    push_due_words(note, b"", &Words::new(), blank, NO_DAY)
+}
+
+/// Appends the note on a refused table whose quotes are closed.
+fn push_table(
+    note: &mut Vec<u8>,
+    alloc: Global,
+    table: &[u8],
+    options: &TableOptions<&[u8]>,
+) -> Result<(), SpreadsheetFault>
+    requires { note.old.items ≡ [] }
+    ensures { IfOk result (λ _. TellsTable (texts_of options.now) table.now note.new.items) }
+{
+    let mut records = records_of(alloc, table);
+    let first = match records.next() {
+        Some(first) => first,
+        None => return push_line(note, b"", NO_DAY.as_bytes()),
     };
-    if !found.has_model {
-        found.has_model = true;
-        tell_missing_of_model(lines, columns, options, model);
+    let Ok(head) = first else {
+        return Err(SpreadsheetFault::NoMemory);
+    };
+    let columns = Columns::of_head(&head);
+    push_head(note, alloc, options, &columns, &head)?;
+    push_rows(note, alloc, table, options, &columns, &head, records)
+}
+
+/// The note on a refused table: the columns that aren't read, and at least a line for each row that isn't a day.
+pub fn refused_note(
+    alloc: Global,
+    table: &[u8],
+    options: &TableOptions<&[u8]>,
+) -> Result<Vec<u8>, SpreadsheetFault>
+    ensures { IfOk result (λ note. TellsTable (texts_of options.now) table.now note.items) }
+{
+    let mut note = Vec::new(alloc);
+    if !is_well_quoted(table) {
+        push_line(&mut note, b"", OPEN_QUOTE)?;
+        return Ok(note);
     }
-    match model {
-        Model::M209 => tell_pin_row(lines, place, options, columns, row),
-        Model::EnigmaI | Model::M3 | Model::M4 => {
-            tell_rotor_row(lines, place, options, columns, row, model);
-        }
-    }
+    push_table(&mut note, alloc, table, options)?;
+    Ok(note)
 }

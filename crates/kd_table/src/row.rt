@@ -17,7 +17,7 @@ use kd_state::SheetDay;
 use kd_tables::Model;
 
 /// The columns whose values are read, but for the columns of pins.
-fn places_of(columns: &Columns) -> [Option<usize>; 10]
+pub fn places_of(columns: &Columns) -> [Option<usize>; 10]
     ensures { result ≡ places_of columns.now }
 {
     [

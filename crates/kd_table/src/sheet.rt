@@ -1,16 +1,16 @@
 //! The command `sheet`: makes a key sheet of a table.
-ghost use Rattle.std.specs.Prelude.{◌≡◌, ◌⊎◌, ◌||◌, Ok, Err, IfOk, IsErr, List, false};
+ghost use Rattle.std.specs.Prelude.{◌≡◌, ◌≢◌, ◌⊎◌, ◌||◌, ◌∷◌, ℕ, Ok, Err, IfOk, IsErr, List, false};
 ghost use Rattle.std.specs.Io.KnownBytes.{Appends};
 ghost use Rattle.kd_tables.specs.Writing.{TakesPrefix};
 ghost use Rattle.kd_state.specs.SheetDay.{Day};
 ghost use Rattle.kd_sheet.specs.{Sheet.{month_of}, SheetFile.{sheet_of}, SheetText.{sheet_text}};
 ghost use Rattle.kd_tables.specs.Ports.{port};
-ghost use Rattle.kd_table.specs.{Notes.{Tells}, Options.{texts_of}};
-ghost use Rattle.kd_table.specs.Table.{TableMeans, IsRefusedTable, is_device};
+ghost use Rattle.kd_table.specs.{Notes.{unread_note, HasHead, Tells, TellsRefused, TellsUnread}, Options.{texts_of}};
+ghost use Rattle.kd_table.specs.Table.{AreRows, TableMeans, IsRefusedTable, is_device};
 ghost use Rattle.kd_table.specs.declared.fault.SpreadsheetFault.TheVariants as faults;
 
 use crate::fault::SpreadsheetFault;
-use crate::notes::tell_table;
+use crate::notes::{put_note, read_head, refused_note, unread_note};
 use crate::options::TableOptions;
 use crate::quotes::{is_well_quoted, separator_of};
 use crate::reading::{Reading, read_rows};
@@ -55,14 +55,30 @@ fn tell_refused<N: Sink>(
     notes: &mut N,
 ) -> SpreadsheetFault
     ensures told { Tells (port N.taken N.has_failed notes.old notes.new) }
-    ensures fault { (result ≡ fault) ⊎ (result ≡ SpreadsheetFault.NoMemory) }
+    ensures fault { (result ≡ fault) ⊎ (result ≡ faults.NoMemory) }
+    ensures explained { result ≡ faults.Refused
+        → TellsRefused (texts_of options.now) table.now (port N.taken N.has_failed notes.old notes.new) }
 {
-    if let SpreadsheetFault::Refused = fault
-        && let Err(fault) = tell_table(alloc, table, options, true, notes)
-    {
-        return fault;
+    if let SpreadsheetFault::Refused = fault {
+        match refused_note(alloc, table, options) {
+            Ok(note) => put_note(notes, note.as_slice()),
+            Err(_) => return SpreadsheetFault::NoMemory,
+        }
     }
     fault
+}
+
+/// The note on the columns of a table that aren't read.
+fn note_of_columns(alloc: Global, table: &[u8]) -> Result<Vec<u8>, SpreadsheetFault>
+    requires { (head : List (List ℕ)) × (rows : List (List (List ℕ))) × AreRows table.now (head ∷ rows) }
+    ensures note { IfOk result (λ note. (head : List (List ℕ)) × HasHead table.now head
+        × (note.items ≡ unread_note head)) }
+{
+    let head = read_head(alloc, table)?;
+    match head {
+        Some(head) => unread_note(alloc, &head),
+        None => Ok(Vec::new(alloc)),
+    }
 }
 
 /// Writes the key sheet that the days of `table` make.
@@ -86,13 +102,20 @@ pub fn run_sheet<W: Sink, N: Sink>(
         × TakesPrefix (W.taken sink.old) (W.taken sink.new) (sheet_text days) }
     ensures untouched { IsErr result → is_device result ≡ false → sink.new ≡ sink.old }
     ensures told { Tells (port N.taken N.has_failed notes.old notes.new) }
+    ensures unread { result ≢ Err faults.Refused → result ≢ Err faults.NoMemory
+        → TellsUnread table.now (port N.taken N.has_failed notes.old notes.new) }
+    ensures explained { result ≡ Err faults.Refused
+        → TellsRefused (texts_of options.now) table.now (port N.taken N.has_failed notes.old notes.new) }
     ensures failed { W.has_failed sink.new ≡ (W.has_failed sink.old || is_device result) }
 {
     let days = match read_days(alloc, table, options) {
         Ok(days) => days,
         Err(fault) => return Err(tell_refused(fault, alloc, table, options, notes)),
     };
-    tell_table(alloc, table, options, false, notes)?;
+    match note_of_columns(alloc, table) {
+        Ok(note) => put_note(notes, note.as_slice()),
+        Err(_) => return Err(SpreadsheetFault::NoMemory),
+    }
     match write_sheet(sink, days.as_slice()) {
         Ok(()) => Ok(()),
         Err(Device) => Err(SpreadsheetFault::Device),

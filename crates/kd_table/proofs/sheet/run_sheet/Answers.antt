@@ -10,7 +10,7 @@ returns-in-Err-clause-refused g c = λ same.
 
 pub returns-in-Ok-write_sheet-clause-sheet : goal.returns-in-Ok-write_sheet-clause-sheet
 returns-in-Ok-write_sheet-clause-sheet g c =
-    let written = rw c.as_slice.ensures.value at c.in-Ok-write_sheet.ensures.text.whole in (
+    let written = rw c.as_slice-2.ensures.value at c.in-Ok-write_sheet.ensures.text.whole in (
       c.in-Ok.days.items,
       c.in-Ok.ensures.days,
       written,

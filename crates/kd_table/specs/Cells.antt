@@ -1,0 +1,126 @@
+-- The cells of a row, one by one: in which column each stands, and whether its value can be read.
+-- Test: tests/cases/curator-sheet.toml
+use Rattle.std.specs.Prelude.{ℕ, nat_eq, nat_le, ◌&&◌, ◌||◌, not, Bool, true, false, List, [], ◌∷◌, length, is_some, slice_index_or, Option, Some, None, if◌then◌else◌}
+use Rattle.std.specs.List.{list_all}
+use Rattle.std.specs.Option.{option_map_or, option_and_then}
+use Rattle.kd_tables.specs.Rings.{ring_of}
+use Rattle.kd_tables.specs.Tables.{slots_of}
+use Rattle.kd_tables.specs.declared.model.Model.{Model}
+use Rattle.kd_tables.specs.declared.model.Model.TheVariants.{M209}
+use Rattle.kd_sheet.specs.PinWheels.{pins_of_text}
+use Rattle.kd_table.specs.Columns.{cell_or}
+use Rattle.kd_table.specs.Items.{exactly, groups_in, is_blank, joined, letters_in, number_in, pairs_in, readings_in, wheels_in}
+use Rattle.kd_table.specs.Names.{model_named, reflector_named}
+use Rattle.kd_table.specs.Steps.{◌>>=◌}
+use Rattle.kd_table.specs.declared.cell.Cell.{Cell}
+use Rattle.kd_table.specs.declared.cell.Cell.TheVariants as cells
+use Rattle.kd_table.specs.declared.columns.Columns.{Columns}
+use Rattle.kd_table.specs.Options.{OptionTexts}
+
+-- the column in which a cell stands
+abbrev pub column_of : Columns → Cell → Option ℕ
+column_of columns cells.Day = columns.day
+column_of columns cells.Model = columns.model
+column_of columns cells.Reflector = columns.reflector
+column_of columns cells.Wheels = columns.wheels
+column_of columns cells.Rings = columns.rings
+column_of columns cells.Window = columns.window
+column_of columns cells.Plugs = columns.plugs
+column_of columns cells.Groups = columns.groups
+column_of columns cells.List = columns.list
+column_of columns cells.Pins1 = slice_index_or columns.pins 0 None
+column_of columns cells.Pins2 = slice_index_or columns.pins 1 None
+column_of columns cells.Pins3 = slice_index_or columns.pins 2 None
+column_of columns cells.Pins4 = slice_index_or columns.pins 3 None
+column_of columns cells.Pins5 = slice_index_or columns.pins 4 None
+column_of columns cells.Pins6 = slice_index_or columns.pins 5 None
+column_of columns cells.Bars = columns.bars
+
+-- the option that stands for a cell without anything; an empty text if there is none
+abbrev pub option_of : OptionTexts → Cell → List ℕ
+option_of options cells.Model = options.model
+option_of options cells.Reflector = options.reflector
+option_of options cells.Window = options.window
+option_of options cell = []
+
+-- what a cell has, or what stands for it
+abbrev pub text_of : OptionTexts → Columns → List (List ℕ) → Cell → List ℕ
+text_of options columns row cell = cell_or (option_of options cell) (column_of columns cell) row
+
+-- whether the table has the cell's column, or an option stands for it
+abbrev pub has_text : OptionTexts → Columns → Cell → Bool
+has_text options columns cell = is_some (column_of columns cell) || not (is_blank (option_of options cell))
+
+-- ---- Which cells a row has.
+
+-- the cells of a day of `model`, but for the day's number and the model
+abbrev pub cells_of : Model → List Cell
+cells_of M209 =
+    cells.List ∷ cells.Window ∷ cells.Pins1 ∷ cells.Pins2 ∷ cells.Pins3 ∷ cells.Pins4 ∷ cells.Pins5 ∷ cells.Pins6
+    ∷ cells.Bars ∷ []
+cells_of model =
+    cells.Reflector ∷ cells.Wheels ∷ cells.Rings ∷ cells.Window ∷ cells.Plugs ∷ cells.Groups ∷ []
+
+-- the model of a row, if its name can be read
+abbrev pub row_model : OptionTexts → Columns → List (List ℕ) → Option Model
+row_model options columns row = model_named (text_of options columns row cells.Model)
+
+-- all cells of a row whose model is `model`
+abbrev pub row_cells : Option Model → List Cell
+row_cells model = cells.Day ∷ cells.Model ∷ option_map_or cells_of model []
+
+-- whether a table may lack the column: only the groups' column
+abbrev pub is_optional : Cell → Bool
+is_optional cells.Groups = true
+is_optional cell = false
+
+-- whether the table has all columns that a row needs
+abbrev pub has_columns : OptionTexts → Columns → List (List ℕ) → Bool
+has_columns options columns row =
+    list_all (λ cell. is_optional cell || has_text options columns cell) (row_cells (row_model options columns row))
+
+-- ---- Which cells can be read.
+
+abbrev pub is_day : ℕ → Bool
+is_day number = nat_le 1 number && nat_le number 31
+
+-- the day of a row, if it can be read
+abbrev pub day_in : List ℕ → Option ℕ
+day_in text = option_and_then (λ number. if is_day number then Some number else None) (number_in text)
+
+abbrev pub slots : Option Model → ℕ
+slots model = option_map_or slots_of model 0
+
+-- whether the letters of the effective pins of wheel `wheel` can be read
+abbrev pub are_pins : ℕ → List ℕ → Bool
+are_pins wheel text = is_some (joined text >>= pins_of_text (ring_of wheel))
+
+-- how many letters the windows of a machine show
+abbrev pub windows : Option Model → ℕ
+windows (Some M209) = 6
+windows model = slots model
+
+-- whether the text of a cell can be read, in a row of `model`
+abbrev pub is_read : Option Model → Cell → List ℕ → Bool
+is_read model cells.Day text = is_some (day_in text)
+is_read model cells.Model text = is_some (model_named text)
+is_read model cells.Reflector text = is_some (option_and_then (λ known. reflector_named known text) model)
+is_read model cells.Wheels text = is_some (wheels_in text >>= exactly (slots model))
+is_read model cells.Rings text = is_some (letters_in text >>= exactly (slots model))
+is_read model cells.Window text = is_some (letters_in text >>= exactly (windows model))
+is_read model cells.Plugs text = is_some (pairs_in text)
+is_read model cells.Groups text = is_some (groups_in text)
+is_read model cells.List text = is_some (letters_in text >>= exactly 2)
+is_read model cells.Pins1 text = are_pins 1 text
+is_read model cells.Pins2 text = are_pins 2 text
+is_read model cells.Pins3 text = are_pins 3 text
+is_read model cells.Pins4 text = are_pins 4 text
+is_read model cells.Pins5 text = are_pins 5 text
+is_read model cells.Pins6 text = are_pins 6 text
+is_read model cells.Bars text = is_some (readings_in text >>= exactly 27)
+
+-- whether the table has a cell's column, or an option stands for it, but the value can't be read
+abbrev pub is_faulty : OptionTexts → Columns → List (List ℕ) → Cell → Bool
+is_faulty options columns row cell =
+    has_text options columns cell
+    && not (is_read (row_model options columns row) cell (text_of options columns row cell))

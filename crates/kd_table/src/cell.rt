@@ -1,0 +1,277 @@
+//! The cells of a row, one by one.
+ghost use Rattle.std.specs.Prelude.{◌≡◌, ◌||◌, [], is_some, option_map};
+ghost use Rattle.std.specs.Option.{option_and_then, option_map_or};
+ghost use Rattle.std.specs.List.{list_all};
+ghost use Rattle.csv.specs.Records.{fields_of};
+ghost use Rattle.kd_table.specs.Cells.{are_pins, cells_of, column_of, day_in, has_columns, has_text, is_optional};
+ghost use Rattle.kd_table.specs.Cells.{is_read, option_of, row_model, slots, text_of, windows};
+ghost use Rattle.kd_table.specs.Items.{exactly, joined};
+ghost use Rattle.kd_table.specs.Names.{reflector_named};
+ghost use Rattle.kd_table.specs.Options.{texts_of};
+ghost use Rattle.kd_sheet.specs.PinWheels.{pins_of_text};
+
+use crate::columns::{Columns, cell_or};
+use crate::items::{Values, is_blank, joined, number_in, values_in};
+use crate::names::{model_named, reflector_named};
+use crate::options::TableOptions;
+use csv::ByteRecord;
+use kd_sheet::pins_of_text;
+use kd_tables::{Letter, Model, Reading, Ring, Wheel, ring1, ring2, ring3, ring4, ring5, ring6};
+
+/// A cell of a row, by what it says of the day.
+#[derive(Clone, Copy)]
+pub enum Cell {
+    Day,
+    Model,
+    Reflector,
+    Wheels,
+    Rings,
+    Window,
+    Plugs,
+    Groups,
+    List,
+    Pins1,
+    Pins2,
+    Pins3,
+    Pins4,
+    Pins5,
+    Pins6,
+    Bars,
+}
+
+/// The cells of a rotor machine's day, but for the day's number and the model.
+static ROTOR_CELLS: [Cell; 6] = [
+    Cell::Reflector,
+    Cell::Wheels,
+    Cell::Rings,
+    Cell::Window,
+    Cell::Plugs,
+    Cell::Groups,
+];
+
+/// The cells of a Converter's day, but for the day's number and the model.
+static PIN_CELLS: [Cell; 9] = [
+    Cell::List,
+    Cell::Window,
+    Cell::Pins1,
+    Cell::Pins2,
+    Cell::Pins3,
+    Cell::Pins4,
+    Cell::Pins5,
+    Cell::Pins6,
+    Cell::Bars,
+];
+
+/// The cells of a day of `model`, but for the day's number and the model.
+pub fn cells_of(model: Model) -> &'static [Cell]
+    ensures { result.now ≡ cells_of model }
+{
+    match model {
+        Model::M209 => &PIN_CELLS,
+        Model::EnigmaI | Model::M3 | Model::M4 => &ROTOR_CELLS,
+    }
+}
+
+/// The column in which `cell` stands.
+pub fn column_of(columns: &Columns, cell: Cell) -> Option<usize>
+    ensures { result ≡ column_of columns.now cell }
+{
+    match cell {
+        Cell::Day => columns.day,
+        Cell::Model => columns.model,
+        Cell::Reflector => columns.reflector,
+        Cell::Wheels => columns.wheels,
+        Cell::Rings => columns.rings,
+        Cell::Window => columns.window,
+        Cell::Plugs => columns.plugs,
+        Cell::Groups => columns.groups,
+        Cell::List => columns.list,
+        Cell::Pins1 => columns.pins[0],
+        Cell::Pins2 => columns.pins[1],
+        Cell::Pins3 => columns.pins[2],
+        Cell::Pins4 => columns.pins[3],
+        Cell::Pins5 => columns.pins[4],
+        Cell::Pins6 => columns.pins[5],
+        Cell::Bars => columns.bars,
+    }
+}
+
+/// The option that stands for `cell` if it has nothing; an empty text if there is none.
+pub fn option_of<'a>(options: &TableOptions<&'a [u8]>, cell: Cell) -> &'a [u8]
+    ensures { result.now ≡ option_of (texts_of options.now) cell }
+{
+    match cell {
+        Cell::Model => options.model,
+        Cell::Reflector => options.reflector,
+        Cell::Window => options.window,
+        _ => &[],
+    }
+}
+
+/// What `cell` has, or what stands for it.
+pub fn text_of<'a>(
+    options: &TableOptions<&'a [u8]>,
+    columns: &Columns,
+    row: &'a ByteRecord,
+    cell: Cell,
+) -> &'a [u8]
+    ensures { result.now ≡ text_of (texts_of options.now) columns.now (fields_of row.now) cell }
+{
+    cell_or(option_of(options, cell), row, column_of(columns, cell))
+}
+
+/// Whether the table has the column of `cell`, or an option stands for it.
+pub fn has_text(options: &TableOptions<&[u8]>, columns: &Columns, cell: Cell) -> bool
+    ensures { result ≡ has_text (texts_of options.now) columns.now cell }
+{
+    column_of(columns, cell).is_some() || !is_blank(option_of(options, cell))
+}
+
+/// The model of `row`, if its name can be read.
+pub fn row_model(
+    options: &TableOptions<&[u8]>,
+    columns: &Columns,
+    row: &ByteRecord,
+) -> Option<Model>
+    ensures { result ≡ row_model (texts_of options.now) columns.now (fields_of row.now) }
+{
+    model_named(text_of(options, columns, row, Cell::Model))
+}
+
+/// The cells of a row of which its model has to be known; none if the model's name can't be read.
+pub fn known_cells(
+    options: &TableOptions<&[u8]>,
+    columns: &Columns,
+    row: &ByteRecord,
+) -> &'static [Cell]
+    ensures { result.now ≡ option_map_or cells_of
+        (row_model (texts_of options.now) columns.now (fields_of row.now)) [] }
+{
+    match row_model(options, columns, row) {
+        Some(model) => cells_of(model),
+        None => &[],
+    }
+}
+
+/// Whether a table may lack the column of `cell`.
+pub fn is_optional(cell: Cell) -> bool
+    ensures { result ≡ is_optional cell }
+{
+    matches!(cell, Cell::Groups)
+}
+
+/// Whether the table has the column of `cell`, if each row needs it.
+fn has_column(options: &TableOptions<&[u8]>, columns: &Columns, cell: Cell) -> bool
+    ensures { result ≡ (is_optional cell || has_text (texts_of options.now) columns.now cell) }
+{
+    is_optional(cell) || has_text(options, columns, cell)
+}
+
+/// Whether the table has the columns of `cells`, if each row needs them.
+fn has_each_column(options: &TableOptions<&[u8]>, columns: &Columns, cells: &[Cell]) -> bool
+    ensures { result ≡ list_all
+        (λ cell. is_optional cell || has_text (texts_of options.now) columns.now cell) cells.now }
+{
+    cells.iter().all(|cell| has_column(options, columns, *cell))
+}
+
+/// Whether the table has all columns that `row` needs.
+pub fn has_columns(options: &TableOptions<&[u8]>, columns: &Columns, row: &ByteRecord) -> bool
+    ensures { result ≡ has_columns (texts_of options.now) columns.now (fields_of row.now) }
+{
+    let known = known_cells(options, columns, row);
+    if !has_column(options, columns, Cell::Day) {
+        return false;
+    }
+    if !has_column(options, columns, Cell::Model) {
+        return false;
+    }
+    has_each_column(options, columns, known)
+}
+
+/// The day in the cell `text`, if it can be read.
+pub fn day_in(text: &[u8]) -> Option<u8>
+    ensures { result ≡ day_in text.now }
+{
+    let number = number_in(text)?;
+    if 1 <= number && number <= 31 {
+        Some(number)
+    } else {
+        None
+    }
+}
+
+/// How many slots for wheels a machine has.
+pub fn slots(model: Option<Model>) -> usize
+    ensures { result ≡ slots model }
+{
+    match model {
+        Some(model) => usize::from(model.slots()),
+        None => 0,
+    }
+}
+
+/// How many letters the windows of a machine show.
+pub fn windows(model: Option<Model>) -> usize
+    ensures { result ≡ windows model }
+{
+    match model {
+        Some(Model::M209) => 6,
+        _ => slots(model),
+    }
+}
+
+/// Whether `values` were read, and are `count`.
+fn are_exactly<T>(values: &Option<Values<T>>, count: usize) -> bool
+    ensures { result ≡ is_some (option_and_then (exactly count)
+        (option_map (λ values. values.items) values.now)) }
+{
+    match values {
+        Some(values) => values.len() == count,
+        None => false,
+    }
+}
+
+/// Whether the letters of the effective pins can be read, of a wheel whose letters are `ring`.
+fn are_pins<const N: usize>(ring: &Ring<N>, text: &[u8]) -> bool
+    ensures { result ≡ is_some (option_and_then (pins_of_text ring.now) (joined text.now)) }
+{
+    match joined(text) {
+        Some(letters) => pins_of_text(ring, letters.as_slice()).is_some(),
+        None => false,
+    }
+}
+
+/// Whether the text of `cell` can be read, in a row of `model`.
+pub fn is_read(model: Option<Model>, cell: Cell, text: &[u8]) -> bool
+    ensures { result ≡ is_read model cell text.now }
+{
+    match cell {
+        Cell::Day => day_in(text).is_some(),
+        Cell::Model => model_named(text).is_some(),
+        Cell::Reflector => names_reflector(model, text),
+        Cell::Wheels => are_exactly(&values_in::<Option<Wheel>>(text), slots(model)),
+        Cell::Rings => are_exactly(&values_in::<Letter>(text), slots(model)),
+        Cell::Window => are_exactly(&values_in::<Letter>(text), windows(model)),
+        Cell::Plugs => values_in::<(Letter, Letter)>(text).is_some(),
+        Cell::Groups => values_in::<[Letter; 3]>(text).is_some(),
+        Cell::List => are_exactly(&values_in::<Letter>(text), 2),
+        Cell::Pins1 => are_pins(&ring1(), text),
+        Cell::Pins2 => are_pins(&ring2(), text),
+        Cell::Pins3 => are_pins(&ring3(), text),
+        Cell::Pins4 => are_pins(&ring4(), text),
+        Cell::Pins5 => are_pins(&ring5(), text),
+        Cell::Pins6 => are_pins(&ring6(), text),
+        Cell::Bars => are_exactly(&values_in::<Reading>(text), 27),
+    }
+}
+
+/// Whether `text` names a reflector of `model`.
+fn names_reflector(model: Option<Model>, text: &[u8]) -> bool
+    ensures { result ≡ is_some (option_and_then (λ known. reflector_named known text.now) model) }
+{
+    match model {
+        Some(model) => reflector_named(model, text).is_some(),
+        None => false,
+    }
+}

@@ -1,0 +1,211 @@
+//! Says what is wrong with the text of a cell.
+use super::letter_words::{off_wheel_words, pair_words, pins_words};
+use super::words::Words;
+use crate::cell::{Cell, day_in, slots, windows};
+use crate::items::{CELL_LIMIT, FromWord, is_blank, push_item_text, values_in};
+use crate::names::{model_named, reflector_named};
+use arrayvec::ArrayVec;
+use kd_state::split_words;
+use kd_tables::{Letter, Model, Reading, Wheel, allowed, in_box};
+
+/// Says what is wrong with the text of `cell`, in a row of `model`.
+pub fn cell_words(cell: Cell, model: Option<Model>, text: &[u8]) -> Words {
+    let mut words = Words::new();
+    let lines = &mut words;
+    match cell {
+        Cell::Day => day_words(lines, text),
+        Cell::Model => model_words(lines, text),
+        Cell::Reflector => reflector_words(lines, model, text),
+        Cell::Wheels => wheel_words(lines, model, text),
+        Cell::Rings => letter_words(lines, text, slots(model)),
+        Cell::Window => window_words(lines, model, text),
+        Cell::Plugs => pair_words(lines, text),
+        Cell::Groups => group_words(lines, text),
+        Cell::List => letter_words(lines, text, 2),
+        Cell::Pins1 => pins_words(lines, text, 1),
+        Cell::Pins2 => pins_words(lines, text, 2),
+        Cell::Pins3 => pins_words(lines, text, 3),
+        Cell::Pins4 => pins_words(lines, text, 4),
+        Cell::Pins5 => pins_words(lines, text, 5),
+        Cell::Pins6 => pins_words(lines, text, 6),
+        Cell::Bars => bar_words(lines, text),
+    }
+    words
+}
+
+/// Says which words of `text` have no value, and `what` they aren't. Or that there is nothing.
+pub fn item_words<T: FromWord + Copy>(lines: &mut Words, text: &[u8], what: &str) {
+    if is_blank(text) {
+        lines.tell("nothing is there");
+        return;
+    }
+    if text.len() > CELL_LIMIT {
+        lines.tell("the cell is too long");
+        return;
+    }
+    let mut items = ArrayVec::new();
+    push_item_text::<T>(&mut items, text);
+    let Some(words) = split_words::<192>(items.as_slice()) else {
+        lines.tell("the cell is too long");
+        return;
+    };
+    for word in words.as_slice() {
+        if !word.is_empty() && T::read_word(word).is_none() {
+            lines.tell_item("", word, what);
+        }
+    }
+}
+
+/// Says that there are `found` things in place of `count`.
+fn count_words(lines: &mut Words, found: usize, count: usize, one: &str, many: &str) {
+    lines.begin();
+    lines.add_number(found as u64);
+    lines.add(if found == 1 { one } else { many });
+    lines.add(if found == 1 { " is" } else { " are" });
+    lines.add(" there, in place of ");
+    lines.add_number(count as u64);
+    lines.end();
+}
+
+/// Says what is wrong with a day.
+pub fn day_words(lines: &mut Words, text: &[u8]) {
+    if is_blank(text) {
+        lines.tell("nothing is there");
+    } else if day_in(text).is_none() {
+        lines.tell_item("", text, " isn't a day from 1 to 31");
+    }
+}
+
+fn model_words(lines: &mut Words, text: &[u8]) {
+    if is_blank(text) {
+        lines.tell("nothing is there");
+    } else if model_named(text).is_none() {
+        lines.tell_item("there is no model ", text, "");
+    }
+}
+
+fn reflector_words(lines: &mut Words, model: Option<Model>, text: &[u8]) {
+    let Some(model) = model else {
+        return;
+    };
+    if is_blank(text) {
+        lines.tell("nothing is there");
+    } else if reflector_named(model, text).is_none() {
+        lines.begin();
+        lines.add(model.text().as_str());
+        lines.add(" has no reflector ");
+        lines.add_cell(text);
+        lines.end();
+    }
+}
+
+/// Says which words are no letters, or how many letters there are in place of `count`.
+fn letter_words(lines: &mut Words, text: &[u8], count: usize) {
+    match values_in::<Letter>(text) {
+        Some(letters) if letters.len() == count => {}
+        Some(letters) if !letters.is_empty() => count_words(
+            lines,
+            letters.len(),
+            count,
+            " letter or number",
+            " letters or numbers",
+        ),
+        _ => item_words::<Letter>(
+            lines,
+            text,
+            " is neither a letter nor a number from 1 to 26",
+        ),
+    }
+}
+
+/// Says what is wrong with the letters in the windows. A Converter's wheels don't have all letters.
+fn window_words(lines: &mut Words, model: Option<Model>, text: &[u8]) {
+    letter_words(lines, text, windows(model));
+    if model == Some(Model::M209)
+        && let Some(letters) = values_in::<Letter>(text)
+        && letters.len() == 6
+    {
+        for (index, letter) in letters.as_slice().iter().enumerate() {
+            if index < 6 {
+                off_wheel_words(lines, index as u8 + 1, *letter);
+            }
+        }
+    }
+}
+
+fn wheel_words(lines: &mut Words, model: Option<Model>, text: &[u8]) {
+    let count = slots(model);
+    match values_in::<Option<Wheel>>(text) {
+        Some(wheels) if !wheels.is_empty() => {
+            let is_whole = wheels.len() == count;
+            if !is_whole {
+                count_words(lines, wheels.len(), count, " wheel", " wheels");
+            }
+            if let Some(model) = model {
+                seat_words(lines, wheels.as_slice(), model, is_whole);
+            }
+        }
+        _ => item_words::<Option<Wheel>>(lines, text, " isn't a wheel"),
+    }
+}
+
+/// Says which wheels the model's box lacks, which are there twice, and, if all wheels are there, which can't be where they are.
+fn seat_words(lines: &mut Words, wheels: &[Option<Wheel>], model: Model, is_whole: bool) {
+    for (index, wheel) in wheels.iter().enumerate() {
+        let Some(wheel) = *wheel else {
+            return;
+        };
+        if !in_box(model, wheel) {
+            one_wheel_words(lines, wheel, no_box_rule(model));
+        } else if is_whole && index < 4 && !allowed(model, index as u8 + 1, wheel) {
+            one_wheel_words(lines, wheel, seat_rule(wheel));
+        }
+        if wheels[..index].contains(&Some(wheel)) {
+            one_wheel_words(lines, wheel, " is there twice");
+        }
+    }
+}
+
+fn one_wheel_words(lines: &mut Words, wheel: Wheel, words: &str) {
+    lines.begin();
+    lines.add("wheel ");
+    lines.add(wheel.text().as_str());
+    lines.add(words);
+    lines.end();
+}
+
+/// That the box of a model lacks a wheel.
+fn no_box_rule(model: Model) -> &'static str {
+    match model {
+        Model::EnigmaI => " isn't in the box of an Enigma I, which has I to V",
+        _ => " isn't in the box of an M3, which has I to VIII",
+    }
+}
+
+/// Why a wheel of an M4's box can't be where it is.
+fn seat_rule(wheel: Wheel) -> &'static str {
+    match wheel {
+        Wheel::Beta | Wheel::Gamma => " can only be at the left",
+        _ => " can't be at the left, where Beta or Gamma has to be",
+    }
+}
+
+fn group_words(lines: &mut Words, text: &[u8]) {
+    match values_in::<[Letter; 3]>(text) {
+        Some(groups) if groups.len() > 4 => lines.tell("more than 4 groups are there"),
+        Some(_) => {}
+        None => item_words::<[Letter; 3]>(lines, text, " isn't a group of three letters"),
+    }
+}
+
+fn bar_words(lines: &mut Words, text: &[u8]) {
+    match values_in::<Reading>(text) {
+        Some(rows) if rows.len() == 27 => {}
+        Some(rows) if !rows.is_empty() => count_words(lines, rows.len(), 27, " bar", " bars"),
+        _ => item_words::<Reading>(
+            lines,
+            text,
+            " isn't two different numbers from 0 to 6 with a hyphen between",
+        ),
+    }
+}

@@ -1,0 +1,71 @@
+//! What was found in the rows so far.
+use super::cell_words::day_words;
+use super::head_words::missing_of_model;
+use super::words::Words;
+use crate::cell::{day_in, row_model};
+use crate::columns::{Columns, cell_at};
+use crate::options::TableOptions;
+use arrayvec::ArrayVec;
+use csv::ByteRecord;
+use kd_tables::Model;
+
+/// What was found in the rows so far.
+#[derive(Drop)]
+pub struct Found {
+    /// For each day, the number of the first row that has it; 0 if no row has it.
+    rows: [u64; 32],
+    /// The models of which missing columns were told.
+    models: ArrayVec<Option<Model>, 4>,
+}
+
+impl Found {
+    /// Nothing was found yet.
+    pub fn new() -> Self {
+        Found {
+            rows: [0; 32],
+            models: ArrayVec::new(),
+        }
+    }
+
+    /// Says which columns the table lacks that a row needs, at the first row of each model.
+    pub fn missing(
+        &mut self,
+        options: &TableOptions<&[u8]>,
+        columns: &Columns,
+        head: &ByteRecord,
+        row: &ByteRecord,
+    ) -> Words {
+        match row_model(options, columns, row) {
+            Some(model) if !self.models.as_slice().contains(&Some(model)) => {
+                let _ = self.models.try_push(Some(model));
+                missing_of_model(options, columns, head, model)
+            }
+            _ => Words::new(),
+        }
+    }
+
+    /// Says what is wrong with the day of the row with this number: it can't be read, or an earlier row has it.
+    pub fn day_words(&mut self, columns: &Columns, row: &ByteRecord, number: u64) -> Words {
+        let mut lines = Words::new();
+        if columns.day.is_none() {
+            return lines;
+        }
+        let cell = cell_at(row, columns.day);
+        let Some(day) = day_in(cell) else {
+            day_words(&mut lines, cell);
+            return lines;
+        };
+        if let Some(earlier) = self.rows.get_mut(usize::from(day)) {
+            if *earlier == 0 {
+                *earlier = number;
+            } else {
+                lines.begin();
+                lines.add("row ");
+                lines.add_number(*earlier);
+                lines.add(" has this day, too");
+                lines.end();
+            }
+        }
+        lines
+    }
+}

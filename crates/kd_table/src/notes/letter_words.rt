@@ -1,0 +1,74 @@
+//! Says what is wrong with the letters of pins and of pairs.
+use super::cell_words::item_words;
+use super::words::Words;
+use crate::items::{joined, values_in};
+use kd_tables::{Letter, place_on_wheel};
+
+/// Says that a wheel of a Converter lacks a letter, if it does.
+pub fn off_wheel_words(lines: &mut Words, wheel: u8, letter: Letter) {
+    if place_on_wheel(wheel, letter).is_none() {
+        lines.begin();
+        lines.add("wheel ");
+        lines.add_number(u64::from(wheel));
+        lines.add(" has no ");
+        lines.add_cell(&[letter.byte()]);
+        lines.end();
+    }
+}
+
+/// Says what is wrong with the letters of the effective pins of wheel `wheel`.
+pub fn pins_words(lines: &mut Words, text: &[u8], wheel: u8) {
+    let Some(letters) = joined(text) else {
+        lines.tell("the cell is too long");
+        return;
+    };
+    let letters = letters.as_slice();
+    for (index, byte) in letters.iter().enumerate() {
+        match Letter::from_byte(*byte) {
+            Some(letter) => off_wheel_words(lines, wheel, letter),
+            None => lines.tell_item("", &[*byte], " isn't a letter"),
+        }
+        if letters[..index].contains(byte) {
+            lines.tell_item("the letter ", &[*byte], " is there twice");
+        }
+    }
+}
+
+/// Says what is wrong with the plugged pairs.
+pub fn pair_words(lines: &mut Words, text: &[u8]) {
+    match values_in::<(Letter, Letter)>(text) {
+        Some(pairs) => twice_words(lines, pairs.as_slice()),
+        None => item_words::<(Letter, Letter)>(lines, text, " isn't a pair of letters"),
+    }
+}
+
+/// Says which letters are in two pairs, or twice in a pair.
+fn twice_words(lines: &mut Words, pairs: &[(Letter, Letter)]) {
+    for (index, pair) in pairs.iter().enumerate() {
+        let pair = *pair;
+        if pair.0 == pair.1 {
+            lines.tell_item("the letter ", &[pair.0.byte()], " is paired with itself");
+        }
+        for other in &pairs[..index] {
+            shared_words(lines, *other, pair);
+        }
+    }
+}
+
+/// Says which letters two pairs share.
+fn shared_words(lines: &mut Words, other: (Letter, Letter), pair: (Letter, Letter)) {
+    let one = [other.0.byte(), other.1.byte()];
+    let two = [pair.0.byte(), pair.1.byte()];
+    for letter in &two {
+        if one.contains(letter) {
+            lines.begin();
+            lines.add("the letter ");
+            lines.add_cell(&[*letter]);
+            lines.add(" is in ");
+            lines.add_cell(&one);
+            lines.add(" and in ");
+            lines.add_cell(&two);
+            lines.end();
+        }
+    }
+}

@@ -1,0 +1,165 @@
+//! Appends lines to a note: each begins with the place of what it tells.
+ghost use Rattle.std.specs.Prelude.{◌≡◌, ◌++◌, ◌∷◌, ◌<◌, [], codes, ℕ, List, true, flat_map, length, map, IfOk};
+ghost use Rattle.csv.specs.Records.{fields_of};
+ghost use Rattle.std.specs.List.{slice_split};
+ghost use Rattle.kd_table.specs.Notes.{cell_name, cell_place, line_at, option_name, row_place, shown, shown_byte};
+
+use super::words::{Words, shown_byte};
+use crate::cell::{Cell, column_of};
+use crate::columns::{Columns, cell_at};
+use crate::fault::SpreadsheetFault;
+use csv::ByteRecord;
+use itoa::Buffer;
+use kd_state::split_once;
+use std::alloc::Global;
+
+/// Appends `bytes`.
+pub fn push_bytes(note: &mut Vec<u8>, bytes: &[u8]) -> Result<(), SpreadsheetFault>
+    ensures { IfOk result (λ _. note.new.items ≡ note.old.items ++ bytes.now) }
+{
+    if note.extend_from_slice(bytes).is_err() {
+        return Err(SpreadsheetFault::NoMemory);
+    }
+    Ok(())
+}
+
+/// Appends a line: where something is, and what is said of it.
+pub fn push_line(note: &mut Vec<u8>, place: &[u8], words: &[u8]) -> Result<(), SpreadsheetFault>
+    ensures { IfOk result (λ _. note.new.items ≡ note.old.items ++ line_at place.now words.now) }
+{
+    push_bytes(note, place)?;
+    push_bytes(note, words)?;
+    push_bytes(note, b"\n")
+}
+
+/// Appends a line for each line of `words`.
+pub fn push_lines(note: &mut Vec<u8>, place: &[u8], words: &[u8]) -> Result<(), SpreadsheetFault>
+    ensures { IfOk result (λ _. (lines : List (List ℕ)) × (0 < length lines)
+        × (note.new.items ≡ note.old.items ++ flat_map (line_at place.now) lines)) }
+{
+    match split_once(words, b'\n') {
+        Some((line, rest)) => {
+            push_line(note, place, line)?;
+            push_lines(note, place, rest)
+        }
+        None => push_line(note, place, words),
+    }
+}
+
+/// Appends a line for each line of `words`, if there are any.
+pub fn push_words(note: &mut Vec<u8>, place: &[u8], words: &Words) -> Result<(), SpreadsheetFault>
+    ensures { IfOk result (λ _. (lines : List (List ℕ))
+        × (note.new.items ≡ note.old.items ++ flat_map (line_at place.now) lines)) }
+{
+    if words.is_empty() {
+        return Ok(());
+    }
+    push_lines(note, place, words.as_slice())
+}
+
+/// Appends a line for each line of `words`, and the line `otherwise` if there are none, but something is to be told.
+pub fn push_due_words(
+    note: &mut Vec<u8>,
+    place: &[u8],
+    words: &Words,
+    is_due: bool,
+    otherwise: &str,
+) -> Result<(), SpreadsheetFault>
+    ensures { IfOk result (λ _. (lines : List (List ℕ))
+        × (note.new.items ≡ note.old.items ++ flat_map (line_at place.now) lines)
+        × (is_due ≡ true → 0 < length lines)) }
+{
+    if !words.is_empty() {
+        return push_lines(note, place, words.as_slice());
+    }
+    if is_due {
+        return push_line(note, place, otherwise.as_bytes());
+    }
+    Ok(())
+}
+
+/// Appends the bytes that are shown for `bytes`.
+fn push_shown_bytes(note: &mut Vec<u8>, is_long: bool, bytes: &[u8]) -> Result<(), SpreadsheetFault>
+    ensures { IfOk result (λ _. note.new.items
+        ≡ note.old.items ++ map (shown_byte is_long) bytes.now) }
+{
+    if let [byte, rest @ ..] = bytes {
+        push_bytes(note, &[shown_byte(is_long, *byte)])?;
+        return push_shown_bytes(note, is_long, rest);
+    }
+    Ok(())
+}
+
+/// Appends what is shown of a cell: of a long cell, only the start.
+pub fn push_shown(note: &mut Vec<u8>, cell: &[u8]) -> Result<(), SpreadsheetFault>
+    ensures { IfOk result (λ _. note.new.items ≡ note.old.items ++ shown cell.now) }
+{
+    if cell.len() > 60 {
+        let (start, _) = cell.split_at(60);
+        push_shown_bytes(note, true, start)?;
+        return push_bytes(note, b"...");
+    }
+    push_shown_bytes(note, false, cell)
+}
+
+/// Where a row is: its number, and its day if the day can be read.
+pub fn row_place(alloc: Global, number: u64, day: Option<u8>) -> Result<Vec<u8>, SpreadsheetFault>
+    ensures { IfOk result (λ place. place.items ≡ row_place number day) }
+{
+    let mut place = Vec::new(alloc);
+    push_bytes(&mut place, b"row ")?;
+    push_bytes(&mut place, Buffer::new().format(number).as_bytes())?;
+    if let Some(day) = day {
+        push_bytes(&mut place, b" (day ")?;
+        push_bytes(&mut place, Buffer::new().format(day).as_bytes())?;
+        push_bytes(&mut place, b")")?;
+    }
+    push_bytes(&mut place, b", ")?;
+    Ok(place)
+}
+
+/// The option that stands for a cell.
+fn option_name(cell: Cell) -> &'static str
+    ensures { result.now ≡ option_name cell }
+{
+    match cell {
+        Cell::Model => "--model",
+        Cell::Reflector => "--reflector",
+        Cell::Window => "--window",
+        _ => "",
+    }
+}
+
+/// Appends the name of a cell's column, or the option that stands for it.
+fn push_cell_name(
+    place: &mut Vec<u8>,
+    columns: &Columns,
+    head: &ByteRecord,
+    cell: Cell,
+) -> Result<(), SpreadsheetFault>
+    ensures { IfOk result (λ _. place.new.items
+        ≡ place.old.items ++ cell_name columns.now (fields_of head.now) cell) }
+{
+    match column_of(columns, cell) {
+        Some(column) => push_shown(place, cell_at(head, Some(column))),
+        None => push_bytes(place, option_name(cell).as_bytes()),
+    }
+}
+
+/// Where a cell is: its row, and its column's name.
+pub fn cell_place(
+    alloc: Global,
+    columns: &Columns,
+    head: &ByteRecord,
+    row: &[u8],
+    cell: Cell,
+) -> Result<Vec<u8>, SpreadsheetFault>
+    ensures { IfOk result (λ place. place.items
+        ≡ cell_place columns.now (fields_of head.now) row.now cell) }
+{
+    let mut place = Vec::new(alloc);
+    push_bytes(&mut place, row)?;
+    push_cell_name(&mut place, columns, head, cell)?;
+    push_bytes(&mut place, b": ")?;
+    Ok(place)
+}

@@ -1,0 +1,88 @@
+//! The note on the columns that aren't read.
+ghost use Rattle.std.specs.Prelude.{◌≡◌, ◌++◌, ◌+◌, ◌≤◌, ◌||◌, flat_map, IfOk};
+ghost use Rattle.std.specs.List.{list_any, range_with_len};
+ghost use Rattle.csv.specs.Records.{fields_of};
+ghost use Rattle.kd_table.specs.Columns.{columns_of};
+ghost use Rattle.kd_table.specs.Notes.{is_at, is_column_read, unread_line, unread_note};
+
+use super::note::{push_bytes, push_shown};
+use crate::columns::{Columns, cell_at};
+use crate::fault::SpreadsheetFault;
+use crate::items::is_blank;
+use crate::row::places_of;
+use csv::ByteRecord;
+use std::alloc::Global;
+
+/// Whether the column is the one at `place`.
+fn is_at(place: usize, column: Option<usize>) -> bool
+    ensures { result ≡ is_at place column }
+{
+    match column {
+        Some(other) => other == place,
+        None => false,
+    }
+}
+
+/// Whether one of the columns is the one at `place`.
+fn is_among(place: usize, columns: &[Option<usize>]) -> bool
+    ensures { result ≡ list_any (is_at place) columns.now }
+{
+    columns.iter().any(|column| is_at(place, *column))
+}
+
+/// Whether the column at `place` is read.
+fn is_column_read(columns: &Columns, place: usize) -> bool
+    ensures { result ≡ is_column_read columns.now place }
+{
+    is_among(place, &places_of(columns)) || is_among(place, &columns.pins)
+}
+
+/// Appends the line on the column at `place`, if it has a name, and isn't read.
+fn push_unread_line(
+    note: &mut Vec<u8>,
+    columns: &Columns,
+    head: &ByteRecord,
+    place: usize,
+) -> Result<(), SpreadsheetFault>
+    requires { columns.now ≡ columns_of (fields_of head.now) }
+    ensures { IfOk result (λ _. note.new.items
+        ≡ note.old.items ++ unread_line (fields_of head.now) place) }
+{
+    let name = cell_at(head, Some(place));
+    if is_blank(name) || is_column_read(columns, place) {
+        return Ok(());
+    }
+    push_bytes(note, b"column ")?;
+    push_shown(note, name)?;
+    push_bytes(note, b": this column isn't read\n")
+}
+
+/// Appends the lines on the columns from `place` on that aren't read.
+fn push_unread(
+    note: &mut Vec<u8>,
+    columns: &Columns,
+    head: &ByteRecord,
+    place: usize,
+    count: usize,
+) -> Result<(), SpreadsheetFault>
+    requires columns { columns.now ≡ columns_of (fields_of head.now) }
+    requires few { place + count ≤ 64 }
+    ensures { IfOk result (λ _. note.new.items
+        ≡ note.old.items ++ flat_map (unread_line (fields_of head.now)) (range_with_len place count)) }
+{
+    if count == 0 {
+        return Ok(());
+    }
+    push_unread_line(note, columns, head, place)?;
+    push_unread(note, columns, head, place + 1, count - 1)
+}
+
+/// The note on the columns that aren't read, of the first 64, in a table whose first row is `head`.
+#[tactic(auto, unfolding(crate::specs::Notes::unread_note))]
+pub fn unread_note(alloc: Global, head: &ByteRecord) -> Result<Vec<u8>, SpreadsheetFault>
+    ensures { IfOk result (λ note. note.items ≡ unread_note (fields_of head.now)) }
+{
+    let mut note = Vec::new(alloc);
+    push_unread(&mut note, &Columns::of_head(head), head, 0, 64)?;
+    Ok(note)
+}

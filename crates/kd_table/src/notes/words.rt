@@ -1,0 +1,126 @@
+//! Words on one place of a table, line by line.
+ghost use Rattle.std.specs.Prelude.{◌≡◌, ◌==◌, length};
+ghost use Rattle.kd_table.specs.Notes.{shown_byte};
+
+use arrayvec::ArrayVec;
+use itoa::Buffer;
+
+/// The most bytes of a cell that are shown.
+const SHOWN: usize = 60;
+
+/// The most bytes in lines of words.
+const ROOM: usize = 2048;
+
+/// Added to lines that have no room for all words.
+const MORE: &[u8] = b"\nfurther faults aren't told";
+
+/// Lines of words, with a line end between each two. The first line that has no room is left out, and so are all lines after
+/// it.
+#[derive(Drop)]
+pub struct Words {
+    text: ArrayVec<u8, 4096>,
+    /// The number of bytes in whole lines.
+    whole: usize,
+    /// Whether a line had no room.
+    is_full: bool,
+}
+
+impl Words {
+    /// No words yet.
+    pub fn new() -> Self {
+        Words {
+            text: ArrayVec::new(),
+            whole: 0,
+            is_full: false,
+        }
+    }
+
+    /// Whether there are no words.
+    pub fn is_empty(&self) -> bool
+        ensures { result ≡ (length self.now.text.items == 0) }
+    {
+        self.text.is_empty()
+    }
+
+    /// The lines, with a line end between each two.
+    pub fn as_slice(&self) -> &[u8]
+        ensures { result.now ≡ self.now.text.items }
+    {
+        self.text.as_slice()
+    }
+
+    /// Appends bytes to the line at hand.
+    fn add_bytes(&mut self, bytes: &[u8]) {
+        let has_room = self.text.len() < ROOM && bytes.len() < ROOM;
+        if !self.is_full && !(has_room && self.text.try_extend_from_slice(bytes).is_ok()) {
+            self.is_full = true;
+            self.text.truncate(self.whole);
+            if !self.text.is_empty() {
+                let _ = self.text.try_extend_from_slice(MORE);
+            }
+        }
+    }
+
+    /// Begins a line.
+    pub fn begin(&mut self) {
+        if !self.is_empty() {
+            self.add("\n");
+        }
+    }
+
+    /// Appends a text to the line at hand.
+    pub fn add(&mut self, text: &str) {
+        self.add_bytes(text.as_bytes());
+    }
+
+    /// Ends the line at hand.
+    pub fn end(&mut self) {
+        if !self.is_full {
+            self.whole = self.text.len();
+        }
+    }
+
+    /// Appends a number.
+    pub fn add_number(&mut self, number: u64) {
+        let mut buffer = Buffer::new();
+        self.add(buffer.format(number));
+    }
+
+    /// Appends what a cell has, with `?` for bytes that can't be shown. Of a long cell, only the start is shown.
+    pub fn add_cell(&mut self, cell: &[u8]) {
+        let is_long = cell.len() > SHOWN;
+        for byte in cell.iter().take(SHOWN) {
+            self.add_bytes(&[shown_byte(is_long, *byte)]);
+        }
+        if is_long {
+            self.add("...");
+        }
+    }
+
+    /// Appends a line.
+    pub fn tell(&mut self, words: &str) {
+        self.begin();
+        self.add(words);
+        self.end();
+    }
+
+    /// Appends a line on an item, which stands between two parts of the line.
+    pub fn tell_item(&mut self, before: &str, item: &[u8], after: &str) {
+        self.begin();
+        self.add(before);
+        self.add_cell(item);
+        self.add(after);
+        self.end();
+    }
+}
+
+/// The byte that is shown for a byte of a cell.
+pub fn shown_byte(is_long: bool, byte: u8) -> u8
+    ensures { result ≡ shown_byte is_long byte }
+{
+    if byte < 32 || byte == 127 || is_long && 127 < byte {
+        b'?'
+    } else {
+        byte
+    }
+}
