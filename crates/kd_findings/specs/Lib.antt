@@ -1,2 +1,6 @@
 pub mod Faults
+pub mod NotToml
 pub mod SheetFaults
+pub mod Texts
+pub mod Unread
+pub mod Warnings

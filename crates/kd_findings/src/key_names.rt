@@ -1,4 +1,6 @@
 //! Names of keys that nobody reads, and the keys that were meant.
+ghost use Rattle.std.specs.Prelude.{◌≡◌};
+ghost use Rattle.kd_findings.specs.Unread.{is_name_of};
 
 use kd_sheet::Key;
 
@@ -19,7 +21,9 @@ const OTHER_NAMES: [(&str, Key); 12] = [
 ];
 
 /// Whether one of `keys` has this name.
-pub fn is_known(keys: &[Key], name: &str) -> bool {
+pub fn is_known(keys: &[Key], name: &str) -> bool
+    ensures { result ≡ is_name_of keys.now name.now }
+{
     keys.iter().any(|key| key.name() == name)
 }
 

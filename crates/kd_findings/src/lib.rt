@@ -11,6 +11,8 @@ mod machine;
 mod not_toml;
 mod place;
 mod sheet;
+mod texts;
+mod unread;
 mod warnings;
 
 pub use explanation_words::wrong_words;
@@ -18,4 +20,5 @@ pub use findings::{Explanation, Finding};
 pub use judging::{entries_of, find_faults};
 pub use not_toml::toml_words;
 pub use place::Place;
+pub use texts::{first_line, push_entry, push_titled};
 pub use warnings::warning_lines;

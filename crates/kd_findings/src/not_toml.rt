@@ -1,6 +1,15 @@
 //! Words for a file that isn't TOML: the place, what the parser says, and what is most often wrong there.
+ghost use Rattle.std.specs.Prelude.{◌≡◌, ◌+◌, ◌==◌, count_by, reverse, IfOk, None};
+ghost use Rattle.std.specs.Result.{result_ok};
+ghost use Rattle.std.specs.String.{string_bytes};
+ghost use Rattle.toml.specs.Errors.{IsWithin, span_start};
+ghost use Rattle.kd_sheet.specs.Document.{document_of};
+ghost use Rattle.kd_findings.specs.NotToml.{NamesPlace, SaysNotToml, begins_character, characters_to_feed};
+ghost use Rattle.kd_findings.specs.NotToml.{place_words};
 
+use crate::texts::{first_line, push_titled};
 use std::alloc::{AllocError, Global};
+use toml::de::Error;
 
 /// A place in a text, counted from 1. A column counts characters.
 #[derive(Clone, Copy)]
@@ -9,16 +18,26 @@ struct TextPlace {
     column: usize,
 }
 
+/// Whether a character begins with `byte`, in UTF-8.
+fn begins_character(byte: u8) -> bool
+    ensures { result ≡ begins_character byte }
+{
+    byte < 128 || 191 < byte
+}
+
 /// The place after the bytes `before`.
-fn place_after(before: &[u8]) -> TextPlace {
-    let mut line = 1usize;
-    let mut column = 1usize;
+fn place_after(before: &[u8]) -> TextPlace
+    ensures line { result.line ≡ count_by (λ byte. byte == 10) before.now + 1 }
+    ensures column { result.column ≡ characters_to_feed (reverse before.now) + 1 }
+{
+    let mut line = 1;
+    let mut column = 1;
     for byte in before {
         if *byte == b'\n' {
-            line = line.saturating_add(1);
+            line += 1;
             column = 1;
-        } else if *byte & 0xC0 != 0x80 {
-            column = column.saturating_add(1);
+        } else if begins_character(*byte) {
+            column += 1;
         }
     }
     TextPlace { line, column }
@@ -67,18 +86,66 @@ fn hint(line: &[u8], message: &str) -> &'static str {
     }
 }
 
-/// Words for the place where `bytes` stop being TOML, and for what is wrong there.
-pub fn toml_words(alloc: Global, bytes: &[u8]) -> Result<String, AllocError> {
-    let Err(error) = toml::table_from_slice(alloc, bytes) else {
-        return Ok(String::new(alloc));
-    };
+/// What the file is, if it is an order or a form.
+fn message_words(bytes: &[u8]) -> Option<&'static str> {
+    match bytes.strip_prefix(b"PART ")? {
+        [b'0'..=b'9', ..] => Some(
+            "this is a form, for `desk receive` or `curator receive`, and no machine file or key sheet",
+        ),
+        _ => Some(
+            "this is an order, for `desk send` or `curator send`, and no machine file or key sheet",
+        ),
+    }
+}
+
+/// What is wrong at a place in line `line`: what the parser says, and what is most often wrong there.
+fn reason_for(
+    alloc: Global,
+    bytes: &[u8],
+    line: usize,
+    message: &str,
+) -> Result<String, AllocError> {
+    if let Some(words) = message_words(bytes) {
+        return String::from_str(alloc, words);
+    }
+    let advice = hint(numbered_line(bytes, line), message);
+    format!(in alloc; "this isn't TOML: {message}; {advice}")
+}
+
+/// Words for a place, and for what is wrong there.
+#[tactic(auto, using(std::proofs::Common::append_assoc), unfolding(crate::specs::NotToml::place_words))]
+fn place_words(alloc: Global, place: TextPlace, reason: &str) -> Result<String, AllocError>
+    ensures { IfOk result (λ words. string_bytes words
+        ≡ place_words place.line place.column reason.now) }
+{
+    let mut words = String::new(alloc);
+    push_titled(&mut words, ", line ", place.line)?;
+    push_titled(&mut words, ", column ", place.column)?;
+    words.push_str(": ")?;
+    words.push_str(reason)?;
+    Ok(words)
+}
+
+/// Words for the place where the parser's fault begins, and for what is wrong there.
+fn words_at(alloc: Global, bytes: &[u8], error: &Error) -> Result<String, AllocError>
+    requires { IsWithin bytes.now error.now }
+    ensures { IfOk result (λ words. NamesPlace bytes.now (span_start error.now) (string_bytes words)) }
+{
     let Some(span) = error.span() else {
         return Err(AllocError);
     };
-    let TextPlace { line, column } = place_after(&bytes[..span.start]);
-    let advice = hint(numbered_line(bytes, line), error.message());
-    format!(in alloc;
-        ", line {line}, column {column}: this isn't TOML: {}; {advice}",
-        error.message()
-    )
+    let place = place_after(&bytes[..span.start]);
+    let reason = reason_for(alloc, bytes, place.line, error.message())?;
+    place_words(alloc, place, first_line(reason.as_str()))
+}
+
+/// Words for the place where `bytes` stop being TOML, and for what is wrong there.
+pub fn toml_words(alloc: Global, bytes: &[u8]) -> Result<String, AllocError>
+    requires { result_ok (document_of bytes.now) ≡ None }
+    ensures { IfOk result (λ words. SaysNotToml bytes.now (string_bytes words)) }
+{
+    match toml::table_from_slice(alloc, bytes) {
+        Ok(_) => Err(AllocError),
+        Err(error) => words_at(alloc, bytes, &error),
+    }
 }

@@ -1,257 +1,184 @@
 //! Warnings: what the desk accepts, but what was perhaps not meant.
+ghost use Rattle.std.specs.Prelude.{◌≡◌, ◌++◌, IfOk, OnOk, map};
+ghost use Rattle.std.specs.List.{flat_map};
+ghost use Rattle.std.specs.String.{string_bytes};
+ghost use Rattle.toml.specs.View.{table_view, view};
+ghost use Rattle.kd_findings.specs.Texts.{AppendsText, ArePieces};
+ghost use Rattle.kd_findings.specs.Unread.{unread_key, unread_of};
+ghost use Rattle.kd_findings.specs.Warnings.{AreWarnings, TellsUnread, cable_line, cable_lines, is_capital};
+ghost use Rattle.kd_findings.specs.Warnings.{order_line, order_lines, unread_line, warning_start};
 
-use crate::key_names::{is_known, is_near, meant_key};
+use crate::judging::{entries_of, items_at};
+use crate::texts::{first_line, push_entry};
+use crate::unread::{Meant, Unread, unread_keys};
 use kd_sheet::Key;
-use kd_sheet::by_key::find_at;
-use kd_slips::numbers::number_at;
+use kd_sheet::by_key::model_in;
 use kd_slips::values::shown;
 use kd_tables::Model;
 use std::alloc::{AllocError, Global};
 use toml::{Table, Value};
 
-const ROTOR_FILE: [Key; 7] = [
-    Key::Version,
-    Key::Model,
-    Key::Reflector,
-    Key::Slots,
-    Key::Rings,
-    Key::Letters,
-    Key::Cables,
-];
-
-const PIN_FILE: [Key; 5] = [Key::Version, Key::Model, Key::Letters, Key::Pins, Key::Bars];
-
-const ROTOR_DAY: [Key; 8] = [
-    Key::Day,
-    Key::Model,
-    Key::Reflector,
-    Key::Wheels,
-    Key::Rings,
-    Key::Window,
-    Key::Plugs,
-    Key::Groups,
-];
-
-const PIN_DAY: [Key; 6] = [
-    Key::Day,
-    Key::Model,
-    Key::Rows,
-    Key::Pins,
-    Key::Window,
-    Key::List,
-];
-
-/// The keys of a file or an entry whose model isn't known.
-const ALL: [Key; 16] = [
-    Key::Version,
-    Key::Model,
-    Key::Reflector,
-    Key::Slots,
-    Key::Rings,
-    Key::Letters,
-    Key::Cables,
-    Key::Pins,
-    Key::Bars,
-    Key::Day,
-    Key::Wheels,
-    Key::Window,
-    Key::Plugs,
-    Key::Groups,
-    Key::Rows,
-    Key::List,
-];
-
-/// The start of a warning's line: the file's name, and the day or the entry.
-fn line_start(
-    alloc: Global,
+/// Appends the start of a warning's line: the file's name, and the day or the entry.
+#[tactic(auto, using(std::proofs::Common::append_assoc), unfolding(crate::specs::Warnings::warning_start))]
+fn push_start(
+    text: &mut String,
     name: &str,
-    table: &Table,
+    day: Option<u8>,
     entry: Option<usize>,
-) -> Result<String, AllocError> {
-    let Some(entry) = entry else {
-        return format!(in alloc; "{name}: warning: ");
-    };
-    match number_at(alloc, table, Key::Day, 31) {
-        Ok(day) => format!(in alloc; "{name}, day {day}: warning: "),
-        Err(_) => format!(in alloc; "{name}, entry {entry}: warning: "),
+) -> Result<(), AllocError>
+    ensures { OnOk result (string_bytes text.new
+        ≡ string_bytes text.old ++ warning_start name.now day entry) }
+{
+    text.push_str(name)?;
+    push_entry(text, day, entry)?;
+    text.push_str(": warning: ")
+}
+
+/// What to write in place of a key that nobody reads.
+fn advice_of(alloc: Global, meant: Meant) -> Result<String, AllocError> {
+    match meant {
+        Meant::Key(key) => format!(in alloc; ": write `{}`", key.name()),
+        Meant::Entries => {
+            String::from_str(alloc, ": write `[[day]]` above the lines of each day")
+        }
+        Meant::Unknown => Ok(String::new(alloc)),
     }
 }
 
-/// Appends a warning of a key that nobody reads.
+/// Appends the warning of a key that nobody reads, with what to write.
+#[tactic(auto, using(std::proofs::Common::append_assoc), unfolding(crate::specs::Warnings::unread_line))]
+fn push_told(
+    text: &mut String,
+    alloc: Global,
+    name: &str,
+    key: &Unread<'_>,
+    advice: &str,
+) -> Result<(), AllocError>
+    ensures { OnOk result (string_bytes text.new
+        ≡ string_bytes text.old ++ unread_line name.now (unread_key key.now) advice.now) }
+{
+    let key_shown = shown(alloc, key.name)?;
+    push_start(text, name, key.day, key.entry)?;
+    text.push_str("nobody reads the key ")?;
+    text.push_str(key_shown.as_str())?;
+    text.push_str(advice)?;
+    text.push_str("\n")
+}
+
+/// Appends the warning of a key that nobody reads.
 fn push_unread(
-    lines: &mut String,
-    alloc: Global,
-    start: &str,
-    keys: &[Key],
-    key: &str,
-) -> Result<(), AllocError> {
-    let key_shown = shown(alloc, key)?;
-    lines.push_str(start)?;
-    lines.push_str("nobody reads the key ")?;
-    lines.push_str(key_shown.as_str())?;
-    if let Some(meant) = meant_key(keys, key) {
-        lines.push_str(": write `")?;
-        lines.push_str(meant.name())?;
-        lines.push_str("`")?;
-    }
-    lines.push_str("\n")
-}
-
-/// Whether `value` at `key` looks like the entries of a key sheet, under `day` or a name near it.
-fn is_entries(key: &str, value: &Value) -> bool {
-    (value.is_table() || value.is_array()) && is_near(key.as_bytes(), b"day")
-}
-
-/// Appends a warning for each key of `table` that isn't one of `keys`.
-fn push_unread_keys(
-    lines: &mut String,
-    alloc: Global,
-    start: &str,
-    keys: &[Key],
-    table: &Table,
-) -> Result<(), AllocError> {
-    for (key, value) in table.iter() {
-        if !is_known(keys, key.as_str()) && !is_entries(key.as_str(), value) {
-            push_unread(lines, alloc, start, keys, key.as_str())?;
-        }
-    }
-    Ok(())
-}
-
-/// The model that `table` names.
-fn model_of(table: &Table) -> Option<Model> {
-    Model::from_text(find_at(table, Key::Model)?.as_str()?.as_bytes())
-}
-
-/// Appends the warnings of the keys of an entry.
-fn push_entry(
-    lines: &mut String,
+    text: &mut String,
     alloc: Global,
     name: &str,
-    item: &Value,
-    entry: usize,
-) -> Result<(), AllocError> {
-    let Some(table) = item.as_table() else {
-        return Ok(());
-    };
-    let start = line_start(alloc, name, table, Some(entry))?;
-    match model_of(table) {
-        Some(Model::M209) => push_unread_keys(lines, alloc, start.as_str(), &PIN_DAY, table),
-        Some(_) => push_unread_keys(lines, alloc, start.as_str(), &ROTOR_DAY, table),
-        None => push_unread_keys(lines, alloc, start.as_str(), &ALL, table),
-    }
+    key: &Unread<'_>,
+) -> Result<(), AllocError>
+    ensures { OnOk result (AppendsText (TellsUnread name.now (unread_key key.now))
+        (string_bytes text.old) (string_bytes text.new)) }
+{
+    let advice = advice_of(alloc, key.meant)?;
+    push_told(text, alloc, name, key, first_line(advice.as_str()))
 }
 
-/// Appends a warning of entries under another name than `[[day]]`.
-fn push_entry_name(
-    lines: &mut String,
-    start: &str,
-    key: &str,
-    value: &Value,
-) -> Result<(), AllocError> {
-    if is_entries(key, value) {
-        lines.push_str(start)?;
-        lines.push_str("`")?;
-        lines.push_str(if value.is_table() { "[" } else { "[[" })?;
-        lines.push_str(key)?;
-        lines.push_str(if value.is_table() { "]" } else { "]]" })?;
-        lines.push_str("`: write `[[day]]` above the lines of each day\n")?;
-    }
-    Ok(())
-}
-
-/// Appends a warning for each key of `table` that looks like entries, but isn't the array `day`.
-fn push_entry_names(lines: &mut String, start: &str, table: &Table) -> Result<(), AllocError> {
-    for (key, value) in table.iter() {
-        if key.as_str() != "day" || value.is_table() {
-            push_entry_name(lines, start, key.as_str(), value)?;
-        }
-    }
-    Ok(())
-}
-
-/// The warnings of a key sheet with the entries `items`, a line for each.
-fn sheet_warnings(
+/// Appends a warning of each key that nobody reads.
+fn push_all_unread(
+    text: &mut String,
     alloc: Global,
     name: &str,
-    document: &Table,
-    items: &[Value],
-) -> Result<String, AllocError> {
-    let mut lines = String::new(alloc);
-    let start = line_start(alloc, name, document, None)?;
-    push_entry_names(&mut lines, start.as_str(), document)?;
-    push_unread_keys(&mut lines, alloc, start.as_str(), &[Key::Day], document)?;
-    for (place, item) in items.iter().enumerate() {
-        push_entry(&mut lines, alloc, name, item, place + 1)?;
+    keys: &[Unread<'_>],
+) -> Result<(), AllocError>
+    ensures { OnOk result (AppendsText (ArePieces (TellsUnread name.now) (unread_of keys.now))
+        (string_bytes text.old) (string_bytes text.new)) }
+{
+    for key in keys {
+        push_unread(text, alloc, name, key)?;
     }
-    Ok(lines)
+    Ok(())
+}
+
+/// Whether `byte` is a capital letter.
+fn is_capital(byte: u8) -> bool
+    ensures { result ≡ is_capital byte }
+{
+    65 <= byte && byte <= 90
 }
 
 /// Appends a warning of a cable that the desk writes with its letters in another order.
-fn push_cable_order(
-    lines: &mut String,
-    alloc: Global,
-    start: &str,
-    item: &Value,
-) -> Result<(), AllocError> {
-    let Some(text) = item.as_str() else {
-        return Ok(());
-    };
-    if let [one, other] = text.as_bytes()
-        && one.is_ascii_uppercase()
-        && other.is_ascii_uppercase()
-        && one > other
-    {
-        let (one, other) = (char::from(*one), char::from(*other));
-        let line = format!(in alloc;
-            "{start}the desk writes the cable `{text}` as `{other}{one}`\n"
-        )?;
-        lines.push_str(line.as_str())?;
-    }
-    Ok(())
-}
-
-/// Appends a warning for each cable of a machine file that the desk writes in another order.
-fn push_cable_orders(
-    lines: &mut String,
-    alloc: Global,
-    start: &str,
-    table: &Table,
-) -> Result<(), AllocError> {
-    let Some(value) = find_at(table, Key::Cables) else {
-        return Ok(());
-    };
-    let Some(items) = value.as_array() else {
-        return Ok(());
-    };
-    for item in items.as_slice() {
-        push_cable_order(lines, alloc, start, item)?;
-    }
-    Ok(())
-}
-
-/// The warnings of a machine file, a line for each.
-fn machine_warnings(alloc: Global, name: &str, table: &Table) -> Result<String, AllocError> {
-    let mut lines = String::new(alloc);
-    let start = line_start(alloc, name, table, None)?;
-    push_entry_names(&mut lines, start.as_str(), table)?;
-    match model_of(table) {
-        Some(Model::M209) => push_unread_keys(&mut lines, alloc, start.as_str(), &PIN_FILE, table)?,
-        Some(_) => {
-            push_unread_keys(&mut lines, alloc, start.as_str(), &ROTOR_FILE, table)?;
-            push_cable_orders(&mut lines, alloc, start.as_str(), table)?;
+#[tactic(auto, using(std::proofs::Common::append_assoc), unfolding(crate::specs::Warnings::order_line))]
+fn push_order(lines: &mut String, name: &str, cable: &str) -> Result<(), AllocError>
+    ensures { OnOk result (string_bytes lines.new
+        ≡ string_bytes lines.old ++ order_line name.now cable.now) }
+{
+    match cable.as_bytes() {
+        [one, other] if is_capital(*one) && is_capital(*other) && other < one => {
+            lines.push_str(name)?;
+            lines.push_str(": warning: the desk writes the cable `")?;
+            lines.push(char::from(*one))?;
+            lines.push(char::from(*other))?;
+            lines.push_str("` as `")?;
+            lines.push(char::from(*other))?;
+            lines.push(char::from(*one))?;
+            lines.push_str("`\n")
         }
-        None => push_unread_keys(&mut lines, alloc, start.as_str(), &ALL, table)?,
+        _ => Ok(()),
     }
-    Ok(lines)
 }
 
-/// The warnings of the document `table`, a line for each: a key sheet if it has the array `day`, else a machine file.
-pub fn warning_lines(alloc: Global, name: &str, table: &Table) -> Result<String, AllocError> {
-    if let Some(value) = find_at(table, Key::Day)
-        && let Some(items) = value.as_array()
-    {
-        return sheet_warnings(alloc, name, table, items.as_slice());
+/// Appends a warning of a cable that the desk writes in another order, if `item` is a text.
+fn push_cable(lines: &mut String, name: &str, item: &Value) -> Result<(), AllocError>
+    ensures { OnOk result (string_bytes lines.new
+        ≡ string_bytes lines.old ++ cable_line name.now (view item.now)) }
+{
+    match item.as_str() {
+        Some(cable) => push_order(lines, name, cable),
+        None => Ok(()),
     }
-    machine_warnings(alloc, name, table)
+}
+
+/// Appends a warning of each of these cables that the desk writes in another order.
+fn push_cables(lines: &mut String, name: &str, items: &[Value]) -> Result<(), AllocError>
+    ensures { OnOk result (string_bytes lines.new
+        ≡ string_bytes lines.old ++ flat_map (cable_line name.now) (map view items.now)) }
+{
+    for item in items {
+        push_cable(lines, name, item)?;
+    }
+    Ok(())
+}
+
+/// Appends a warning of each cable of a rotor machine's file that the desk writes in another order.
+#[tactic(auto, unfolding(crate::specs::Warnings::cable_lines))]
+fn push_file_cables(lines: &mut String, name: &str, document: &Table) -> Result<(), AllocError>
+    ensures { OnOk result (string_bytes lines.new
+        ≡ string_bytes lines.old ++ cable_lines name.now (table_view document.now)) }
+{
+    match items_at(document, Key::Cables) {
+        Some(items) => push_cables(lines, name, items),
+        None => Ok(()),
+    }
+}
+
+/// Appends a warning of each cable of a machine file that the desk writes in another order.
+#[tactic(auto, unfolding(crate::specs::Warnings::order_lines))]
+fn push_orders(lines: &mut String, name: &str, document: &Table) -> Result<(), AllocError>
+    ensures { OnOk result (string_bytes lines.new
+        ≡ string_bytes lines.old ++ order_lines name.now (table_view document.now)) }
+{
+    if entries_of(document).is_some() {
+        return Ok(());
+    }
+    match model_in(document) {
+        Ok(Model::EnigmaI | Model::M3 | Model::M4) => push_file_cables(lines, name, document),
+        Ok(Model::M209) | Err(_) => Ok(()),
+    }
+}
+
+/// The warnings of a document: a line for each key that nobody reads, and for each cable with its letters turned round.
+pub fn warning_lines(alloc: Global, name: &str, document: &Table) -> Result<String, AllocError>
+    ensures { IfOk result (λ lines. AreWarnings name.now (table_view document.now) (string_bytes lines)) }
+{
+    let mut lines = String::new(alloc);
+    let unread = unread_keys(alloc, document)?;
+    push_all_unread(&mut lines, alloc, name, unread.as_slice())?;
+    push_orders(&mut lines, name, document)?;
+    Ok(lines)
 }

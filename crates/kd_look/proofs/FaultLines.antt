@@ -17,10 +17,10 @@ use Rattle.kd_findings.specs.declared.findings.Finding.{Finding}
 use Rattle.kd_findings.specs.declared.place.Place.{Place}
 use Rattle.kd_look.specs.FaultWords.{AreFaultLines, AreLinesFor, IsFaultLine, IsLineAt}
 use Rattle.kd_look.specs.Line.{line_of}
-use Rattle.kd_look.specs.Texts.{AppendsText}
+use Rattle.kd_findings.specs.Texts.{AppendsText}
 use Rattle.kd_look.specs.declared.file.File.{File}
 use Rattle.kd_look.specs.declared.file.File.TheVariants as files
-use Rattle.kd_look.proofs.Appending.{AppendsText-then}
+use Rattle.kd_findings.proofs.Appending.{AppendsText-then}
 unfoldable use Rattle.kd_look.specs.File.{file_of}
 
 -- the line of the first finding is appended, and then the lines of the others

@@ -7,7 +7,8 @@ use Rattle.std.specs.Result.{result_ok}
 use Rattle.toml.specs.Data.{Members}
 use Rattle.kd_sheet.specs.Document.{document_of}
 use Rattle.kd_findings.specs.declared.findings.Finding.{Finding}
-use Rattle.kd_look.specs.Line.{ends_line, is_too_long, line_at, line_before, line_in_text, line_number, line_of}
+use Rattle.kd_findings.specs.NotToml.{line_at}
+use Rattle.kd_look.specs.Line.{ends_line, is_too_long, line_before, line_in_text, line_number, line_of}
 use Rattle.kd_look.specs.Line.{or_line, sought_for}
 use Rattle.kd_look.specs.declared.line.Sought.{Sought}
 unfoldable use Rattle.kd_look.specs.Line.{has_value, has_value_at, line_in, line_of_fault, line_so_far}

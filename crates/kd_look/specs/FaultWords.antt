@@ -1,6 +1,6 @@
 -- The lines that name a file's faults: the file's name, the place, what is wrong, and the fault's number and name.
 -- Test: tests/cases/curator-look.toml
-use Rattle.std.specs.Prelude.{codes, ◌≡◌, ℕ, ◌++◌, List, [], ◌∷◌, Option, Some, None, Result, Ok, Err, decimal}
+use Rattle.std.specs.Prelude.{codes, ◌≡◌, ℕ, ◌++◌, List, [], ◌∷◌, Option, Some, Result, Ok, Err}
 use Rattle.std.specs.Option.{option_map_or}
 use Rattle.toml.specs.Data.{Members}
 use Rattle.kd_sheet.specs.Document.{document_of}
@@ -8,10 +8,12 @@ use Rattle.kd_sheet.specs.FaultText.{sheet_fault_text}
 use Rattle.kd_sheet.specs.Key.{key_name}
 use Rattle.kd_sheet.specs.declared.fault.SheetFault.{SheetFault}
 use Rattle.kd_findings.specs.Faults.{first_fault}
+use Rattle.kd_findings.specs.NotToml.{SaysNotToml}
 use Rattle.kd_findings.specs.SheetFaults.{AreFaults}
+use Rattle.kd_findings.specs.Texts.{BeginsWith, IsInOneLine, entry_words, titled}
 use Rattle.kd_findings.specs.declared.place.Place.{Place}
 use Rattle.kd_look.specs.Line.{line_of_fault}
-use Rattle.kd_look.specs.Texts.{BeginsWith}
+use Rattle.kd_look.specs.Warnings.{AreKeyWarnings}
 
 -- the fault's number and name in parentheses, and the end of the line
 abbrev pub fault_end : SheetFault → List ℕ
@@ -19,13 +21,7 @@ fault_end fault = codes " (" ++ sheet_fault_text fault ++ codes ")\n"
 
 -- a line's number in words, if it is known
 unfoldable pub line_words : Option ℕ → List ℕ
-line_words line = option_map_or (λ number. codes ", line " ++ decimal number) line []
-
--- the day of an entry in words; for an entry whose day can't be read, the entry's number
-unfoldable pub entry_words : Option ℕ → Option ℕ → List ℕ
-entry_words (Some day) entry = codes ", day " ++ decimal day
-entry_words None (Some entry) = codes ", entry " ++ decimal entry
-entry_words None None = []
+line_words line = option_map_or (titled (codes ", line ")) line []
 
 -- the line of a fault, with the words `wrong` for what is wrong
 unfoldable pub fault_line : List ℕ → Place → Option ℕ → List ℕ → SheetFault → List ℕ
@@ -36,6 +32,7 @@ fault_line name place line wrong fault =
 -- A line names the fault and its place: the day or the entry, the line if it is known, and the key.
 pub record IsLineAt (name : List ℕ) (place : Place) (line : Option ℕ) (fault : SheetFault) (text : List ℕ) : Type 0 where
   pub wrong : List ℕ
+  pub plain : IsInOneLine wrong
   pub whole : text ≡ fault_line name place line wrong fault
 
 -- A line names the fault, its place, and its line in the file.
@@ -55,19 +52,21 @@ pub record NamesFaults (name bytes : List ℕ) (document : Members) (fault : She
   pub first : first_fault found ≡ Some fault
   pub lines : AreFaultLines name bytes found text
 
--- The text is one line, with the file's name, some words and the fault.
-pub record IsPlainLine (name : List ℕ) (fault : SheetFault) (text : List ℕ) : Type 0 where
+-- The text is one line, with the file's name, the place where the file stops being TOML, and the fault.
+pub record IsPlainLine (name bytes : List ℕ) (fault : SheetFault) (text : List ℕ) : Type 0 where
   pub words : List ℕ
+  pub place : SaysNotToml bytes words
   pub whole : text ≡ name ++ words ++ fault_end fault
 
 -- The text has a line for each fault of a file: for a document by its keys, else for the whole file.
 abbrev pub AreLinesFor : List ℕ → List ℕ → Result Members SheetFault → SheetFault → List ℕ → Type 0
 AreLinesFor name bytes (Ok document) fault text = NamesFaults name bytes document fault text
-AreLinesFor name bytes (Err _) fault text = IsPlainLine name fault text
+AreLinesFor name bytes (Err _) fault text = IsPlainLine name bytes fault text
 
--- The text has a line for each fault of a file, of which `fault` is the first, and then maybe warnings.
+-- The text has a line for each fault of a file, of which `fault` is the first, and then the warnings of its keys.
 pub record NamesFault (name bytes : List ℕ) (fault : SheetFault) (text : List ℕ) : Type 0 where
   pub lines : List ℕ
   pub warnings : List ℕ
   pub are : AreLinesFor name bytes (document_of bytes) fault lines
+  pub warn : AreKeyWarnings name bytes warnings
   pub whole : text ≡ lines ++ warnings

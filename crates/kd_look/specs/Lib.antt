@@ -6,3 +6,4 @@ pub mod MachineWords
 pub mod Report
 pub mod SheetWords
 pub mod Texts
+pub mod Warnings

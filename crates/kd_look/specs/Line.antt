@@ -13,6 +13,7 @@ use Rattle.kd_sheet.specs.Key.{key_name}
 use Rattle.kd_sheet.specs.declared.key.Key.{Key}
 use Rattle.kd_sheet.specs.declared.fault.SheetFault.{SheetFault}
 use Rattle.kd_sheet.specs.declared.fault.SheetFault.TheVariants.{Missing}
+use Rattle.kd_findings.specs.NotToml.{line_at}
 use Rattle.kd_findings.specs.SheetFaults.{entries_of}
 use Rattle.kd_findings.specs.declared.findings.Finding.{Finding}
 use Rattle.kd_findings.specs.declared.place.Place.{Place}
@@ -47,10 +48,6 @@ ends_line text index = slice_index text index == 10 || index + 1 == length text
 -- whether a line ends after the byte at `index`, and the text up to there has the entry and the key
 unfoldable pub has_value_at : List ℕ → Sought → ℕ → Bool
 has_value_at text sought index = ends_line text index && reads_value sought (take (index + 1) text)
-
--- the number of the line that has the byte at `index`, counted from 1
-abbrev pub line_at : List ℕ → ℕ → ℕ
-line_at text index = count_by (λ byte. byte == 10) (take index text) + 1
 
 -- the number of the first of the lines before the byte at `end` up to whose end the text has the entry and the key
 abbrev pub line_before : List ℕ → ℕ → Sought → Option ℕ

@@ -3,9 +3,9 @@
 use Rattle.std.specs.Prelude.{◌≡◌, ◌⊎◌, ℕ, ◌++◌, List, [], ◌∷◌, Bool, false, true, Result, Err, OnErr, IfOk}
 use Rattle.kd_tables.specs.Ports.{Port}
 use Rattle.kd_tables.specs.Writing.{Writes}
+use Rattle.kd_findings.specs.Texts.{BeginsWith}
 use Rattle.kd_look.specs.File.{file_of}
 use Rattle.kd_look.specs.Report.{IsReport, outcome_of}
-use Rattle.kd_look.specs.Texts.{BeginsWith}
 use Rattle.kd_look.specs.declared.looking.NamedFile.{NamedFile}
 use Rattle.kd_look.specs.declared.looking.LookFault.{LookFault}
 use Rattle.kd_look.specs.declared.looking.LookFault.TheVariants.{Device, NoMemory}

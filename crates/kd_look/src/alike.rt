@@ -1,5 +1,9 @@
 //! Days of a key sheet that are alike but for their numbers.
+ghost use Rattle.std.specs.Prelude.{OnOk};
+ghost use Rattle.std.specs.String.{string_bytes};
+ghost use Rattle.kd_look.specs.Warnings.{WarnsOfDays};
 
+use crate::day_lines::push_day_line;
 use kd_sheet::Sheet;
 use kd_state::SheetDay;
 use std::alloc::{AllocError, Global};
@@ -55,16 +59,36 @@ fn first_alike(sheet: &Sheet, number: u8) -> Option<u8> {
     None
 }
 
-/// A warning for each day that is like an earlier day but for its number.
-pub fn alike_days(alloc: Global, name: &str, sheet: &Sheet) -> Result<String, AllocError> {
-    let mut lines = String::new(alloc);
+/// Appends a warning if day `number` is like an earlier day but for its number.
+fn push_alike(
+    lines: &mut String,
+    alloc: Global,
+    name: &str,
+    sheet: &Sheet,
+    number: u8,
+) -> Result<(), AllocError>
+    ensures { OnOk result (WarnsOfDays name.now (string_bytes lines.old)
+        → WarnsOfDays name.now (string_bytes lines.new)) }
+{
+    let Some(earlier) = first_alike(sheet, number) else {
+        return Ok(());
+    };
+    let words = format!(in alloc; "s {earlier} and {number} are alike but for the number")?;
+    push_day_line(lines, name, words.as_str())
+}
+
+/// Appends a warning for each day that is like an earlier day but for its number.
+pub fn push_alike_days(
+    lines: &mut String,
+    alloc: Global,
+    name: &str,
+    sheet: &Sheet,
+) -> Result<(), AllocError>
+    ensures { OnOk result (WarnsOfDays name.now (string_bytes lines.old)
+        → WarnsOfDays name.now (string_bytes lines.new)) }
+{
     for number in 2..32 {
-        if let Some(earlier) = first_alike(sheet, number) {
-            let line = format!(in alloc;
-                "{name}: warning: days {earlier} and {number} are alike but for the number\n"
-            )?;
-            lines.push_str(line.as_str())?;
-        }
+        push_alike(lines, alloc, name, sheet, number)?;
     }
-    Ok(lines)
+    Ok(())
 }

@@ -1,18 +1,20 @@
 //! The lines that name the faults of a file.
 ghost use Rattle.std.specs.Prelude.{◌≡◌, ◌++◌, ℕ, List, codes, decimal, map, IfOk, OnOk, Err};
+ghost use Rattle.std.specs.Result.{result_ok};
 ghost use Rattle.std.specs.String.{string_bytes};
 ghost use Rattle.kd_findings.specs.Faults.{faults_of};
-ghost use Rattle.kd_look.specs.FaultWords.{AreFaultLines, IsLineAt, NamesFault, entry_words, fault_end, fault_line};
+ghost use Rattle.kd_look.specs.FaultWords.{AreFaultLines, IsLineAt, NamesFault, fault_end, fault_line};
 ghost use Rattle.kd_look.specs.FaultWords.{AreLinesFor, IsPlainLine, line_words};
 ghost use Rattle.kd_look.specs.File.{file_of};
 ghost use Rattle.kd_look.specs.Line.{line_of};
-ghost use Rattle.kd_look.specs.Texts.{AppendsText};
+ghost use Rattle.kd_findings.specs.Texts.{AppendsText};
 ghost use Rattle.kd_sheet.specs.Document.{document_of};
 
 use crate::line::lines_of;
-use crate::texts::push_wide_number;
 use crate::warnings::key_warnings;
-use kd_findings::{Finding, Place, find_faults, toml_words, wrong_words};
+use kd_findings::{
+    Finding, Place, find_faults, first_line, push_entry, push_titled, toml_words, wrong_words,
+};
 use kd_sheet::SheetFault;
 use kd_sheet::by_key::parse_table;
 use std::alloc::{AllocError, Global};
@@ -27,16 +29,6 @@ fn push_fault(text: &mut String, fault: SheetFault) -> Result<(), AllocError>
     text.push_str(")\n")
 }
 
-/// Appends `title` and a number.
-#[tactic(auto, using(std::proofs::Common::append_assoc))]
-fn push_titled(text: &mut String, title: &str, number: usize) -> Result<(), AllocError>
-    ensures { OnOk result (string_bytes text.new
-        ≡ string_bytes text.old ++ (title.now ++ decimal number)) }
-{
-    text.push_str(title)?;
-    push_wide_number(text, number)
-}
-
 /// Appends the number of a line, if it is known.
 #[tactic(auto, unfolding(crate::specs::FaultWords::line_words))]
 fn push_line(text: &mut String, line: Option<usize>) -> Result<(), AllocError>
@@ -45,18 +37,6 @@ fn push_line(text: &mut String, line: Option<usize>) -> Result<(), AllocError>
     match line {
         Some(number) => push_titled(text, ", line ", number),
         None => Ok(()),
-    }
-}
-
-/// Appends the day of an entry; for an entry whose day can't be read, the entry's number.
-#[tactic(auto, unfolding(crate::specs::FaultWords::entry_words))]
-fn push_entry(text: &mut String, day: Option<u8>, entry: Option<usize>) -> Result<(), AllocError>
-    ensures { OnOk result (string_bytes text.new ≡ string_bytes text.old ++ entry_words day entry) }
-{
-    match (day, entry) {
-        (Some(day), _) => push_titled(text, ", day ", usize::from(day)),
-        (None, Some(entry)) => push_titled(text, ", entry ", entry),
-        (None, None) => Ok(()),
     }
 }
 
@@ -99,7 +79,7 @@ fn push_finding(
         name,
         finding.place,
         line,
-        wrong.as_str(),
+        first_line(wrong.as_str()),
         finding.fault,
     )
 }
@@ -133,10 +113,12 @@ fn plain_line(
     name: &str,
     fault: SheetFault,
 ) -> Result<String, AllocError>
-    ensures { IfOk result (λ text. IsPlainLine name.now fault (string_bytes text)) }
+    requires { result_ok (document_of bytes.now) ≡ None }
+    ensures { IfOk result (λ text. IsPlainLine name.now bytes.now fault (string_bytes text)) }
 {
     let mut text = String::from_str(alloc, name)?;
-    text.push_str(toml_words(alloc, bytes)?.as_str())?;
+    let words = toml_words(alloc, bytes)?;
+    text.push_str(words.as_str())?;
     push_fault(&mut text, fault)?;
     Ok(text)
 }

@@ -2,7 +2,9 @@
 #![tactic(auto)]
 
 mod alike;
+mod day_lines;
 mod fault_words;
+mod few_pairs;
 mod file;
 mod line;
 mod looking;

@@ -2,7 +2,8 @@
 ghost use Rattle.std.specs.Prelude.{◌≡◌, ◌+◌, ◌<◌, ℕ, Option, None, IfOk, length, map, option_map};
 ghost use Rattle.toml.specs.View.{table_view, view};
 ghost use Rattle.kd_findings.specs.declared.findings.Finding.{Finding};
-ghost use Rattle.kd_look.specs.Line.{ends_line, entry_of, table_at, has_key, has_value, is_too_long, line_at, line_in};
+ghost use Rattle.kd_findings.specs.NotToml.{line_at};
+ghost use Rattle.kd_look.specs.Line.{ends_line, entry_of, table_at, has_key, has_value, is_too_long, line_in};
 ghost use Rattle.kd_look.specs.Line.{line_in_text, line_of, line_so_far, or_line, sought_for};
 
 use kd_findings::{Finding, Place, entries_of};

@@ -3,7 +3,7 @@ ghost use Rattle.std.specs.Prelude.{◌≡◌, ◌||◌, map, Err, IfOk, OnOk};
 ghost use Rattle.std.specs.String.{string_bytes};
 ghost use Rattle.kd_tables.specs.Ports.{port};
 ghost use Rattle.kd_look.specs.File.{file_of};
-ghost use Rattle.kd_look.specs.Texts.{AppendsText};
+ghost use Rattle.kd_findings.specs.Texts.{AppendsText};
 ghost use Rattle.kd_look.specs.Look.{AreReports, IsLookAnswer, IsWholeReport};
 ghost use Rattle.kd_look.specs.Look.{is_device, named_text, outcome_of_all};
 ghost use Rattle.kd_look.specs.Report.{IsReport, outcome_of};

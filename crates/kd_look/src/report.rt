@@ -10,7 +10,7 @@ use crate::machine_words::push_machine;
 use crate::missing_days::Contents;
 use crate::outcome::Outcome;
 use crate::sheet_words::{models_of, push_sheet};
-use crate::warnings::file_warnings;
+use crate::warnings::{day_warnings, key_warnings};
 use kd_sheet::SheetFault;
 use std::alloc::{AllocError, Global};
 
@@ -44,11 +44,14 @@ fn push_file(text: &mut String, name: &str, file: &File) -> Result<(), AllocErro
 
 /// Words for what the file `name` says, and its warnings.
 fn description(alloc: Global, bytes: &[u8], name: &str, file: &File) -> Result<String, AllocError>
-    ensures { IfOk result (λ text. Describes name.now file.now (string_bytes text)) }
+    ensures { IfOk result (λ text. Describes name.now bytes.now file.now (string_bytes text)) }
 {
     let mut text = String::new(alloc);
     push_file(&mut text, name, file)?;
-    text.push_str(file_warnings(alloc, bytes, name, file)?.as_str())?;
+    let keys = key_warnings(alloc, bytes, name)?;
+    text.push_str(keys.as_str())?;
+    let days = day_warnings(alloc, name, file)?;
+    text.push_str(days.as_str())?;
     Ok(text)
 }
 

@@ -16,14 +16,6 @@ pub fn push_number(text: &mut String, number: u8) -> Result<(), AllocError>
     text.push_str(buffer.format(number))
 }
 
-/// Appends a number of any size in decimal.
-pub fn push_wide_number(text: &mut String, number: usize) -> Result<(), AllocError>
-    ensures { OnOk result (string_bytes text.new ≡ string_bytes text.old ++ decimal number) }
-{
-    let mut buffer = Buffer::new();
-    text.push_str(buffer.format(number))
-}
-
 /// Appends `number` in decimal, with a 0 before a number of one digit.
 #[tactic(auto, using(std::proofs::Common::append_assoc), unfolding(crate::specs::Texts::two_digits))]
 pub fn push_two_digits(text: &mut String, number: u8) -> Result<(), AllocError>

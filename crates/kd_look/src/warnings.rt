@@ -1,44 +1,81 @@
 //! The warnings on a file: what the desk accepts, but what was perhaps not meant.
+ghost use Rattle.std.specs.Prelude.{◌≡◌, ◌++◌, [], IfOk, MatchResult, OnOk};
+ghost use Rattle.std.specs.String.{string_bytes};
+ghost use Rattle.kd_sheet.specs.Document.{document_of};
+ghost use Rattle.kd_findings.specs.Warnings.{AreWarnings};
+ghost use Rattle.kd_look.specs.Warnings.{AreKeyWarnings, WarnsOfDays, has_mark, mark_words};
 
-use crate::alike::alike_days;
+use crate::alike::push_alike_days;
+use crate::few_pairs::push_few_pairs;
 use crate::file::File;
 use kd_findings::warning_lines;
-use kd_sheet::SheetFault;
 use kd_sheet::by_key::parse_table;
+use kd_sheet::{Sheet, SheetFault};
 use std::alloc::{AllocError, Global};
 
-/// A warning of a byte order mark, if the file begins with one.
-fn mark_warning(alloc: Global, bytes: &[u8], name: &str) -> Result<String, AllocError> {
-    if let [0xEF, 0xBB, 0xBF, ..] = bytes {
-        format!(in alloc;
-            "{name}: warning: the file begins with a byte order mark, which the desk passes over\n"
+/// Whether the bytes begin with the byte order mark of UTF-8.
+#[tactic(auto, unfolding(crate::specs::Warnings::has_mark))]
+fn has_mark(bytes: &[u8]) -> bool
+    ensures { result ≡ has_mark bytes.now }
+{
+    bytes.len() > 2 && bytes[0] == 239 && bytes[1] == 187 && bytes[2] == 191
+}
+
+/// Appends a warning of a byte order mark, if the file begins with one.
+#[tactic(auto, using(std::proofs::Common::append_assoc), unfolding(crate::specs::Warnings::mark_words))]
+fn push_mark(lines: &mut String, bytes: &[u8], name: &str) -> Result<(), AllocError>
+    ensures { OnOk result (string_bytes lines.new
+        ≡ string_bytes lines.old ++ mark_words name.now bytes.now) }
+{
+    if has_mark(bytes) {
+        lines.push_str(name)?;
+        lines.push_str(
+            ": warning: the file begins with a byte order mark, which the desk passes over\n",
         )
     } else {
-        Ok(String::new(alloc))
+        Ok(())
     }
 }
 
-/// The warnings on the keys of a file, a line for each.
-pub fn key_warnings(alloc: Global, bytes: &[u8], name: &str) -> Result<String, AllocError> {
-    let mut lines = mark_warning(alloc, bytes, name)?;
+/// The warnings on the keys of a file, if it is a document.
+fn document_warnings(alloc: Global, bytes: &[u8], name: &str) -> Result<String, AllocError>
+    ensures { IfOk result (λ lines. MatchResult (document_of bytes.now)
+        (λ document. AreWarnings name.now document (string_bytes lines)) (λ fault. string_bytes lines ≡ [])) }
+{
     match parse_table(alloc, bytes) {
-        Ok(table) => lines.push_str(warning_lines(alloc, name, &table)?.as_str())?,
-        Err(SheetFault::NoMemory) => return Err(AllocError),
-        Err(_) => {}
+        Ok(document) => warning_lines(alloc, name, &document),
+        Err(SheetFault::NoMemory) => Err(AllocError),
+        Err(_) => Ok(String::new(alloc)),
     }
+}
+
+/// The warnings on a byte order mark and on the keys of a file, a line for each.
+pub fn key_warnings(alloc: Global, bytes: &[u8], name: &str) -> Result<String, AllocError>
+    ensures { IfOk result (λ lines. AreKeyWarnings name.now bytes.now (string_bytes lines)) }
+{
+    let mut lines = String::new(alloc);
+    push_mark(&mut lines, bytes, name)?;
+    let of_document = document_warnings(alloc, bytes, name)?;
+    lines.push_str(of_document.as_str())?;
     Ok(lines)
 }
 
-/// The warnings on a file without a fault, a line for each.
-pub fn file_warnings(
-    alloc: Global,
-    bytes: &[u8],
-    name: &str,
-    file: &File,
-) -> Result<String, AllocError> {
-    let mut lines = key_warnings(alloc, bytes, name)?;
-    if let File::Sheet(sheet) = file {
-        lines.push_str(alike_days(alloc, name, sheet)?.as_str())?;
-    }
+/// The warnings on the days of `sheet`, a line for each.
+fn sheet_warnings(alloc: Global, name: &str, sheet: &Sheet) -> Result<String, AllocError>
+    ensures { IfOk result (λ lines. WarnsOfDays name.now (string_bytes lines)) }
+{
+    let mut lines = String::new(alloc);
+    push_alike_days(&mut lines, alloc, name, sheet)?;
+    push_few_pairs(&mut lines, alloc, name, sheet)?;
     Ok(lines)
+}
+
+/// The warnings on the days of a key sheet, a line for each.
+pub fn day_warnings(alloc: Global, name: &str, file: &File) -> Result<String, AllocError>
+    ensures { IfOk result (λ lines. WarnsOfDays name.now (string_bytes lines)) }
+{
+    match file {
+        File::Machine(_) => Ok(String::new(alloc)),
+        File::Sheet(sheet) => sheet_warnings(alloc, name, sheet),
+    }
 }

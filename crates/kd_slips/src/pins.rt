@@ -1,20 +1,31 @@
 //! Refuses pins, bars and rows that a Converter M-209 can't have.
+ghost use Rattle.std.specs.Prelude.{◌≡◌, ◌≤◌, length, map, IfErr, IsErr, None, OnOk, Some};
+ghost use Rattle.toml.specs.View.{table_view, view};
+ghost use Rattle.kd_slips.specs.Items.{HasFault, IsOfItem, IsOfItsRow, first_refused, reads_pins, refused_pins};
+ghost use Rattle.kd_sheet.specs.declared.fault.SheetFault.TheVariants.{BadRow};
 
 use crate::letters::{check_capitals, check_on_wheel};
 use crate::slip::{Slip, refuse, refuse_item};
 use crate::values::{check_count, item_text, items_at, shown};
-use kd_sheet::{Key, SheetFault};
-use kd_tables::{Letter, Standing};
+use kd_sheet::{Key, SheetFault, pins_of_text};
+use kd_tables::{Letter, Standing, ring1, ring2, ring3, ring4, ring5, ring6};
 use std::alloc::Global;
 use toml::{Table, Value};
 
 /// The number of bars of the drum.
 const BARS: usize = 27;
 
-/// Gives a slip the number of its item.
-fn at_item(checked: Result<(), Slip>, item: usize) -> Result<(), Slip> {
+/// Gives a slip the number of its item; without a slip, the desk's reader has refused the item for another reason.
+fn at_item(alloc: Global, checked: Result<(), Slip>, item: usize) -> Result<(), Slip>
+    ensures refused { IsErr result }
+    ensures slip { IfErr result (IsOfItem (Some item)) }
+{
     match checked {
-        Ok(()) => Ok(()),
+        Ok(()) => refuse_item(
+            SheetFault::BadValue(Key::Pins),
+            item,
+            String::from_str(alloc, "these aren't the pins of the wheel"),
+        ),
         Err(Slip::Fault(fault, _, words)) => Err(Slip::Fault(fault, Some(item), words)),
         Err(Slip::NoMemory) => Err(Slip::NoMemory),
     }
@@ -43,20 +54,58 @@ fn check_wheel_pins(alloc: Global, wheel: u8, text: &str) -> Result<(), Slip> {
     Ok(())
 }
 
-/// Refuses the pins at the key `pins`.
-pub fn check_pins(alloc: Global, table: &Table) -> Result<(), Slip> {
-    let items = items_at(alloc, table, Key::Pins)?;
-    check_count(alloc, Key::Pins, items.len(), 6, "wheels")?;
-    let mut wheel = 1;
-    for item in items {
-        let number = usize::from(wheel);
-        let text = item_text(alloc, item, number, SheetFault::BadValue(Key::Pins))?;
-        at_item(check_wheel_pins(alloc, wheel, text), number)?;
-        if wheel < 6 {
-            wheel += 1;
+/// Whether the desk reads `item` as the pins of pin wheel `wheel`.
+#[tactic(auto, unfolding(crate::specs::Items::reads_pins))]
+fn reads_pins(wheel: u8, item: &Value) -> bool
+    requires first { 1 ≤ wheel }
+    requires last { wheel ≤ 6 }
+    ensures { result ≡ reads_pins wheel (view item.now) }
+{
+    let Some(text) = item.as_str() else {
+        return false;
+    };
+    let text = text.as_bytes();
+    match wheel {
+        1 => pins_of_text(&ring1(), text).is_some(),
+        2 => pins_of_text(&ring2(), text).is_some(),
+        3 => pins_of_text(&ring3(), text).is_some(),
+        4 => pins_of_text(&ring4(), text).is_some(),
+        5 => pins_of_text(&ring5(), text).is_some(),
+        _ => pins_of_text(&ring6(), text).is_some(),
+    }
+}
+
+/// Why the desk refuses `item` as the pins of pin wheel `wheel`.
+fn refuse_pins(alloc: Global, wheel: u8, item: &Value) -> Result<(), Slip> {
+    let number = usize::from(wheel);
+    let text = item_text(alloc, item, number, SheetFault::BadValue(Key::Pins))?;
+    check_wheel_pins(alloc, wheel, text)
+}
+
+/// Refuses the first of the items that the desk doesn't read as the pins of its wheel.
+fn check_pin_items(alloc: Global, items: &[Value]) -> Result<(), Slip>
+    requires { length items.now ≤ 6 }
+    ensures read { OnOk result (first_refused reads_pins (map view items.now) ≡ None) }
+    ensures item { IfErr result (IsOfItem (first_refused reads_pins (map view items.now))) }
+{
+    for (index, item) in items.iter().enumerate() {
+        let wheel = index as u8 + 1;
+        if !reads_pins(wheel, item) {
+            return at_item(alloc, refuse_pins(alloc, wheel, item), usize::from(wheel));
         }
     }
     Ok(())
+}
+
+/// Refuses the pins at the key `pins`. The words speak of the first wheel whose pins the desk refuses.
+#[tactic(auto, unfolding(crate::specs::Items::refused_pins))]
+pub fn check_pins(alloc: Global, table: &Table) -> Result<(), Slip>
+    ensures read { OnOk result (refused_pins (table_view table.now) ≡ None) }
+    ensures item { IfErr result (IsOfItem (refused_pins (table_view table.now))) }
+{
+    let items = items_at(alloc, table, Key::Pins)?;
+    check_count(alloc, Key::Pins, items.len(), 6, "wheels")?;
+    check_pin_items(alloc, items)
 }
 
 /// Whether `text` is a row's reading: two different numbers from 0 to 6 with `-` between them, or `0-0`.
@@ -72,7 +121,9 @@ fn is_row(text: &str) -> bool {
 }
 
 /// Refuses a bar's standing.
-fn check_standing(alloc: Global, item: &Value, number: u8) -> Result<(), Slip> {
+fn check_standing(alloc: Global, item: &Value, number: u8) -> Result<(), Slip>
+    ensures { IfErr result (HasFault (BadRow number) (Some number)) }
+{
     let fault = SheetFault::BadRow(number);
     let text = item_text(alloc, item, usize::from(number), fault)?;
     if Standing::from_text(text.as_bytes()).is_some() {
@@ -90,7 +141,9 @@ fn check_standing(alloc: Global, item: &Value, number: u8) -> Result<(), Slip> {
 }
 
 /// Refuses a row.
-fn check_row(alloc: Global, item: &Value, number: u8) -> Result<(), Slip> {
+fn check_row(alloc: Global, item: &Value, number: u8) -> Result<(), Slip>
+    ensures { IfErr result (HasFault (BadRow number) (Some number)) }
+{
     let fault = SheetFault::BadRow(number);
     let text = item_text(alloc, item, usize::from(number), fault)?;
     if is_row(text) {
@@ -107,8 +160,10 @@ fn check_row(alloc: Global, item: &Value, number: u8) -> Result<(), Slip> {
     )
 }
 
-/// Refuses the standings at the key `bars`.
-pub fn check_bars(alloc: Global, table: &Table) -> Result<(), Slip> {
+/// Refuses the standings at the key `bars`. The words speak of the bar with the number in the fault.
+pub fn check_bars(alloc: Global, table: &Table) -> Result<(), Slip>
+    ensures { IfErr result IsOfItsRow }
+{
     let items = items_at(alloc, table, Key::Bars)?;
     check_count(alloc, Key::Bars, items.len(), BARS, "bars")?;
     let mut number = 1;
@@ -121,8 +176,10 @@ pub fn check_bars(alloc: Global, table: &Table) -> Result<(), Slip> {
     Ok(())
 }
 
-/// Refuses the rows at the key `rows`.
-pub fn check_rows(alloc: Global, table: &Table) -> Result<(), Slip> {
+/// Refuses the rows at the key `rows`. The words speak of the row with the number in the fault.
+pub fn check_rows(alloc: Global, table: &Table) -> Result<(), Slip>
+    ensures { IfErr result IsOfItsRow }
+{
     let items = items_at(alloc, table, Key::Rows)?;
     check_count(alloc, Key::Rows, items.len(), BARS, "bars")?;
     let mut number = 1;

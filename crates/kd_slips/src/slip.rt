@@ -1,4 +1,6 @@
 //! `Slip`: why a value of a file is refused, in words.
+ghost use Rattle.std.specs.Prelude.{IfErr, IsErr, None, Some};
+ghost use Rattle.kd_slips.specs.Items.{HasFault};
 
 use kd_sheet::SheetFault;
 use std::alloc::AllocError;
@@ -14,13 +16,21 @@ pub enum Slip {
 }
 
 impl From<AllocError> for Slip {
+    ghost use Rattle.std.specs.Prelude.{◌≡◌};
+    ghost use Rattle.kd_slips.specs.declared.slip.Slip.TheVariants as slips;
+
+    ghost from_gives = { λ _ slip. slip ≡ slips.NoMemory };
+
     fn from(_: AllocError) -> Slip {
         Slip::NoMemory
     }
 }
 
 /// Refuses a value with `fault`, in these words.
-pub fn refuse<T>(fault: SheetFault, words: Result<String, AllocError>) -> Result<T, Slip> {
+pub fn refuse<T>(fault: SheetFault, words: Result<String, AllocError>) -> Result<T, Slip>
+    ensures refused { IsErr result }
+    ensures slip { IfErr result (HasFault fault None) }
+{
     Err(Slip::Fault(fault, None, words?))
 }
 
@@ -29,6 +39,9 @@ pub fn refuse_item<T>(
     fault: SheetFault,
     item: usize,
     words: Result<String, AllocError>,
-) -> Result<T, Slip> {
+) -> Result<T, Slip>
+    ensures refused { IsErr result }
+    ensures slip { IfErr result (HasFault fault (Some item)) }
+{
     Err(Slip::Fault(fault, Some(item), words?))
 }

@@ -1,6 +1,17 @@
 //! Finds values in a table, and refuses values of another type.
+ghost use Rattle.std.specs.Prelude.{◌≡◌, ◌≢◌, map, IfErr, IfOk, None, OnErr, OnOk, Some};
+ghost use Rattle.std.specs.List.{list_all};
+ghost use Rattle.std.specs.Option.{option_and_then};
+ghost use Rattle.std.specs.String.{string_bytes};
+ghost use Rattle.toml.specs.Data.{get_member};
+ghost use Rattle.toml.specs.View.{table_view, view};
+ghost use Rattle.kd_sheet.specs.Document.{as_items};
+ghost use Rattle.kd_sheet.specs.Key.{key_name};
+ghost use Rattle.kd_slips.specs.Items.{HasFault, HasNoItem};
+ghost use Rattle.kd_slips.specs.Shown.{can_be_shown, is_printed, shown_text};
 
 use crate::slip::{Slip, refuse, refuse_item};
+use itoa::Buffer;
 use kd_sheet::by_key::find_at;
 use kd_sheet::{Key, SheetFault};
 use std::alloc::{AllocError, Global};
@@ -10,7 +21,11 @@ use toml::{Table, Value};
 const SHOWN: usize = 40;
 
 /// The value at `key`, or a slip if there is none.
-pub fn value_at(alloc: Global, table: &Table, key: Key) -> Result<&Value, Slip> {
+pub fn value_at(alloc: Global, table: &Table, key: Key) -> Result<&Value, Slip>
+    ensures found { IfOk result (λ value. get_member (key_name key) (table_view table.now) ≡ Some (view value.now)) }
+    ensures missing { OnErr result (get_member (key_name key) (table_view table.now) ≡ None) }
+    ensures slip { IfErr result HasNoItem }
+{
     match find_at(table, key) {
         Some(value) => Ok(value),
         None => refuse(
@@ -54,7 +69,9 @@ pub fn item_text(
     item: &Value,
     number: usize,
     fault: SheetFault,
-) -> Result<&str, Slip> {
+) -> Result<&str, Slip>
+    ensures { IfErr result (HasFault fault (Some number)) }
+{
     match item.as_str() {
         Some(text) => Ok(text),
         None => refuse_item(
@@ -69,7 +86,12 @@ pub fn item_text(
 }
 
 /// The items of `value`, which stands at `key`, or a slip.
-pub fn items_of(alloc: Global, value: &Value, key: Key) -> Result<&[Value], Slip> {
+#[tactic(auto, using(kd_sheet::proofs::ReadBack::Described::KeyValues::Steps::items_found))]
+pub fn items_of(alloc: Global, value: &Value, key: Key) -> Result<&[Value], Slip>
+    ensures found { IfOk result (λ items. as_items (view value.now) ≡ Some (map view items.now)) }
+    ensures other { OnErr result (as_items (view value.now) ≡ None) }
+    ensures slip { IfErr result HasNoItem }
+{
     match value.as_array() {
         Some(items) => Ok(items.as_slice()),
         None => refuse(
@@ -83,7 +105,13 @@ pub fn items_of(alloc: Global, value: &Value, key: Key) -> Result<&[Value], Slip
 }
 
 /// The items of the list at `key`, or a slip.
-pub fn items_at(alloc: Global, table: &Table, key: Key) -> Result<&[Value], Slip> {
+pub fn items_at(alloc: Global, table: &Table, key: Key) -> Result<&[Value], Slip>
+    ensures found { IfOk result (λ items.
+        option_and_then as_items (get_member (key_name key) (table_view table.now)) ≡ Some (map view items.now)) }
+    ensures other { OnErr result
+        (option_and_then as_items (get_member (key_name key) (table_view table.now)) ≡ None) }
+    ensures slip { IfErr result HasNoItem }
+{
     items_of(alloc, value_at(alloc, table, key)?, key)
 }
 
@@ -97,13 +125,11 @@ fn items_words(alloc: Global, len: usize) -> Result<String, AllocError> {
 }
 
 /// Refuses a list of `len` items, unless there are exactly `count`; `of` says of what.
-pub fn check_count(
-    alloc: Global,
-    key: Key,
-    len: usize,
-    count: usize,
-    of: &str,
-) -> Result<(), Slip> {
+pub fn check_count(alloc: Global, key: Key, len: usize, count: usize, of: &str) -> Result<(), Slip>
+    ensures same { OnOk result (len ≡ count) }
+    ensures other { OnErr result (len ≢ count) }
+    ensures slip { IfErr result HasNoItem }
+{
     if len == count {
         return Ok(());
     }
@@ -136,21 +162,43 @@ pub fn check_at_most(
     )
 }
 
+/// Whether `byte` can be printed.
+fn is_printed(byte: u8) -> bool
+    ensures { result ≡ is_printed byte }
+{
+    32 <= byte && byte != 127
+}
+
+/// Whether all of `bytes` can be printed.
+fn are_printed(bytes: &[u8]) -> bool
+    ensures { result ≡ list_all is_printed bytes.now }
+{
+    bytes.iter().all(|byte| is_printed(*byte))
+}
+
 /// Whether `text` is short, and has only characters that can be printed.
-fn can_be_shown(text: &str) -> bool {
-    for byte in text.as_bytes() {
-        if *byte < 32 || *byte == 127 {
-            return false;
-        }
-    }
-    text.len() <= SHOWN
+#[tactic(auto, unfolding(crate::specs::Shown::can_be_shown))]
+fn can_be_shown(text: &str) -> bool
+    ensures { result ≡ can_be_shown text.now }
+{
+    text.len() <= SHOWN && are_printed(text.as_bytes())
 }
 
 /// `text` in backticks; of a long text, or one with control characters, only the length.
-pub fn shown(alloc: Global, text: &str) -> Result<String, AllocError> {
+#[tactic(auto, using(std::proofs::Common::append_assoc), unfolding(crate::specs::Shown::shown_text))]
+pub fn shown(alloc: Global, text: &str) -> Result<String, AllocError>
+    ensures { IfOk result (λ words. string_bytes words ≡ shown_text text.now) }
+{
+    let mut words = String::new(alloc);
     if can_be_shown(text) {
-        format!(in alloc; "`{text}`")
+        words.push_str("`")?;
+        words.push_str(text)?;
+        words.push_str("`")?;
     } else {
-        format!(in alloc; "a text of {} bytes", text.len())
+        let mut buffer = Buffer::new();
+        words.push_str("a text of ")?;
+        words.push_str(buffer.format(text.len()))?;
+        words.push_str(" bytes")?;
     }
+    Ok(words)
 }

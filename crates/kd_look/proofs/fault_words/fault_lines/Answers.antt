@@ -6,7 +6,7 @@ use Rattle.kd_findings.specs.Faults.{faults_of}
 use Rattle.kd_look.proofs.FaultLines.{AreLinesFor-document}
 use Rattle.kd_look.specs.FaultWords.{AreFaultLines}
 use Rattle.kd_look.specs.Line.{line_of}
-use Rattle.kd_look.specs.Texts.{AppendsText}
+use Rattle.kd_findings.specs.Texts.{AppendsText}
 use Rattle.kd_look.proofs.fault_words.fault_lines.Goals as goal
 
 pub returns-in_ok-push_findings-in-Ok : goal.returns-in_ok-push_findings-in-Ok

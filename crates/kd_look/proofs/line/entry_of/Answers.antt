@@ -1,7 +1,7 @@
 use Rattle.std.proofs.Common.{◌≡◌, suc, ◌∙◌, Some, ap, map, slice_get, option_map, arith}
 use Rattle.std.proofs.lemmas.Option.{slice_get-get_or, slice_get-map}
 use Rattle.toml.specs.View.{view}
-use Rattle.kd_look.proofs.Entries.{numbered_item-suc}
+use Rattle.kd_findings.proofs.Entries.{numbered_item-suc}
 use Rattle.kd_look.proofs.line.entry_of.Goals as goal
 
 pub returns : goal.returns

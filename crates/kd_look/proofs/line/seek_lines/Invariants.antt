@@ -1,5 +1,6 @@
 use Rattle.std.proofs.Common.{◌≡◌, map}
-use Rattle.kd_look.specs.Line.{line_at, line_so_far}
+use Rattle.kd_findings.specs.NotToml.{line_at}
+use Rattle.kd_look.specs.Line.{line_so_far}
 use Rattle.kd_look.proofs.line.seek_lines.Given as goal
 
 -- `line` is the line of the next byte, and `lines` has the lines that end before it

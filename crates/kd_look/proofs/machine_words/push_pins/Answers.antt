@@ -1,6 +1,6 @@
 use Rattle.std.proofs.Common.{append_assoc, arith}
 use Rattle.kd_look.specs.MachineWords.{pin_words}
-use Rattle.kd_look.proofs.Ranges.{one_more}
+use Rattle.kd_findings.proofs.Ranges.{one_more}
 use Rattle.kd_look.proofs.machine_words.push_pins.Goals as goal
 
 pub loop-index-preserved : goal.loop-index-preserved

@@ -1,6 +1,6 @@
 use Rattle.std.proofs.Common.{append_assoc, arith}
 use Rattle.kd_look.specs.SheetWords.{numbered_day_words}
-use Rattle.kd_look.proofs.Ranges.{one_more}
+use Rattle.kd_findings.proofs.Ranges.{one_more}
 use Rattle.kd_look.proofs.sheet_words.push_sort.Goals as goal
 
 pub loop-index-preserved : goal.loop-index-preserved

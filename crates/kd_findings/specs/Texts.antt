@@ -1,0 +1,37 @@
+-- Texts made of pieces, one after another, and the words for a place in a file.
+use Rattle.std.specs.Prelude.{codes, ◌≡◌, ◌≢◌, ℕ, ◌++◌, List, [], ◌∷◌, Option, Some, None, decimal, slice_index, EachIndex}
+
+-- The text is a piece that satisfies `First`, and then what `Others` holds of.
+pub record BeginsWith (First Others : List ℕ → Type 0) (text : List ℕ) : Type 0 where
+  pub piece : List ℕ
+  pub others : List ℕ
+  pub first : First piece
+  pub after : Others others
+  pub whole : text ≡ piece ++ others
+
+-- The text has a piece for each of the things, in their order. `IsPiece` says of a thing what its piece is.
+abbrev pub ArePieces : {A : Type 0} → (A → List ℕ → Type 0) → List A → List ℕ → Type 0
+ArePieces IsPiece [] text = text ≡ []
+ArePieces IsPiece (first ∷ rest) text = BeginsWith (IsPiece first) (λ others. ArePieces IsPiece rest others) text
+
+-- The text has no line feed.
+abbrev pub IsInOneLine : List ℕ → Type 0
+IsInOneLine text = EachIndex text (λ index. slice_index text index ≢ 10)
+
+-- a number with what stands before it
+unfoldable pub titled : List ℕ → ℕ → List ℕ
+titled title number = title ++ decimal number
+
+-- the day of an entry in words; for an entry whose day can't be read, the entry's number
+unfoldable pub entry_words : Option ℕ → Option ℕ → List ℕ
+entry_words (Some day) entry = titled (codes ", day ") day
+entry_words None (Some entry) = titled (codes ", entry ") entry
+entry_words None None = []
+
+-- ---- Texts that grow. No public contract cites this definition.
+
+-- A text that satisfies `P` was appended.
+pub record AppendsText (P : List ℕ → Type 0) (old new : List ℕ) : Type 0 where
+  pub text : List ℕ
+  pub fits : P text
+  pub added : new ≡ old ++ text

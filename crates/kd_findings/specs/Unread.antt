@@ -1,0 +1,90 @@
+-- The keys that a machine file or a key sheet has, and that its reader doesn't read.
+-- Test: tests/cases/curator-look.toml
+use Rattle.std.specs.Prelude.{ℕ, Bool, not, List, [], ◌∷◌, ◌++◌, length, map, Option, Some, None, bytes_eq}
+use Rattle.std.specs.List.{filter, flat_map, list_any, range_with_len}
+use Rattle.std.specs.Option.{option_map_or}
+use Rattle.std.specs.Result.{result_ok}
+use Rattle.toml.specs.Data.{Data, Members, no_members, member, as_table}
+use Rattle.kd_tables.specs.declared.model.Model.{Model}
+use Rattle.kd_tables.specs.declared.model.Model.TheVariants.{M209}
+use Rattle.kd_state.specs.SameParts.{numbered_item}
+use Rattle.kd_sheet.specs.Key.{key_name}
+use Rattle.kd_sheet.specs.MachineFile.{model_in}
+use Rattle.kd_sheet.specs.declared.key.Key.{Key}
+use Rattle.kd_sheet.specs.declared.key.Key.TheVariants as keys
+use Rattle.kd_findings.specs.SheetFaults.{entries_of, number_in}
+use Rattle.kd_findings.specs.declared.unread.Unread.{Unread}
+
+-- The name of a key that nobody reads, and where it stands: in an entry of a key sheet, which is counted from 1, with
+-- the entry's day if it is known; or in the file itself.
+pub record UnreadKey : Type 0 where
+  pub entry : Option ℕ
+  pub day : Option ℕ
+  pub name : List ℕ
+
+-- the keys of a rotor machine's file, and of a Converter's
+abbrev pub rotor_file_keys : List Key
+rotor_file_keys =
+    keys.Version ∷ keys.Model ∷ keys.Reflector ∷ keys.Slots ∷ keys.Rings ∷ keys.Letters ∷ keys.Cables ∷ []
+
+abbrev pub pin_file_keys : List Key
+pin_file_keys = keys.Version ∷ keys.Model ∷ keys.Letters ∷ keys.Pins ∷ keys.Bars ∷ []
+
+-- the keys that are read in a machine file of this model; if the model isn't known, the keys of all machine files
+abbrev pub file_keys : Option Model → List Key
+file_keys (Some M209) = pin_file_keys
+file_keys (Some model) = rotor_file_keys
+file_keys None = rotor_file_keys ++ pin_file_keys
+
+-- the keys of a rotor machine's day, and of a Converter's
+abbrev pub rotor_day_keys : List Key
+rotor_day_keys =
+    keys.Day ∷ keys.Model ∷ keys.Reflector ∷ keys.Wheels ∷ keys.Rings ∷ keys.Window ∷ keys.Plugs ∷ keys.Groups ∷ []
+
+abbrev pub pin_day_keys : List Key
+pin_day_keys = keys.Day ∷ keys.Model ∷ keys.Rows ∷ keys.Pins ∷ keys.Window ∷ keys.List ∷ []
+
+-- the keys that are read in an entry of this model; if the model isn't known, the keys of all entries
+abbrev pub day_keys : Option Model → List Key
+day_keys (Some M209) = pin_day_keys
+day_keys (Some model) = rotor_day_keys
+day_keys None = rotor_day_keys ++ pin_day_keys
+
+-- whether one of the keys has this name
+abbrev pub is_name_of : List Key → List ℕ → Bool
+is_name_of known name = list_any (λ key. bytes_eq (key_name key) name) known
+
+-- the names of all keys of a table
+abbrev pub names_in : Members → List (List ℕ)
+names_in no_members = []
+names_in (member name value rest) = name ∷ names_in rest
+
+-- the keys of a table other than `known`; `entry` and `day` say which table it is
+unfoldable pub unread_in : Option ℕ → Option ℕ → List Key → Members → List UnreadKey
+unread_in entry day known table = map (λ name. record { entry = entry; day = day; name = name })
+    (filter (λ name. not (is_name_of known name)) (names_in table))
+
+-- the keys of an entry that nobody reads, if the entry is a table
+unfoldable pub unread_in_entry : ℕ → Data → List UnreadKey
+unread_in_entry number item = option_map_or (λ table.
+    unread_in (Some number) (result_ok (number_in table)) (day_keys (result_ok (model_in table))) table) (as_table item) []
+
+-- the keys of the entries that nobody reads, entry by entry
+abbrev pub unread_in_entries : List Data → List UnreadKey
+unread_in_entries items = flat_map (λ number. option_map_or (unread_in_entry number) (numbered_item items number) [])
+    (range_with_len 1 (length items))
+
+-- The keys of a document that nobody reads. A key sheet has the key `day` alone, and the keys of its entries.
+unfoldable pub unread_keys : Members → List UnreadKey
+unread_keys document = option_map_or
+    (λ items. unread_in None None (keys.Day ∷ []) document ++ unread_in_entries items) (entries_of document)
+    (unread_in None None (file_keys (result_ok (model_in document))) document)
+
+-- ---- What inner functions answer. No public contract cites these definitions.
+
+-- a key that nobody reads, as it was found
+abbrev pub unread_key : Unread → UnreadKey
+unread_key found = record { entry = found.entry; day = found.day; name = found.name.now }
+
+abbrev pub unread_of : List Unread → List UnreadKey
+unread_of list = map unread_key list

@@ -1,0 +1,73 @@
+-- The warnings of a machine file or a key sheet: a line for each key that nobody reads, and a line for each cable whose
+-- letters the desk writes in another order.
+-- Test: tests/cases/curator-look.toml
+use Rattle.std.specs.Prelude.{codes, ◌≡◌, ℕ, ◌++◌, ◌&&◌, nat_le, nat_lt, Bool, is_some, List, [], ◌∷◌, Option}
+use Rattle.std.specs.Prelude.{if◌then◌else◌}
+use Rattle.std.specs.List.{flat_map}
+use Rattle.std.specs.Option.{option_and_then, option_map_or}
+use Rattle.std.specs.Result.{result_ok}
+use Rattle.toml.specs.Data.{Data, Members, get_member, as_str}
+use Rattle.kd_tables.specs.declared.model.Model.{Model}
+use Rattle.kd_tables.specs.declared.model.Model.TheVariants.{M209}
+use Rattle.kd_sheet.specs.Document.{as_items}
+use Rattle.kd_sheet.specs.Key.{key_name}
+use Rattle.kd_sheet.specs.MachineFile.{model_in}
+use Rattle.kd_sheet.specs.declared.key.Key.TheVariants as keys
+use Rattle.kd_slips.specs.Shown.{shown_text}
+use Rattle.kd_findings.specs.SheetFaults.{entries_of}
+use Rattle.kd_findings.specs.Texts.{ArePieces, IsInOneLine, entry_words}
+use Rattle.kd_findings.specs.Unread.{UnreadKey, unread_keys}
+
+-- the start of a warning's line: the file's name, and the day or the entry
+unfoldable pub warning_start : List ℕ → Option ℕ → Option ℕ → List ℕ
+warning_start name day entry = name ++ entry_words day entry ++ codes ": warning: "
+
+-- the line that says of a key of the file `name` that nobody reads it, with advice
+unfoldable pub unread_line : List ℕ → UnreadKey → List ℕ → List ℕ
+unread_line name key advice =
+    warning_start name key.day key.entry ++ codes "nobody reads the key " ++ shown_text key.name ++ advice ++ codes "\n"
+
+-- The line says of this key of the file `name` that nobody reads it, and maybe what to write.
+pub record TellsUnread (name : List ℕ) (key : UnreadKey) (text : List ℕ) : Type 0 where
+  pub advice : List ℕ
+  pub plain : IsInOneLine advice
+  pub whole : text ≡ unread_line name key advice
+
+-- whether the byte is a capital letter
+abbrev pub is_capital : ℕ → Bool
+is_capital byte = nat_le 65 byte && nat_le byte 90
+
+-- the line for a cable with these bytes, if they are two capital letters in falling order
+unfoldable pub order_line : List ℕ → List ℕ → List ℕ
+order_line name (one ∷ other ∷ []) =
+    if is_capital one && is_capital other && nat_lt other one
+    then name ++ codes ": warning: the desk writes the cable `" ++ one ∷ other ∷ [] ++ codes "` as `"
+    ++ other ∷ one ∷ [] ++ codes "`\n"
+    else []
+order_line name cable = []
+
+-- the line for a cable, if it is a text
+abbrev pub cable_line : List ℕ → Data → List ℕ
+cable_line name item = option_map_or (order_line name) (as_str item) []
+
+-- the lines for the cables at the key `cables`, if it has a list
+unfoldable pub cable_lines : List ℕ → Members → List ℕ
+cable_lines name document = option_map_or (flat_map (cable_line name))
+    (option_and_then as_items (get_member (key_name keys.Cables) document)) []
+
+-- the lines for the cables of a machine of this model
+abbrev pub model_lines : List ℕ → Members → Model → List ℕ
+model_lines name document M209 = []
+model_lines name document model = cable_lines name document
+
+-- the lines for the cables of a machine file; none for a key sheet, or if the model isn't known
+unfoldable pub order_lines : List ℕ → Members → List ℕ
+order_lines name document = if is_some (entries_of document) then []
+    else option_map_or (model_lines name document) (result_ok (model_in document)) []
+
+-- The text has a line for each key of the document that nobody reads, none for another key, and then a line for each
+-- cable that the desk writes in another order.
+pub record AreWarnings (name : List ℕ) (document : Members) (text : List ℕ) : Type 0 where
+  pub unread : List ℕ
+  pub told : ArePieces (TellsUnread name) (unread_keys document) unread
+  pub whole : text ≡ unread ++ order_lines name document

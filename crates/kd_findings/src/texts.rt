@@ -1,0 +1,43 @@
+//! The first line of words, and the words for a place in a file.
+ghost use Rattle.std.specs.Prelude.{◌≡◌, ◌++◌, OnOk};
+ghost use Rattle.std.specs.String.{string_bytes};
+ghost use Rattle.kd_findings.specs.Texts.{IsInOneLine, entry_words, titled};
+
+use itoa::Buffer;
+use std::alloc::AllocError;
+
+/// `words` up to the first line feed.
+pub fn first_line(words: &str) -> &str
+    ensures { IsInOneLine result.now }
+{
+    match words.split_once('\n') {
+        Some((line, _)) => line,
+        None => words,
+    }
+}
+
+/// Appends `title` and a number.
+#[tactic(auto, using(std::proofs::Common::append_assoc), unfolding(crate::specs::Texts::titled))]
+pub fn push_titled(text: &mut String, title: &str, number: usize) -> Result<(), AllocError>
+    ensures { OnOk result (string_bytes text.new ≡ string_bytes text.old ++ titled title.now number) }
+{
+    let mut buffer = Buffer::new();
+    text.push_str(title)?;
+    text.push_str(buffer.format(number))
+}
+
+/// Appends the day of an entry; for an entry whose day can't be read, the entry's number.
+#[tactic(auto, unfolding(crate::specs::Texts::entry_words))]
+pub fn push_entry(
+    text: &mut String,
+    day: Option<u8>,
+    entry: Option<usize>,
+) -> Result<(), AllocError>
+    ensures { OnOk result (string_bytes text.new ≡ string_bytes text.old ++ entry_words day entry) }
+{
+    match (day, entry) {
+        (Some(day), _) => push_titled(text, ", day ", usize::from(day)),
+        (None, Some(entry)) => push_titled(text, ", entry ", entry),
+        (None, None) => Ok(()),
+    }
+}

@@ -1,0 +1,216 @@
+//! Finds the keys of a file that nobody reads.
+ghost use Rattle.std.specs.Prelude.{◌≡◌, ◌++◌, IfOk, OnOk, map};
+ghost use Rattle.toml.specs.View.{table_view, view};
+ghost use Rattle.kd_findings.specs.Unread.{day_keys, file_keys, unread_in, unread_in_entries, unread_in_entry};
+ghost use Rattle.kd_findings.specs.Unread.{unread_keys, unread_of};
+
+use crate::judging::entries_of;
+use crate::key_names::{is_known, is_near, meant_key};
+use kd_sheet::Key;
+use kd_sheet::by_key::{model_in, number_at};
+use kd_tables::Model;
+use std::alloc::{AllocError, Global};
+use toml::{Table, Value};
+
+/// The number of days of the longest month.
+const DAYS: u8 = 31;
+
+static ROTOR_FILE: [Key; 7] = [
+    Key::Version,
+    Key::Model,
+    Key::Reflector,
+    Key::Slots,
+    Key::Rings,
+    Key::Letters,
+    Key::Cables,
+];
+
+static PIN_FILE: [Key; 5] = [Key::Version, Key::Model, Key::Letters, Key::Pins, Key::Bars];
+
+/// The keys of a machine file whose model isn't known.
+static ANY_FILE: [Key; 12] = [
+    Key::Version,
+    Key::Model,
+    Key::Reflector,
+    Key::Slots,
+    Key::Rings,
+    Key::Letters,
+    Key::Cables,
+    Key::Version,
+    Key::Model,
+    Key::Letters,
+    Key::Pins,
+    Key::Bars,
+];
+
+static SHEET: [Key; 1] = [Key::Day];
+
+static ROTOR_DAY: [Key; 8] = [
+    Key::Day,
+    Key::Model,
+    Key::Reflector,
+    Key::Wheels,
+    Key::Rings,
+    Key::Window,
+    Key::Plugs,
+    Key::Groups,
+];
+
+static PIN_DAY: [Key; 6] = [
+    Key::Day,
+    Key::Model,
+    Key::Rows,
+    Key::Pins,
+    Key::Window,
+    Key::List,
+];
+
+/// The keys of an entry whose model isn't known.
+static ANY_DAY: [Key; 14] = [
+    Key::Day,
+    Key::Model,
+    Key::Reflector,
+    Key::Wheels,
+    Key::Rings,
+    Key::Window,
+    Key::Plugs,
+    Key::Groups,
+    Key::Day,
+    Key::Model,
+    Key::Rows,
+    Key::Pins,
+    Key::Window,
+    Key::List,
+];
+
+/// A key that a file has and that nobody reads.
+#[derive(Clone, Copy)]
+pub struct Unread<'t> {
+    /// The number of the entry of a key sheet in which the key stands, counted from 1; `None` for the file itself.
+    pub entry: Option<usize>,
+    /// The entry's day, if it can be read.
+    pub day: Option<u8>,
+    pub name: &'t str,
+    pub meant: Meant,
+}
+
+/// What was perhaps meant by a key that nobody reads.
+#[derive(Clone, Copy)]
+pub enum Meant {
+    /// Another key.
+    Key(Key),
+    /// The entries of a key sheet.
+    Entries,
+    /// Nothing that is known.
+    Unknown,
+}
+
+/// What was perhaps meant by the key `name` with the value `value`, in a table that has `keys`.
+fn meant_by(keys: &[Key], name: &str, value: &Value) -> Meant {
+    if (value.is_table() || value.is_array()) && is_near(name.as_bytes(), b"day") {
+        return Meant::Entries;
+    }
+    match meant_key(keys, name) {
+        Some(key) => Meant::Key(key),
+        None => Meant::Unknown,
+    }
+}
+
+/// The keys that are read in a machine file of this model.
+fn file_keys(model: Option<Model>) -> &'static [Key]
+    ensures { result.now ≡ file_keys model }
+{
+    match model {
+        Some(Model::M209) => &PIN_FILE,
+        Some(Model::EnigmaI | Model::M3 | Model::M4) => &ROTOR_FILE,
+        None => &ANY_FILE,
+    }
+}
+
+/// The keys that are read in an entry of this model.
+fn day_keys(model: Option<Model>) -> &'static [Key]
+    ensures { result.now ≡ day_keys model }
+{
+    match model {
+        Some(Model::M209) => &PIN_DAY,
+        Some(Model::EnigmaI | Model::M3 | Model::M4) => &ROTOR_DAY,
+        None => &ANY_DAY,
+    }
+}
+
+/// Appends the keys of `table` other than `keys`.
+#[tactic(auto, unfolding(crate::specs::Unread::unread_in))]
+fn push_unread<'t>(
+    list: &mut Vec<Unread<'t>>,
+    entry: Option<usize>,
+    day: Option<u8>,
+    keys: &[Key],
+    table: &'t Table,
+) -> Result<(), AllocError>
+    ensures { OnOk result (unread_of list.new.items
+        ≡ unread_of list.old.items ++ unread_in entry day keys.now (table_view table.now)) }
+{
+    'members: for (key, value) in table.iter() {
+        let name = key.as_str();
+        if !is_known(keys, name) {
+            let meant = meant_by(keys, name, value);
+            list.push(Unread {
+                entry,
+                day,
+                name,
+                meant,
+            })?;
+        }
+    }
+    Ok(())
+}
+
+/// Appends the keys of entry `entry` that nobody reads, if it is a table.
+#[tactic(auto, unfolding(crate::specs::Unread::unread_in_entry))]
+fn push_entry_keys<'t>(
+    list: &mut Vec<Unread<'t>>,
+    entry: usize,
+    item: &'t Value,
+) -> Result<(), AllocError>
+    ensures { OnOk result (unread_of list.new.items
+        ≡ unread_of list.old.items ++ unread_in_entry entry (view item.now)) }
+{
+    match item.as_table() {
+        Some(table) => {
+            let day = number_at(table, Key::Day, DAYS).ok();
+            let keys = day_keys(model_in(table).ok());
+            push_unread(list, Some(entry), day, keys, table)
+        }
+        None => Ok(()),
+    }
+}
+
+/// Appends the keys of the entries `items` that nobody reads.
+fn push_entries<'t>(list: &mut Vec<Unread<'t>>, items: &'t [Value]) -> Result<(), AllocError>
+    ensures { OnOk result (unread_of list.new.items
+        ≡ unread_of list.old.items ++ unread_in_entries (map view items.now)) }
+{
+    for (index, item) in items.iter().enumerate() {
+        push_entry_keys(list, index + 1, item)?;
+    }
+    Ok(())
+}
+
+/// Finds the keys of a document that nobody reads: of a key sheet if it has the array `day`, else of a machine file.
+#[tactic(auto, using(std::proofs::Common::append_assoc), unfolding(crate::specs::Unread::unread_keys))]
+pub fn unread_keys(alloc: Global, document: &Table) -> Result<Vec<Unread<'_>>, AllocError>
+    ensures { IfOk result (λ list. unread_of list.items ≡ unread_keys (table_view document.now)) }
+{
+    let mut list = Vec::new(alloc);
+    match entries_of(document) {
+        Some(items) => {
+            push_unread(&mut list, None, None, &SHEET, document)?;
+            push_entries(&mut list, items)?;
+        }
+        None => {
+            let keys = file_keys(model_in(document).ok());
+            push_unread(&mut list, None, None, keys, document)?;
+        }
+    }
+    Ok(list)
+}

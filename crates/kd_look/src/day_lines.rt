@@ -1,0 +1,27 @@
+//! The lines that warn of days.
+ghost use Rattle.std.specs.Prelude.{◌≡◌, ◌++◌, OnOk};
+ghost use Rattle.std.specs.String.{string_bytes};
+ghost use Rattle.kd_look.specs.Warnings.{WarnsOfDays, day_line};
+
+use kd_findings::first_line;
+use std::alloc::AllocError;
+
+/// Appends a warning of days: `words` go on after the letters `day`.
+#[tactic(auto, using(std::proofs::Common::append_assoc), unfolding(crate::specs::Warnings::day_line))]
+fn push_line(lines: &mut String, name: &str, words: &str) -> Result<(), AllocError>
+    ensures { OnOk result (string_bytes lines.new
+        ≡ string_bytes lines.old ++ day_line name.now words.now) }
+{
+    lines.push_str(name)?;
+    lines.push_str(": warning: day")?;
+    lines.push_str(words)?;
+    lines.push_str("\n")
+}
+
+/// Appends a warning of days: the first line of `words` goes on after the letters `day`.
+pub fn push_day_line(lines: &mut String, name: &str, words: &str) -> Result<(), AllocError>
+    ensures { OnOk result (WarnsOfDays name.now (string_bytes lines.old)
+        → WarnsOfDays name.now (string_bytes lines.new)) }
+{
+    push_line(lines, name, first_line(words))
+}

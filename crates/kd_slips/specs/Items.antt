@@ -1,0 +1,56 @@
+-- The item of a list of which the words for a refused value speak: the first that the desk's reader refuses.
+-- Test: tests/cases/curator-look.toml
+use Rattle.std.specs.Prelude.{◌≡◌, ℕ, ◌==◌, not, Bool, true, List, length, find, Option, Some, None, is_some}
+use Rattle.std.specs.Prelude.{if◌then◌else◌}
+use Rattle.std.specs.List.{range_with_len}
+use Rattle.std.specs.Option.{option_and_then, option_map_or}
+use Rattle.toml.specs.Data.{Data, Members, get_member}
+use Rattle.kd_tables.specs.Rings.{ring_of}
+use Rattle.kd_state.specs.SameParts.{numbered_item}
+use Rattle.kd_sheet.specs.Document.{as_items, from_text}
+use Rattle.kd_sheet.specs.Key.{key_name}
+use Rattle.kd_sheet.specs.PinWheels.{pins_of_text}
+use Rattle.kd_sheet.specs.declared.fault.SheetFault.{SheetFault}
+use Rattle.kd_sheet.specs.declared.fault.SheetFault.TheVariants.{BadRow}
+use Rattle.kd_sheet.specs.declared.key.Key.TheVariants as keys
+use Rattle.kd_slips.specs.declared.slip.Slip.{Slip}
+use Rattle.kd_slips.specs.declared.slip.Slip.TheVariants as slips
+
+-- The slip has this fault, and its words speak of this item; or memory ran out.
+abbrev pub HasFault : SheetFault → Option ℕ → Slip → Type 0
+HasFault fault item (slips.Fault found told words) = (found ≡ fault) × (told ≡ item)
+HasFault fault item slips.NoMemory = Unit {0}
+
+-- The words of the slip speak of this item; or memory ran out.
+abbrev pub IsOfItem : Option ℕ → Slip → Type 0
+IsOfItem item (slips.Fault found told words) = told ≡ item
+IsOfItem item slips.NoMemory = Unit {0}
+
+-- the number of a row in a fault, if it has one
+abbrev pub row_in : SheetFault → Option ℕ
+row_in (BadRow number) = Some number
+row_in fault = None
+
+-- The words of the slip speak of the item whose number is in the slip's fault; or memory ran out.
+abbrev pub IsOfItsRow : Slip → Type 0
+IsOfItsRow (slips.Fault found told words) = told ≡ row_in found
+IsOfItsRow slips.NoMemory = Unit {0}
+
+-- The words of the slip speak of no item, and its fault has no number of a row; or memory ran out.
+abbrev pub HasNoItem : Slip → Type 0
+HasNoItem (slips.Fault found told words) = (told ≡ None) × (row_in found ≡ None)
+HasNoItem slips.NoMemory = Unit {0}
+
+-- the number of the first of the items that isn't read; `reads` says of a number and its item whether the item is read
+abbrev pub first_refused : (ℕ → Data → Bool) → List Data → Option ℕ
+first_refused reads items =
+    find (λ number. not (option_map_or (reads number) (numbered_item items number) true)) (range_with_len 1 (length items))
+
+-- whether the desk reads the item as the pins of this wheel
+unfoldable pub reads_pins : ℕ → Data → Bool
+reads_pins wheel item = is_some (from_text (pins_of_text (ring_of wheel)) item)
+
+-- the number of the first wheel whose pins the desk refuses, if there is an item for each of the six wheels
+unfoldable pub refused_pins : Members → Option ℕ
+refused_pins table = option_map_or (λ items. if length items == 6 then first_refused reads_pins items else None)
+    (option_and_then as_items (get_member (key_name keys.Pins) table)) None

@@ -1,0 +1,17 @@
+-- How a text of a file is repeated in a line of words: in backticks; of a long text, or one that has bytes that can't be
+-- printed, only how many bytes it has.
+-- Test: tests/cases/curator-look.toml
+use Rattle.std.specs.Prelude.{codes, ℕ, ◌++◌, ◌==◌, ◌&&◌, nat_le, not, Bool, List, length, decimal, if◌then◌else◌}
+use Rattle.std.specs.List.{list_all}
+
+-- whether the byte can be printed: it is no control character
+abbrev pub is_printed : ℕ → Bool
+is_printed byte = nat_le 32 byte && not (byte == 127)
+
+-- whether the text has at most 40 bytes, all of which can be printed
+unfoldable pub can_be_shown : List ℕ → Bool
+can_be_shown text = nat_le (length text) 40 && list_all is_printed text
+
+unfoldable pub shown_text : List ℕ → List ℕ
+shown_text text = if can_be_shown text then codes "`" ++ text ++ codes "`"
+    else codes "a text of " ++ decimal (length text) ++ codes " bytes"
