@@ -9,11 +9,11 @@ use Rattle.kd_part_sheet.specs.declared.cells.Mark.{Mark}
 use Rattle.kd_part_sheet.specs.declared.cells.Mark.TheVariants as marks
 use Rattle.kd_part_sheet.specs.declared.cells.Line.{Line}
 use Rattle.kd_part_sheet.specs.declared.cells.Line.TheVariants as lines
-use Rattle.kd_part_sheet.specs.declared.markup.TheConstants.{LOST_LETTER, NO_LETTER, STRUCK_OUT}
+use Rattle.kd_part_sheet.specs.Markup.{lost_letter, no_letter, struck_out}
 
 abbrev pub sign_text : Sign → List ℕ
-sign_text signs.Nothing = NO_LETTER.now
-sign_text signs.Lost = LOST_LETTER.now
+sign_text signs.Nothing = no_letter
+sign_text signs.Lost = lost_letter
 sign_text (signs.Letter letter) = letter_text letter
 
 -- a letter that is copied to the line: nothing is pressed for it
@@ -80,8 +80,8 @@ choice_cells taken chosen (letter ∷ printed) =
 
 abbrev pub mark_text : Mark → List ℕ
 mark_text marks.NoMark = []
-mark_text marks.NotNeeded = NO_LETTER.now
-mark_text marks.StruckOut = STRUCK_OUT.now
+mark_text marks.NotNeeded = no_letter
+mark_text marks.StruckOut = struck_out
 mark_text (marks.Taken wheel) = decimal wheel
 
 -- what a line has for a cell

@@ -2,6 +2,7 @@ pub mod Checked
 pub mod Sheet
 pub mod Cells
 pub mod LettersAfter
+pub mod Markup
 pub mod Words
 pub mod Windows
 pub mod Rows

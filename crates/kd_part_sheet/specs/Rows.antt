@@ -18,6 +18,8 @@ use Rattle.kd_part_sheet.specs.declared.markup.TheConstants as markup
 use Rattle.kd_part_sheet.specs.declared.rows.Progress.{Progress}
 use Rattle.kd_part_sheet.specs.Cells.{place_text}
 use Rattle.kd_part_sheet.specs.LettersAfter.{letters_after}
+use Rattle.kd_part_sheet.specs.Markup.{above_end, cell_marks, group_end, group_start, marks_end, small, small_end}
+use Rattle.kd_part_sheet.specs.Markup.{space, two_spaces}
 use Rattle.kd_part_sheet.specs.Words.{letter_words}
 
 -- a list cut into pieces of `size` items; the last piece may be shorter
@@ -39,7 +41,7 @@ is_skipped (cell ∷ cells) = if cell.is_pressed then false else not (is_nothing
 -- what stands above the line, small if it isn't pressed
 abbrev pub above_text : Bool → List Cell → List ℕ
 above_text is_small cells =
-    if is_small then markup.SMALL.now ++ flat_map (place_text lines.Above) cells ++ markup.SMALL_END.now
+    if is_small then small ++ flat_map (place_text lines.Above) cells ++ small_end
     else flat_map (place_text lines.Above) cells
 
 -- whether a sign stands below the line
@@ -65,9 +67,9 @@ line_if is_there before after line cells = if is_there then before ++ flat_map (
 -- what stands above the line, what stands below it, and the marks
 unfoldable pub group_text : List Cell → List ℕ
 group_text cells =
-    markup.GROUP.now ++ above_text (is_skipped cells) cells ++ markup.ABOVE_END.now
-    ++ line_if (has_below cells) markup.SMALL.now markup.SMALL_END.now lines.Below cells
-    ++ line_if (has_marks cells) markup.MARKS.now markup.MARKS_END.now lines.Marks cells ++ markup.GROUP_END.now
+    group_start ++ above_text (is_skipped cells) cells ++ above_end
+    ++ line_if (has_below cells) small small_end lines.Below cells
+    ++ line_if (has_marks cells) cell_marks marks_end lines.Marks cells ++ group_end
 
 -- ---- A row.
 
@@ -83,9 +85,9 @@ progress_after progress row =
 -- the letters that the machine shows, on a rotor machine with their numbers
 abbrev pub shown_after : Bool → List ℕ → List ℕ
 shown_after is_converter letters =
-    if is_converter then letter_words false markup.ROW_LETTERS.now markup.SPACE.now letters
-    else letter_words false markup.ROW_LETTERS.now markup.TWO_SPACES.now letters
-    ++ letter_words true markup.ROW_NUMBERS.now markup.SPACE.now letters
+    if is_converter then letter_words false markup.ROW_LETTERS.now space letters
+    else letter_words false markup.ROW_LETTERS.now two_spaces letters
+    ++ letter_words true markup.ROW_NUMBERS.now space letters
 
 -- the windows after this many letters were pressed, unless the row has no letter that is pressed
 abbrev pub windows_after : Day → List ℕ → ℕ → Bool → List ℕ

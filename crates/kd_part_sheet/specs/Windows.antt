@@ -5,6 +5,7 @@ use Rattle.kd_pictures.specs.Language.{text_in}
 use Rattle.kd_pictures.specs.Template.{filled, letter_text, ordinal_text}
 use Rattle.kd_part_sheet.specs.declared.markup.TheConstants as markup
 use Rattle.kd_part_sheet.specs.declared.texts.TheConstants as texts
+use Rattle.kd_part_sheet.specs.Markup.{comma}
 
 -- a window in words
 abbrev pub window_words : Bool → ℕ → ℕ → List ℕ
@@ -16,7 +17,7 @@ window_words is_converter number letter =
 abbrev pub words_after : Bool → List ℕ → ℕ → List ℕ → List ℕ
 words_after is_converter first number [] = []
 words_after is_converter first number (letter ∷ letters) =
-    first ++ window_words is_converter number letter ++ words_after is_converter markup.COMMA.now (number + 1) letters
+    first ++ window_words is_converter number letter ++ words_after is_converter comma (number + 1) letters
 
 -- a window, with its number and its letter; on a rotor machine also the letter's number
 abbrev pub window_item : Language → Bool → ℕ → ℕ → List ℕ

@@ -6,8 +6,9 @@ use Rattle.kd_state.specs.declared.sheet_day.rotor_entry.SheetWheel.{SheetWheel}
 use Rattle.kd_pictures.specs.declared.language.Language.{Language}
 use Rattle.kd_pictures.specs.Language.{text_in}
 use Rattle.kd_pictures.specs.Template.{filled, letter_text, ordinal_text}
-use Rattle.kd_part_sheet.specs.declared.markup.TheConstants.{COMMA, RING, SPACE, WIDE_SPACE}
+use Rattle.kd_part_sheet.specs.declared.markup.TheConstants.{RING}
 use Rattle.kd_part_sheet.specs.declared.texts.TheConstants.{NO_CABLES}
+use Rattle.kd_part_sheet.specs.Markup.{comma, space, wide_space}
 
 -- a letter, or its number
 abbrev pub shown_text : Bool → ℕ → List ℕ
@@ -22,19 +23,19 @@ letter_words are_numbers first separator (letter ∷ letters) =
 -- the names of wheels, the first after `first`
 abbrev pub wheels_after : List ℕ → List SheetWheel → List ℕ
 wheels_after first [] = []
-wheels_after first (wheel ∷ wheels) = first ++ wheel_text wheel.wheel ++ wheels_after WIDE_SPACE.now wheels
+wheels_after first (wheel ∷ wheels) = first ++ wheel_text wheel.wheel ++ wheels_after wide_space wheels
 
 -- the rings of wheels by letter and number, the first after `first`
 abbrev pub rings_after : List ℕ → List SheetWheel → List ℕ
 rings_after first [] = []
 rings_after first (wheel ∷ wheels) =
-    first ++ filled RING.now (letter_text wheel.ring ∷ ordinal_text wheel.ring ∷ []) ++ rings_after COMMA.now wheels
+    first ++ filled RING.now (letter_text wheel.ring ∷ ordinal_text wheel.ring ∷ []) ++ rings_after comma wheels
 
 -- the letters of pairs, the first after `first`
 abbrev pub pairs_after : List ℕ → List (ℕ × ℕ) → List ℕ
 pairs_after first [] = []
 pairs_after first (pair ∷ pairs) =
-    first ++ letters_text (pair.0 ∷ pair.1 ∷ []) ++ pairs_after SPACE.now pairs
+    first ++ letters_text (pair.0 ∷ pair.1 ∷ []) ++ pairs_after space pairs
 
 -- the cables of the day, or that there are none
 abbrev pub cables_text : Language → List (ℕ × ℕ) → List ℕ
