@@ -229,12 +229,16 @@ def enigma(before, after, settings, name):
     seats = [tick(say('slot %s, %s: put in wheel <b>%s</b>, from %s', s[1], say(sides[int(s[1]) - 1]), s[2], place(s[2])), ' '.join(s))
              for s in of('SEAT')]
     seats += [tick(say('put in reflector <b>%s</b>', s[1]), ' '.join(s)) for s in of('REFLECTOR')]
+    gone = ['<b>%s</b>' % w for w in before['slots'] if w and w not in after['slots']]
+    if before['reflector'] != after['reflector']:
+        gone.append(say('reflector <b>%s</b>', before['reflector']))
+    boxed = '<p>%s %s</p>\n' % (say('Take out, into the box:'), ' '.join(gone)) if gone else ''
     turns = {int(s[1]) - 1: ' '.join(s) for s in of('TURN')}
     windows = [tick(say('slot %d: turn the wheel until <b>%s</b> shows', slot + 1, named(after['letter'][w])), turns.get(slot))
                for slot, w in enumerate(after['slots'])]
     return '<figure class=wheels>%s</figure>\n' % wheels_picture(before, after, settings) \
         + step(say('1 Rings: wheels out, and back in' if rings else '1 Rings'), len(rings), name, ticks(rings) if rings else '') \
-        + step(say('2 Wheels and reflector'), len(seats), name, ticks(seats) if seats else '') \
+        + step(say('2 Wheels and reflector'), len(seats), name, boxed + ticks(seats) if seats else '') \
         + plug_step(say('3 Plugs out'), before['cables'], of('PULL'), 'out',
                     'Before. Square: take out. Circle: stays. Number: the cable’s.', name) \
         + plug_step(say('4 Plugs in'), after['cables'], of('PUT'), 'in',

@@ -47,6 +47,8 @@ DAY_PAGE = {
     'slot %s, %s: put in wheel <b>%s</b>, from %s': 'Platz %s, %s: Walze <b>%s</b> einsetzen, aus %s',
     'the box, with its ring at <b>%s</b>': 'dem Kasten, Ring auf <b>%s</b>',
     'put in reflector <b>%s</b>': 'Umkehrwalze <b>%s</b> einsetzen',
+    'Take out, into the box:': 'Herausnehmen, in den Kasten:',
+    'reflector <b>%s</b>': 'Umkehrwalze <b>%s</b>',
     'slot %d: turn the wheel until <b>%s</b> shows': 'Platz %d: Walze drehen, bis <b>%s</b> erscheint',
     'Set all of them: typing may have turned the wheels.': 'Alle einstellen: Beim Tippen können sich die Walzen gedreht haben.',
     'Set all of them: enciphering may have turned the wheels.': 'Alle einstellen: Beim Schlüsseln können sich die Räder gedreht haben.',

@@ -11,6 +11,7 @@ use Rattle.kd_state.specs.Machine.{machine_pin, machine_pin_letter, machine_stan
 use Rattle.kd_pictures.specs.declared.numbers.TheConstants.{BARS, CABLES, PIN_WHEELS, SLOTS}
 use Rattle.kd_pictures.specs.declared.words.Word.{Word}
 use Rattle.kd_pictures.specs.declared.words.Word.TheVariants as words
+use Rattle.kd_pictures.specs.declared.texts.TheConstants.{LIST, LIST_END}
 use Rattle.kd_pictures.specs.Board.{has_cables}
 use Rattle.kd_pictures.specs.Words.{is_converter}
 use Rattle.kd_page.specs.declared.spots.Spot.{Spot}
@@ -29,7 +30,9 @@ use Rattle.kd_page.specs.PlugSteps.{in_step, out_step, plug_row}
 use Rattle.kd_page.specs.ShownBoxes.{HasInTurn}
 use Rattle.kd_page.specs.Spots.{count_at, is_at, row_of, row_spot, step_spot}
 unfoldable use Rattle.kd_page.specs.Steps.{list_text}
-use Rattle.kd_page.specs.Steps.{idle_text, list_step}
+use Rattle.kd_page.specs.Steps.{idle_text}
+use Rattle.kd_page.specs.WheelSteps.{rings_step, seats_step}
+unfoldable use Rattle.kd_page.specs.WheelSteps.{some_rings_text, some_seats_text}
 unfoldable use Rattle.kd_page.specs.Windows.{letters_step, windows_step}
 use Rattle.kd_page.specs.Windows.{letter_box, letter_in_slot, window_box}
 use Rattle.kd_page.proofs.Groups.{group}
@@ -69,11 +72,18 @@ module _ (page : Page) where
   boxes : (spot : Spot) → Shown (at spot) (boxes_at page spot)
   boxes spot = passing own (is_at spot) page.settings
 
-  listed : (step : Step) (title idle : Word) → Shown (at (step_spot step)) (list_step page step title idle)
+  listed : (step : Step) → Shown (at (step_spot step)) (list_text page step)
   unfolding list_text
-  listed step title idle =
-      if_some own (at (step_spot step)) _ _ (before own (at (step_spot step)) _ _
-      (behind own _ (at (step_spot step)) _ (boxes (step_spot step))))
+  listed step =
+      between LIST.now (at (step_spot step)) (boxes_at page (step_spot step)) LIST_END.now (boxes (step_spot step))
+
+  rings : Shown (at (step_spot Rings)) (rings_step page)
+  unfolding some_rings_text
+  rings = if_some own (at (step_spot Rings)) _ _ (behind own _ (at (step_spot Rings)) _ (listed Rings))
+
+  seats : Shown (at (step_spot Seats)) (seats_step page)
+  unfolding some_seats_text
+  seats = if_some own (at (step_spot Seats)) _ _ (behind own _ (at (step_spot Seats)) _ (listed Seats))
 
   row : (step : Step) (number : ℕ) → Shown (at (row_spot step number)) (plug_row page step number)
   row step number =
@@ -137,8 +147,8 @@ module _ (page : Page) where
       (in_both own _ (rows_of PlugsIn CABLES) _ _
       (in_both own _ (rows_of PlugsOut CABLES) _ _
       (in_both own (at (step_spot Rings)) (at (step_spot Seats)) _ _
-      (behind own _ (at (step_spot Rings)) _ (listed Rings words.RingsOut words.Rings))
-      (listed Seats words.Seats words.Seats))
+      (behind own _ (at (step_spot Rings)) _ rings)
+      seats)
       out)
       (inside (has_cables page.after CABLES) refl places.plugs))
       (windows places.windows)

@@ -1,7 +1,6 @@
 -- The text of a day's page.
 use Rattle.std.specs.Prelude.{decimal, ℕ, ◌==◌, if◌then◌else◌, List, [], ◌∷◌, ◌++◌, length}
 use Rattle.kd_state.specs.Machine.{model_of}
-use Rattle.kd_page.specs.declared.spots.Step.TheVariants.{Rings, Seats}
 use Rattle.kd_pictures.specs.declared.language.Language.{Language}
 use Rattle.kd_pictures.specs.declared.words.Mark.TheVariants.{LugLeaves, LugStays}
 use Rattle.kd_pictures.specs.declared.words.Word.TheVariants as words
@@ -11,10 +10,10 @@ use Rattle.kd_page.specs.Drum.{lugs_step}
 use Rattle.kd_page.specs.Page.{Page}
 use Rattle.kd_page.specs.Pins.{pins_step}
 use Rattle.kd_page.specs.PlugSteps.{in_step, out_step}
-use Rattle.kd_page.specs.Steps.{list_step}
 use Rattle.kd_pictures.specs.Template.{count_text, filled}
 use Rattle.kd_page.specs.Test.{test_step}
 use Rattle.kd_pictures.specs.Wheels.{both_bands, one_band}
+use Rattle.kd_page.specs.WheelSteps.{rings_step, seats_step}
 use Rattle.kd_page.specs.Windows.{letters_step, windows_step}
 use Rattle.kd_pictures.specs.Words.{is_converter, mark_text, model_name}
 
@@ -32,8 +31,7 @@ wheels_text page =
 
 unfoldable pub rotor_text : Page → List ℕ
 rotor_text page =
-    wheels_text page ++ list_step page Rings words.RingsOut words.Rings ++ list_step page Seats words.Seats words.Seats
-    ++ out_step page ++ in_step page ++ windows_step page
+    wheels_text page ++ rings_step page ++ seats_step page ++ out_step page ++ in_step page ++ windows_step page
 
 -- a Converter: what to compare first. Lugs stand before the settings at two of the marks.
 unfoldable pub compare_pins : Language → List ℕ

@@ -9,6 +9,7 @@ pub mod Windows
 pub mod Pins
 pub mod Drum
 pub mod Test
+pub mod WheelSteps
 pub mod DayPage
 pub mod PageOrder
 pub mod ShownBoxes

@@ -1,4 +1,4 @@
--- The heads of a page's steps, and steps that are lists of boxes.
+-- The heads of a page's steps, and lists of boxes.
 use Rattle.std.specs.Prelude.{decimal, ℕ, ◌==◌, if◌then◌else◌, List, [], ◌∷◌, ◌++◌}
 use Rattle.kd_state.specs.Machine.{model_of}
 use Rattle.kd_page.specs.declared.spots.Step.{Step}
@@ -7,7 +7,7 @@ use Rattle.kd_pictures.specs.declared.texts.TheConstants.{IDLE_STEP, LIST, LIST_
 use Rattle.kd_pictures.specs.Language.{text_in}
 use Rattle.kd_page.specs.Boxes.{boxes_at}
 use Rattle.kd_page.specs.Page.{Page}
-use Rattle.kd_page.specs.Spots.{count_at, step_spot}
+use Rattle.kd_page.specs.Spots.{step_spot}
 use Rattle.kd_pictures.specs.Template.{count_text, filled}
 use Rattle.kd_pictures.specs.Words.{model_name, word_text}
 
@@ -29,12 +29,6 @@ full_step_text page title count =
     word_text page.language title ∷ model_name (model_of page.after) ∷ decimal page.day ∷ [])
     else step_text page title count
 
-unfoldable pub list_text : Page → Step → Word → ℕ → List ℕ
-list_text page step title count =
-    step_text page title count ++ LIST.now ++ boxes_at page (step_spot step) ++ LIST_END.now
-
--- a list of the boxes of a step, under the title `title`; without boxes, the title `idle` alone
-abbrev pub list_step : Page → Step → Word → Word → List ℕ
-list_step page step title idle =
-    let count = count_at (step_spot step) page.settings in
-    if count == 0 then idle_text page idle else list_text page step title count
+-- a list of the boxes of a step, and the step's end
+unfoldable pub list_text : Page → Step → List ℕ
+list_text page step = LIST.now ++ boxes_at page (step_spot step) ++ LIST_END.now

@@ -175,7 +175,7 @@ fn slot_name(model: Model, slot: u8) -> Word
 }
 
 /// Which of `slots` holds the wheel; `None` if the wheel is in the box.
-fn slot_holding(machine: &Machine, wheel: Wheel, slots: &[u8]) -> Option<u8>
+pub(crate) fn slot_holding(machine: &Machine, wheel: Wheel, slots: &[u8]) -> Option<u8>
     ensures { result ≡ slot_holding machine.now wheel slots.now }
 {
     match slots {

@@ -8,14 +8,13 @@ use crate::drum::draw_lugs_step;
 use crate::page::Page;
 use crate::pins::draw_pins_step;
 use crate::plug_steps::{draw_in_step, draw_out_step};
-use crate::spots::Step;
-use crate::steps::draw_list_step;
 use crate::test::draw_test_step;
+use crate::wheel_steps::{draw_rings_step, draw_seats_step};
 use crate::windows::{draw_letters_step, draw_windows_step};
 use kd_pictures::template::{Value, fill_in};
 use kd_pictures::texts::{COMPARE_PIN, DAY, DAY_END};
 use kd_pictures::wheels::{draw_both, draw_one};
-use kd_pictures::words::{Mark, Word, is_converter};
+use kd_pictures::words::{Mark, is_converter};
 use kd_pictures::{Language, draw};
 use kd_tables::Sink;
 
@@ -63,8 +62,8 @@ fn draw_rotor_steps<W: Sink>(sink: &mut W, page: &Page<'_>)
     ensures { Draws W.taken W.has_failed sink.old sink.new (rotor_text page.now) }
 {
     draw_wheels(sink, page);
-    draw_list_step(sink, page, Step::Rings, Word::RingsOut, Word::Rings);
-    draw_list_step(sink, page, Step::Seats, Word::Seats, Word::Seats);
+    draw_rings_step(sink, page);
+    draw_seats_step(sink, page);
     draw_out_step(sink, page);
     draw_in_step(sink, page);
     draw_windows_step(sink, page);

@@ -12,6 +12,7 @@ mod plug_steps;
 mod spots;
 mod steps;
 mod test;
+mod wheel_steps;
 mod windows;
 
 pub use day_page::draw_day;

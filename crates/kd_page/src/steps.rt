@@ -1,7 +1,7 @@
-//! The heads of a page's steps, and steps that are lists of boxes.
+//! The heads of a page's steps, and lists of boxes.
 ghost use Rattle.std.specs.Prelude.{◌≡◌, ◌++◌};
 ghost use Rattle.kd_pictures.specs.Drawing.{Draws};
-ghost use Rattle.kd_page.specs.Steps.{full_step_text, idle_text, list_step, list_text, step_text};
+ghost use Rattle.kd_page.specs.Steps.{full_step_text, idle_text, list_text, step_text};
 
 use crate::boxes::draw_boxes;
 use crate::page::Page;
@@ -66,29 +66,10 @@ pub(crate) fn draw_full_step<W: Sink>(sink: &mut W, page: &Page<'_>, title: Word
     }
 }
 
-/// Writes a list of the boxes of `step` under the title `title`; without boxes, the title `idle` alone.
-pub(crate) fn draw_list_step<W: Sink>(
-    sink: &mut W,
-    page: &Page<'_>,
-    step: Step,
-    title: Word,
-    idle: Word,
-)
-    ensures { Draws W.taken W.has_failed sink.old sink.new (list_step page.now step title idle) }
+/// Writes a list of the boxes of `step`, and the step's end.
+pub(crate) fn draw_list<W: Sink>(sink: &mut W, page: &Page<'_>, step: Step)
+    ensures { Draws W.taken W.has_failed sink.old sink.new (list_text page.now step) }
 {
-    let count = page.count_at(&step.spot());
-    if count == 0 {
-        draw_idle(sink, page, idle);
-    } else {
-        draw_list(sink, page, step, title, count);
-    }
-}
-
-/// Writes a list of the `count` boxes of `step`.
-fn draw_list<W: Sink>(sink: &mut W, page: &Page<'_>, step: Step, title: Word, count: u8)
-    ensures { Draws W.taken W.has_failed sink.old sink.new (list_text page.now step title count) }
-{
-    draw_step(sink, page, title, count);
     draw(sink, LIST);
     draw_boxes(sink, page, &step.spot());
     draw(sink, LIST_END);

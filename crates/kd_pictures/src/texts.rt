@@ -265,6 +265,15 @@ pub const LIST: &str = "<ul>\n";
 
 pub const LIST_END: &str = "</ul>\n</section>\n";
 
+/// What goes into the box, before anything is put in.
+pub const BOXED: Text = ("<p>Take out, into the box:", "<p>Herausnehmen, in den Kasten:");
+
+pub const BOXED_WHEEL: &str = " <b>~</b>";
+
+pub const BOXED_REFLECTOR: Text = (" reflector <b>~</b>", " Umkehrwalze <b>~</b>");
+
+pub const BOXED_END: &str = "</p>\n";
+
 /// A box to tick, with the words for the hand and the setting's line.
 pub const RING: Text = (
     "<li><label><input type=checkbox> wheel <b>~</b>: set the ring to <b>~\u{a0}~</b> <code>~</code></label>\n",

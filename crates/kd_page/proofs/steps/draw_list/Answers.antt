@@ -7,5 +7,4 @@ use Rattle.kd_page.proofs.steps.draw_list.Goals as goal
 pub returns : goal.returns
 unfolding list_text
 returns g c =
-    joined (both (both c.draw_step.ensures c.draw.ensures) c.draw_boxes.ensures) c.draw-2.ensures
-    (grind (arith, common_steps))
+    joined (both c.draw.ensures c.draw_boxes.ensures) c.draw-2.ensures (grind (arith, common_steps))
