@@ -22,7 +22,8 @@ const SHOWN: usize = 40;
 
 /// The value at `key`, or a slip if there is none.
 pub fn value_at(alloc: Global, table: &Table, key: Key) -> Result<&Value, Slip>
-    ensures found { IfOk result (λ value. get_member (key_name key) (table_view table.now) ≡ Some (view value.now)) }
+    ensures found { IfOk result (λ value.
+        get_member (key_name key) (table_view table.now) ≡ Some (view value.now)) }
     ensures missing { OnErr result (get_member (key_name key) (table_view table.now) ≡ None) }
     ensures slip { IfErr result HasNoItem }
 {
