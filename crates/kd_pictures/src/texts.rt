@@ -266,7 +266,10 @@ pub const LIST: &str = "<ul>\n";
 pub const LIST_END: &str = "</ul>\n</section>\n";
 
 /// What goes into the box, before anything is put in.
-pub const BOXED: Text = ("<p>Take out, into the box:", "<p>Herausnehmen, in den Kasten:");
+pub const BOXED: Text = (
+    "<p>Take out, into the box:",
+    "<p>Herausnehmen, in den Kasten:",
+);
 
 pub const BOXED_WHEEL: &str = " <b>~</b>";
 
