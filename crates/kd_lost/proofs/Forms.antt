@@ -2,12 +2,15 @@
 use Rattle.std.proofs.Common.{◌≡◌, ◌∙◌, ℕ, suc, ◌+◌, ◌<◌, ◌≤◌, List, [], ◌∷◌, ◌++◌, length}
 use Rattle.std.proofs.Common.{drop, take, refl, sym, ap, arith, true, false, get_or, append_assoc}
 use Rattle.std.proofs.Common.{Option, Some, None, MatchOption, is_some, length-append}
+use Rattle.std.specs.Prelude.{IfSome}
 use Rattle.std.proofs.lemmas.List.{append-nil, drop_all, drop_more, take_all, take_more}
 use Rattle.kd_state.specs.SheetDay.{Day}
 use Rattle.kd_form.specs.declared.heading.Heading.{Heading}
 use Rattle.kd_lost.specs.declared.part.{DamagedPart.{DamagedPart}, PartNumbers.{PartNumbers}}
 use Rattle.kd_lost.specs.DamagedPart.{AreNumbersRead, IsDamagedHeading}
-use Rattle.kd_lost.specs.DamagedForm.{AreReadOf, IsReadOf, cut_at_heading_lines, parts_cut, ends_part}
+use Rattle.kd_lost.specs.DamagedForm.{AreReadOf, IsReadAt, IsReadOf, PlacedPart, cut_at_heading_lines, damaged_parts_of}
+use Rattle.kd_lost.specs.DamagedForm.{ends_part, form_parts, parts_cut, placed_from}
+use Rattle.kd_lost.specs.Lines.{heading_line, line_breaks}
 
 -- -------- cutting
 
@@ -62,14 +65,14 @@ cut_nowhere form i past before =
 
 -- -------- reading the parts
 
-pub read_more : (s : Day) (parts : List (List ℕ)) (reads : List DamagedPart) (part : List ℕ) (read : DamagedPart)
-    → AreReadOf s parts reads → IsReadOf s part read → AreReadOf s (parts ++ part ∷ []) (reads ++ read ∷ [])
+pub read_more : (s : Day) (parts : List PlacedPart) (reads : List DamagedPart) (part : PlacedPart) (read : DamagedPart)
+    → AreReadOf s parts reads → IsReadAt s part read → AreReadOf s (parts ++ part ∷ []) (reads ++ read ∷ [])
 read_more s [] [] part read are is = (is, tt)
 read_more s [] (other ∷ reads) part read are is = absurd are
 read_more s (one ∷ parts) [] part read are is = absurd are
 read_more s (one ∷ parts) (other ∷ reads) part read are is = (are.0, read_more s parts reads part read are.1 is)
 
-pub as_many_read : (s : Day) (parts : List (List ℕ)) (reads : List DamagedPart) → AreReadOf s parts reads
+pub as_many_read : (s : Day) (parts : List PlacedPart) (reads : List DamagedPart) → AreReadOf s parts reads
     → length parts ≡ length reads
 as_many_read s [] [] are = refl
 as_many_read s [] (other ∷ reads) are = absurd are
@@ -88,15 +91,57 @@ no_heading_read s line None told none = told
 no_heading_read s line (Some given) told none = absurd (cc)
 
 -- what is left after one more part
-pub left_on : {B : Type 0} (now : B → List ℕ) (next : Option B) (all done : List (List ℕ)) (rest part : List ℕ)
-    → all ≡ done ++ parts_cut rest → part ≡ (cut_at_heading_lines rest).0
+pub left_on : {B : Type 0} (now : B → List ℕ) (next : Option B) (all done : List PlacedPart) (line breaks size : ℕ)
+    (rest part : List ℕ) → all ≡ done ++ placed_from line (parts_cut rest) → line + length rest ≤ size
+    → part ≡ (cut_at_heading_lines rest).0
     → MatchOption next ((cut_at_heading_lines rest).1 ≡ []) (λ more. (cut_at_heading_lines rest).1 ≡ parts_cut (now more))
-    → MatchOption next (all ≡ done ++ part ∷ []) (λ more. all ≡ (done ++ part ∷ []) ++ parts_cut (now more))
-left_on now None all done rest part is first others = is ∙ λ i. done ++ sym first i ∷ others i
-left_on now (Some more) all done rest part is first others =
-    is ∙ (λ i. done ++ sym first i ∷ others i) ∙ sym (append_assoc done (part ∷ []) (parts_cut (now more)))
+    → IfSome next (λ more. length part + length (now more) ≡ length rest) → breaks ≡ line_breaks part
+    → breaks ≤ length part
+    → MatchOption next (all ≡ done ++ record { bytes = part; line = line } ∷ [])
+    (λ more. (all ≡ (done ++ record { bytes = part; line = line } ∷ [])
+    ++ placed_from (line + breaks) (parts_cut (now more)))
+    × (line + breaks + length (now more) ≤ size))
+left_on now None all done line breaks size rest part is few first others joined ends less =
+    is ∙ λ i. done ++ record { bytes = sym first i; line = line }
+    ∷ placed_from (line + line_breaks (cut_at_heading_lines rest).0) (others i)
+left_on now (Some more) all done line breaks size rest part is few first others joined ends less = (
+  is ∙ (λ i. done ++ record { bytes = sym first i; line = line }
+      ∷ placed_from (line + line_breaks (sym first i)) (others i))
+      ∙ sym (append_assoc done (record { bytes = part; line = line } ∷ [])
+      (placed_from (line + line_breaks part) (parts_cut (now more))))
+      ∙ (λ i. (done ++ record { bytes = part; line = line } ∷ [])
+      ++ placed_from (line + sym ends i) (parts_cut (now more))),
+  omega (arith, few, joined, less),
+)
 
-pub too_many : (s : Day) (all done : List (List ℕ)) (reads : List DamagedPart) (rest : List ℕ) → AreReadOf s done reads
-    → all ≡ done ++ parts_cut rest → length reads ≡ 255 → 255 < length all
-too_many s all done reads rest are is many =
-    omega (arith, as_many_read s done reads are, ap length is, length-append done (parts_cut rest), many)
+pub too_many : (s : Day) (all done : List PlacedPart) (reads : List DamagedPart) (line : ℕ) (rest : List ℕ)
+    → AreReadOf s done reads → all ≡ done ++ placed_from line (parts_cut rest) → length reads ≡ 255 → 255 < length all
+too_many s all done reads line rest are is many =
+    omega (
+      arith,
+      as_many_read s done reads are,
+      ap length is,
+      length-append done (placed_from line (parts_cut rest)),
+      many,
+    )
+
+-- -------- the parts, wherever they stand
+
+-- Each part is read by itself.
+abbrev pub AreAllReadOf : Day → List (List ℕ) → List DamagedPart → Type 0
+AreAllReadOf s [] [] = Unit {0}
+AreAllReadOf s (part ∷ parts) (read ∷ reads) = IsReadOf s part read × AreAllReadOf s parts reads
+AreAllReadOf s [] (read ∷ reads) = ⊥
+AreAllReadOf s (part ∷ parts) [] = ⊥
+
+all_read_from : (s : Day) (line : ℕ) (parts : List (List ℕ)) (reads : List DamagedPart)
+    → AreReadOf s (placed_from line parts) reads → AreAllReadOf s parts reads
+all_read_from s line [] [] are = tt
+all_read_from s line [] (read ∷ reads) are = absurd are
+all_read_from s line (part ∷ parts) [] are = absurd are
+all_read_from s line (part ∷ parts) (read ∷ reads) are =
+    (are.0.0, all_read_from s (line + line_breaks part) parts reads are.1)
+
+pub all_read : (s : Day) (form : List ℕ) (reads : List DamagedPart) → AreReadOf s (damaged_parts_of form) reads
+    → AreAllReadOf s (form_parts form) reads
+all_read s form reads are = all_read_from s (heading_line form) (form_parts form) reads are

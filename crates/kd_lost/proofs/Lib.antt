@@ -11,4 +11,5 @@ pub mod WholeParts
 pub mod Forms
 pub mod Tidying
 pub mod PartLines
+pub mod ShortLines
 pub mod WholeForms

@@ -7,7 +7,8 @@ use Rattle.std.specs.Str.{bytes_eq}
 use Rattle.kd_lost.specs.HeadingLine.{is_heading_line}
 use Rattle.kd_lost.specs.DamagedForm.{cut_at_heading_lines, parts_cut}
 use Rattle.kd_lost.specs.Tidy.{later_heading, tidied, without_mark}
-use Rattle.kd_lost.specs.PartLines.{line_breaks, lines_from}
+use Rattle.kd_lost.specs.Lines.{line_breaks}
+use Rattle.kd_lost.specs.PartLines.{lines_from}
 
 -- -------- nothing is added to a form
 

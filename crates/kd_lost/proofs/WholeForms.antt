@@ -18,14 +18,14 @@ use Rattle.kd_form.proofs.Headings.{BeginsHeading-bytes, at_cut, begins_more, be
 use Rattle.kd_form.proofs.Headings.{no_cut}
 use Rattle.kd_lost.specs.declared.{part.DamagedPart.{DamagedPart}}
 use Rattle.kd_lost.specs.HeadingLine.{has_digit_line, is_heading_line}
-use Rattle.kd_lost.specs.DamagedForm.{AreReadOf, AsItStands, IsMeant, IsReadOf, Respaced, cut_at_heading_lines}
+use Rattle.kd_lost.specs.DamagedForm.{AsItStands, IsMeant, IsReadOf, Respaced, cut_at_heading_lines}
 use Rattle.kd_lost.specs.DamagedForm.{ends_part, parts_cut, shown_byte}
 use Rattle.kd_lost.specs.DamagedPart.{IsDamagedHeading, IsDamagedTextAnswer, first_line}
 use Rattle.kd_lost.specs.Tidy.{from_heading, without_mark}
 use Rattle.kd_lost.proofs.Parts.{lines_there}
 use Rattle.kd_lost.specs.DamagedForm.{letters_in, shown_letters}
 use Rattle.kd_lost.specs.Laws.{FormsReadAreShownWhole, FormsReadAreTidy, FormsReadHaveTheirParts, IsReadWell}
-use Rattle.kd_lost.proofs.Forms.{an_end, no_end}
+use Rattle.kd_lost.proofs.Forms.{AreAllReadOf, all_read, an_end, no_end}
 use Rattle.kd_lost.proofs.WholeParts.{shown_whole, whole_part}
 
 -- -------- lines without digits
@@ -245,7 +245,7 @@ as_it_stands s p part read one is of =
 
 module _ (s : Day) where
   parts_shown : (p : PartStart) (parts : List (List ℕ)) (letters : List ℕ) (reads : List DamagedPart)
-      → ReadsPartsTo s (IsAnswerAt s (Ok tt)) p parts letters → AreReadOf s parts reads
+      → ReadsPartsTo s (IsAnswerAt s (Ok tt)) p parts letters → AreAllReadOf s parts reads
       → All IsReadWell reads × (shown_letters reads ≡ map Some letters)
   parts_shown p [] letters [] read are = (All-nil IsReadWell, sym (ap (map Some) read.1))
   parts_shown p [] letters (one ∷ reads) read are = absurd are
@@ -265,7 +265,7 @@ pub forms_shown : FormsReadAreShownWhole
 forms_shown s form text reads is are =
     let (parts, (letters, read, made), joined) = is in
     let shown = parts_shown s first_part_start (parts_of form) letters reads read
-    (subst (λ l. AreReadOf s l reads) (same_parts s form text is) are) in (
+    (subst (λ l. AreAllReadOf s l reads) (same_parts s form text is) (all_read s form reads are)) in (
       shown.0,
       joined ∙ ap (λ l. l ++ 10 ∷ []) (made ∙ sym (shown_known s letters) ∙ ap (map (shown_byte (space_letter s))) (sym shown.1)),
     )

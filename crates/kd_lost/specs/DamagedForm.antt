@@ -2,7 +2,7 @@
 -- later line that is taken for a heading.
 -- Code: the form is cut part by part.
 -- Test: damaged_forms_are_read
-use Rattle.std.specs.Prelude.{◌≡◌, ℕ, ◌<◌, ◌==◌, ◌&&◌, Bool, if◌then◌else◌, List, [], ◌∷◌}
+use Rattle.std.specs.Prelude.{◌≡◌, ℕ, ◌+◌, ◌<◌, ◌==◌, ◌&&◌, All, Bool, if◌then◌else◌, List, [], ◌∷◌}
 use Rattle.std.specs.Prelude.{◌≢◌, ◌↔◌, IsTrue, length, IfOk, Option, None, Some, Result, Ok, Err}
 use Rattle.std.specs.List.{flat_map}
 use Rattle.kd_form.specs.FormText.{plaintext_byte}
@@ -15,8 +15,10 @@ use Rattle.kd_lost.specs.declared.form.DamagedFormFault.TheVariants as faults
 use Rattle.kd_lost.specs.declared.part.DamagedPart.{DamagedPart}
 use Rattle.kd_lost.specs.DamagedPart.{AreNumbersRead, IsDamagedHeading, IsDamagedTextAnswer, IsPartShown, body_of}
 use Rattle.kd_lost.specs.DamagedPart.{first_line}
-use Rattle.kd_lost.specs.HeadingLine.{is_heading_line}
-use Rattle.kd_lost.specs.Lost.{received_letters}
+use Rattle.kd_lost.specs.HeadingLine.{is_heading_line, is_order}
+use Rattle.kd_lost.specs.Lines.{heading_line, line_breaks}
+use Rattle.kd_lost.specs.Lost.{meant_byte, received_letters}
+use Rattle.kd_lost.specs.ShortLine.{short_line}
 use Rattle.kd_lost.specs.Tidy.{respaced, tidied}
 use Rattle.kd_lost.specs.WrongSign.{IsFirstWrongSign}
 
@@ -38,8 +40,22 @@ abbrev pub parts_cut : List ℕ → List (List ℕ)
 parts_cut bytes = (cut_at_heading_lines bytes).0 ∷ (cut_at_heading_lines bytes).1
 
 -- all parts of a damaged form: what stands before its first heading is passed over
-abbrev pub damaged_parts_of : List ℕ → List (List ℕ)
-damaged_parts_of form = parts_cut (tidied form)
+abbrev pub form_parts : List ℕ → List (List ℕ)
+form_parts form = parts_cut (tidied form)
+
+-- a part, and the line of the form on which it begins
+pub record PlacedPart : Type 0 where
+  pub bytes : List ℕ
+  pub line : ℕ
+
+-- the parts and their lines, if the first begins on line `line`
+abbrev pub placed_from : ℕ → List (List ℕ) → List PlacedPart
+placed_from line [] = []
+placed_from line (part ∷ parts) = record { bytes = part; line = line } ∷ placed_from (line + line_breaks part) parts
+
+-- all parts of a damaged form, with their lines
+abbrev pub damaged_parts_of : List ℕ → List PlacedPart
+damaged_parts_of form = placed_from (heading_line form) (form_parts form)
 
 -- ---- What is read of them.
 
@@ -59,12 +75,19 @@ pub record IsReadOf (s : Day) (part : List ℕ) (read : DamagedPart) : Type 0 wh
   pub text : IsDamagedTextAnswer s meant read.text
   pub shown : IfOk read.text (IsPartShown s meant)
   pub wrong_sign : IsFirstWrongSign (body_of meant) read.wrong_sign
+  pub short_line : read.short_line ≡ short_line (body_of meant)
   pub respaced : IsTrue read.respaced ↔ (meant ≢ part)
+  pub as_spelled : IsTrue read.as_spelled ↔ All (λ byte. meant_byte byte ≡ byte) meant
+  pub is_order : read.is_order ≡ is_order meant
+
+-- `read` is what is read of `part`, with its line.
+abbrev pub IsReadAt : Day → PlacedPart → DamagedPart → Type 0
+IsReadAt s part read = IsReadOf s part.bytes read × (read.line ≡ part.line)
 
 -- Each part is read by itself.
-abbrev pub AreReadOf : Day → List (List ℕ) → List DamagedPart → Type 0
+abbrev pub AreReadOf : Day → List PlacedPart → List DamagedPart → Type 0
 AreReadOf s [] [] = Unit {0}
-AreReadOf s (part ∷ parts) (read ∷ reads) = IsReadOf s part read × AreReadOf s parts reads
+AreReadOf s (part ∷ parts) (read ∷ reads) = IsReadAt s part read × AreReadOf s parts reads
 AreReadOf s [] (read ∷ reads) = ⊥
 AreReadOf s (part ∷ parts) [] = ⊥
 
@@ -84,6 +107,6 @@ shown_byte for_space None = 63
 shown_byte for_space (Some letter) = plaintext_byte for_space letter
 
 -- Why a form with these parts isn't read: it has more than 255, or memory is short.
-pub data IsFormFault (parts : List (List ℕ)) (fault : DamagedFormFault) : Type 0 where
+pub data IsFormFault (parts : List PlacedPart) (fault : DamagedFormFault) : Type 0 where
   TooMany : 255 < length parts → fault ≡ faults.TooManyParts → IsFormFault parts fault
   NoMemory : fault ≡ faults.NoMemory → IsFormFault parts fault

@@ -1,7 +1,7 @@
 -- Which lines of a damaged form are taken for headings: those that begin like `PART`, and have a digit or a slash. So a
 -- wrong sign in a line of a body begins no part, and a heading begins one even if some of its signs are lost or wrong.
 -- Test: damaged_forms_are_read
-use Rattle.std.specs.Prelude.{codes, ℕ, ◌+◌, ◌==◌, ◌&&◌, ◌||◌, nat_le, Bool, false, if◌then◌else◌, List, [], ◌∷◌}
+use Rattle.std.specs.Prelude.{codes, ℕ, ◌+◌, ◌==◌, ◌&&◌, ◌||◌, nat_le, Bool, false, true, if◌then◌else◌, List, [], ◌∷◌}
 use Rattle.std.specs.Prelude.{Option, None, Some, not, slice_get}
 use Rattle.kd_tables.specs.Text.{is_capital}
 use Rattle.kd_lost.specs.Lost.{meant_byte, is_lost}
@@ -59,3 +59,24 @@ has_digit_line (byte ∷ bytes) =
 abbrev pub is_heading_line : List ℕ → Bool
 is_heading_line bytes =
     (begins_with_part (after_blanks bytes) || begins_with_three (after_blanks bytes)) && has_digit_line bytes
+
+-- ---- An order in place of a form.
+
+-- whether a line ends at this place
+abbrev pub ends_line : Option ℕ → Bool
+ends_line None = true
+ends_line (Some byte) = byte == 10 || byte == 13
+
+-- whether `bytes` begin with the line `TEXT`
+abbrev pub is_text_line : List ℕ → Bool
+is_text_line bytes = nat_le 4 (right_signs (codes "TEXT") bytes) && ends_line (slice_get bytes 4)
+
+-- whether a line of `bytes` but the first is `TEXT`
+abbrev pub has_text_line : List ℕ → Bool
+has_text_line [] = false
+has_text_line (byte ∷ bytes) = if byte == 10 && is_text_line bytes then true else has_text_line bytes
+
+-- whether `bytes` are an order: they begin with a line of keys, which has no digit, and have the line `TEXT`
+abbrev pub is_order : List ℕ → Bool
+is_order bytes =
+    begins_with_part (after_blanks bytes) && not (has_digit_line bytes) && has_text_line bytes

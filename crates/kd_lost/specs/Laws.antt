@@ -11,7 +11,8 @@ use Rattle.kd_lost.specs.declared.damage.PartDamage.{PartDamage}
 use Rattle.kd_lost.specs.declared.damaged_text.{DamagedText.{DamagedText}, LostCopies.{LostCopies}}
 use Rattle.kd_lost.specs.declared.damaged_text.GroupTest.TheVariants as tests
 use Rattle.kd_lost.specs.declared.part.{DamagedPart.{DamagedPart}, PartNumbers.{PartNumbers}}
-use Rattle.kd_lost.specs.DamagedForm.{AreReadOf, damaged_parts_of, shown_byte, shown_letters}
+use Rattle.kd_lost.specs.DamagedForm.{AreReadOf, damaged_parts_of, form_parts, shown_byte}
+use Rattle.kd_lost.specs.DamagedForm.{shown_letters}
 use Rattle.kd_lost.specs.DamagedPart.{AreNumbersRead, IsDamagedTextAnswer, first_line}
 use Rattle.kd_lost.specs.Tidy.{tidied}
 
@@ -50,7 +51,7 @@ PartsReadHaveNumbers =
 -- The parts of a form that `receive` reads are those that it reads.
 abbrev pub FormsReadHaveTheirParts : Type 0
 FormsReadHaveTheirParts =
-    (s : Day) (form text : List ℕ) → IsTextOf s form text → damaged_parts_of form ≡ parts_of form
+    (s : Day) (form text : List ℕ) → IsTextOf s form text → form_parts form ≡ parts_of form
 
 -- A form that `receive` reads has nothing before its first heading that is passed over.
 abbrev pub FormsReadAreTidy : Type 0

@@ -6,6 +6,8 @@ pub mod DamagedText
 pub mod DamagedPart
 pub mod Tidy
 pub mod WrongSign
+pub mod ShortLine
+pub mod Lines
 pub mod DamagedForm
 pub mod PartLines
 pub mod Laws

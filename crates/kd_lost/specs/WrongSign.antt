@@ -1,5 +1,5 @@
 -- The first wrong sign of a part's body: a byte that is neither a letter nor a lost one, nor a blank or part of a line end.
--- It is named by its line, and by its place among the letters of this line.
+-- It is named by its line, by its place among the letters of this line, and by its place among all letters of the body.
 -- Test: wrong_signs_are_named
 use Rattle.std.specs.Prelude.{◌≡◌, ◌⊎◌, ℕ, ◌+◌, ◌==◌, IsTrue, IsFalse, List, [], ◌∷◌, ◌++◌, length, All}
 use Rattle.std.specs.Prelude.{Option, MatchOption}
@@ -25,12 +25,14 @@ pub record IsReadTo (front : List ℕ) (number letter : ℕ) : Type 0 where
   pub on_line : number ≡ count_by (λ byte. byte == 10) front + 2
   pub at_letter : letter ≡ length (received_letters line) + 1
 
--- `sign` is the first byte of `body` that may not be in a body, with its line and its place among the letters of the line.
+-- `sign` is the first byte of `body` that may not be in a body, with its line, and its places among the letters of the
+-- line and among those of the body.
 pub record IsWrongSign (body : List ℕ) (sign : WrongSign) : Type 0 where
   pub front : List ℕ
   pub rest : List ℕ
   pub joined : body ≡ front ++ sign.byte ∷ rest
   pub before : IsReadTo front sign.line sign.letter
+  pub at_place : sign.place ≡ length (received_letters front) + 1
   pub wrong : IsFalse (is_body_byte sign.byte)
 
 -- `sign` is the first wrong sign of `body`, if it has one.

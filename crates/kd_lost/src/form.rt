@@ -5,6 +5,7 @@ ghost use Rattle.kd_lost.specs.DamagedForm.{damaged_parts_of, parts_cut};
 ghost use Rattle.kd_lost.specs.DamagedForm.{ends_part};
 
 use crate::heading_line::is_heading_line;
+use crate::lines::{heading_line, line_breaks};
 use crate::part::{DamagedPart, read_damaged_part};
 use crate::tidy::{respaced, tidied};
 use kd_state::SheetDay;
@@ -37,21 +38,43 @@ pub fn read_damaged_form(
     ensures few { IfOk result (λ parts. length parts.items ≤ 255) }
 {
     let mut parts = Vec::new(alloc);
+    let mut line = heading_line(form);
     let mut left = Some(tidied(form));
     while let Some(rest) = left {
         if parts.len() == MOST_PARTS {
             return Err(DamagedFormFault::TooManyParts);
         }
         let (part, next) = split_part(rest);
-        let Ok(read) = read_as_meant(alloc, day, part) else {
+        let Ok(read) = read_placed(alloc, day, part, line) else {
             return Err(DamagedFormFault::NoMemory);
         };
         let Ok(()) = parts.push(read) else {
             return Err(DamagedFormFault::NoMemory);
         };
+        line += line_breaks(part);
         left = next;
     }
     Ok(parts)
+}
+
+/// Reads `part`, which begins on line `line` of its form.
+fn read_placed(
+    alloc: Global,
+    day: &SheetDay,
+    part: &[u8],
+    line: usize,
+) -> Result<DamagedPart, DamagedFormFault>
+    ensures { MatchResult result
+        (λ read. IsReadOf day.now part.now read × (read.line ≡ line))
+        (λ fault. fault ≡ DamagedFormFault.NoMemory) }
+{
+    match read_as_meant(alloc, day, part) {
+        Ok(mut read) => {
+            read.line = line;
+            Ok(read)
+        }
+        Err(fault) => Err(fault),
+    }
 }
 
 /// Reads `part`; if its first line isn't a heading, without the blanks there that mean nothing.

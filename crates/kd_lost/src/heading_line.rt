@@ -2,6 +2,7 @@
 ghost use Rattle.std.specs.Prelude.{◌≡◌, ◌≤◌, length, nat_le};
 ghost use Rattle.kd_lost.specs.HeadingLine.{after_blanks, begins_with_part, begins_with_three, fitting_signs};
 ghost use Rattle.kd_lost.specs.HeadingLine.{has_digit_line, has_three, is_blank, is_heading_line, is_letter, right_signs};
+ghost use Rattle.kd_lost.specs.HeadingLine.{ends_line, has_text_line, is_order, is_text_line};
 
 use crate::received::{is_lost, meant_byte};
 
@@ -126,4 +127,41 @@ fn has_digit_line(bytes: &[u8]) -> bool
         }
     }
     false
+}
+
+/// Whether `bytes` are an order: they begin with a line of keys, which has no digit, and have the line `TEXT`.
+pub(crate) fn is_order(bytes: &[u8]) -> bool
+    ensures { result ≡ is_order bytes.now }
+{
+    begins_with_part(after_blanks(bytes)) && !has_digit_line(bytes) && has_text_line(bytes)
+}
+
+/// Whether a line of `bytes` but the first is `TEXT`.
+fn has_text_line(bytes: &[u8]) -> bool
+    ensures { result ≡ has_text_line bytes.now }
+{
+    for (index, byte) in bytes.iter().enumerate() {
+        let (_, rest) = bytes.split_at(index + 1);
+        if *byte == b'\n' && is_text_line(rest) {
+            return true;
+        }
+    }
+    false
+}
+
+/// Whether `bytes` begin with the line `TEXT`.
+fn is_text_line(bytes: &[u8]) -> bool
+    ensures { result ≡ is_text_line bytes.now }
+{
+    are_right(4, b"TEXT", bytes) && ends_line(bytes.get(4).copied())
+}
+
+/// Whether a line ends at this place.
+fn ends_line(byte: Option<u8>) -> bool
+    ensures { result ≡ ends_line byte }
+{
+    match byte {
+        Some(byte) => byte == b'\n' || byte == b'\r',
+        None => true,
+    }
 }

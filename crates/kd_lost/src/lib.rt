@@ -14,6 +14,7 @@ pub mod laws;
 mod lines;
 mod part;
 mod received;
+mod short_line;
 mod tidy;
 mod warnings;
 mod wrong_sign;
@@ -23,5 +24,6 @@ pub use damaged_text::{DamagedText, GroupTest, LostCopies, PinTextKeys, TextKeys
 pub use form::{DamagedFormFault, read_damaged_form};
 pub use lines::part_lines;
 pub use part::{DamagedPart, PartNumbers, read_damaged_part};
+pub use short_line::ShortLine;
 pub use tidy::is_tidy;
 pub use wrong_sign::WrongSign;

@@ -1,6 +1,8 @@
 //! On which line of a form each of its parts begins.
-ghost use Rattle.std.specs.Prelude.{◌≡◌, ◌≤◌, length, MatchResult};
-ghost use Rattle.kd_lost.specs.PartLines.{line_breaks, part_lines};
+ghost use Rattle.std.specs.Prelude.{◌≡◌, ◌+◌, ◌≤◌, length, MatchResult};
+ghost use Rattle.kd_lost.specs.Lines.{heading_line, line_breaks};
+ghost use Rattle.kd_lost.specs.PartLines.{part_lines};
+ghost use Rattle.kd_lost.specs.Tidy.{tidied};
 
 use crate::form::{DamagedFormFault, split_part};
 use crate::tidy::tidied;
@@ -14,12 +16,9 @@ pub fn part_lines(alloc: Global, form: &[u8]) -> Result<Vec<usize>, DamagedFormF
         (λ lines. lines.items ≡ part_lines form.now)
         (λ fault. fault ≡ DamagedFormFault.NoMemory) }
 {
-    let parts = tidied(form);
-    prove!(parts.len() <= form.len());
-    let (before, _) = form.split_at(form.len() - parts.len());
-    let mut line = line_breaks(before) + 1;
+    let mut line = heading_line(form);
     let mut lines = Vec::new(alloc);
-    let mut left = Some(parts);
+    let mut left = Some(tidied(form));
     while let Some(rest) = left {
         let Ok(()) = lines.push(line) else {
             return Err(DamagedFormFault::NoMemory);
@@ -31,8 +30,19 @@ pub fn part_lines(alloc: Global, form: &[u8]) -> Result<Vec<usize>, DamagedFormF
     Ok(lines)
 }
 
+/// The line on which the first part of `form` begins, counted from 1.
+pub(crate) fn heading_line(form: &[u8]) -> usize
+    ensures line { result ≡ heading_line form.now }
+    ensures within { result + length (tidied form.now) ≤ length form.now + 1 }
+{
+    let parts = tidied(form);
+    prove!(parts.len() <= form.len());
+    let (before, _) = form.split_at(form.len() - parts.len());
+    line_breaks(before) + 1
+}
+
 /// How many lines end in `bytes`.
-fn line_breaks(bytes: &[u8]) -> usize
+pub(crate) fn line_breaks(bytes: &[u8]) -> usize
     ensures breaks { result ≡ line_breaks bytes.now }
     ensures few { result ≤ length bytes.now }
 {

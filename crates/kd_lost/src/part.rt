@@ -1,17 +1,23 @@
 //! Reads a part of a form in which letters were lost.
-ghost use Rattle.std.specs.Prelude.{◌≡◌, MatchResult, IfOk, false, length};
+ghost use Rattle.std.specs.Prelude.{◌≡◌, ◌↔◌, All, IsTrue, MatchResult, IfOk, false, length};
 ghost use Rattle.kd_state.specs.LineWords.{IsWithout};
 ghost use Rattle.kd_form.specs.FormParts.{IsHeading};
 ghost use Rattle.kd_lost.specs.DamagedPart.{AreNumbersRead, IsDamagedBodyAnswer, IsDamagedLinesAnswer};
 ghost use Rattle.kd_lost.specs.DamagedPart.{IsHeadedPartAnswer};
 ghost use Rattle.kd_lost.specs.DamagedPart.{IsDamagedTextAnswer, IsPartShown, body_of, first_line, numbers_of};
-ghost use Rattle.kd_lost.specs.Lost.{received_letters};
+ghost use Rattle.kd_lost.specs.HeadingLine.{is_order};
+ghost use Rattle.kd_lost.specs.Lost.{meant_byte, received_letters};
+ghost use Rattle.kd_lost.specs.ShortLine.{short_line};
 ghost use Rattle.kd_lost.specs.WrongSign.{IsFirstWrongSign};
 
 use crate::body::{decipher_pin, decipher_rotor};
 use crate::damage::PartDamage;
 use crate::damaged_text::DamagedText;
-use crate::received::{are_body_bytes, filled_line, has_lost_byte, letter_count, received_letters};
+use crate::heading_line::is_order;
+use crate::received::{
+    are_body_bytes, filled_line, has_lost_byte, is_spelled, letter_count, received_letters,
+};
+use crate::short_line::{ShortLine, first_short_line};
 use crate::wrong_sign::{WrongSign, first_wrong_sign};
 use kd_form::day_machine::slots_of;
 use kd_form::heading::Heading;
@@ -29,8 +35,16 @@ pub struct DamagedPart {
     pub text: Result<DamagedText, PartDamage>,
     /// The first wrong sign of the body, if it has one.
     pub wrong_sign: Option<WrongSign>,
+    /// The first line of the body that isn't full, and isn't the last, if there is one.
+    pub short_line: Option<ShortLine>,
     /// Whether blanks in the part's first line were passed over, since it is no heading with them.
     pub respaced: bool,
+    /// Whether each byte of the part is meant as it stands: none is a small letter or a tab.
+    pub as_spelled: bool,
+    /// Whether the part is an order in place of a form.
+    pub is_order: bool,
+    /// The line of the form on which the part begins, counted from 1; 1, if the part is read by itself.
+    pub line: usize,
 }
 
 /// The numbers in the heading of a part.
@@ -54,7 +68,28 @@ pub fn read_damaged_part(day: &SheetDay, part: &[u8]) -> DamagedPart
     ensures text { IsDamagedTextAnswer day.now part.now result.text }
     ensures shown { IfOk result.text (IsPartShown day.now part.now) }
     ensures wrong_sign { IsFirstWrongSign (body_of part.now) result.wrong_sign }
+    ensures short_line { result.short_line ≡ short_line (body_of part.now) }
     ensures as_it_stands { result.respaced ≡ false }
+    ensures as_spelled { IsTrue result.as_spelled ↔ All (λ byte. meant_byte byte ≡ byte) part.now }
+    ensures is_order { result.is_order ≡ is_order part.now }
+    ensures line { result.line ≡ 1 }
+{
+    let mut read = read_split_part(day, part);
+    read.as_spelled = is_spelled(part);
+    read.is_order = is_order(part);
+    read
+}
+
+/// Reads a part, but for how it is spelled, and whether it is an order.
+fn read_split_part(day: &SheetDay, part: &[u8]) -> DamagedPart
+    ensures numbers { AreNumbersRead day.now (first_line part.now) result.numbers }
+    ensures came { result.came ≡ length (received_letters (body_of part.now)) }
+    ensures text { IsDamagedTextAnswer day.now part.now result.text }
+    ensures shown { IfOk result.text (IsPartShown day.now part.now) }
+    ensures wrong_sign { IsFirstWrongSign (body_of part.now) result.wrong_sign }
+    ensures short_line { result.short_line ≡ short_line (body_of part.now) }
+    ensures as_it_stands { result.respaced ≡ false }
+    ensures line { result.line ≡ 1 }
 {
     match split_once(part, b'\n') {
         Some((line, body)) => read_lines(day, line, body),
@@ -69,17 +104,24 @@ fn read_lines(day: &SheetDay, line: &[u8], body: &[u8]) -> DamagedPart
     ensures came { result.came ≡ length (received_letters body.now) }
     ensures text { IsDamagedLinesAnswer day.now line.now body.now result.text }
     ensures wrong_sign { IsFirstWrongSign body.now result.wrong_sign }
+    ensures short_line { result.short_line ≡ short_line body.now }
     ensures as_it_stands { result.respaced ≡ false }
+    ensures line { result.line ≡ 1 }
 {
     let came = letter_count(body);
     let wrong_sign = first_wrong_sign(body);
+    let short_line = first_short_line(body);
     let Some(heading) = heading_of_ended_line(day, filled_line(line).as_slice()) else {
         return DamagedPart {
             numbers: None,
             came,
             text: Err(PartDamage::HeadingDamaged),
             wrong_sign,
+            short_line,
             respaced: false,
+            as_spelled: true,
+            is_order: false,
+            line: 1,
         };
     };
     DamagedPart {
@@ -87,7 +129,11 @@ fn read_lines(day: &SheetDay, line: &[u8], body: &[u8]) -> DamagedPart
         came,
         text: read_body_after(day, &heading, line, body),
         wrong_sign,
+        short_line,
         respaced: false,
+        as_spelled: true,
+        is_order: false,
+        line: 1,
     }
 }
 

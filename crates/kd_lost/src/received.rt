@@ -1,5 +1,5 @@
 //! The bytes of a part as they were received: lost letters, small letters, and what a body's bytes give.
-ghost use Rattle.std.specs.Prelude.{◌≡◌, ◌++◌, ◌↔◌, List, map, take, All, Any, Contains, None, IsTrue, IsFalse, is_some};
+ghost use Rattle.std.specs.Prelude.{◌≡◌, ◌≤◌, ◌++◌, ◌↔◌, List, length, map, take, All, Any, Contains, None, IsTrue, IsFalse, is_some};
 ghost use Rattle.std.specs.List.{count_by};
 ghost use Rattle.std.specs.Option.{option_to_list};
 ghost use Rattle.std.specs.Bool.{OnTrue, OnFalse};
@@ -67,6 +67,13 @@ pub(crate) fn has_lost_byte(line: &[u8]) -> bool
     false
 }
 
+/// Whether each byte of `part` is meant as it stands: none is a small letter or a tab.
+pub(crate) fn is_spelled(part: &[u8]) -> bool
+    ensures { IsTrue result ↔ All (λ byte. meant_byte byte ≡ byte) part.now }
+{
+    part.iter().all(|byte| meant_byte(*byte) == *byte)
+}
+
 /// Whether each byte of `body` may be in a body.
 pub(crate) fn are_body_bytes(body: &[u8]) -> bool
     ensures { IsTrue result ↔ All (λ byte. IsTrue (is_body_byte byte)) body.now }
@@ -95,7 +102,8 @@ pub(crate) fn received_letters(body: &[u8]) -> ArrayVec<Option<Letter>, 525>
 
 /// How many letters a body has, with the lost ones.
 pub(crate) fn letter_count(body: &[u8]) -> usize
-    ensures { result ≡ count_by (λ byte. is_some (received_letter byte)) body.now }
+    ensures count { result ≡ count_by (λ byte. is_some (received_letter byte)) body.now }
+    ensures few { result ≤ length body.now }
 {
     body.iter().filter(|byte| is_received(byte)).count()
 }

@@ -1,9 +1,9 @@
 //! `WrongSign`: the first sign of a body that is neither a letter nor a lost one.
-ghost use Rattle.std.specs.Prelude.{◌≡◌, ◌+◌, ◌<◌, ◌^◌, ◌==◌, if◌then◌else◌, is_some};
-ghost use Rattle.kd_lost.specs.Lost.{received_letter};
+ghost use Rattle.std.specs.Prelude.{◌≡◌, ◌+◌, ◌<◌, ◌≤◌, ◌^◌, ◌==◌, if◌then◌else◌, is_some, length, take};
+ghost use Rattle.kd_lost.specs.Lost.{received_letter, received_letters};
 ghost use Rattle.kd_lost.specs.WrongSign.{IsFirstWrongSign};
 
-use crate::received::{is_body_byte, is_received};
+use crate::received::{is_body_byte, is_received, letter_count};
 
 /// A sign in the body of a part that is neither a letter nor a lost one, nor a blank or a line end.
 #[derive(Clone, Copy, Debug, PartialEq, Eq)]
@@ -12,6 +12,8 @@ pub struct WrongSign {
     pub line: usize,
     /// The place of the sign among the letters of its line, counted from 1.
     pub letter: usize,
+    /// The place of the sign among the letters of the body, counted from 1.
+    pub place: usize,
     /// The sign.
     pub byte: u8,
 }
@@ -22,15 +24,31 @@ pub(crate) fn first_wrong_sign(body: &[u8]) -> Option<WrongSign>
 {
     let mut line = 2;
     let mut letter = 1;
-    for byte in body {
+    for (index, byte) in body.iter().enumerate() {
         if !is_body_byte(*byte) {
             let byte = *byte;
-            return Some(WrongSign { line, letter, byte });
+            let place = place_at(body, index);
+            return Some(WrongSign {
+                line,
+                letter,
+                place,
+                byte,
+            });
         }
         line = line_after(line, *byte);
         letter = letter_after(letter, *byte);
     }
     None
+}
+
+/// The place that a letter at `index` has among the letters of `body`.
+#[tactic(auto, using(crate::proofs::Bytes::letters_counted))]
+fn place_at(body: &[u8], index: usize) -> usize
+    requires { index ≤ length body.now }
+    ensures { result ≡ length (received_letters (take index body.now)) + 1 }
+{
+    let (before, _) = body.split_at(index);
+    letter_count(before) + 1
 }
 
 /// The line after `byte`, which stands on line `line`.

@@ -13,14 +13,16 @@ use Rattle.kd_form.specs.Sending.{space_letter}
 use Rattle.kd_lost.specs.declared.damage.PartDamage.{PartDamage}
 use Rattle.kd_lost.specs.declared.damaged_text.DamagedText.{DamagedText}
 use Rattle.kd_lost.specs.declared.part.{DamagedPart.{DamagedPart}, PartNumbers.{PartNumbers}}
-use Rattle.kd_lost.specs.DamagedForm.{AreReadOf, IsReadOf, damaged_parts_of, letters_in, shown_byte}
+use Rattle.kd_lost.specs.DamagedForm.{IsReadOf, form_parts, letters_in, shown_byte}
+use Rattle.kd_lost.proofs.Forms.{AreAllReadOf, all_read}
 use Rattle.kd_lost.specs.DamagedPart.{AreNumbersRead, IsDamagedHeading, IsDamagedTextAnswer, first_line}
 use Rattle.kd_pictures.specs.declared.language.Language.{Language}
 use Rattle.kd_part_sheet.specs.declared.part_sheet.PartName.{PartName}
 use Rattle.kd_message.specs.declared.receiving.Section.TheVariants as sections
-use Rattle.kd_message.specs.Laws.{IsOn, NothingReadIsHidden, WholeMessagesAreOnThePage, clear_text, letters_of_part}
+use Rattle.kd_message.specs.Laws.{IsOn, NothingReadIsHidden, RepetitionsHaveTheLetters, WholeMessagesAreOnThePage}
+use Rattle.kd_message.specs.Laws.{WholeMessagesHaveOneTotal, clear_text, letters_of_part}
 use Rattle.kd_message.specs.OneMessage.{agrees_with_each, are_of_one_message, headings_agree, numbers_agree, parts_agree}
-use Rattle.kd_message.specs.OneMessage.{texts_agree}
+use Rattle.kd_message.specs.OneMessage.{letters_agree, same_keys, texts_agree}
 use Rattle.kd_message.specs.ReceivePage.{as_they_came, by_number, name_at, number_in, number_or, part_at}
 use Rattle.kd_message.specs.ReceivePage.{part_in, section_text, sheet_to_receive, shown_in, text_or_damage}
 unfoldable use Rattle.kd_message.specs.ReceivePage.{receive_text}
@@ -93,12 +95,12 @@ contains_none x (place, inside, is) = absurd (omega (arith, inside))
 
 module _ (s : Day) where
   read_of_cases : (part : List ℕ) (parts : List (List ℕ)) (one : DamagedPart) (reads : List DamagedPart)
-      (read : DamagedPart) → AreReadOf s (part ∷ parts) (one ∷ reads) → (one ≡ read) ⊎ Contains reads read
+      (read : DamagedPart) → AreAllReadOf s (part ∷ parts) (one ∷ reads) → (one ≡ read) ⊎ Contains reads read
       → (Contains reads read → (part : List ℕ) × IsReadOf s part read) → (part : List ℕ) × IsReadOf s part read
   read_of_cases part parts one reads read are (inl is) rest = (part, subst (IsReadOf s part) is are.0)
   read_of_cases part parts one reads read are (inr later) rest = rest later
 
-  read_of : (parts : List (List ℕ)) (reads : List DamagedPart) (read : DamagedPart) → AreReadOf s parts reads
+  read_of : (parts : List (List ℕ)) (reads : List DamagedPart) (read : DamagedPart) → AreAllReadOf s parts reads
       → Contains reads read → (part : List ℕ) × IsReadOf s part read
   read_of [] [] read are there = absurd (contains_none read there)
   read_of [] (one ∷ reads) read are there = absurd are
@@ -182,6 +184,24 @@ total_is (one ∷ parts) part numbers agree there is =
     let both = both_true (agrees_with_each one parts) (are_of_one_message parts) agree in
     total_is_cases one parts part numbers both.0 (first_or_later one parts part there) is
     (λ later. total_is parts part numbers both.1 later is)
+
+pub one_total : WholeMessagesHaveOneTotal
+one_total parts one other numbers others whole there also is again =
+    sym (total_is parts one numbers whole.one_message there is) ∙ total_is parts other others whole.one_message also again
+
+same_number_agree : (one other : PartNumbers) (letters keys : Bool) → one.part ≡ other.part
+    → numbers_agree one other (letters && keys) ≡ true → letters ≡ true
+same_number_agree one other letters keys same is = grind (arith, nat_tests, cases_Bool, same, is)
+
+pub repetition_letters : RepetitionsHaveTheLetters
+repetition_letters one other others numbers again shown later whole there is its same text more =
+    let both = both_true (agrees_with_each one others) (are_of_one_message others) whole.one_message in
+    let letters = letters_agree shown.received.items later.received.items in
+    let keys = same_keys shown.keys later.keys in
+    let agree : headings_agree (Some numbers) (Some again) (texts_agree (Ok shown) (Ok later)) ≡ true =
+    (λ i. headings_agree (sym is i) (sym its i) (texts_agree (sym text i) (sym more i)))
+    ∙ agree_with_it one other others both.0 there in
+    same_number_agree numbers again letters keys same agree
 
 -- -------- the part that is shown tells no less
 
@@ -389,7 +409,7 @@ hidden_by_none l s parts part shown numbers false agree there is number first la
 
 pub nothing_hidden : NothingReadIsHidden
 nothing_hidden l s form parts part shown read there is =
-    let (bytes, one) = read_of s (damaged_parts_of form) parts part read there in
+    let (bytes, one) = read_of s (form_parts form) parts part (all_read s form parts read) there in
     let (numbers, number, first, last) = number_there s bytes part shown one is in
     hidden_by_none l s parts part shown numbers (are_of_one_message parts) refl there is number first last
 

@@ -26,7 +26,8 @@ use Rattle.kd_lost.specs.declared.damaged_text.DamagedText.{DamagedText}
 use Rattle.kd_lost.specs.declared.damaged_text.GroupTest.{GroupTest}
 use Rattle.kd_lost.specs.declared.damaged_text.GroupTest.TheVariants.{Wrong}
 use Rattle.kd_lost.specs.declared.part.{DamagedPart.{DamagedPart}, PartNumbers.{PartNumbers}}
-use Rattle.kd_lost.specs.DamagedForm.{AreReadOf, IsReadOf, damaged_parts_of, letters_in, shown_byte}
+use Rattle.kd_lost.specs.DamagedForm.{IsReadOf, form_parts, letters_in, shown_byte}
+use Rattle.kd_lost.proofs.Forms.{AreAllReadOf, all_read as all_read_of}
 use Rattle.kd_lost.specs.DamagedPart.{AreNumbersRead, IsDamagedHeading, IsDamagedTextAnswer, IsPartShown, body_of}
 use Rattle.kd_lost.specs.DamagedPart.{filled_byte, first_line, numbers_of}
 use Rattle.kd_lost.specs.DamagedText.{AreWarnings, GroupLost, GroupRight, GroupWrong, IsGroupTest, IsListTest, IsTextShown}
@@ -309,7 +310,7 @@ IsHeld s bytes one =
     × MayBeOfTheDay one
 
 held : (s : Day) (all bytes : List (List ℕ)) (reads : List DamagedPart)
-    → ((part : List ℕ) → Contains bytes part → Contains all part) → AreReadOf s bytes reads → All IsClear bytes
+    → ((part : List ℕ) → Contains bytes part → Contains all part) → AreAllReadOf s bytes reads → All IsClear bytes
     → All (λ one. IsFalse one.respaced) reads → All MayBeOfTheDay reads → All (IsHeld s all) reads
 held s all [] [] within are clear stand day = All-nil (IsHeld s all)
 held s all [] (one ∷ reads) within are clear stand day = absurd are
@@ -438,8 +439,8 @@ read_again s bytes reads (suc count) is whole all = all_read s bytes reads whole
 
 pub whole_read : WholeMessagesAreRead
 whole_read s form reads are clear stand whole =
-    let bytes = damaged_parts_of form in
-    let all = held s bytes bytes reads (λ part there. there) are clear stand whole.of_the_day in
+    let bytes = form_parts form in
+    let all = held s bytes bytes reads (λ part there. there) (all_read_of s form reads are) clear stand whole.of_the_day in
     let back = read_again s bytes reads (total_of reads) refl whole all in (
       back.ordered,
       back.letters,

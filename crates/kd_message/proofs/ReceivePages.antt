@@ -1,5 +1,5 @@
 -- The page for receiving a form: its parts, one after another.
-use Rattle.std.proofs.Common.{◌≡◌, ◌∙◌, ℕ, ◌+◌, ◌-◌, ◌<◌, ◌↔◌, Bool, true, false, List, [], ◌∷◌, ◌++◌}
+use Rattle.std.proofs.Common.{◌≡◌, ◌∙◌, ℕ, ◌+◌, ◌-◌, ◌<◌, ◌||◌, ◌↔◌, Bool, true, false, List, [], ◌∷◌, ◌++◌}
 use Rattle.std.proofs.Common.{All, IsTrue, if◌then◌else◌, arith, refl, sym, Option, Some, None, Ok, Err}
 use Rattle.std.proofs.Common.{Result, append_assoc}
 use Rattle.std.proofs.lemmas.Bool.{false≢true}
@@ -14,7 +14,7 @@ use Rattle.kd_lost.specs.declared.damage.PartDamage.{PartDamage}
 use Rattle.kd_lost.specs.declared.damaged_text.DamagedText.{DamagedText}
 use Rattle.kd_lost.specs.declared.damaged_text.TextKeys.{TextKeys}
 use Rattle.kd_lost.specs.declared.part.DamagedPart.{DamagedPart}
-use Rattle.kd_lost.specs.DamagedForm.{AreReadOf}
+use Rattle.kd_lost.specs.DamagedForm.{AreReadOf, PlacedPart}
 use Rattle.kd_lost.specs.DamagedPart.{IsDamagedTextAnswer}
 use Rattle.kd_lost.specs.DamagedText.{AreTextKeys}
 use Rattle.kd_lost.proofs.PartShown.{shown_there}
@@ -89,14 +89,14 @@ text_showable s part (Ok shown) read =
     (shown_there s one.found.indicator _ shown four.next).keys
 text_showable s part (Err damage) read = tt
 
-pub are_workable : (s : Day) (parts : List (List ℕ)) (reads : List DamagedPart) → AreReadOf s parts reads
+pub are_workable : (s : Day) (parts : List PlacedPart) (reads : List DamagedPart) → AreReadOf s parts reads
     → AreWorkable s reads
 are_workable s [] [] are = All-nil (λ part. IfOk part.text (λ shown. AreShowable s shown.keys))
 are_workable s [] (read ∷ reads) are = absurd are
 are_workable s (part ∷ parts) [] are = absurd are
 are_workable s (part ∷ parts) (read ∷ reads) are =
     All-cons (λ part. IfOk part.text (λ shown. AreShowable s shown.keys)) read reads
-    (text_showable s are.0.meant read.text are.0.text) (are_workable s parts reads are.1)
+    (text_showable s are.0.0.meant read.text are.0.0.text) (are_workable s parts reads are.1)
 
 -- ---- The page.
 
@@ -108,3 +108,7 @@ page_begins l s parts = begins _ _ _
 
 pub five_joined : (a b c d e : List ℕ) → a ++ b ++ c ++ d ++ e ≡ (((a ++ b) ++ c) ++ d) ++ e
 five_joined a b c d e = grind (arith, append_assoc)
+
+pub or_true : (one : Bool) → (one || true) ≡ true
+or_true true = refl
+or_true false = refl

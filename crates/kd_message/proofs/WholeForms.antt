@@ -15,10 +15,11 @@ use Rattle.kd_lost.specs.declared.damaged_text.DamagedText.{DamagedText}
 use Rattle.kd_lost.specs.declared.damaged_text.GroupTest.TheVariants.{Right, Wrong}
 use Rattle.kd_lost.specs.declared.part.{DamagedPart.{DamagedPart}, PartNumbers.{PartNumbers}}
 use Rattle.kd_form.specs.declared.heading.Heading.{Heading}
-use Rattle.kd_lost.specs.DamagedForm.{AreReadOf, AsItStands, IsMeant, IsReadOf, Respaced, letters_in}
+use Rattle.kd_lost.specs.DamagedForm.{AsItStands, IsMeant, IsReadOf, Respaced, letters_in}
 use Rattle.kd_lost.specs.DamagedForm.{shown_byte, shown_letters}
 use Rattle.kd_lost.specs.DamagedPart.{AreNumbersRead, IsDamagedHeading, IsDamagedTextAnswer, first_line}
 use Rattle.kd_lost.proofs.Parts.{lines_there}
+use Rattle.kd_lost.proofs.Forms.{AreAllReadOf, all_read}
 use Rattle.kd_lost.proofs.WholeForms.{forms_shown, same_parts}
 use Rattle.kd_lost.proofs.WholeParts.{numbers_there, shown_whole, whole_part}
 use Rattle.kd_message.specs.Laws.{FormsReadAreWhole, letters_of_part, message_letters}
@@ -251,7 +252,7 @@ record AreAllWhole (total number : ℕ) (parts : List DamagedPart) : Type 0 wher
 
 module _ (s : Day) where
   read_in_order : (p : PartStart) (total : ℕ) (parts : List (List ℕ)) (letters : List ℕ) (reads : List DamagedPart)
-      → p.expected ≡ Some total → ReadsPartsTo s (IsAnswerAt s (Ok tt)) p parts letters → AreReadOf s parts reads
+      → p.expected ≡ Some total → ReadsPartsTo s (IsAnswerAt s (Ok tt)) p parts letters → AreAllReadOf s parts reads
       → AreAllWhole total p.number reads
   read_in_order p total [] letters [] expected ((count, is, due), none) are =
       let same : count ≡ total = let e : Some count ≡ Some total = sym is ∙ expected in cc in record {
@@ -275,7 +276,7 @@ module _ (s : Day) where
 
   first_in_order : (parts : List (List ℕ)) (part letters : List ℕ) (reads : List DamagedPart)
       → ReadsPartsTo s (IsAnswerAt s (Ok tt)) first_part_start (part ∷ parts) letters
-      → AreReadOf s (part ∷ parts) reads → (total : ℕ) × (0 < total) × (total_of reads ≡ total) × AreAllWhole total 1 reads
+      → AreAllReadOf s (part ∷ parts) reads → (total : ℕ) × (0 < total) × (total_of reads ≡ total) × AreAllWhole total 1 reads
   first_in_order parts part letters [] read are = absurd are
   first_in_order parts part letters (one ∷ reads) (inl (fault, none)) are = let off = fault.2 in absurd (cc)
   first_in_order parts part letters (one ∷ reads) (inr (read, more, is, rest, joined)) are =
@@ -297,7 +298,7 @@ module _ (s : Day) where
 pub forms_whole : FormsReadAreWhole
 forms_whole s form text reads is are =
     let (parts, (letters, read, made), joined) = is in
-    let there = subst (λ l. AreReadOf s l reads) (same_parts s form text is) are in
+    let there = subst (λ l. AreAllReadOf s l reads) (same_parts s form text is) (all_read s form reads are) in
     let (total, some, counted, all) = first_in_order s _ _ letters reads read there in
     let shown = forms_shown s form text reads is are in
     let letters_are : message_letters reads ≡ shown_letters reads =

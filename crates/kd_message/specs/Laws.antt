@@ -6,8 +6,8 @@ use Rattle.kd_form.specs.PartMaking.{cipher_from}
 use Rattle.kd_form.specs.FormText.{IsAnswerAt, IsTextOf, ReadsPartsTo, first_part_start, plaintext_bytes}
 use Rattle.kd_form.specs.Sending.{space_letter}
 use Rattle.kd_lost.specs.declared.damaged_text.DamagedText.{DamagedText}
-use Rattle.kd_lost.specs.declared.part.DamagedPart.{DamagedPart}
-use Rattle.kd_lost.specs.DamagedForm.{AreReadOf, damaged_parts_of, letters_in, shown_byte}
+use Rattle.kd_lost.specs.declared.part.{DamagedPart.{DamagedPart}, PartNumbers.{PartNumbers}}
+use Rattle.kd_lost.specs.DamagedForm.{AreReadOf, damaged_parts_of, form_parts, letters_in, shown_byte}
 use Rattle.kd_lost.specs.DamagedPart.{IsDamagedTextAnswer}
 use Rattle.kd_lost.specs.Lost.{Completes, covered, is_lost, meant_byte}
 use Rattle.kd_part_sheet.specs.declared.cells.Cell.{Cell}
@@ -19,6 +19,7 @@ use Rattle.kd_part_sheet.specs.declared.part_sheet.PartName.{PartName}
 use Rattle.kd_pictures.specs.declared.language.Language.{Language}
 use Rattle.kd_message.specs.declared.texts.TheConstants.{TEXT_END}
 use Rattle.kd_message.specs.ReceivePage.{receive_text, sheet_to_receive}
+use Rattle.kd_message.specs.OneMessage.{letters_agree}
 use Rattle.kd_message.specs.ReceivedWork.{received_work}
 use Rattle.kd_message.specs.SendPage.{part_name}
 use Rattle.kd_message.specs.ShownParts.{IsWhole, is_number, lost_in, shown_under, times_of, total_of}
@@ -102,6 +103,21 @@ WholeMessagesAreOnThePage =
     × IsOn (receive_text l s parts)
     (clear_text l s (part_name s number (total_of parts)) (times_of parts number) letters)
 
+-- The headings of a whole message give one number of parts.
+abbrev pub WholeMessagesHaveOneTotal : Type 0
+WholeMessagesHaveOneTotal =
+    (parts : List DamagedPart) (one other : DamagedPart) (numbers others : PartNumbers) → IsWhole parts
+    → Contains parts one → Contains parts other → one.numbers ≡ Some numbers → other.numbers ≡ Some others
+    → numbers.parts ≡ others.parts
+
+-- A repetition of the first part that came of a whole message has the letters of this part, but for lost ones.
+abbrev pub RepetitionsHaveTheLetters : Type 0
+RepetitionsHaveTheLetters =
+    (one other : DamagedPart) (others : List DamagedPart) (numbers again : PartNumbers) (shown later : DamagedText)
+    → IsWhole (one ∷ others) → Contains others other → one.numbers ≡ Some numbers → other.numbers ≡ Some again
+    → numbers.part ≡ again.part → one.text ≡ Ok shown → other.text ≡ Ok later
+    → IsTrue (letters_agree shown.received.items later.received.items)
+
 -- ---- The converse.
 
 -- No byte of the part stands for a lost letter, and each is meant as it stands: no letter is small, and no byte is a tab.
@@ -114,7 +130,7 @@ IsClear part = All (λ byte. IsFalse (is_lost byte) × (meant_byte byte ≡ byte
 abbrev pub WholeMessagesAreRead : Type 0
 WholeMessagesAreRead =
     (s : Day) (form : List ℕ) (parts : List DamagedPart) → AreReadOf s (damaged_parts_of form) parts
-    → All IsClear (damaged_parts_of form) → All (λ part. IsFalse part.respaced) parts → IsWhole parts
-    → (ordered : List (List ℕ)) × (letters : List ℕ) × All (Contains (damaged_parts_of form)) ordered
+    → All IsClear (form_parts form) → All (λ part. IsFalse part.respaced) parts → IsWhole parts
+    → (ordered : List (List ℕ)) × (letters : List ℕ) × All (Contains (form_parts form)) ordered
     × (length ordered ≡ total_of parts) × ReadsPartsTo s (IsAnswerAt s (Ok tt)) first_part_start ordered letters
     × (map (shown_byte (space_letter s)) (message_letters parts) ≡ plaintext_bytes s letters)

@@ -4,7 +4,7 @@ pub mod FormSheet
 pub mod SendPage
 pub mod OneMessage
 pub mod ShownParts
-pub mod LoneParts
 pub mod TextSheet
+pub mod LoneParts
 pub mod ReceivePage
 pub mod Laws

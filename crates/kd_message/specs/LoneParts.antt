@@ -1,5 +1,7 @@
--- What the page has for a part whose heading is damaged. It has no number, and isn't read.
+-- What the page has for a part whose heading is damaged, and for an order in place of a form. It has no number, and isn't
+-- read.
 use Rattle.std.specs.Prelude.{decimal, ℕ, ◌==◌, if◌then◌else◌, List, [], ◌∷◌, ◌++◌}
+use Rattle.kd_lost.specs.declared.part.DamagedPart.{DamagedPart}
 use Rattle.kd_state.specs.SheetDay.{Day, day_model, day_number}
 use Rattle.kd_pictures.specs.declared.language.Language.{Language}
 use Rattle.kd_pictures.specs.Language.{text_in}
@@ -7,6 +9,7 @@ use Rattle.kd_pictures.specs.Template.{filled}
 use Rattle.kd_pictures.specs.Words.{model_name}
 use Rattle.kd_part_sheet.specs.declared.markup.TheConstants.{SECTION_END}
 use Rattle.kd_message.specs.declared.texts.TheConstants as texts
+use Rattle.kd_message.specs.TextSheet.{heading_fault}
 
 -- where a part without a number stands: after the part with the number `after`, or before all parts with numbers, if
 -- `after` is 0
@@ -22,10 +25,22 @@ listed_lone l after = texts.LISTED_LONE.now ++ lone_words l after ++ text_in l t
 abbrev pub lone_asked : Language → ℕ → List ℕ
 lone_asked l came = if came == 0 then text_in l texts.ALL_OF_IT else text_in l texts.ITS_HEADING
 
--- the part among the texts. `came`: how many letters of its body came.
-unfoldable pub lone_text : Language → Day → ℕ → ℕ → List ℕ
-lone_text l s after came =
+-- the box for the heading; none for an order
+unfoldable pub lone_box : Language → ℕ → List ℕ
+lone_box l came = text_in l texts.LONE_ASK ++ lone_asked l came ++ texts.ASK_END.now
+
+abbrev pub lone_ask : Language → DamagedPart → List ℕ
+lone_ask l part = if part.is_order then [] else lone_box l part.came
+
+-- why the part isn't read: it is an order, or its heading is damaged
+abbrev pub lone_reason : Language → DamagedPart → List ℕ
+lone_reason l part =
+    if part.is_order then text_in l texts.IS_ORDER
+    else heading_fault l part.line (text_in l texts.HEADING_DAMAGED)
+
+-- the part among the texts
+unfoldable pub lone_text : Language → Day → ℕ → DamagedPart → List ℕ
+lone_text l s after part =
     texts.LONE_HEAD.now ++ lone_words l after
     ++ filled (text_in l texts.LONE_HEAD_END) (model_name (day_model s) ∷ decimal (day_number s) ∷ [])
-    ++ text_in l texts.UNREAD ++ text_in l texts.HEADING_DAMAGED ++ texts.REASON_END.now ++ text_in l texts.LONE_ASK
-    ++ lone_asked l came ++ texts.ASK_END.now ++ SECTION_END.now
+    ++ text_in l texts.UNREAD ++ lone_reason l part ++ texts.REASON_END.now ++ lone_ask l part ++ SECTION_END.now

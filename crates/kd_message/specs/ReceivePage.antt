@@ -34,7 +34,8 @@ use Rattle.kd_message.specs.LoneParts.{listed_lone, lone_text}
 use Rattle.kd_message.specs.OneMessage.{are_of_one_message}
 use Rattle.kd_message.specs.SendPage.{list_head, listed_sheet, part_name, title_text}
 use Rattle.kd_message.specs.ShownParts.{IsWhole, is_any_read, sheet_count, shown_under, times_of, total_of}
-use Rattle.kd_message.specs.TextSheet.{came_text, damage_text, missing_text, order_text, read_text, text_part_head}
+use Rattle.kd_message.specs.TextSheet.{came_text, damage_text, missing_text, order_text, passed_text, read_text}
+use Rattle.kd_message.specs.TextSheet.{text_part_head}
 use Rattle.kd_message.specs.TextSheet.{text_sheet_head, warnings_of}
 
 abbrev pub sheet_to_receive : Model → Sheet
@@ -76,10 +77,10 @@ missing_in sections.Worked l name = []
 missing_in sections.Texts l name = text_part_head l name ++ missing_text l name ++ SECTION_END.now
 
 -- what a section has for a part without a number, which stands after the part with the number `after`
-abbrev pub lone_in : Section → Language → Day → ℕ → ℕ → List ℕ
-lone_in sections.Listed l s after came = listed_lone l after
-lone_in sections.Worked l s after came = []
-lone_in sections.Texts l s after came = lone_text l s after came
+abbrev pub lone_in : Section → Language → Day → ℕ → DamagedPart → List ℕ
+lone_in sections.Listed l s after part = listed_lone l after
+lone_in sections.Worked l s after part = []
+lone_in sections.Texts l s after part = lone_text l s after part
 
 -- ---- The parts of one message, by their numbers.
 
@@ -93,7 +94,7 @@ number_or before None = before
 abbrev pub lone_after : Section → Language → Day → ℕ → ℕ → List DamagedPart → List ℕ
 lone_after section l s after before [] = []
 lone_after section l s after before (part ∷ parts) =
-    (if is_none part.numbers && before == after then lone_in section l s after part.came else [])
+    (if is_none part.numbers && before == after then lone_in section l s after part else [])
     ++ lone_after section l s after (number_or before part.numbers) parts
 
 -- what a section has for the part that is shown under a number, if there is one
@@ -121,7 +122,7 @@ name_at s place numbers =
 -- what a section has for the part at `place`. `before`: the last number before it.
 abbrev pub part_at : Section → Language → Day → ℕ → ℕ → Option PartNumbers → DamagedPart → List ℕ
 part_at section l s place before (Some numbers) part = part_in section l s (name_at s place numbers) 1 part
-part_at section l s place before None part = lone_in section l s before part.came
+part_at section l s place before None part = lone_in section l s before part
 
 -- what a section has for the parts from `place` on
 abbrev pub as_they_came : Section → Language → Day → ℕ → ℕ → List DamagedPart → List ℕ
@@ -143,7 +144,7 @@ unfoldable pub receive_text : Language → Day → List DamagedPart → List ℕ
 receive_text l s parts =
     title_text l (text_in l texts.TITLE_TO_RECEIVE) s ++ list_head l (sheet_count parts)
     ++ section_text sections.Listed l s parts ++ text_in l texts.LIST_END_WITH_TEXT
-    ++ section_text sections.Worked l s parts ++ text_sheet_head l s ++ order_text l parts
+    ++ section_text sections.Worked l s parts ++ text_sheet_head l s ++ passed_text l parts ++ order_text l parts
     ++ section_text sections.Texts l s parts
     ++ text_if (is_any_read parts) (note l (sheet_to_receive (day_model s)) (day_model s))
     ++ texts.ARTICLE_END.now ++ FOOT.now

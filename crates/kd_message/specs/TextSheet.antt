@@ -12,6 +12,8 @@ use Rattle.kd_lost.specs.declared.damaged_text.GroupTest.{GroupTest}
 use Rattle.kd_lost.specs.declared.damaged_text.GroupTest.TheVariants as tests
 use Rattle.kd_lost.specs.declared.damaged_text.LostCopies.{LostCopies}
 use Rattle.kd_lost.specs.declared.part.{DamagedPart.{DamagedPart}, PartNumbers.{PartNumbers}}
+use Rattle.kd_lost.specs.declared.short_line.ShortLine.{ShortLine}
+use Rattle.kd_lost.specs.declared.wrong_sign.WrongSign.{WrongSign}
 use Rattle.kd_lost.specs.DamagedForm.{shown_byte}
 use Rattle.kd_pictures.specs.declared.language.Language.{Language}
 use Rattle.kd_pictures.specs.Language.{text_in}
@@ -71,6 +73,26 @@ order_text l parts =
     then (if are_rising 0 (numbers_of parts) then [] else order_words l (numbers_of parts))
     else several_words l parts
 
+-- ---- What was passed over.
+
+-- whether blanks, tabs or small letters of the part were passed over, or read as what they mean
+abbrev pub is_smoothed : DamagedPart → Bool
+is_smoothed part = part.respaced || not part.as_spelled
+
+abbrev pub is_any_smoothed : List DamagedPart → Bool
+is_any_smoothed [] = false
+is_any_smoothed (part ∷ parts) = is_smoothed part || is_any_smoothed parts
+
+-- whether lines stand before the first part
+abbrev pub begins_late : List DamagedPart → Bool
+begins_late [] = false
+begins_late (part ∷ parts) = nat_lt 1 part.line
+
+-- that something of the form was passed over, or read as what it means
+abbrev pub passed_text : Language → List DamagedPart → List ℕ
+passed_text l parts =
+    if begins_late parts || is_any_smoothed parts then text_in l texts.PASSED_OVER else []
+
 -- how often a part came, if it came more than once
 unfoldable pub came_words : Language → ℕ → List ℕ
 came_words l times = text_in l texts.CAME ++ decimal times ++ text_in l texts.CAME_END
@@ -84,21 +106,37 @@ came_text l times = if nat_lt 1 times then came_words l times else []
 unfoldable pub ask_text : Language → ℕ → List ℕ → List ℕ
 ask_text l part words = filled (text_in l texts.ASK) (decimal part ∷ []) ++ words ++ texts.ASK_END.now
 
--- a group, after `first`
-abbrev pub group_words : Language → List ℕ → ℕ → List ℕ
-group_words l first number = first ++ text_in l texts.GROUP ++ decimal number
+-- a group
+abbrev pub group_words : Language → ℕ → List ℕ
+group_words l number = text_in l texts.GROUP ++ decimal number
+
+-- the groups from `first` to `last`
+unfoldable pub groups_words : Language → ℕ → ℕ → List ℕ
+groups_words l first last =
+    text_in l texts.GROUPS ++ decimal first ++ text_in l texts.TO_GROUP ++ decimal last
+
+-- a group and `more` groups after it
+abbrev pub range_words : Language → ℕ → ℕ → List ℕ
+range_words l number more = if more == 0 then group_words l number else groups_words l number (number + more)
 
 -- whether a letter is lost
 abbrev pub has_lost : List (Option ℕ) → Bool
 has_lost [] = false
 has_lost (letter ∷ letters) = is_none letter || has_lost letters
 
--- the groups in which letters are lost, of groups with the numbers from `number` on; the first after `first`
-abbrev pub lost_groups : Language → List ℕ → ℕ → List (List (Option ℕ)) → List ℕ
-lost_groups l first number [] = []
-lost_groups l first number (group ∷ groups) =
-    if has_lost group then group_words l first number ++ lost_groups l COMMA.now (number + 1) groups
-    else lost_groups l first (number + 1) groups
+-- in how many groups letters are lost, up to the first in which none is
+abbrev pub run_length : List (List (Option ℕ)) → ℕ
+run_length [] = 0
+run_length (group ∷ groups) = if has_lost group then run_length groups + 1 else 0
+
+-- The groups in which letters are lost, of groups with the numbers from `number` on; the first after `first`. Groups with
+-- successive numbers are named together, by the first of them. `before`: whether letters are lost in the group before.
+abbrev pub lost_groups : Language → List ℕ → Bool → ℕ → List (List (Option ℕ)) → List ℕ
+lost_groups l first before number [] = []
+lost_groups l first before number (group ∷ groups) =
+    if has_lost group && not before
+    then first ++ range_words l number (run_length groups) ++ lost_groups l COMMA.now true (number + 1) groups
+    else lost_groups l first (has_lost group) (number + 1) groups
 
 -- the number of the group with which the text begins
 abbrev pub first_text_group : Model → ℕ
@@ -112,13 +150,12 @@ indicator_place number = if number == 0 then 1 else number + 2
 unfoldable pub key_letter_groups : Language → ℕ → ℕ → List ℕ
 key_letter_groups l came number =
     let group = if nat_le (indicator_place number) 5 then 1 else 2 in
-    group_words l [] group ++ group_words l COMMA.now (came / 5 - 2 + group)
+    group_words l group ++ COMMA.now ++ group_words l (came / 5 - 2 + group)
 
 -- the groups with the indicators, of a body with this many letters: the first two and the last two
 unfoldable pub indicator_groups : Language → ℕ → List ℕ
 indicator_groups l came =
-    group_words l [] 1 ++ group_words l COMMA.now 2 ++ group_words l COMMA.now (came / 5 - 1)
-    ++ group_words l COMMA.now (came / 5)
+    groups_words l 1 2 ++ COMMA.now ++ groups_words l (came / 5 - 1) (came / 5)
 
 -- ---- A part that is read.
 
@@ -155,7 +192,7 @@ text_begin model = if is_converter model then texts.TEXT_WORDS.now else texts.TE
 abbrev pub ask_for_lost : Language → PartName → List (Option ℕ) → List ℕ
 ask_for_lost l name letters =
     if has_lost letters
-    then ask_text l name.part (lost_groups l [] (first_text_group name.model) (pieces 5 letters))
+    then ask_text l name.part (lost_groups l [] false (first_text_group name.model) (pieces 5 letters))
     else []
 
 -- the text of a part: `?` for each lost letter; then the warnings, and the groups to ask for
@@ -171,18 +208,79 @@ abbrev pub heading_count : Option PartNumbers → ℕ
 heading_count (Some numbers) = numbers.letters
 heading_count None = 0
 
+-- line `number` of the part, by its number in the form. The part begins on line `line` of the form.
+abbrev pub line_words : Language → ℕ → ℕ → List ℕ
+line_words l line number = text_in l texts.LINE ++ decimal (line + number - 1)
+
+-- what is wrong with the heading of a part that begins on this line of the form
+unfoldable pub heading_fault : Language → ℕ → List ℕ → List ℕ
+heading_fault l line fault = line_words l line 1 ++ fault
+
+-- a wrong sign: a digit as it is; any other is only called a sign
+abbrev pub sign_words : Language → ℕ → List ℕ
+sign_words l byte = if nat_le 48 byte && nat_le byte 57 then decimal (byte - 48) else text_in l texts.THIS_SIGN
+
+-- a wrong sign of a part that begins on this line of the form, with its place
+unfoldable pub sign_text : Language → ℕ → WrongSign → List ℕ
+sign_text l line sign =
+    line_words l line sign.line ++ text_in l texts.LETTER_OF_LINE ++ decimal sign.letter ++ texts.COLON.now
+    ++ sign_words l sign.byte ++ text_in l texts.NO_LETTER
+
+-- the wrong sign of a body
+abbrev pub bad_byte_text : Language → ℕ → Option WrongSign → List ℕ
+bad_byte_text l line (Some sign) = sign_text l line sign
+bad_byte_text l line None = text_in l texts.BAD_BYTE
+
+-- the group of the body in which a wrong sign stands
+abbrev pub sign_group : Language → Option WrongSign → List ℕ
+sign_group l (Some sign) = group_words l ((sign.place - 1) / 5 + 1)
+sign_group l None = text_in l texts.ALL_OF_IT
+
 -- the counts of the heading and of the letters that came
 unfoldable pub counts_text : Language → ℕ → ℕ → List ℕ
 counts_text l counted came =
     text_in l texts.COUNT_WRONG ++ decimal counted ++ text_in l texts.COUNT_CAME ++ decimal came
     ++ text_in l texts.COUNT_END
 
+-- whether the heading's count is right if this line is full
+abbrev pub explains : ℕ → ℕ → ShortLine → Bool
+explains counted came short = counted + short.letters == came + 50
+
+-- the line that isn't full, if it explains the heading's count
+abbrev pub telling_line : ℕ → ℕ → Option ShortLine → Option ShortLine
+telling_line counted came None = None
+telling_line counted came (Some short) = if explains counted came short then Some short else None
+
+-- how many letters a line has that isn't full, of a part that begins on this line of the form
+unfoldable pub short_words : Language → ℕ → ShortLine → List ℕ
+short_words l line short =
+    texts.GAP.now ++ line_words l line short.line ++ text_in l texts.LINE_HAS ++ decimal short.letters
+    ++ text_in l texts.FULL_LINE
+
+abbrev pub short_text : Language → ℕ → Option ShortLine → List ℕ
+short_text l line (Some short) = short_words l line short
+short_text l line None = []
+
+-- the ten groups of a line that isn't full
+abbrev pub short_groups : Language → Option ShortLine → List ℕ
+short_groups l (Some short) = groups_words l (short.before / 5 + 1) (short.before / 5 + 10)
+short_groups l None = text_in l texts.ALL_OF_IT
+
+-- the line that explains the heading's count of a part
+abbrev pub part_line : DamagedPart → Option ShortLine
+part_line part = telling_line (heading_count part.numbers) part.came part.short_line
+
+-- the counts of the heading and of the letters that came, and the line in which letters are missing
+unfoldable pub count_text : Language → DamagedPart → List ℕ
+count_text l part =
+    counts_text l (heading_count part.numbers) part.came ++ short_text l part.line (part_line part)
+
 -- why a part isn't read
 abbrev pub reason_text : Language → DamagedPart → PartDamage → List ℕ
-reason_text l part damages.HeadingDamaged = text_in l texts.HEADING_DAMAGED
-reason_text l part damages.HeadingKeyLost = text_in l texts.HEADING_KEY_LOST
-reason_text l part damages.BadByte = text_in l texts.BAD_BYTE
-reason_text l part damages.CountWrong = counts_text l (heading_count part.numbers) part.came
+reason_text l part damages.HeadingDamaged = heading_fault l part.line (text_in l texts.HEADING_DAMAGED)
+reason_text l part damages.HeadingKeyLost = heading_fault l part.line (text_in l texts.HEADING_KEY_LOST)
+reason_text l part damages.BadByte = bad_byte_text l part.line part.wrong_sign
+reason_text l part damages.CountWrong = count_text l part
 reason_text l part (damages.CopiesDiffer number) =
     filled (text_in l texts.COPIES_DIFFER) (decimal (indicator_place number) ∷ [])
 reason_text l part (damages.KeyLetterLost number) =
@@ -194,9 +292,9 @@ reason_text l part damages.NoInternalKey = text_in l texts.NO_INTERNAL_KEY
 abbrev pub asked_words : Language → DamagedPart → PartDamage → List ℕ
 asked_words l part damages.HeadingDamaged =
     if part.came == 0 then text_in l texts.ALL_OF_IT else text_in l texts.ITS_HEADING
-asked_words l part damages.HeadingKeyLost = text_in l texts.ITS_HEADING
-asked_words l part damages.BadByte = text_in l texts.ALL_OF_IT
-asked_words l part damages.CountWrong = text_in l texts.ALL_OF_IT
+asked_words l part damages.HeadingKeyLost = text_in l texts.ITS_KEYS
+asked_words l part damages.BadByte = sign_group l part.wrong_sign
+asked_words l part damages.CountWrong = short_groups l (part_line part)
 asked_words l part (damages.CopiesDiffer number) = key_letter_groups l part.came number
 asked_words l part (damages.KeyLetterLost number) = key_letter_groups l part.came number
 asked_words l part damages.KeyNotOnWheel = indicator_groups l part.came

@@ -1,7 +1,8 @@
 //! Laws of the rows of a page, of whole messages, and of templates.
 ghost use Rattle.kd_message.specs.Checked.{TemplatesTakeTheirValues};
 ghost use Rattle.kd_message.specs.Laws.{FormsReadAreWhole, NothingReadIsHidden, RowsAreDeciphered, RowsAreEnciphered};
-ghost use Rattle.kd_message.specs.Laws.{WholeMessagesAreOnThePage, WholeMessagesAreRead};
+ghost use Rattle.kd_message.specs.Laws.{RepetitionsHaveTheLetters, WholeMessagesAreOnThePage, WholeMessagesAreRead};
+ghost use Rattle.kd_message.specs.Laws.{WholeMessagesHaveOneTotal};
 
 /// A row can be worked again by itself: its lamps follow from its keys and from the windows before it.
 pub fn rows_are_enciphered()
@@ -26,6 +27,12 @@ pub fn forms_read_are_whole()
 /// No part that can be read is hidden by one of which less can be read.
 pub fn nothing_read_is_hidden()
     ensures { NothingReadIsHidden }
+{}
+
+/// Parts that count differently, or have other letters under one number, are no whole message.
+pub fn whole_messages_agree()
+    ensures total { WholeMessagesHaveOneTotal }
+    ensures repetitions { RepetitionsHaveTheLetters }
 {}
 
 /// A whole message is whole on the page, too.

@@ -2,6 +2,7 @@
 #![tactic(auto)]
 
 mod form_sheet;
+mod groups;
 pub mod laws;
 mod lone_parts;
 mod one_message;
@@ -12,6 +13,7 @@ mod sending;
 mod shown_parts;
 mod text_sheet;
 pub mod texts;
+mod unread;
 
 pub use kd_pictures::Language;
 pub use receiving::{ReceivePageFault, write_receive_page};

@@ -1,12 +1,16 @@
-//! What the page has for a part whose heading is damaged. It has no number, and isn't read.
+//! What the page has for a part whose heading is damaged, and for an order in place of a form. It has no number, and isn't
+//! read.
 ghost use Rattle.std.specs.Prelude.{◌≡◌};
 ghost use Rattle.kd_pictures.specs.Drawing.{Draws};
-ghost use Rattle.kd_message.specs.LoneParts.{listed_lone, lone_asked, lone_text, lone_words};
+ghost use Rattle.kd_message.specs.LoneParts.{listed_lone, lone_ask, lone_asked, lone_box, lone_reason};
+ghost use Rattle.kd_message.specs.LoneParts.{lone_text, lone_words};
 
 use crate::texts::{
-    ALL_OF_IT, ASK_END, HEADING_DAMAGED, ITS_HEADING, LISTED_LONE, LISTED_LONE_END, LONE_AFTER,
-    LONE_ASK, LONE_FIRST, LONE_HEAD, LONE_HEAD_END, REASON_END, UNREAD,
+    ALL_OF_IT, ASK_END, HEADING_DAMAGED, IS_ORDER, ITS_HEADING, LISTED_LONE, LISTED_LONE_END,
+    LONE_AFTER, LONE_ASK, LONE_FIRST, LONE_HEAD, LONE_HEAD_END, REASON_END, UNREAD,
 };
+use crate::unread::draw_heading_fault;
+use kd_lost::DamagedPart;
 use kd_part_sheet::markup::SECTION_END;
 use kd_pictures::template::{Value, fill_in};
 use kd_pictures::{Language, draw, draw_in};
@@ -44,10 +48,10 @@ pub(crate) fn draw_lone_text<W: Sink>(
     language: Language,
     day: &SheetDay,
     after: u8,
-    came: usize,
+    part: &DamagedPart,
 )
     ensures { Draws W.taken W.has_failed sink.old sink.new
-        (lone_text language day.now after came) }
+        (lone_text language day.now after part.now) }
 {
     draw(sink, LONE_HEAD);
     draw_lone_words(sink, language, after);
@@ -61,12 +65,41 @@ pub(crate) fn draw_lone_text<W: Sink>(
         ],
     );
     draw_in(sink, language, UNREAD);
-    draw_in(sink, language, HEADING_DAMAGED);
+    draw_lone_reason(sink, language, part);
     draw(sink, REASON_END);
+    draw_lone_ask(sink, language, part);
+    draw(sink, SECTION_END);
+}
+
+/// Writes why a part without a number isn't read: it is an order, or its heading is damaged.
+fn draw_lone_reason<W: Sink>(sink: &mut W, language: Language, part: &DamagedPart)
+    ensures { Draws W.taken W.has_failed sink.old sink.new (lone_reason language part.now) }
+{
+    if part.is_order {
+        draw_in(sink, language, IS_ORDER);
+    } else {
+        draw_heading_fault(sink, language, part.line, language.text(HEADING_DAMAGED));
+    }
+}
+
+/// Writes the box for the heading, but for an order.
+fn draw_lone_ask<W: Sink>(sink: &mut W, language: Language, part: &DamagedPart)
+    ensures { Draws W.taken W.has_failed sink.old sink.new (lone_ask language part.now) }
+{
+    if part.is_order {
+        draw(sink, "");
+    } else {
+        draw_lone_box(sink, language, part.came);
+    }
+}
+
+/// Writes the box for a heading, of whose body `came` letters came.
+fn draw_lone_box<W: Sink>(sink: &mut W, language: Language, came: usize)
+    ensures { Draws W.taken W.has_failed sink.old sink.new (lone_box language came) }
+{
     draw_in(sink, language, LONE_ASK);
     draw(sink, lone_asked(language, came));
     draw(sink, ASK_END);
-    draw(sink, SECTION_END);
 }
 
 /// What to ask for of a part without a number, of whose body `came` letters came.

@@ -19,10 +19,11 @@ use crate::received_work::received_work;
 use crate::sending::{draw_listed_part, draw_title, list_head, part_name};
 use crate::shown_parts::{is_any_read, is_whole, sheet_count, shown_under, times_of, total_of};
 use crate::text_sheet::{
-    draw_came, draw_damage, draw_missing, draw_order, draw_read_text, draw_text_part_head,
-    draw_text_sheet_head, warnings_of,
+    draw_came, draw_order, draw_passed, draw_read_text, draw_text_part_head, draw_text_sheet_head,
+    warnings_of,
 };
 use crate::texts::{ARTICLE_END, LIST_END_WITH_TEXT, LISTED_UNREAD, TITLE_TO_RECEIVE};
+use crate::unread::{draw_damage, draw_missing};
 use kd_lost::{
     DamagedFormFault, DamagedPart, DamagedText, PartDamage, PartNumbers, read_damaged_form,
 };
@@ -109,6 +110,7 @@ fn draw_page<W: Sink>(sink: &mut W, language: Language, day: &SheetDay, parts: &
     draw_in(sink, language, LIST_END_WITH_TEXT);
     draw_section(sink, Section::Worked, language, day, parts);
     draw_text_sheet_head(sink, language, day);
+    draw_passed(sink, language, parts);
     draw_order(sink, language, parts);
     draw_section(sink, Section::Texts, language, day, parts);
     draw_if(
@@ -245,7 +247,7 @@ fn draw_lone_after<W: Sink>(
 {
     if let [part, rest @ ..] = parts {
         let is_there = is_lone_after(after, before, &part.numbers);
-        draw_lone_if(sink, is_there, section, language, day, after, part.came);
+        draw_lone_if(sink, is_there, section, language, day, after, part);
         let last = number_or(before, &part.numbers);
         draw_lone_after(sink, section, language, day, after, last, rest);
     }
@@ -279,13 +281,13 @@ fn draw_lone_if<W: Sink>(
     language: Language,
     day: &SheetDay,
     after: u8,
-    came: usize,
+    part: &DamagedPart,
 )
     ensures { Draws W.taken W.has_failed sink.old sink.new
-        (if is_there then lone_in section language day.now after came else []) }
+        (if is_there then lone_in section language day.now after part.now else []) }
 {
     if is_there {
-        draw_lone(sink, section, language, day, after, came);
+        draw_lone(sink, section, language, day, after, part);
     } else {
         draw(sink, "");
     }
@@ -298,15 +300,15 @@ fn draw_lone<W: Sink>(
     language: Language,
     day: &SheetDay,
     after: u8,
-    came: usize,
+    part: &DamagedPart,
 )
     ensures { Draws W.taken W.has_failed sink.old sink.new
-        (lone_in section language day.now after came) }
+        (lone_in section language day.now after part.now) }
 {
     match section {
         Section::Listed => draw_listed_lone(sink, language, after),
         Section::Worked => draw(sink, ""),
-        Section::Texts => draw_lone_text(sink, language, day, after, came),
+        Section::Texts => draw_lone_text(sink, language, day, after, part),
     }
 }
 
@@ -352,7 +354,7 @@ fn draw_part_at<W: Sink>(
             let name = name_at(day, place as u8, numbers);
             draw_part(sink, section, language, day, name, 1, part)
         }
-        None => draw_lone(sink, section, language, day, before, part.came),
+        None => draw_lone(sink, section, language, day, before, part),
     }
 }
 

@@ -1,30 +1,26 @@
 //! The sheet with the text of a received form, and what to ask the other station for.
-ghost use Rattle.std.specs.Prelude.{◌≡◌, ◌∷◌, ◌++◌, ◌+◌, ◌/◌, ◌≤◌, [], decimal, length, map};
+ghost use Rattle.std.specs.Prelude.{◌≡◌, ◌∷◌, ◌≤◌, [], decimal, false, length, map};
 ghost use Rattle.kd_pictures.specs.Drawing.{Draws};
 ghost use Rattle.kd_form.specs.Sending.{space_letter};
 ghost use Rattle.kd_lost.specs.DamagedForm.{shown_byte};
 ghost use Rattle.kd_part_sheet.specs.Rows.{pieces};
 ghost use Rattle.kd_message.specs.ShownParts.{numbers_of};
-ghost use Rattle.kd_message.specs.TextSheet.{ask_for_lost, ask_text, asked_words, came_text, came_words, counts_text};
-ghost use Rattle.kd_message.specs.TextSheet.{damage_text, heading_words, headings_after, several_words};
-ghost use Rattle.kd_message.specs.TextSheet.{first_text_group, group_words, has_lost, heading_count, indicator_groups};
-ghost use Rattle.kd_message.specs.TextSheet.{indicator_place, is_copy_lost, is_not_tested, is_wrong_day, key_letter_groups};
-ghost use Rattle.kd_message.specs.TextSheet.{lost_groups, missing_text, numbers_after, order_text, order_words, read_text};
-ghost use Rattle.kd_message.specs.TextSheet.{reason_text, text_begin, text_part_head, text_sheet_head};
-ghost use Rattle.kd_message.specs.TextSheet.{warnings_of};
+ghost use Rattle.kd_message.specs.TextSheet.{ask_for_lost, ask_text, begins_late, came_text, came_words};
+ghost use Rattle.kd_message.specs.TextSheet.{first_text_group, heading_words, headings_after, is_any_smoothed};
+ghost use Rattle.kd_message.specs.TextSheet.{is_copy_lost, is_not_tested, is_wrong_day, lost_groups, numbers_after};
+ghost use Rattle.kd_message.specs.TextSheet.{order_text, order_words, passed_text, read_text, several_words};
+ghost use Rattle.kd_message.specs.TextSheet.{text_begin, text_part_head, text_sheet_head, warnings_of};
 
+use crate::groups::{draw_lost_groups, has_lost};
 use crate::one_message::are_of_one_message;
 use crate::shown_parts::are_rising;
 use crate::texts::{
-    ALL_OF_IT, ASK, ASK_END, BAD_BYTE, CAME, CAME_END, COPIES_DIFFER, COUNT_CAME, COUNT_END,
-    COUNT_WRONG, DID_NOT_COME, GROUP, HEADING_DAMAGED, HEADING_KEY_LOST, ITS_HEADING,
-    KEY_LETTER_LOST, KEY_NOT_ON_WHEEL, NO_INTERNAL_KEY, OF_PARTS, ORDER, ORDER_END, REASON_END,
-    SEVERAL, SEVERAL_END, TEXT_END, TEXT_LETTERS, TEXT_PART, TEXT_SHEET, TEXT_WORDS, UNREAD,
+    ASK, ASK_END, CAME, CAME_END, OF_PARTS, ORDER, ORDER_END, PASSED_OVER, SEVERAL, SEVERAL_END,
+    TEXT_END, TEXT_LETTERS, TEXT_PART, TEXT_SHEET, TEXT_WORDS,
 };
 use itoa::Buffer;
 use kd_form::text_bytes::space_letter;
-use kd_lost::{DamagedPart, DamagedText, GroupTest, LostCopies, PartDamage, PartNumbers};
-use kd_part_sheet::cutting::first_piece;
+use kd_lost::{DamagedPart, DamagedText, GroupTest, LostCopies, PartNumbers};
 use kd_part_sheet::markup::{COMMA, LOST_LETTER, SPACE};
 use kd_part_sheet::part_sheet::{PartName, Warnings, draw_warnings};
 use kd_part_sheet::sheet::Sheet;
@@ -47,6 +43,37 @@ pub(crate) fn draw_text_sheet_head<W: Sink>(sink: &mut W, language: Language, da
             Value::Number(u16::from(day.day())),
         ],
     );
+}
+
+/// Writes that something of the form was passed over, or read as what it means, if that is so.
+pub(crate) fn draw_passed<W: Sink>(sink: &mut W, language: Language, parts: &[DamagedPart])
+    ensures { Draws W.taken W.has_failed sink.old sink.new (passed_text language parts.now) }
+{
+    if begins_late(parts) || is_any_smoothed(parts) {
+        draw_in(sink, language, PASSED_OVER);
+    } else {
+        draw(sink, "");
+    }
+}
+
+/// Whether lines stand before the first part.
+fn begins_late(parts: &[DamagedPart]) -> bool
+    ensures { result ≡ begins_late parts.now }
+{
+    match parts {
+        [part, ..] => part.line > 1,
+        [] => false,
+    }
+}
+
+/// Whether blanks, tabs or small letters of a part were passed over, or read as what they mean.
+fn is_any_smoothed(parts: &[DamagedPart]) -> bool
+    ensures { result ≡ is_any_smoothed parts.now }
+{
+    match parts {
+        [part, rest @ ..] => part.respaced || !part.as_spelled || is_any_smoothed(rest),
+        [] => false,
+    }
 }
 
 /// Writes that the parts aren't of one message; or the order in which they came, if it isn't that of their numbers.
@@ -251,16 +278,6 @@ fn is_not_tested(group: GroupTest) -> bool
     }
 }
 
-/// Whether a letter is lost.
-fn has_lost(letters: &[Option<Letter>]) -> bool
-    ensures { result ≡ has_lost letters.now }
-{
-    match letters {
-        [letter, rest @ ..] => letter.is_none() || has_lost(rest),
-        [] => false,
-    }
-}
-
 /// Writes the box for the groups in which letters are lost, if there are such groups.
 fn draw_ask_for_lost<W: Sink>(
     sink: &mut W,
@@ -288,10 +305,17 @@ fn draw_ask_groups<W: Sink>(
     requires { length letters.now ≤ 500 }
     ensures { Draws W.taken W.has_failed sink.old sink.new
         (ask_text language name.part
-        (lost_groups language [] (first_text_group name.model) (pieces 5 letters.now))) }
+        (lost_groups language [] false (first_text_group name.model) (pieces 5 letters.now))) }
 {
     fill_in(sink, language, ASK, &[Value::Number(u16::from(name.part))]);
-    draw_lost_groups(sink, language, "", first_text_group(name.model), letters);
+    draw_lost_groups(
+        sink,
+        language,
+        "",
+        false,
+        first_text_group(name.model),
+        letters,
+    );
     draw(sink, ASK_END);
 }
 
@@ -302,184 +326,9 @@ fn first_text_group(model: Model) -> usize
     if is_converter(model) { 3 } else { 2 }
 }
 
-/// Writes the numbers of the groups of `letters` in which letters are lost, the first after `first`.
-fn draw_lost_groups<W: Sink>(
-    sink: &mut W,
-    language: Language,
-    first: &str,
-    number: usize,
-    letters: &[Option<Letter>],
-)
-    requires { number + length letters.now ≤ 1000 }
-    ensures { Draws W.taken W.has_failed sink.old sink.new
-        (lost_groups language first.now number (pieces 5 letters.now)) }
-{
-    if !letters.is_empty() {
-        let (group, rest) = first_piece(letters, 5);
-        if has_lost(group) {
-            draw_group_words(sink, language, first, number);
-            draw_lost_groups(sink, language, COMMA, number + 1, rest);
-        } else {
-            draw_lost_groups(sink, language, first, number + 1, rest);
-        }
-    }
-}
-
-/// Writes a group's number, after `first`.
-fn draw_group_words<W: Sink>(sink: &mut W, language: Language, first: &str, number: usize)
-    ensures { Draws W.taken W.has_failed sink.old sink.new
-        (group_words language first.now number) }
-{
-    draw(sink, first);
-    draw_in(sink, language, GROUP);
-    draw_count(sink, number);
-}
-
-fn draw_count<W: Sink>(sink: &mut W, number: usize)
+/// Writes a number.
+pub(crate) fn draw_count<W: Sink>(sink: &mut W, number: usize)
     ensures { Draws W.taken W.has_failed sink.old sink.new (decimal number) }
 {
     draw(sink, Buffer::new().format(number));
-}
-
-/// Writes that a part didn't come.
-pub(crate) fn draw_missing<W: Sink>(sink: &mut W, language: Language, name: PartName)
-    ensures { Draws W.taken W.has_failed sink.old sink.new (missing_text language name) }
-{
-    draw_in(sink, language, UNREAD);
-    draw_in(sink, language, DID_NOT_COME);
-    draw(sink, REASON_END);
-    draw_ask(sink, language, name, language.text(ALL_OF_IT));
-}
-
-/// Writes the box for `words`.
-fn draw_ask<W: Sink>(sink: &mut W, language: Language, name: PartName, words: &str)
-    ensures { Draws W.taken W.has_failed sink.old sink.new
-        (ask_text language name.part words.now) }
-{
-    fill_in(sink, language, ASK, &[Value::Number(u16::from(name.part))]);
-    draw(sink, words);
-    draw(sink, ASK_END);
-}
-
-/// Writes why a part isn't read, and what to ask for.
-pub(crate) fn draw_damage<W: Sink>(
-    sink: &mut W,
-    language: Language,
-    name: PartName,
-    part: &DamagedPart,
-    damage: PartDamage,
-)
-    ensures { Draws W.taken W.has_failed sink.old sink.new
-        (damage_text language name part.now damage) }
-{
-    draw_in(sink, language, UNREAD);
-    draw_reason(sink, language, part, damage);
-    draw(sink, REASON_END);
-    fill_in(sink, language, ASK, &[Value::Number(u16::from(name.part))]);
-    draw_asked(sink, language, part, damage);
-    draw(sink, ASK_END);
-}
-
-/// Writes why a part isn't read.
-fn draw_reason<W: Sink>(sink: &mut W, language: Language, part: &DamagedPart, damage: PartDamage)
-    ensures { Draws W.taken W.has_failed sink.old sink.new
-        (reason_text language part.now damage) }
-{
-    match damage {
-        PartDamage::HeadingDamaged => draw_in(sink, language, HEADING_DAMAGED),
-        PartDamage::HeadingKeyLost => draw_in(sink, language, HEADING_KEY_LOST),
-        PartDamage::BadByte => draw_in(sink, language, BAD_BYTE),
-        PartDamage::CountWrong => {
-            draw_counts(sink, language, heading_count(&part.numbers), part.came)
-        }
-        PartDamage::CopiesDiffer(number) => fill_in(
-            sink,
-            language,
-            COPIES_DIFFER,
-            &[Value::Number(indicator_place(number))],
-        ),
-        PartDamage::KeyLetterLost(number) => fill_in(
-            sink,
-            language,
-            KEY_LETTER_LOST,
-            &[Value::Number(indicator_place(number))],
-        ),
-        PartDamage::KeyNotOnWheel => draw_in(sink, language, KEY_NOT_ON_WHEEL),
-        PartDamage::NoInternalKey => draw_in(sink, language, NO_INTERNAL_KEY),
-    }
-}
-
-/// Writes how many letters the heading counts, and how many came.
-fn draw_counts<W: Sink>(sink: &mut W, language: Language, counted: usize, came: usize)
-    ensures { Draws W.taken W.has_failed sink.old sink.new
-        (counts_text language counted came) }
-{
-    draw_in(sink, language, COUNT_WRONG);
-    draw_count(sink, counted);
-    draw_in(sink, language, COUNT_CAME);
-    draw_count(sink, came);
-    draw_in(sink, language, COUNT_END);
-}
-
-/// How many letters the body has, by the heading.
-fn heading_count(numbers: &Option<PartNumbers>) -> usize
-    ensures { result ≡ heading_count numbers.now }
-{
-    match numbers {
-        Some(numbers) => numbers.letters,
-        None => 0,
-    }
-}
-
-/// Where the key letter `number` stands among the indicators: the chosen letter stands twice.
-fn indicator_place(number: u8) -> u16
-    ensures { result ≡ indicator_place number }
-{
-    if number == 0 {
-        1
-    } else {
-        u16::from(number) + 2
-    }
-}
-
-/// Writes what to ask for if a part isn't read.
-fn draw_asked<W: Sink>(sink: &mut W, language: Language, part: &DamagedPart, damage: PartDamage)
-    ensures { Draws W.taken W.has_failed sink.old sink.new
-        (asked_words language part.now damage) }
-{
-    match damage {
-        PartDamage::HeadingDamaged if part.came > 0 => draw_in(sink, language, ITS_HEADING),
-        PartDamage::HeadingKeyLost => draw_in(sink, language, ITS_HEADING),
-        PartDamage::HeadingDamaged | PartDamage::BadByte | PartDamage::CountWrong => {
-            draw_in(sink, language, ALL_OF_IT)
-        }
-        PartDamage::CopiesDiffer(number) | PartDamage::KeyLetterLost(number) => {
-            draw_key_letter_groups(sink, language, part.came, number)
-        }
-        PartDamage::KeyNotOnWheel | PartDamage::NoInternalKey => {
-            draw_indicator_groups(sink, language, part.came)
-        }
-    }
-}
-
-/// Writes the two groups with a key letter, of a body with this many letters.
-fn draw_key_letter_groups<W: Sink>(sink: &mut W, language: Language, came: usize, number: u8)
-    ensures { Draws W.taken W.has_failed sink.old sink.new
-        (key_letter_groups language came number) }
-{
-    let group = if indicator_place(number) <= 5 { 1 } else { 2 };
-    draw_group_words(sink, language, "", group);
-    draw_group_words(sink, language, COMMA, (came / 5).saturating_sub(2) + group);
-}
-
-/// Writes the groups with the indicators, of a body with this many letters: the first two and the last two.
-fn draw_indicator_groups<W: Sink>(sink: &mut W, language: Language, came: usize)
-    ensures { Draws W.taken W.has_failed sink.old sink.new
-        (indicator_groups language came) }
-{
-    let last = came / 5;
-    draw_group_words(sink, language, "", 1);
-    draw_group_words(sink, language, COMMA, 2);
-    draw_group_words(sink, language, COMMA, last.saturating_sub(1));
-    draw_group_words(sink, language, COMMA, last);
 }

@@ -90,6 +90,12 @@ pub const TEXT_WORDS: &str = "<p class=\"text words\">";
 
 pub const TEXT_END: &str = "</p>\n";
 
+/// That something of the form isn't there as it is sent.
+pub const PASSED_OVER: Text = (
+    "<p>Some of the form was passed over, or read as what it means: lines before the first heading, blanks in a heading, tabs, small letters.</p>\n",
+    "<p>Einiges im Spruch ist übergangen oder gelesen, wie es gemeint ist: Zeilen vor dem ersten Spruchkopf, Leerzeichen in einem Spruchkopf, Tabulatoren, Kleinbuchstaben.</p>\n",
+);
+
 /// The order in which the parts came: what stands before their numbers, and after them.
 pub const ORDER: Text = (
     "<p>The parts came in this order: ",
@@ -126,10 +132,20 @@ pub const ASK: Text = (
     "<label><input type=checkbox> von Teil ~ wiederholen lassen: <b>",
 );
 
-/// A group, before its number; the heading; the whole part.
+/// A group, before its number.
 pub const GROUP: Text = ("group ", "Gruppe ");
 
+/// Several groups, one after another: before the number of the first, and before that of the last.
+pub const GROUPS: Text = ("groups ", "Gruppe ");
+
+pub const TO_GROUP: Text = (" to ", " bis ");
+
 pub const ITS_HEADING: Text = ("its heading", "Spruchkopf");
+
+pub const ITS_KEYS: Text = (
+    "ground and key of its heading",
+    "Grundstellung und Schlüssel des Spruchkopfs",
+);
 
 pub const ALL_OF_IT: Text = ("all of it", "alles");
 
@@ -144,15 +160,26 @@ pub const UNREAD: Text = (
 
 pub const REASON_END: &str = "</p>\n";
 
+/// A line of the form, before its number.
+pub const LINE: Text = ("Line ", "Zeile ");
+
 /// Why a part isn't read. Before the heading's count; before the count of the letters that came; after it. A letter
 /// of the indicators: its number.
-pub const HEADING_DAMAGED: Text = ("The heading is damaged.", "Der Spruchkopf ist verstümmelt.");
+pub const HEADING_DAMAGED: Text = (
+    ": the heading is damaged.",
+    ": Der Spruchkopf ist verstümmelt.",
+);
+
+pub const IS_ORDER: Text = (
+    "This is an order, not a form: it is for <code>curator send</code>.",
+    "Das ist ein Auftrag, kein Spruch: Er ist für <code>curator send</code>.",
+);
 
 pub const DID_NOT_COME: Text = ("It didn\u{2019}t come.", "Der Teil ist nicht eingegangen.");
 
 pub const HEADING_KEY_LOST: Text = (
-    "A letter of the ground or of the key is lost.",
-    "In Grundstellung oder Spruchschlüssel fehlt ein Buchstabe.",
+    ": a letter of the ground or of the key is lost.",
+    ": In Grundstellung oder Spruchschlüssel fehlt ein Buchstabe.",
 );
 
 pub const BAD_BYTE: Text = (
@@ -160,11 +187,30 @@ pub const BAD_BYTE: Text = (
     "Ein Zeichen des Spruchs ist kein Buchstabe.",
 );
 
+/// A wrong sign: before its place in its line; before it; a sign that is no digit; after it.
+pub const LETTER_OF_LINE: Text = (", letter ", ", Buchstabe ");
+
+pub const COLON: &str = ": ";
+
+pub const THIS_SIGN: Text = ("this sign", "dieses Zeichen");
+
+pub const NO_LETTER: Text = (" is no letter.", " ist kein Buchstabe.");
+
 pub const COUNT_WRONG: Text = ("The heading counts ", "Buchstaben nach dem Spruchkopf: ");
 
 pub const COUNT_CAME: Text = (", but ", ", eingegangen: ");
 
 pub const COUNT_END: Text = (" came.", ".");
+
+/// A line that isn't full: before it; before the count of its letters; after it.
+pub const GAP: &str = " ";
+
+pub const LINE_HAS: Text = (" has ", " hat ");
+
+pub const FULL_LINE: Text = (
+    " letters where a full line has 50.",
+    " Buchstaben, eine volle Zeile hat 50.",
+);
 
 pub const COPIES_DIFFER: Text = (
     "The indicators differ at letter ~.",

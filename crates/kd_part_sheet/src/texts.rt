@@ -27,8 +27,8 @@ pub const LEGEND: SheetText = (
             "</p>\n<p>Über der Linie: tippen. Auf die Linie: den Buchstaben der Lampe schreiben. Darunter: wie er lauten muss. Wo darüber nichts steht: abschreiben.<br>Am Ende der Zeile: Buchstaben bis hier, und Fenster. Weichen sie ab, die Fenster wie vor der Zeile einstellen und die Zeile wiederholen.",
         ),
         (
-            "</p>\n<p>Above the line: enter. On it: write what the machine prints. Below: what it has to be. Where nothing stands above, copy.<br>A row ends with the letters so far, those of the indicators too, and the wheels. If they differ, set the wheels as before the row, and begin it again.",
-            "</p>\n<p>Über der Linie: eingeben. Auf die Linie: schreiben, was die Maschine druckt. Darunter: wie es lauten muss. Wo darüber nichts steht: abschreiben.<br>Am Ende der Zeile: Buchstaben bis hier, die Kennbuchstaben mitgezählt, und Räder. Weichen sie ab, die Räder wie vor der Zeile einstellen und die Zeile wiederholen.",
+            "</p>\n<p>Above the line: enter. On it: write what the machine prints. Below: what it has to be. Where nothing stands above, copy.<br>A row ends with the letters so far, those of the indicators too, and the wheels. If they differ, set the wheels as before the row, and begin it again. The machine\u{2019}s own counter counts every letter.",
+            "</p>\n<p>Über der Linie: eingeben. Auf die Linie: schreiben, was die Maschine druckt. Darunter: wie es lauten muss. Wo darüber nichts steht: abschreiben.<br>Am Ende der Zeile: Buchstaben bis hier, die Kennbuchstaben mitgezählt, und Räder. Weichen sie ab, die Räder wie vor der Zeile einstellen und die Zeile wiederholen. Das Zählwerk der Maschine zählt jeden Buchstaben.",
         ),
     ),
     (
@@ -37,8 +37,8 @@ pub const LEGEND: SheetText = (
             "</p>\n<p>Über der Linie: tippen. Auf die Linie: den Buchstaben der Lampe schreiben. Darunter: wie er lauten muss. Kleingedruckte Buchstaben darüber auslassen.<br>Am Ende der Zeile: Buchstaben bis hier, und Fenster. Weichen sie ab, die Fenster wie vor der Zeile einstellen und die Zeile wiederholen.",
         ),
         (
-            "</p>\n<p>Above the line: enter. On it: write what the machine prints. Below: what it has to be. Skip letters in small print above.<br>A row ends with the letters so far, those of the indicators too, and the wheels. If they differ, set the wheels as before the row, and begin it again.",
-            "</p>\n<p>Über der Linie: eingeben. Auf die Linie: schreiben, was die Maschine druckt. Darunter: wie es lauten muss. Kleingedruckte Buchstaben darüber auslassen.<br>Am Ende der Zeile: Buchstaben bis hier, die Kennbuchstaben mitgezählt, und Räder. Weichen sie ab, die Räder wie vor der Zeile einstellen und die Zeile wiederholen.",
+            "</p>\n<p>Above the line: enter. On it: write what the machine prints. Below: what it has to be. Skip letters in small print above.<br>A row ends with the letters so far, those of the indicators too, and the wheels. If they differ, set the wheels as before the row, and begin it again. The machine\u{2019}s own counter counts every letter.",
+            "</p>\n<p>Über der Linie: eingeben. Auf die Linie: schreiben, was die Maschine druckt. Darunter: wie es lauten muss. Kleingedruckte Buchstaben darüber auslassen.<br>Am Ende der Zeile: Buchstaben bis hier, die Kennbuchstaben mitgezählt, und Räder. Weichen sie ab, die Räder wie vor der Zeile einstellen und die Zeile wiederholen. Das Zählwerk der Maschine zählt jeden Buchstaben.",
         ),
     ),
 );
@@ -204,13 +204,13 @@ const ENIGMA_NOTE: Text = (
 );
 
 const SENT_NOTE: Text = (
-    "<p class=note>Each space is sent as Z. X at the end fills the last group.</p>\n",
-    "<p class=note>Jeder Zwischenraum wird als Z gesendet. X am Ende füllt die letzte Gruppe.</p>\n",
+    "<p class=note>Each space is sent as Z; a Z of the text comes back as a space, too. X at the end fills the last group.</p>\n",
+    "<p class=note>Jeder Zwischenraum wird als Z gesendet; auch ein Z des Textes kommt als Zwischenraum an. X am Ende füllt die letzte Gruppe.</p>\n",
 );
 
 const RECEIVED_NOTE: Text = (
-    "<p class=note>The machine prints each Z as a space. X at the end fills the last group.</p>\n",
-    "<p class=note>Die Maschine druckt jedes Z als Zwischenraum. X am Ende füllt die letzte Gruppe.</p>\n",
+    "<p class=note>The machine prints each Z as a space, a Z of a word, too. X at the end fills the last group.</p>\n",
+    "<p class=note>Die Maschine druckt jedes Z als Zwischenraum, auch ein Z eines Wortes. X am Ende füllt die letzte Gruppe.</p>\n",
 );
 
 pub const NAVAL_NOTE: Text = (

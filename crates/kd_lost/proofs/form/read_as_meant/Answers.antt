@@ -20,7 +20,10 @@ returns-then-is_some c =
       text = read.text;
       shown = read.shown;
       wrong_sign = read.wrong_sign;
+      short_line = read.short_line;
       respaced = stands;
+      as_spelled = read.as_spelled;
+      is_order = read.is_order;
     }
 
 pub returns : goal.returns
@@ -37,5 +40,8 @@ returns c =
       text = read.text;
       shown = read.shown;
       wrong_sign = read.wrong_sign;
+      short_line = read.short_line;
       respaced = c.differs.ensures;
+      as_spelled = read.as_spelled;
+      is_order = read.is_order;
     }

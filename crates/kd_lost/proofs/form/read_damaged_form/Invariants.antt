@@ -1,11 +1,12 @@
-use Rattle.std.proofs.Common.{◌≡◌, ◌≤◌, ◌+◌, ◌++◌, ℕ, List, length, MatchOption, unwrap_or, option_map}
-use Rattle.kd_lost.specs.DamagedForm.{AreReadOf, damaged_parts_of, parts_cut}
+use Rattle.std.proofs.Common.{◌≡◌, ◌≤◌, ◌+◌, ◌++◌, List, length, MatchOption, unwrap_or, option_map}
+use Rattle.kd_lost.specs.DamagedForm.{AreReadOf, PlacedPart, damaged_parts_of, parts_cut, placed_from}
 use Rattle.kd_lost.proofs.form.read_damaged_form.Given as goal
 
 abbrev pub invariant-loop-left : goal.invariant-loop-left
-invariant-loop-left l = (length l.parts.items ≤ 255) × (done : List (List ℕ)) × AreReadOf l.day done l.parts.items
-    × MatchOption l.left (damaged_parts_of l.form ≡ done) (λ rest. damaged_parts_of l.form ≡ done ++
-    parts_cut rest.now)
+invariant-loop-left l = (length l.parts.items ≤ 255) × (done : List PlacedPart) × AreReadOf l.day done l.parts.items
+    × MatchOption l.left (damaged_parts_of l.form ≡ done)
+    (λ rest. (damaged_parts_of l.form ≡ done ++ placed_from l.line (parts_cut rest.now))
+    × (l.line + length rest.now ≤ length l.form + 1))
 
 abbrev pub decreases-loop-left : goal.decreases-loop-left
 decreases-loop-left l = unwrap_or (option_map (λ rest. length rest.now + 1) l.left) 0

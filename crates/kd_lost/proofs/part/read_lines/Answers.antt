@@ -44,7 +44,7 @@ returns-clause-text c =
     GoesOn c.in-Some.heading (record { is_heading = found.0; text = found.1 }) c.read_body_after.ensures
 
 pub returns-in_default-clause-came : goal.returns-in_default-clause-came
-returns-in_default-clause-came c = c.letter_count-came.ensures ∙ letters_counted c.args.body.now
+returns-in_default-clause-came c = c.letter_count-came.ensures.count ∙ letters_counted c.args.body.now
 
 pub returns-clause-came : goal.returns-clause-came
-returns-clause-came c = c.letter_count-came.ensures ∙ letters_counted c.args.body.now
+returns-clause-came c = c.letter_count-came.ensures.count ∙ letters_counted c.args.body.now

@@ -1,9 +1,9 @@
-use Rattle.std.proofs.Common.{◌≤◌, length, arith, refl, ap, sym, subst, Err, rules}
+use Rattle.std.proofs.Common.{◌≡◌, ◌∙◌, ◌≤◌, length, arith, refl, ap, sym, subst, true, Err, rules}
 use Rattle.kd_lost.specs.DamagedForm.{damaged_parts_of}
 use Rattle.kd_lost.proofs.Forms.{as_many_read}
 use Rattle.kd_pictures.proofs.Drawings.{writes_part}
 use Rattle.kd_message.specs.ReceivePage.{AreWorkable, FormNotRead, ReceivedPageWritten}
-use Rattle.kd_message.proofs.ReceivePages.{are_workable, page_begins}
+use Rattle.kd_message.proofs.ReceivePages.{are_workable, or_true, page_begins}
 use Rattle.kd_message.proofs.receiving.write_receive_page.Goals as goal
 
 pub returns-in-Err-clause-page : goal.returns-in-Err-clause-page
@@ -44,3 +44,8 @@ returns-clause-page g c =
 
 pub returns-clause-failed : goal.returns-clause-failed
 returns-clause-failed g c = let drawn = c.draw_page.ensures in (search rules)
+
+pub returns-then-failed-clause-failed : goal.returns-then-failed-clause-failed
+returns-then-failed-clause-failed g c =
+    let failed : g.W.Sink.has_failed c.draw_page.new.sink ≡ true = grind (arith, c.failed.ensures, c.if-failed.true) in
+    failed ∙ sym (or_true (g.W.Sink.has_failed c.args.sink.now))

@@ -1,0 +1,32 @@
+-- The first line of a body that has letters, but not 50, before another line with letters. `desk send` writes lines of 50.
+use Rattle.std.specs.Prelude.{ℕ, ◌+◌, ◌-◌, ◌==◌, ◌&&◌, not, nat_lt, Bool, if◌then◌else◌, List, [], ◌∷◌, length}
+use Rattle.std.specs.Prelude.{Option, None, Some}
+use Rattle.kd_lost.specs.declared.short_line.ShortLine.{ShortLine}
+use Rattle.kd_lost.specs.DamagedPart.{body_of, first_line}
+use Rattle.kd_lost.specs.Lost.{received_letters}
+
+-- how many letters stand in the bytes, with the lost ones
+abbrev pub letters_on : List ℕ → ℕ
+letters_on bytes = length (received_letters bytes)
+
+-- whether a line with this many letters is neither empty nor full
+abbrev pub is_short : ℕ → Bool
+is_short letters = not (letters == 0) && not (letters == 50)
+
+-- the bytes from each later line on
+abbrev pub later_lines : List ℕ → List (List ℕ)
+later_lines [] = []
+later_lines (byte ∷ bytes) = if byte == 10 then bytes ∷ later_lines bytes else later_lines bytes
+
+-- The first of the lines that is short, and has letters after it. Each line is given with all bytes after it; the first has
+-- the number `number`. `all`: how many letters the body has.
+abbrev pub short_line_from : ℕ → ℕ → List (List ℕ) → Option ShortLine
+short_line_from all number [] = None
+short_line_from all number (bytes ∷ others) =
+    if is_short (letters_on (first_line bytes)) && nat_lt 0 (letters_on (body_of bytes))
+    then Some (record { line = number; letters = letters_on (first_line bytes); before = all - letters_on bytes })
+    else short_line_from all (number + 1) others
+
+-- the first short line of a body, which begins on line 2 of its part
+abbrev pub short_line : List ℕ → Option ShortLine
+short_line body = short_line_from (letters_on body) 2 (body ∷ later_lines body)

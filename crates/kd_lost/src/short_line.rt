@@ -1,0 +1,63 @@
+//! `ShortLine`: the first line of a body that isn't full, and isn't the last.
+ghost use Rattle.std.specs.Prelude.{◌≡◌, ◌&&◌, nat_lt};
+ghost use Rattle.kd_lost.specs.ShortLine.{is_short, letters_on, short_line};
+
+use crate::received::letter_count;
+use kd_state::split_once;
+
+/// A line of a body that has letters, but not 50, before another line with letters.
+#[derive(Clone, Copy, Debug, PartialEq, Eq)]
+pub struct ShortLine {
+    /// The line of the part, counted from 1. On line 1 stands the heading.
+    pub line: usize,
+    /// How many letters the line has, with the lost ones.
+    pub letters: usize,
+    /// How many letters of the body stand before the line.
+    pub before: usize,
+}
+
+/// The first short line of `body`, the bytes after the heading line of a part.
+pub(crate) fn first_short_line(body: &[u8]) -> Option<ShortLine>
+    ensures { result ≡ short_line body.now }
+{
+    let all = letters_on(body);
+    let mut line = 2;
+    let mut left = body;
+    while let Some((first, rest)) = split_once(left, b'\n') {
+        let letters = letters_on(first);
+        if is_short_before(letters, rest) {
+            let from = letters_on(left);
+            let before = all.saturating_sub(from);
+            return Some(ShortLine {
+                line,
+                letters,
+                before,
+            });
+        }
+        line += 1;
+        left = rest;
+    }
+    None
+}
+
+/// Whether a line with this many letters is neither empty nor full, and letters stand in `rest`, the bytes after it.
+fn is_short_before(letters: usize, rest: &[u8]) -> bool
+    ensures { result ≡ (is_short letters && nat_lt 0 (letters_on rest.now)) }
+{
+    is_short(letters) && letters_on(rest) > 0
+}
+
+/// Whether a line with this many letters is neither empty nor full.
+fn is_short(letters: usize) -> bool
+    ensures { result ≡ is_short letters }
+{
+    letters != 0 && letters != 50
+}
+
+/// How many letters stand in `bytes`, with the lost ones.
+#[tactic(auto, using(crate::proofs::Bytes::letters_counted))]
+fn letters_on(bytes: &[u8]) -> usize
+    ensures { result ≡ letters_on bytes.now }
+{
+    letter_count(bytes)
+}

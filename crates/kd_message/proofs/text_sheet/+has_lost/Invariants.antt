@@ -1,5 +1,0 @@
-use Rattle.std.proofs.Common.{length}
-use Rattle.kd_message.proofs.text_sheet.+has_lost.Given as goal
-
-abbrev pub decreases-has_lost : goal.decreases-has_lost
-decreases-has_lost l = length l.letters.now

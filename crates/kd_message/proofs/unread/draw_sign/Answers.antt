@@ -1,0 +1,12 @@
+use Rattle.std.proofs.Common.{arith}
+use Rattle.std.proofs.lemmas.Grind.{common_steps}
+use Rattle.kd_pictures.proofs.Drawings.{both, joined}
+unfoldable use Rattle.kd_message.specs.TextSheet.{sign_text}
+use Rattle.kd_message.proofs.unread.draw_sign.Goals as goal
+
+pub returns : goal.returns
+unfolding sign_text
+returns g c =
+    joined (both (both (both (both c.draw_line_words.ensures c.draw_in.ensures) c.draw_count.ensures) c.draw.ensures)
+    c.draw_sign_words.ensures) c.draw_in-2.ensures
+    (grind (arith, common_steps))

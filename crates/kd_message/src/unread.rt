@@ -1,0 +1,305 @@
+//! Parts that aren't read: why, and what to ask the other station for.
+ghost use Rattle.std.specs.Prelude.{◌≡◌, ◌+◌, ◌-◌};
+ghost use Rattle.kd_pictures.specs.Drawing.{Draws};
+ghost use Rattle.kd_message.specs.TextSheet.{ask_text, asked_words, bad_byte_text, counts_text, damage_text};
+ghost use Rattle.kd_message.specs.TextSheet.{heading_count, heading_fault, indicator_groups, indicator_place};
+ghost use Rattle.kd_message.specs.TextSheet.{key_letter_groups, line_words, missing_text, reason_text, sign_group};
+ghost use Rattle.kd_message.specs.TextSheet.{count_text, explains, part_line, short_groups, short_text, short_words};
+ghost use Rattle.kd_message.specs.TextSheet.{sign_text, sign_words, telling_line};
+
+use crate::groups::{draw_group_words, draw_groups_words};
+use crate::text_sheet::draw_count;
+use crate::texts::{
+    ALL_OF_IT, ASK, ASK_END, BAD_BYTE, COLON, COPIES_DIFFER, COUNT_CAME, COUNT_END, COUNT_WRONG,
+    DID_NOT_COME, FULL_LINE, GAP, HEADING_DAMAGED, HEADING_KEY_LOST, ITS_HEADING, ITS_KEYS,
+    KEY_LETTER_LOST, KEY_NOT_ON_WHEEL, LETTER_OF_LINE, LINE, LINE_HAS, NO_INTERNAL_KEY, NO_LETTER,
+    REASON_END, THIS_SIGN, UNREAD,
+};
+use itoa::Buffer;
+use kd_lost::{DamagedPart, PartDamage, PartNumbers, ShortLine, WrongSign};
+use kd_part_sheet::markup::COMMA;
+use kd_part_sheet::part_sheet::PartName;
+use kd_pictures::template::{Value, fill_in};
+use kd_pictures::{Language, draw, draw_in};
+use kd_tables::Sink;
+
+/// Writes that a part didn't come.
+pub(crate) fn draw_missing<W: Sink>(sink: &mut W, language: Language, name: PartName)
+    ensures { Draws W.taken W.has_failed sink.old sink.new (missing_text language name) }
+{
+    draw_in(sink, language, UNREAD);
+    draw_in(sink, language, DID_NOT_COME);
+    draw(sink, REASON_END);
+    draw_ask(sink, language, name, language.text(ALL_OF_IT));
+}
+
+/// Writes the box for `words`.
+fn draw_ask<W: Sink>(sink: &mut W, language: Language, name: PartName, words: &str)
+    ensures { Draws W.taken W.has_failed sink.old sink.new
+        (ask_text language name.part words.now) }
+{
+    fill_in(sink, language, ASK, &[Value::Number(u16::from(name.part))]);
+    draw(sink, words);
+    draw(sink, ASK_END);
+}
+
+/// Writes why a part isn't read, and what to ask for.
+pub(crate) fn draw_damage<W: Sink>(
+    sink: &mut W,
+    language: Language,
+    name: PartName,
+    part: &DamagedPart,
+    damage: PartDamage,
+)
+    ensures { Draws W.taken W.has_failed sink.old sink.new
+        (damage_text language name part.now damage) }
+{
+    draw_in(sink, language, UNREAD);
+    draw_reason(sink, language, part, damage);
+    draw(sink, REASON_END);
+    fill_in(sink, language, ASK, &[Value::Number(u16::from(name.part))]);
+    draw_asked(sink, language, part, damage);
+    draw(sink, ASK_END);
+}
+
+/// Writes why a part isn't read.
+fn draw_reason<W: Sink>(sink: &mut W, language: Language, part: &DamagedPart, damage: PartDamage)
+    ensures { Draws W.taken W.has_failed sink.old sink.new
+        (reason_text language part.now damage) }
+{
+    match damage {
+        PartDamage::HeadingDamaged => {
+            draw_heading_fault(sink, language, part.line, language.text(HEADING_DAMAGED))
+        }
+        PartDamage::HeadingKeyLost => {
+            draw_heading_fault(sink, language, part.line, language.text(HEADING_KEY_LOST))
+        }
+        PartDamage::BadByte => draw_bad_byte(sink, language, part.line, &part.wrong_sign),
+        PartDamage::CountWrong => draw_count_wrong(sink, language, part),
+        PartDamage::CopiesDiffer(number) => fill_in(
+            sink,
+            language,
+            COPIES_DIFFER,
+            &[Value::Number(indicator_place(number))],
+        ),
+        PartDamage::KeyLetterLost(number) => fill_in(
+            sink,
+            language,
+            KEY_LETTER_LOST,
+            &[Value::Number(indicator_place(number))],
+        ),
+        PartDamage::KeyNotOnWheel => draw_in(sink, language, KEY_NOT_ON_WHEEL),
+        PartDamage::NoInternalKey => draw_in(sink, language, NO_INTERNAL_KEY),
+    }
+}
+
+/// Writes what is wrong with the heading of a part that begins on line `line` of the form.
+pub(crate) fn draw_heading_fault<W: Sink>(
+    sink: &mut W,
+    language: Language,
+    line: usize,
+    fault: &str,
+)
+    ensures { Draws W.taken W.has_failed sink.old sink.new
+        (heading_fault language line fault.now) }
+{
+    draw_line_words(sink, language, line, 1);
+    draw(sink, fault);
+}
+
+/// Writes line `number` of a part that begins on line `line` of the form.
+fn draw_line_words<W: Sink>(sink: &mut W, language: Language, line: usize, number: usize)
+    ensures { Draws W.taken W.has_failed sink.old sink.new (line_words language line number) }
+{
+    draw_in(sink, language, LINE);
+    draw(sink, Buffer::new().format(line_of_form(line, number)));
+}
+
+/// Line `number` of a part that begins on line `line` of the form, by its number in the form.
+fn line_of_form(line: usize, number: usize) -> u128
+    ensures { result ≡ line + number - 1 }
+{
+    (line as u128 + number as u128).saturating_sub(1)
+}
+
+/// Writes the wrong sign of a part that begins on line `line` of the form.
+fn draw_bad_byte<W: Sink>(sink: &mut W, language: Language, line: usize, sign: &Option<WrongSign>)
+    ensures { Draws W.taken W.has_failed sink.old sink.new
+        (bad_byte_text language line sign.now) }
+{
+    match sign {
+        Some(sign) => draw_sign(sink, language, line, *sign),
+        None => draw_in(sink, language, BAD_BYTE),
+    }
+}
+
+fn draw_sign<W: Sink>(sink: &mut W, language: Language, line: usize, sign: WrongSign)
+    ensures { Draws W.taken W.has_failed sink.old sink.new (sign_text language line sign) }
+{
+    draw_line_words(sink, language, line, sign.line);
+    draw_in(sink, language, LETTER_OF_LINE);
+    draw_count(sink, sign.letter);
+    draw(sink, COLON);
+    draw_sign_words(sink, language, sign.byte);
+    draw_in(sink, language, NO_LETTER);
+}
+
+/// Writes a wrong sign: a digit as it is; any other is only called a sign.
+fn draw_sign_words<W: Sink>(sink: &mut W, language: Language, byte: u8)
+    ensures { Draws W.taken W.has_failed sink.old sink.new (sign_words language byte) }
+{
+    if byte >= b'0' && byte <= b'9' {
+        draw_count(sink, usize::from(byte - b'0'));
+    } else {
+        draw_in(sink, language, THIS_SIGN);
+    }
+}
+
+/// Writes the group of the body in which a wrong sign stands.
+fn draw_sign_group<W: Sink>(sink: &mut W, language: Language, sign: &Option<WrongSign>)
+    ensures { Draws W.taken W.has_failed sink.old sink.new (sign_group language sign.now) }
+{
+    match sign {
+        Some(sign) => draw_group_words(sink, language, sign.place.saturating_sub(1) / 5 + 1),
+        None => draw_in(sink, language, ALL_OF_IT),
+    }
+}
+
+/// Writes how many letters the heading counts, and how many came.
+fn draw_counts<W: Sink>(sink: &mut W, language: Language, counted: usize, came: usize)
+    ensures { Draws W.taken W.has_failed sink.old sink.new
+        (counts_text language counted came) }
+{
+    draw_in(sink, language, COUNT_WRONG);
+    draw_count(sink, counted);
+    draw_in(sink, language, COUNT_CAME);
+    draw_count(sink, came);
+    draw_in(sink, language, COUNT_END);
+}
+
+/// Writes the counts of the heading and of the letters that came, and the line in which letters are missing.
+fn draw_count_wrong<W: Sink>(sink: &mut W, language: Language, part: &DamagedPart)
+    ensures { Draws W.taken W.has_failed sink.old sink.new (count_text language part.now) }
+{
+    draw_counts(sink, language, heading_count(&part.numbers), part.came);
+    draw_short(sink, language, part.line, part_line(part));
+}
+
+/// The line that isn't full, if it explains the heading's count.
+fn part_line(part: &DamagedPart) -> Option<ShortLine>
+    ensures { result ≡ part_line part.now }
+{
+    telling_line(heading_count(&part.numbers), part.came, &part.short_line)
+}
+
+fn telling_line(counted: usize, came: usize, short: &Option<ShortLine>) -> Option<ShortLine>
+    ensures { result ≡ telling_line counted came short.now }
+{
+    match short {
+        Some(short) if explains(counted, came, *short) => Some(*short),
+        _ => None,
+    }
+}
+
+/// Whether the heading's count is right if the line is full.
+fn explains(counted: usize, came: usize, short: ShortLine) -> bool
+    ensures { result ≡ explains counted came short }
+{
+    counted as u128 + short.letters as u128 == came as u128 + 50
+}
+
+fn draw_short<W: Sink>(sink: &mut W, language: Language, line: usize, short: Option<ShortLine>)
+    ensures { Draws W.taken W.has_failed sink.old sink.new (short_text language line short) }
+{
+    match short {
+        Some(short) => draw_short_words(sink, language, line, short),
+        None => draw(sink, ""),
+    }
+}
+
+/// Writes how many letters a line has that isn't full.
+fn draw_short_words<W: Sink>(sink: &mut W, language: Language, line: usize, short: ShortLine)
+    ensures { Draws W.taken W.has_failed sink.old sink.new (short_words language line short) }
+{
+    draw(sink, GAP);
+    draw_line_words(sink, language, line, short.line);
+    draw_in(sink, language, LINE_HAS);
+    draw_count(sink, short.letters);
+    draw_in(sink, language, FULL_LINE);
+}
+
+/// Writes the ten groups of a line that isn't full.
+fn draw_short_groups<W: Sink>(sink: &mut W, language: Language, short: Option<ShortLine>)
+    ensures { Draws W.taken W.has_failed sink.old sink.new (short_groups language short) }
+{
+    match short {
+        Some(short) => {
+            let before = short.before / 5;
+            draw_groups_words(sink, language, before + 1, before + 10)
+        }
+        None => draw_in(sink, language, ALL_OF_IT),
+    }
+}
+
+/// How many letters the body has, by the heading.
+fn heading_count(numbers: &Option<PartNumbers>) -> usize
+    ensures { result ≡ heading_count numbers.now }
+{
+    match numbers {
+        Some(numbers) => numbers.letters,
+        None => 0,
+    }
+}
+
+/// Where the key letter `number` stands among the indicators: the chosen letter stands twice.
+fn indicator_place(number: u8) -> u16
+    ensures { result ≡ indicator_place number }
+{
+    if number == 0 {
+        1
+    } else {
+        u16::from(number) + 2
+    }
+}
+
+/// Writes what to ask for if a part isn't read.
+fn draw_asked<W: Sink>(sink: &mut W, language: Language, part: &DamagedPart, damage: PartDamage)
+    ensures { Draws W.taken W.has_failed sink.old sink.new
+        (asked_words language part.now damage) }
+{
+    match damage {
+        PartDamage::HeadingDamaged if part.came > 0 => draw_in(sink, language, ITS_HEADING),
+        PartDamage::HeadingKeyLost => draw_in(sink, language, ITS_KEYS),
+        PartDamage::BadByte => draw_sign_group(sink, language, &part.wrong_sign),
+        PartDamage::HeadingDamaged => draw_in(sink, language, ALL_OF_IT),
+        PartDamage::CountWrong => draw_short_groups(sink, language, part_line(part)),
+        PartDamage::CopiesDiffer(number) | PartDamage::KeyLetterLost(number) => {
+            draw_key_letter_groups(sink, language, part.came, number)
+        }
+        PartDamage::KeyNotOnWheel | PartDamage::NoInternalKey => {
+            draw_indicator_groups(sink, language, part.came)
+        }
+    }
+}
+
+/// Writes the two groups with a key letter, of a body with this many letters.
+fn draw_key_letter_groups<W: Sink>(sink: &mut W, language: Language, came: usize, number: u8)
+    ensures { Draws W.taken W.has_failed sink.old sink.new
+        (key_letter_groups language came number) }
+{
+    let group = if indicator_place(number) <= 5 { 1 } else { 2 };
+    draw_group_words(sink, language, group);
+    draw(sink, COMMA);
+    draw_group_words(sink, language, (came / 5).saturating_sub(2) + group);
+}
+
+/// Writes the groups with the indicators, of a body with this many letters: the first two and the last two.
+fn draw_indicator_groups<W: Sink>(sink: &mut W, language: Language, came: usize)
+    ensures { Draws W.taken W.has_failed sink.old sink.new
+        (indicator_groups language came) }
+{
+    let last = came / 5;
+    draw_groups_words(sink, language, 1, 2);
+    draw(sink, COMMA);
+    draw_groups_words(sink, language, last.saturating_sub(1), last);
+}
