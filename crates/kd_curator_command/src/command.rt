@@ -27,6 +27,9 @@ use std::convert::AsStr;
 const NO_MONTH: &str =
     "--empty needs Enigma I, M3, M4 or M-209, then a number of days from 1 to 31, and no other option";
 
+/// What is said of a model's name that was typed without quotes.
+const IN_QUOTES: &str = "Write \"Enigma I\" in quotes.\n";
+
 /// The text of the error for an argument that isn't a day.
 const NO_DAY: &str = "the day is a number from 1 to 31";
 
@@ -170,7 +173,7 @@ fn parse_by<'a, S: AsStr>(
 {
     let matches = match grammar.try_get_matches_from_mut(words) {
         Ok(matches) => matches,
-        Err(error) => return Err(no_command(alloc, &error)),
+        Err(error) => return Err(no_command(alloc, &error, quotes_hint(words))),
     };
     match meant_command(&matches) {
         Some(command) => Ok(command),
@@ -194,16 +197,29 @@ fn no_days(alloc: Global, grammar: &mut Grammar<'_>, why: &str) -> NoCommand
     ensures { IsToldAs ErrorKind.InvalidValue result }
 {
     match grammar.error(ErrorKind::InvalidValue, why) {
-        Ok(error) => no_command(alloc, &error),
+        Ok(error) => no_command(alloc, &error, ""),
         Err(_) => NoCommand::NoMemory,
     }
 }
 
-/// Why there is no command, after clap has given `error`.
-fn no_command(alloc: Global, error: &Error) -> NoCommand
+/// What to do about a model's name that was typed without quotes. An empty text if none was.
+fn quotes_hint<S: AsStr>(words: &[S]) -> &'static str {
+    let mut is_begun = false;
+    for word in words {
+        let word = word.as_str();
+        if is_begun && word == "I" {
+            return IN_QUOTES;
+        }
+        is_begun = word == "Enigma";
+    }
+    ""
+}
+
+/// Why there is no command, after clap has given `error`, and `hint`, which says more.
+fn no_command(alloc: Global, error: &Error, hint: &str) -> NoCommand
     ensures { IsToldAs (kind_of error.now) result }
 {
-    let Ok(text) = format!(in alloc; "{error}") else {
+    let Ok(text) = format!(in alloc; "{error}{hint}") else {
         return NoCommand::NoMemory;
     };
     match error.kind() {
