@@ -7,4 +7,4 @@ pub mod DayLines
 pub mod EmptyMonths
 pub mod Writings
 pub mod Noting
-pub mod Records
+pub mod ReadRows

@@ -1,119 +1,77 @@
 //! Says which columns a table lacks.
-ghost use Rattle.std.specs.Prelude.{◌≤◌, length};
-
+use super::head::Head;
+use super::note::option_name;
 use super::words::Words;
 use crate::cell::{Cell, cells_of, column_of, has_text, is_optional};
-use crate::columns::{Columns, cell_at};
+use crate::columns::{cell_at, english_name, german_name};
 use crate::names::is_named;
-use crate::options::TableOptions;
-use csv::ByteRecord;
 use kd_tables::Model;
 
-/// The name of a column, in English and in German.
-pub fn column_names(cell: Cell) -> (&'static str, &'static str)
-    ensures { length result.1.now ≤ 32 }
-{
-    match cell {
-        Cell::Day => ("day", "Tag"),
-        Cell::Model => ("model", "Modell"),
-        Cell::Reflector => ("reflector", "Umkehrwalze"),
-        Cell::Wheels => ("wheels", "Walzenlage"),
-        Cell::Rings => ("rings", "Ringstellung"),
-        Cell::Window => ("window", "Grundstellung"),
-        Cell::Plugs => ("plugs", "Steckerverbindungen"),
-        Cell::Groups => ("groups", "Kenngruppen"),
-        Cell::List => ("list", "Liste"),
-        Cell::Pins1 => ("pins 1", "Stifte 1"),
-        Cell::Pins2 => ("pins 2", "Stifte 2"),
-        Cell::Pins3 => ("pins 3", "Stifte 3"),
-        Cell::Pins4 => ("pins 4", "Stifte 4"),
-        Cell::Pins5 => ("pins 5", "Stifte 5"),
-        Cell::Pins6 => ("pins 6", "Stifte 6"),
-        Cell::Bars => ("bars", "Stangen"),
-    }
-}
+/// The columns that any table needs, unless an option stands for them.
+static NEEDED: [Cell; 2] = [Cell::Day, Cell::Model];
 
-/// The option in place of a column, if there is one.
-fn option_name(cell: Cell) -> Option<&'static str> {
-    match cell {
-        Cell::Model => Some("--model"),
-        Cell::Reflector => Some("--reflector"),
-        Cell::Window => Some("--window"),
-        _ => None,
-    }
-}
+/// The columns of most tables, by whose names the language of a table is told.
+static OFTEN_NAMED: [Cell; 5] = [
+    Cell::Day,
+    Cell::Wheels,
+    Cell::Rings,
+    Cell::Plugs,
+    Cell::Bars,
+];
 
 /// Says which columns the table lacks that any table needs.
-pub fn missing_columns(
-    options: &TableOptions<&[u8]>,
-    columns: &Columns,
-    head: &ByteRecord,
-) -> Words {
-    let mut lines = Words::new();
-    for cell in &[Cell::Day, Cell::Model] {
-        missing_column(&mut lines, options, columns, head, *cell);
-    }
-    lines
+pub fn missing_columns(head: &Head<'_>) -> Words {
+    missing_among(head, &NEEDED)
 }
 
 /// Says which columns the table lacks that a day of `model` needs.
-pub fn missing_of_model(
-    options: &TableOptions<&[u8]>,
-    columns: &Columns,
-    head: &ByteRecord,
-    model: Model,
-) -> Words {
+pub fn missing_of_model(head: &Head<'_>, model: Model) -> Words {
+    missing_among(head, cells_of(model))
+}
+
+/// Says which columns of `cells` the table lacks.
+fn missing_among(head: &Head<'_>, cells: &[Cell]) -> Words {
     let mut lines = Words::new();
-    for cell in cells_of(model) {
-        missing_column(&mut lines, options, columns, head, *cell);
+    for cell in cells {
+        if !is_optional(*cell) && !has_text(head.options(), head.columns(), *cell) {
+            missing_column(&mut lines, head, *cell);
+        }
     }
     lines
 }
 
-/// Says that the table lacks the column of `cell`, if it does.
-fn missing_column(
-    lines: &mut Words,
-    options: &TableOptions<&[u8]>,
-    columns: &Columns,
-    head: &ByteRecord,
-    cell: Cell,
-) {
-    if is_optional(cell) || has_text(options, columns, cell) {
-        return;
-    }
-    let names = column_names(cell);
-    let name = if is_german(columns, head) {
-        names.1
-    } else {
-        names.0
-    };
+/// Says that the table lacks the column of `cell`.
+fn missing_column(lines: &mut Words, head: &Head<'_>, cell: Cell) {
+    let option = option_name(cell);
     lines.begin();
-    match option_name(cell) {
-        Some(option) => {
-            lines.add("there is neither a column ");
-            lines.add(name);
-            lines.add(" nor an option ");
-            lines.add(option);
-        }
-        None => {
-            lines.add("there is no column ");
-            lines.add(name);
-        }
+    if option.is_empty() {
+        lines.add("there is no column ");
+        lines.add(name_of(head, cell));
+    } else {
+        lines.add("there is neither a column ");
+        lines.add(name_of(head, cell));
+        lines.add(" nor an option ");
+        lines.add(option);
     }
     lines.end();
 }
 
+/// The name of the column of `cell`, in the language of the table.
+fn name_of(head: &Head<'_>, cell: Cell) -> &'static str {
+    if is_german(head) {
+        german_name(cell)
+    } else {
+        english_name(cell)
+    }
+}
+
 /// Whether the table names one of the columns of most tables in German.
-fn is_german(columns: &Columns, head: &ByteRecord) -> bool {
-    let cells = [
-        Cell::Day,
-        Cell::Wheels,
-        Cell::Rings,
-        Cell::Plugs,
-        Cell::Bars,
-    ];
-    cells.iter().any(|cell| is_named(
-        column_names(*cell).1,
-        cell_at(head, column_of(columns, *cell)),
-    ))
+fn is_german(head: &Head<'_>) -> bool {
+    for cell in &OFTEN_NAMED {
+        let name = cell_at(head.names(), column_of(head.columns(), *cell));
+        if is_named(german_name(*cell), name) {
+            return true;
+        }
+    }
+    false
 }

@@ -27,7 +27,10 @@ fn is_at(place: usize, column: Option<usize>) -> bool
 fn is_among(place: usize, columns: &[Option<usize>]) -> bool
     ensures { result ≡ list_any (is_at place) columns.now }
 {
-    columns.iter().any(|column| is_at(place, *column))
+    match columns {
+        [column, rest @ ..] => is_at(place, *column) || is_among(place, rest),
+        [] => false,
+    }
 }
 
 /// Whether the column at `place` is read.
