@@ -11,7 +11,7 @@ use crate::names::is_named;
 use csv::ByteRecord;
 
 /// The most columns that are looked at.
-const COLUMNS: usize = 64;
+pub const COLUMNS: usize = 64;
 
 /// The number of a table's columns, and the columns in which values stand, counted from 0. `None` for columns that the table
 /// lacks.

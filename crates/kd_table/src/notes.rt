@@ -13,6 +13,7 @@ mod found;
 mod head;
 mod head_words;
 mod letter_words;
+mod near_names;
 mod note;
 mod row_note;
 mod row_numbers;

@@ -1,10 +1,12 @@
-//! Says which columns a table lacks.
+//! Says which columns a table lacks, or why its first row names none.
 use super::head::Head;
+use super::near_names::near_column;
 use super::note::option_name;
 use super::words::Words;
 use crate::cell::{Cell, cells_of, column_of, has_text, is_optional};
-use crate::columns::{cell_at, english_name, german_name};
+use crate::columns::{Columns, cell_at, english_name, german_name};
 use crate::names::is_named;
+use crate::row::places_of;
 use kd_tables::Model;
 
 /// The columns that any table needs, unless an option stands for them.
@@ -19,14 +21,62 @@ static OFTEN_NAMED: [Cell; 5] = [
     Cell::Bars,
 ];
 
-/// Says which columns the table lacks that any table needs.
+/// Says which columns the table lacks that any table needs, or why its first row names none.
 pub fn missing_columns(head: &Head<'_>) -> Words {
+    if names_none(head.columns()) {
+        let mut lines = Words::new();
+        lines.tell(nameless_words(cell_at(head.names(), Some(0))));
+        return lines;
+    }
     missing_among(head, &NEEDED)
 }
 
-/// Says which columns the table lacks that a day of `model` needs.
+/// Says which columns the table lacks that a day of `model` needs. Nothing if its first row names no column.
 pub fn missing_of_model(head: &Head<'_>, model: Model) -> Words {
+    if names_none(head.columns()) {
+        return Words::new();
+    }
     missing_among(head, cells_of(model))
+}
+
+/// Whether a table has none of the columns that are read.
+fn names_none(columns: &Columns) -> bool {
+    are_missing(&places_of(columns)) && are_missing(&columns.pins)
+}
+
+/// Whether all of these columns are missing.
+fn are_missing(columns: &[Option<usize>]) -> bool {
+    for column in columns {
+        if column.is_some() {
+            return false;
+        }
+    }
+    true
+}
+
+/// What is said of a first row that names no column, and begins with `cell`.
+fn nameless_words(cell: &[u8]) -> &'static str {
+    if is_utf16(cell) {
+        return "this table is in UTF-16: save it as CSV in UTF-8";
+    }
+    if says_separator(cell) {
+        return "this row says what separates the cells: remove it, so that the names are first";
+    }
+    "this row doesn't have the names of the columns, such as day (in German Tag)"
+}
+
+/// Whether a table whose first cell is `cell` begins with the mark of UTF-16.
+fn is_utf16(cell: &[u8]) -> bool {
+    matches!(cell, [0xFF, 0xFE, ..] | [0xFE, 0xFF, ..])
+}
+
+/// Whether `cell` begins with `sep=`, from which some programs take what separates the cells.
+fn says_separator(cell: &[u8]) -> bool {
+    if cell.len() < 4 {
+        return false;
+    }
+    let (start, _) = cell.split_at(4);
+    is_named("sep=", start)
 }
 
 /// Says which columns of `cells` the table lacks.
@@ -53,7 +103,19 @@ fn missing_column(lines: &mut Words, head: &Head<'_>, cell: Cell) {
         lines.add(" nor an option ");
         lines.add(option);
     }
+    ask_for_name(lines, head, cell);
     lines.end();
+}
+
+/// Asks whether the column of `cell` was meant by a name that is nearly its own.
+fn ask_for_name(lines: &mut Words, head: &Head<'_>, cell: Cell) {
+    if let Some(column) = near_column(head, cell) {
+        lines.add(": did you mean ");
+        lines.add(name_of(head, cell));
+        lines.add(" by ");
+        lines.add_cell(cell_at(head.names(), Some(column)));
+        lines.add("?");
+    }
 }
 
 /// The name of the column of `cell`, in the language of the table.

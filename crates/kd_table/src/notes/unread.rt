@@ -34,7 +34,7 @@ fn is_among(place: usize, columns: &[Option<usize>]) -> bool
 }
 
 /// Whether the column at `place` is read.
-fn is_column_read(columns: &Columns, place: usize) -> bool
+pub fn is_column_read(columns: &Columns, place: usize) -> bool
     ensures { result ≡ is_column_read columns.now place }
 {
     is_among(place, &places_of(columns)) || is_among(place, &columns.pins)
