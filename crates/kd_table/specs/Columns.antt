@@ -58,9 +58,18 @@ german_name cells.Pins5 = codes "Stifte 5"
 german_name cells.Pins6 = codes "Stifte 6"
 german_name cells.Bars = codes "Stangen"
 
--- whether a text is the name of a column, in English or in German
+-- a shorter German name of a column; the German name itself where there is none
+abbrev pub short_name : Cell → List ℕ
+short_name cells.Reflector = codes "UKW"
+short_name cells.Wheels = codes "Walzen"
+short_name cells.Rings = codes "Ringe"
+short_name cells.Plugs = codes "Stecker"
+short_name cell = german_name cell
+
+-- whether a text is a name of a column
 abbrev pub names_column : Cell → List ℕ → Bool
-names_column cell text = is_named (english_name cell) text || is_named (german_name cell) text
+names_column cell text =
+    is_named (english_name cell) text || is_named (german_name cell) text || is_named (short_name cell) text
 
 -- ---- The columns of a table.
 

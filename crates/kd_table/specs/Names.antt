@@ -1,7 +1,7 @@
 -- Names in the cells of a table: of columns, models, wheels and reflectors. Gaps don't count, and capital and small letters
 -- are alike: `Enigma I`, `ENIGMA I` and `enigma-i` name the same model. Any other sign counts, so `III?` names no wheel.
 -- Test: tests/cases/curator-sheet.toml
-use Rattle.std.specs.Prelude.{ℕ, nat_eq, nat_le, ◌-◌, ◌==◌, ◌&&◌, ◌||◌, not, Bool, false, List, [], ◌∷◌, length, map, filter, find}
+use Rattle.std.specs.Prelude.{ℕ, nat_eq, nat_le, ◌-◌, ◌==◌, ◌&&◌, ◌||◌, not, Bool, false, List, [], ◌∷◌, ◌++◌, codes, length, map, filter, find}
 use Rattle.std.specs.Prelude.{bytes_eq, drop, take, Option}
 use Rattle.std.specs.Prelude.{if◌then◌else◌}
 use Rattle.kd_tables.specs.Tables.{box_of, reflectors_of, model_text, reflector_text, wheel_text}
@@ -51,6 +51,11 @@ model_named cell = find (λ model. is_named (model_text model) cell) (EnigmaI �
 abbrev pub wheel_named : List ℕ → Option Wheel
 wheel_named word = find (λ wheel. is_named (wheel_text wheel) word) (box_of M4)
 
+-- whether a cell has the name of a reflector, alone or behind `UKW`, for *Umkehrwalze*
+abbrev pub names_reflector : Reflector → List ℕ → Bool
+names_reflector reflector cell =
+    is_named (reflector_text reflector) cell || is_named (codes "UKW" ++ reflector_text reflector) cell
+
 -- the reflector of `model` that a cell names: on an M4 the letter B means the thin reflector b
 abbrev pub reflector_named : Model → List ℕ → Option Reflector
-reflector_named model cell = find (λ reflector. is_named (reflector_text reflector) cell) (reflectors_of model)
+reflector_named model cell = find (λ reflector. names_reflector reflector cell) (reflectors_of model)

@@ -3,7 +3,7 @@ ghost use Rattle.std.specs.Prelude.{◌≡◌, ◌≤◌, ◌+◌, Some, find, l
 ghost use Rattle.std.specs.List.{range_with_len};
 ghost use Rattle.csv.specs.Records.{fields_of};
 ghost use Rattle.kd_table.specs.Columns.{cell_at, cell_or, column_named, columns_of, english_name, german_name};
-ghost use Rattle.kd_table.specs.Columns.{names_column, pin_columns};
+ghost use Rattle.kd_table.specs.Columns.{names_column, pin_columns, short_name};
 
 use crate::cell::Cell;
 use crate::items::is_blank;
@@ -99,11 +99,27 @@ pub fn german_name(cell: Cell) -> &'static str
     }
 }
 
-/// Whether `text` is the name of the column of `cell`, in English or in German.
+/// A shorter German name of a column; the German name itself where there is none.
+pub fn short_name(cell: Cell) -> &'static str
+    ensures name { result.now ≡ short_name cell }
+    ensures short { length result.now ≤ 32 }
+{
+    match cell {
+        Cell::Reflector => "UKW",
+        Cell::Wheels => "Walzen",
+        Cell::Rings => "Ringe",
+        Cell::Plugs => "Stecker",
+        _ => german_name(cell),
+    }
+}
+
+/// Whether `text` is a name of the column of `cell`: in English, in German, or the shorter German name.
 fn names_column(cell: Cell, text: &[u8]) -> bool
     ensures { result ≡ names_column cell text.now }
 {
-    is_named(english_name(cell), text) || is_named(german_name(cell), text)
+    is_named(english_name(cell), text)
+        || is_named(german_name(cell), text)
+        || is_named(short_name(cell), text)
 }
 
 /// The first of `count` columns, from `place` on, with the name of the column of `cell`.

@@ -1,8 +1,8 @@
 //! Finds models, wheels and reflectors by their names in a table.
-ghost use Rattle.std.specs.Prelude.{◌≡◌, ◌≤◌, ◌+◌, ◌++◌, ◌||◌, find, length};
+ghost use Rattle.std.specs.Prelude.{◌≡◌, ◌≤◌, ◌+◌, ◌++◌, ◌||◌, codes, find, length};
 ghost use Rattle.kd_tables.specs.Tables.{model_text, reflector_text, wheel_text};
 ghost use Rattle.kd_table.specs.Names.{capital, is_digit, is_gap, is_capital_letter, is_named, is_quote, plain, unquoted};
-ghost use Rattle.kd_table.specs.Names.{model_named, wheel_named, reflector_named};
+ghost use Rattle.kd_table.specs.Names.{model_named, names_reflector, wheel_named, reflector_named};
 
 use arrayvec::ArrayVec;
 use kd_tables::{Model, Reflector, Wheel};
@@ -137,13 +137,33 @@ pub fn wheel_named(word: &[u8]) -> Option<Wheel>
     wheel_among(Model::M4.wheels(), word)
 }
 
+/// The name of a reflector behind `UKW`, for *Umkehrwalze*.
+fn long_name(reflector: Reflector) -> &'static str
+    ensures name { result.now ≡ codes "UKW" ++ reflector_text reflector }
+    ensures short { length result.now ≤ 32 }
+{
+    match reflector {
+        Reflector::A => "UKWA",
+        Reflector::B => "UKWB",
+        Reflector::C => "UKWC",
+        Reflector::ThinB => "UKWb",
+        Reflector::ThinC => "UKWc",
+    }
+}
+
+/// Whether `cell` has the name of `reflector`, alone or behind `UKW`.
+fn names_reflector(reflector: Reflector, cell: &[u8]) -> bool
+    ensures { result ≡ names_reflector reflector cell.now }
+{
+    is_named(reflector.text().as_str(), cell) || is_named(long_name(reflector), cell)
+}
+
 /// The first of `reflectors` that `cell` names.
 fn reflector_among(reflectors: &[Reflector], cell: &[u8]) -> Option<Reflector>
-    ensures { result
-        ≡ find (λ reflector. is_named (reflector_text reflector) cell.now) reflectors.now }
+    ensures { result ≡ find (λ reflector. names_reflector reflector cell.now) reflectors.now }
 {
     for reflector in reflectors {
-        if is_named(reflector.text().as_str(), cell) {
+        if names_reflector(*reflector, cell) {
             return Some(*reflector);
         }
     }

@@ -4,7 +4,7 @@ use super::near_names::near_column;
 use super::note::option_name;
 use super::words::Words;
 use crate::cell::{Cell, cells_of, column_of, has_text, is_optional};
-use crate::columns::{Columns, cell_at, english_name, german_name};
+use crate::columns::{Columns, cell_at, english_name, german_name, short_name};
 use crate::names::is_named;
 use crate::row::places_of;
 use kd_tables::Model;
@@ -131,7 +131,7 @@ fn name_of(head: &Head<'_>, cell: Cell) -> &'static str {
 fn is_german(head: &Head<'_>) -> bool {
     for cell in &OFTEN_NAMED {
         let name = cell_at(head.names(), column_of(head.columns(), *cell));
-        if is_named(german_name(*cell), name) {
+        if is_named(german_name(*cell), name) || is_named(short_name(*cell), name) {
             return true;
         }
     }

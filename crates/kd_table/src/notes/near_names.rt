@@ -2,7 +2,7 @@
 use super::head::Head;
 use super::unread::is_column_read;
 use crate::cell::Cell;
-use crate::columns::{COLUMNS, cell_at, english_name, german_name};
+use crate::columns::{COLUMNS, cell_at, english_name, german_name, short_name};
 use crate::names::capital;
 
 /// The first column that isn't read, and whose name is nearly a name of the column of `cell`.
@@ -18,7 +18,9 @@ pub fn near_column(head: &Head<'_>, cell: Cell) -> Option<usize> {
 
 /// Whether `name` is nearly a name of the column of `cell`.
 fn is_near_column(cell: Cell, name: &[u8]) -> bool {
-    is_near(name, english_name(cell).as_bytes()) || is_near(name, german_name(cell).as_bytes())
+    is_near(name, english_name(cell).as_bytes())
+        || is_near(name, german_name(cell).as_bytes())
+        || is_near(name, short_name(cell).as_bytes())
 }
 
 /// Whether `name` differs from `known` in one stretch of at most two letters, or in one letter if `known` is short.
