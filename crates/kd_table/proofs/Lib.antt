@@ -8,3 +8,4 @@ pub mod EmptyMonths
 pub mod Writings
 pub mod Noting
 pub mod ReadRows
+pub mod ColumnsThere

@@ -20,9 +20,15 @@ is_digit byte = nat_le 48 byte && nat_le byte 57
 abbrev pub is_capital_letter : ℕ → Bool
 is_capital_letter byte = nat_le 65 byte && nat_le byte 90
 
--- what may stand between items: a blank, tab, line end, comma, hyphen, full stop, slash or semicolon
+-- a byte of a no-break space: 160 in Windows-1252, and 194 and 160 in UTF-8
+abbrev pub is_no_break : ℕ → Bool
+is_no_break byte = nat_eq byte 160 || nat_eq byte 194
+
+-- what may stand between items: a blank, tab, line end, comma, hyphen, full stop, slash, semicolon or no-break space
 abbrev pub is_gap : ℕ → Bool
-is_gap byte = nat_eq byte 32 || nat_le 44 byte && nat_le byte 47 || nat_eq byte 59 || nat_le 9 byte && nat_le byte 13
+is_gap byte =
+    nat_eq byte 32 || nat_le 44 byte && nat_le byte 47 || nat_eq byte 59 || nat_le 9 byte && nat_le byte 13
+    || is_no_break byte
 
 -- a text without its gaps, and with capital letters for small letters
 abbrev pub plain : List ℕ → List ℕ

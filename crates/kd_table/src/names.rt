@@ -1,7 +1,7 @@
 //! Finds models, wheels and reflectors by their names in a table.
 ghost use Rattle.std.specs.Prelude.{◌≡◌, ◌≤◌, ◌+◌, ◌++◌, ◌||◌, codes, find, length};
 ghost use Rattle.kd_tables.specs.Tables.{model_text, reflector_text, wheel_text};
-ghost use Rattle.kd_table.specs.Names.{capital, is_digit, is_gap, is_capital_letter, is_named, is_quote, plain, unquoted};
+ghost use Rattle.kd_table.specs.Names.{capital, is_digit, is_gap, is_capital_letter, is_named, is_no_break, is_quote, plain, unquoted};
 ghost use Rattle.kd_table.specs.Names.{model_named, names_reflector, wheel_named, reflector_named};
 
 use arrayvec::ArrayVec;
@@ -32,11 +32,22 @@ pub fn is_digit(byte: u8) -> bool
     48 <= byte && byte <= 57
 }
 
+/// Whether `byte` is one of a no-break space, in UTF-8 or Windows-1252.
+fn is_no_break(byte: u8) -> bool
+    ensures { result ≡ is_no_break byte }
+{
+    byte == 160 || byte == 194
+}
+
 /// Whether `byte` may stand between items.
 pub fn is_gap(byte: u8) -> bool
     ensures { result ≡ is_gap byte }
 {
-    byte == 32 || 44 <= byte && byte <= 47 || byte == 59 || 9 <= byte && byte <= 13
+    byte == 32
+        || 44 <= byte && byte <= 47
+        || byte == 59
+        || 9 <= byte && byte <= 13
+        || is_no_break(byte)
 }
 
 /// Appends the bytes of `text` without gaps, with capital letters for small letters.

@@ -1,4 +1,4 @@
-use Rattle.std.proofs.Common.{◌∙◌, inl, inr, refl, sym}
+use Rattle.std.proofs.Common.{◌∙◌, inr, refl, sym}
 use Rattle.csv.specs.Reading.{Reached, strip_bom}
 use Rattle.kd_table.proofs.records.records_of.Goals as goal
 

@@ -1,6 +1,5 @@
 use Rattle.std.proofs.Common.{◌∷◌, ap, refl, sym}
 use Rattle.std.proofs.lemmas.Result.{IfOk-weaker}
-use Rattle.kd_table.specs.declared.cell.Cell.{Cell}
 use Rattle.kd_table.specs.declared.cell.Cell.TheVariants as cells
 use Rattle.kd_table.proofs.Noting.{cell_first}
 use Rattle.kd_table.proofs.notes.row_note.push_row_cells.Goals as goal
