@@ -1,4 +1,4 @@
--- What the notes on all rows of a table share, and a row with its place.
+-- What the notes on all rows of a table share, and a row with its place. No public contract cites these definitions.
 use Rattle.std.specs.Prelude.{ℕ, List}
 use Rattle.kd_table.specs.declared.columns.Columns.{Columns}
 use Rattle.kd_table.specs.Options.{OptionTexts}
