@@ -7,4 +7,5 @@ pub mod DayLines
 pub mod EmptyMonths
 pub mod Writings
 pub mod Noting
-pub mod Records
+pub mod ReadRows
+pub mod ColumnsThere

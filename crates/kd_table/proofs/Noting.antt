@@ -1,17 +1,16 @@
 -- Notes that are written, and lines that make up a note.
-use Rattle.std.proofs.Common.{◌≡◌, ◌∙◌, ◌&&◌, ◌||◌, ◌+◌, ◌<◌, ◌++◌, ◌∷◌, ℕ, Bool, true, false, List, [], ap, codes, take, length, Option, Some, Result, Ok, Err, is_err, refl, sym, subst, arith, append_assoc}
+use Rattle.std.proofs.Common.{◌≡◌, ◌∙◌, ◌&&◌, ◌||◌, ◌+◌, ◌<◌, ◌++◌, ◌∷◌, ℕ, Bool, true, false, List, [], ap, codes, length, Option, Some, Result, Ok, Err, is_err, refl, sym, subst, arith, append_assoc}
 use Rattle.std.proofs.lemmas.Grind.{common_steps}
 use Rattle.std.proofs.lemmas.List.{append-nil}
 use Rattle.std.specs.Prelude.{flat_map}
 use Rattle.std.specs.List.{list_all}
-use Rattle.std.specs.Io.KnownBytes.{Appends}
 use Rattle.kd_state.specs.SheetDay.{Day}
 use Rattle.kd_tables.specs.Writing.{Writes}
 use Rattle.kd_table.specs.Cells.{day_in, has_columns, is_faulty, row_cells, row_model}
 use Rattle.kd_table.specs.Columns.{cell_at, columns_of}
 use Rattle.kd_table.specs.Items.{is_blank}
 use Rattle.kd_table.specs.Options.{OptionTexts}
-use Rattle.kd_table.specs.Notes.{NextCell, NoCells, TellsCells, TellsText, cell_place, is_column_read, line_at, shown, unread_line, unread_note, unread_words, HasRowsNote, OfRows, TellsRow, TellsTable, row_place}
+use Rattle.kd_table.specs.Notes.{NextCell, NoCells, TellsCells, TellsPlacedRow, TellsText, cell_place, is_column_read, line_at, shown, unread_line, unread_note, unread_words, HasRowsNote, OfRows, TellsRow, TellsTable, row_place}
 use Rattle.kd_table.specs.Row.{IsDayOfRow, IsNoDay, row_values}
 use Rattle.kd_table.specs.declared.cell.Cell.{Cell}
 use Rattle.kd_table.specs.declared.columns.Columns.{Columns}
@@ -85,29 +84,39 @@ module _ (options : OptionTexts) (columns : Columns) (head : List (List ℕ)) (p
       let told = some (due (ap length appended ∙ ap length (append-nil before))) in omega arith
   some_line (byte ∷ of_cells) words before after is_due appended some due = omega arith
 
-  pub row_told : (number : ℕ) (n0 n1 n2 n3 : List ℕ) (is_due : Bool)
-      → place ≡ row_place number (day_in (cell_at columns.day row))
-      → ((missing : List (List ℕ)) × (n1 ≡ n0 ++ flat_map (line_at (codes "row 1: ")) missing))
-      → TellsMore (row_cells (row_model options columns row)) n1 n2
+  pub placed_told : (n1 n2 n3 : List ℕ) (is_due : Bool) → TellsMore (row_cells (row_model options columns row)) n1 n2
       → ((words : List (List ℕ)) × (n3 ≡ n2 ++ flat_map (line_at place) words) × (is_due ≡ true → 0 < length words))
       → (IsNoDay (row_values options columns row) → has_columns options columns row ≡ true → length n2 ≡ length n1
       → is_due ≡ true)
-      → (more : List ℕ) × (n3 ≡ n0 ++ more) × TellsRow options columns head number row more
-  row_told number n0 n1 n2 n3 is_due same (missing, first) (of_cells, second, told) (words, third, some) due =
+      → TellsPlacedRow options columns head place row n1 n3
+  placed_told n1 n2 n3 is_due (of_cells, second, told) (words, third, some) due = record {
+    of_cells = of_cells;
+    words = words;
+    appended = two_parts n1 n2 n3 of_cells (flat_map (line_at place) words) second third;
+    cells = told;
+    some = λ none has. some_line of_cells words n1 n2 is_due second some (due none has);
+  }
+
+  pub row_told : (number : ℕ) (n0 n1 n2 : List ℕ) → place ≡ row_place number (day_in (cell_at columns.day row))
+      → ((missing : List (List ℕ)) × (n1 ≡ n0 ++ flat_map (line_at (codes "row 1: ")) missing))
+      → TellsPlacedRow options columns head place row n1 n2
+      → (more : List ℕ) × (n2 ≡ n0 ++ more) × TellsRow options columns head number row more
+  row_told number n0 n1 n2 same (missing, first) told =
       let of_missing = flat_map (line_at (codes "row 1: ")) missing in
-      let of_row = flat_map (line_at place) words in
-      let P : List ℕ → Type 0 = λ p. TellsCells options columns head p row (row_cells (row_model options columns row)) of_cells in (
-        of_missing ++ (of_cells ++ of_row),
-        three_parts n0 n1 n2 n3 of_missing of_cells of_row first second third,
+      let of_row = flat_map (line_at place) told.words in
+      let P : List ℕ → Type 0 = λ p.
+      TellsCells options columns head p row (row_cells (row_model options columns row)) told.of_cells in (
+        of_missing ++ (told.of_cells ++ of_row),
+        two_parts n0 n1 n2 of_missing (told.of_cells ++ of_row) first told.appended,
         record {
           missing = missing;
-          of_cells = of_cells;
+          of_cells = told.of_cells;
           of_row = of_row;
-          words = words;
+          words = told.words;
           joined = refl;
-          cells = subst P same told;
-          whole = ap (λ p. flat_map (line_at p) words) same;
-          some = λ none has. some_line of_cells words n1 n2 is_due second some (due none has);
+          cells = subst P same told.cells;
+          whole = ap (λ p. flat_map (line_at p) told.words) same;
+          some = told.some;
         },
       )
 

@@ -1,11 +1,13 @@
 -- In which columns of a table its values stand, by the names in the table's first row.
 -- Test: tests/cases/curator-sheet.toml
-use Rattle.std.specs.Prelude.{codes, ℕ, ◌||◌, List, [], ◌∷◌, find, length, Option, Some, if◌then◌else◌}
+use Rattle.std.specs.Prelude.{codes, ℕ, ◌||◌, Bool, List, [], ◌∷◌, find, length, Option, Some, if◌then◌else◌}
 use Rattle.std.specs.List.{range_with_len}
 use Rattle.std.specs.Option.{option_and_then, option_map_or}
 use Rattle.csv.specs.Records.{field_at}
 use Rattle.kd_table.specs.Items.{is_blank}
 use Rattle.kd_table.specs.Names.{is_named}
+use Rattle.kd_table.specs.declared.cell.Cell.{Cell}
+use Rattle.kd_table.specs.declared.cell.Cell.TheVariants as cells
 use Rattle.kd_table.specs.declared.columns.Columns.{Columns}
 
 -- what a row has in a column; empty if the table lacks the column, or if the row is too short
@@ -16,30 +18,88 @@ cell_at column row = option_map_or (λ text. text) (option_and_then (field_at ro
 abbrev pub cell_or : List ℕ → Option ℕ → List (List ℕ) → List ℕ
 cell_or otherwise column row = if is_blank (cell_at column row) then otherwise else cell_at column row
 
--- the first column, of the first 64, with one of two names
-abbrev pub column_named : List ℕ → List ℕ → List (List ℕ) → Option ℕ
-column_named english german head =
-    find (λ place. is_named english (cell_at (Some place) head) || is_named german (cell_at (Some place) head))
-    (range_with_len 0 64)
+-- ---- The names of columns.
+
+-- a column's name in English
+abbrev pub english_name : Cell → List ℕ
+english_name cells.Day = codes "day"
+english_name cells.Model = codes "model"
+english_name cells.Reflector = codes "reflector"
+english_name cells.Wheels = codes "wheels"
+english_name cells.Rings = codes "rings"
+english_name cells.Window = codes "window"
+english_name cells.Plugs = codes "plugs"
+english_name cells.Groups = codes "groups"
+english_name cells.List = codes "list"
+english_name cells.Pins1 = codes "pins 1"
+english_name cells.Pins2 = codes "pins 2"
+english_name cells.Pins3 = codes "pins 3"
+english_name cells.Pins4 = codes "pins 4"
+english_name cells.Pins5 = codes "pins 5"
+english_name cells.Pins6 = codes "pins 6"
+english_name cells.Bars = codes "bars"
+
+-- a column's name in German
+abbrev pub german_name : Cell → List ℕ
+german_name cells.Day = codes "Tag"
+german_name cells.Model = codes "Modell"
+german_name cells.Reflector = codes "Umkehrwalze"
+german_name cells.Wheels = codes "Walzenlage"
+german_name cells.Rings = codes "Ringstellung"
+german_name cells.Window = codes "Grundstellung"
+german_name cells.Plugs = codes "Steckerverbindungen"
+german_name cells.Groups = codes "Kenngruppen"
+german_name cells.List = codes "Liste"
+german_name cells.Pins1 = codes "Stifte 1"
+german_name cells.Pins2 = codes "Stifte 2"
+german_name cells.Pins3 = codes "Stifte 3"
+german_name cells.Pins4 = codes "Stifte 4"
+german_name cells.Pins5 = codes "Stifte 5"
+german_name cells.Pins6 = codes "Stifte 6"
+german_name cells.Bars = codes "Stangen"
+
+-- a shorter German name of a column; the German name itself where there is none
+abbrev pub short_name : Cell → List ℕ
+short_name cells.Reflector = codes "UKW"
+short_name cells.Wheels = codes "Walzen"
+short_name cells.Rings = codes "Ringe"
+short_name cells.Plugs = codes "Stecker"
+short_name cell = german_name cell
+
+-- whether a text is a name of a column
+abbrev pub names_column : Cell → List ℕ → Bool
+names_column cell text =
+    is_named (english_name cell) text || is_named (german_name cell) text || is_named (short_name cell) text
+
+-- ---- The columns of a table.
+
+-- the first column, of the first 64, with the name of a cell's column
+abbrev pub column_named : Cell → List (List ℕ) → Option ℕ
+column_named cell head = find (λ place. names_column cell (cell_at (Some place) head)) (range_with_len 0 64)
+
+-- the columns of a Converter's pins
+abbrev pub pin_columns : List (List ℕ) → List (Option ℕ)
+pin_columns head =
+    column_named cells.Pins1 head
+    ∷ column_named cells.Pins2 head
+    ∷ column_named cells.Pins3 head
+    ∷ column_named cells.Pins4 head
+    ∷ column_named cells.Pins5 head
+    ∷ column_named cells.Pins6 head ∷ []
 
 -- the columns of a table whose first row is `head`: how many there are, and in which one the values stand
 unfoldable pub columns_of : List (List ℕ) → Columns
 columns_of head = record {
   count = length head;
-  day = column_named (codes "day") (codes "Tag") head;
-  model = column_named (codes "model") (codes "Modell") head;
-  reflector = column_named (codes "reflector") (codes "Umkehrwalze") head;
-  wheels = column_named (codes "wheels") (codes "Walzenlage") head;
-  rings = column_named (codes "rings") (codes "Ringstellung") head;
-  plugs = column_named (codes "plugs") (codes "Steckerverbindungen") head;
-  window = column_named (codes "window") (codes "Grundstellung") head;
-  groups = column_named (codes "groups") (codes "Kenngruppen") head;
-  list = column_named (codes "list") (codes "Liste") head;
-  pins = column_named (codes "pins 1") (codes "Stifte 1") head
-      ∷ column_named (codes "pins 2") (codes "Stifte 2") head
-      ∷ column_named (codes "pins 3") (codes "Stifte 3") head
-      ∷ column_named (codes "pins 4") (codes "Stifte 4") head
-      ∷ column_named (codes "pins 5") (codes "Stifte 5") head
-      ∷ column_named (codes "pins 6") (codes "Stifte 6") head ∷ [];
-  bars = column_named (codes "bars") (codes "Stangen") head;
+  day = column_named cells.Day head;
+  model = column_named cells.Model head;
+  reflector = column_named cells.Reflector head;
+  wheels = column_named cells.Wheels head;
+  rings = column_named cells.Rings head;
+  plugs = column_named cells.Plugs head;
+  window = column_named cells.Window head;
+  groups = column_named cells.Groups head;
+  list = column_named cells.List head;
+  pins = pin_columns head;
+  bars = column_named cells.Bars head;
 }

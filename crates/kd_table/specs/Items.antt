@@ -1,6 +1,6 @@
 -- What the cells of a table mean: numbers, wheels, letters, pairs and groups, with gaps between them.
 -- Test: tests/cases/curator-sheet.toml
-use Rattle.std.specs.Prelude.{ℕ, nat_le, nat_eq, ◌+◌, ◌-◌, ◌*◌, ◌==◌, ◌&&◌, ◌||◌, Bool, List, [], ◌∷◌, length, map, Option, Some, None}
+use Rattle.std.specs.Prelude.{ℕ, nat_le, nat_eq, ◌+◌, ◌-◌, ◌*◌, ◌==◌, ◌&&◌, Bool, List, [], ◌∷◌, length, map, Option, Some, None}
 use Rattle.std.specs.Prelude.{if◌then◌else◌, false, not, filter}
 use Rattle.std.specs.List.{list_all, flat_map}
 use Rattle.std.specs.Option.{option_and_then, option_map}

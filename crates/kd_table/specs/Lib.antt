@@ -9,6 +9,8 @@ pub mod PinRow
 pub mod Row
 pub mod Rows
 pub mod Table
+pub mod Records
 pub mod Cells
 pub mod Notes
+pub mod Head
 pub mod EmptySheet

@@ -1,7 +1,7 @@
 -- Names in the cells of a table: of columns, models, wheels and reflectors. Gaps don't count, and capital and small letters
 -- are alike: `Enigma I`, `ENIGMA I` and `enigma-i` name the same model. Any other sign counts, so `III?` names no wheel.
 -- Test: tests/cases/curator-sheet.toml
-use Rattle.std.specs.Prelude.{ℕ, nat_eq, nat_le, ◌-◌, ◌==◌, ◌&&◌, ◌||◌, not, Bool, false, List, [], ◌∷◌, length, map, filter, find}
+use Rattle.std.specs.Prelude.{ℕ, nat_eq, nat_le, ◌-◌, ◌==◌, ◌&&◌, ◌||◌, not, Bool, false, List, [], ◌∷◌, ◌++◌, codes, length, map, filter, find}
 use Rattle.std.specs.Prelude.{bytes_eq, drop, take, Option}
 use Rattle.std.specs.Prelude.{if◌then◌else◌}
 use Rattle.kd_tables.specs.Tables.{box_of, reflectors_of, model_text, reflector_text, wheel_text}
@@ -20,9 +20,15 @@ is_digit byte = nat_le 48 byte && nat_le byte 57
 abbrev pub is_capital_letter : ℕ → Bool
 is_capital_letter byte = nat_le 65 byte && nat_le byte 90
 
--- what may stand between items: a blank, tab, line end, comma, hyphen, full stop, slash or semicolon
+-- a byte of a no-break space: 160 in Windows-1252, and 194 and 160 in UTF-8
+abbrev pub is_no_break : ℕ → Bool
+is_no_break byte = nat_eq byte 160 || nat_eq byte 194
+
+-- what may stand between items: a blank, tab, line end, comma, hyphen, full stop, slash, semicolon or no-break space
 abbrev pub is_gap : ℕ → Bool
-is_gap byte = nat_eq byte 32 || nat_le 44 byte && nat_le byte 47 || nat_eq byte 59 || nat_le 9 byte && nat_le byte 13
+is_gap byte =
+    nat_eq byte 32 || nat_le 44 byte && nat_le byte 47 || nat_eq byte 59 || nat_le 9 byte && nat_le byte 13
+    || is_no_break byte
 
 -- a text without its gaps, and with capital letters for small letters
 abbrev pub plain : List ℕ → List ℕ
@@ -51,6 +57,11 @@ model_named cell = find (λ model. is_named (model_text model) cell) (EnigmaI �
 abbrev pub wheel_named : List ℕ → Option Wheel
 wheel_named word = find (λ wheel. is_named (wheel_text wheel) word) (box_of M4)
 
+-- whether a cell has the name of a reflector, alone or behind `UKW`, for *Umkehrwalze*
+abbrev pub names_reflector : Reflector → List ℕ → Bool
+names_reflector reflector cell =
+    is_named (reflector_text reflector) cell || is_named (codes "UKW" ++ reflector_text reflector) cell
+
 -- the reflector of `model` that a cell names: on an M4 the letter B means the thin reflector b
 abbrev pub reflector_named : Model → List ℕ → Option Reflector
-reflector_named model cell = find (λ reflector. is_named (reflector_text reflector) cell) (reflectors_of model)
+reflector_named model cell = find (λ reflector. names_reflector reflector cell) (reflectors_of model)

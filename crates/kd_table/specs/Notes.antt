@@ -2,16 +2,13 @@
 -- is no day has a line that begins with the row's place, and each cell that can't be read has one that begins with the
 -- cell's place. What follows the place is in words that no definition gives.
 -- Test: tests/cases/curator-sheet.toml
-use Rattle.std.specs.Prelude.{◌≡◌, ◌⊎◌, ◌<◌, ◌+◌, ◌==◌, ◌&&◌, ◌||◌, codes, decimal, nat_lt, ℕ, Bool, true, false, List, [], ◌∷◌, ◌++◌, flat_map, length, map, take, Option, Some, None, IsTrue, if◌then◌else◌}
+use Rattle.std.specs.Prelude.{◌≡◌, ◌<◌, ◌+◌, ◌==◌, ◌&&◌, ◌||◌, codes, decimal, nat_lt, ℕ, Bool, true, false, List, [], ◌∷◌, ◌++◌, flat_map, length, map, take, Option, Some, None, IsTrue, if◌then◌else◌}
 use Rattle.std.specs.Io.KnownBytes.{Appends}
 use Rattle.std.specs.List.{list_all, list_any, range_with_len}
 use Rattle.std.specs.Option.{option_map_or}
-use Rattle.std.specs.Borrow.{Bor}
-use Rattle.csv.specs.Reading.{Reached, Ready, source_of, strip_bom}
+use Rattle.csv.specs.Reading.{Reached, strip_bom}
 use Rattle.csv.specs.declared.parser.State.{State}
 use Rattle.csv.specs.declared.parser.State.TheVariants as st
-use Rattle.csv.specs.declared.iter.ByteRecordsIntoIter.{ByteRecordsIntoIter}
-use Rattle.csv.specs.declared.reader.Trim.TheVariants as trim
 use Rattle.kd_tables.specs.Ports.{Port}
 use Rattle.kd_table.specs.Cells.{column_of, day_in, has_columns, is_faulty, row_cells, row_model}
 use Rattle.kd_table.specs.Columns.{cell_at, columns_of}
@@ -85,10 +82,14 @@ TellsUnread table notes = (head : List (List ℕ)) × HasHead table head × Tell
 
 -- ---- Faults.
 
--- where a row is: its number, and its day if the day can be read
+-- a row's number, and its day if the day can be read
+abbrev pub row_number : ℕ → Option ℕ → List ℕ
+row_number number None = decimal number ++ codes ", "
+row_number number (Some day) = (decimal number ++ codes " (day ") ++ (decimal day ++ codes "), ")
+
+-- where a row is
 abbrev pub row_place : ℕ → Option ℕ → List ℕ
-row_place number None = codes "row " ++ decimal number ++ codes ", "
-row_place number (Some day) = codes "row " ++ decimal number ++ codes " (day " ++ decimal day ++ codes "), "
+row_place number day = codes "row " ++ row_number number day
 
 -- the option that stands for a cell
 abbrev pub option_name : Cell → List ℕ
@@ -164,18 +165,18 @@ pub data TellsTable (options : OptionTexts) (table : List ℕ) : List ℕ → Ty
 abbrev pub TellsRefused : OptionTexts → List ℕ → Port → Type 0
 TellsRefused options table notes = (text : List ℕ) × TellsTable options table text × TellsText notes text
 
--- ---- Reading row by row. No public contract cites this definition.
+-- ---- Reading row by row. No public contract cites these definitions.
 
--- Of the table, these rows were read.
-pub record IsReadTo (table : List ℕ) (records : ByteRecordsIntoIter (Bor (List ℕ))) (rows : List (List (List ℕ)))
-    : Type 0 where
-  pub untrimmed : records.rdr.trim ≡ trim.None
-  pub ready : Ready records.rdr
-  pub left : 0 < records.left
-  pub config : records.rdr.config ≡ separated (separator_of table)
-  pub rest : List ℕ
-  pub source : source_of (λ s. Some s.now) records.rdr ≡ Some rest
-  pub reached : Reached (separated (separator_of table)) st.StartRecord (strip_bom table) rows records.rdr.state rest
+-- The lines on a row's cells, and on the row as a whole, were appended: at least one if the row is no day, unless the table
+-- lacks a column that the row needs.
+pub record TellsPlacedRow (options : OptionTexts) (columns : Columns) (head : List (List ℕ)) (place : List ℕ)
+    (row : List (List ℕ)) (old new : List ℕ) : Type 0 where
+  pub of_cells : List ℕ
+  pub words : List (List ℕ)
+  pub appended : new ≡ old ++ (of_cells ++ flat_map (line_at place) words)
+  pub cells : TellsCells options columns head place row (row_cells (row_model options columns row)) of_cells
+  pub some : IsNoDay (row_values options columns row) → has_columns options columns row ≡ true
+      → 0 < length of_cells + length words
 
 -- The note on the rows under the first row `head` was appended, and a line if no row has anything.
 pub record HasRowsNote (options : OptionTexts) (columns : Columns) (head : List (List ℕ)) (table old new : List ℕ)

@@ -18,16 +18,21 @@ pins_at ring column row = do
   text ← joined (cell_at (Some place) row)
   pins_of_text ring text
 
+-- the pins of the six wheels, of which those of the first three are known
+abbrev pub pins_after : List (Option ℕ) → List (List ℕ) → List Bool → List Bool → List Bool → Option PinSet
+pins_after columns row one two three = do
+  four ← pins_at (ring_of 4) (slice_index_or columns 3 None) row
+  five ← pins_at (ring_of 5) (slice_index_or columns 4 None) row
+  six ← pins_at (ring_of 6) (slice_index_or columns 5 None) row
+  Some (record { w1 = one; w2 = two; w3 = three; w4 = four; w5 = five; w6 = six })
+
 -- the pins of the six wheels
 unfoldable pub pins_in : List (Option ℕ) → List (List ℕ) → Option PinSet
 pins_in columns row = do
   one ← pins_at (ring_of 1) (slice_index_or columns 0 None) row
   two ← pins_at (ring_of 2) (slice_index_or columns 1 None) row
   three ← pins_at (ring_of 3) (slice_index_or columns 2 None) row
-  four ← pins_at (ring_of 4) (slice_index_or columns 3 None) row
-  five ← pins_at (ring_of 5) (slice_index_or columns 4 None) row
-  six ← pins_at (ring_of 6) (slice_index_or columns 5 None) row
-  Some (record { w1 = one; w2 = two; w3 = three; w4 = four; w5 = five; w6 = six })
+  pins_after columns row one two three
 
 -- the values of a row's day; an option may stand for a window without anything
 unfoldable pub pin_values : OptionTexts → Columns → List (List ℕ) → Option PinDay

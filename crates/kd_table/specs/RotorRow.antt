@@ -20,17 +20,27 @@ wheels_with (Some wheel ∷ wheels) (ring ∷ rings) (letter ∷ letters) =
     option_map (λ rest. record { wheel = wheel; ring = ring; letter = letter } ∷ rest) (wheels_with wheels rings letters)
 wheels_with _ _ _ = None
 
--- The values of a row's day. For the reflector and the window, options may stand for cells without anything. The column
--- of the plugged pairs must be there, so that a slip in its name isn't taken for a day without pairs.
+-- the wheels of a row's day, with their rings and window letters; an option may stand for a window without anything
+abbrev pub seated_in : OptionTexts → Columns → List (List ℕ) → Option (List SheetWheel)
+seated_in options columns row = do
+  wheels ← wheels_in (cell_at columns.wheels row)
+  rings ← letters_in (cell_at columns.rings row)
+  window ← letters_in (cell_or options.window columns.window row)
+  wheels_with wheels rings window
+
+-- The plugged pairs of a row's day. Their column must be there, so that a slip in its name isn't taken for a day without
+-- pairs.
+abbrev pub plugs_in : Columns → List (List ℕ) → Option (List (ℕ × ℕ))
+plugs_in columns row = do
+  place ← columns.plugs
+  pairs_in (cell_at (Some place) row)
+
+-- the values of a row's day; an option may stand for a reflector without anything
 unfoldable pub rotor_values : OptionTexts → Columns → List (List ℕ) → Model → Option RotorDay
 rotor_values options columns row model = do
   number ← number_in (cell_at columns.day row)
   reflector ← reflector_named model (cell_or options.reflector columns.reflector row)
-  wheels ← wheels_in (cell_at columns.wheels row)
-  rings ← letters_in (cell_at columns.rings row)
-  window ← letters_in (cell_or options.window columns.window row)
-  seated ← wheels_with wheels rings window
-  plugs ← columns.plugs
-  pairs ← pairs_in (cell_at (Some plugs) row)
+  seated ← seated_in options columns row
+  pairs ← plugs_in columns row
   groups ← groups_in (cell_at columns.groups row)
   Some (rotor_day_of number model reflector seated pairs groups)

@@ -172,7 +172,12 @@ fn has_each_column(options: &TableOptions<&[u8]>, columns: &Columns, cells: &[Ce
     ensures { result ≡ list_all
         (λ cell. is_optional cell || has_text (texts_of options.now) columns.now cell) cells.now }
 {
-    cells.iter().all(|cell| has_column(options, columns, *cell))
+    match cells {
+        [cell, rest @ ..] => {
+            has_column(options, columns, *cell) && has_each_column(options, columns, rest)
+        }
+        [] => true,
+    }
 }
 
 /// Whether the table has all columns that `row` needs.

@@ -1,15 +1,17 @@
 //! The columns of a table, found by the names in the table's first row.
-ghost use Rattle.std.specs.Prelude.{◌≡◌, ◌≤◌, ◌||◌, Some, length};
+ghost use Rattle.std.specs.Prelude.{◌≡◌, ◌≤◌, ◌+◌, Some, find, length};
+ghost use Rattle.std.specs.List.{range_with_len};
 ghost use Rattle.csv.specs.Records.{fields_of};
-ghost use Rattle.kd_table.specs.Names.{is_named};
-ghost use Rattle.kd_table.specs.Columns.{cell_at, cell_or, column_named, columns_of};
+ghost use Rattle.kd_table.specs.Columns.{cell_at, cell_or, column_named, columns_of, english_name, german_name};
+ghost use Rattle.kd_table.specs.Columns.{names_column, pin_columns, short_name};
 
+use crate::cell::Cell;
 use crate::items::is_blank;
 use crate::names::is_named;
 use csv::ByteRecord;
 
 /// The most columns that are looked at.
-const COLUMNS: usize = 64;
+pub const COLUMNS: usize = 64;
 
 /// The number of a table's columns, and the columns in which values stand, counted from 0. `None` for columns that the table
 /// lacks.
@@ -47,24 +49,113 @@ pub fn cell_or<'a>(otherwise: &'a [u8], row: &'a ByteRecord, column: Option<usiz
     if is_blank(cell) { otherwise } else { cell }
 }
 
-/// Whether the column at `place` has one of two names.
-fn is_column(head: &ByteRecord, place: usize, english: &str, german: &str) -> bool
-    requires english { length english.now ≤ 32 }
-    requires german { length german.now ≤ 32 }
-    ensures { result ≡ (is_named english.now (cell_at (Some place) (fields_of head.now))
-        || is_named german.now (cell_at (Some place) (fields_of head.now))) }
+/// The name of a column in English.
+pub fn english_name(cell: Cell) -> &'static str
+    ensures name { result.now ≡ english_name cell }
+    ensures short { length result.now ≤ 32 }
 {
-    let cell = cell_at(head, Some(place));
-    is_named(english, cell) || is_named(german, cell)
+    match cell {
+        Cell::Day => "day",
+        Cell::Model => "model",
+        Cell::Reflector => "reflector",
+        Cell::Wheels => "wheels",
+        Cell::Rings => "rings",
+        Cell::Window => "window",
+        Cell::Plugs => "plugs",
+        Cell::Groups => "groups",
+        Cell::List => "list",
+        Cell::Pins1 => "pins 1",
+        Cell::Pins2 => "pins 2",
+        Cell::Pins3 => "pins 3",
+        Cell::Pins4 => "pins 4",
+        Cell::Pins5 => "pins 5",
+        Cell::Pins6 => "pins 6",
+        Cell::Bars => "bars",
+    }
 }
 
-/// The first column with one of two names.
-fn column_named(head: &ByteRecord, english: &str, german: &str) -> Option<usize>
-    requires english { length english.now ≤ 32 }
-    requires german { length german.now ≤ 32 }
-    ensures { result ≡ column_named english.now german.now (fields_of head.now) }
+/// The name of a column in German.
+pub fn german_name(cell: Cell) -> &'static str
+    ensures name { result.now ≡ german_name cell }
+    ensures short { length result.now ≤ 32 }
 {
-    (0..COLUMNS).find(|place| is_column(head, *place, english, german))
+    match cell {
+        Cell::Day => "Tag",
+        Cell::Model => "Modell",
+        Cell::Reflector => "Umkehrwalze",
+        Cell::Wheels => "Walzenlage",
+        Cell::Rings => "Ringstellung",
+        Cell::Window => "Grundstellung",
+        Cell::Plugs => "Steckerverbindungen",
+        Cell::Groups => "Kenngruppen",
+        Cell::List => "Liste",
+        Cell::Pins1 => "Stifte 1",
+        Cell::Pins2 => "Stifte 2",
+        Cell::Pins3 => "Stifte 3",
+        Cell::Pins4 => "Stifte 4",
+        Cell::Pins5 => "Stifte 5",
+        Cell::Pins6 => "Stifte 6",
+        Cell::Bars => "Stangen",
+    }
+}
+
+/// A shorter German name of a column; the German name itself where there is none.
+pub fn short_name(cell: Cell) -> &'static str
+    ensures name { result.now ≡ short_name cell }
+    ensures short { length result.now ≤ 32 }
+{
+    match cell {
+        Cell::Reflector => "UKW",
+        Cell::Wheels => "Walzen",
+        Cell::Rings => "Ringe",
+        Cell::Plugs => "Stecker",
+        _ => german_name(cell),
+    }
+}
+
+/// Whether `text` is a name of the column of `cell`: in English, in German, or the shorter German name.
+fn names_column(cell: Cell, text: &[u8]) -> bool
+    ensures { result ≡ names_column cell text.now }
+{
+    is_named(english_name(cell), text)
+        || is_named(german_name(cell), text)
+        || is_named(short_name(cell), text)
+}
+
+/// The first of `count` columns, from `place` on, with the name of the column of `cell`.
+fn column_from(head: &ByteRecord, cell: Cell, place: usize, count: usize) -> Option<usize>
+    requires { place + count ≤ 64 }
+    ensures { result ≡ find (λ at. names_column cell (cell_at (Some at) (fields_of head.now)))
+        (range_with_len place count) }
+{
+    if count == 0 {
+        return None;
+    }
+    if names_column(cell, cell_at(head, Some(place))) {
+        return Some(place);
+    }
+    column_from(head, cell, place + 1, count - 1)
+}
+
+/// The first column with the name of the column of `cell`.
+fn column_named(head: &ByteRecord, cell: Cell) -> Option<usize>
+    ensures { result ≡ column_named cell (fields_of head.now) }
+{
+    column_from(head, cell, 0, COLUMNS)
+}
+
+/// The columns of a Converter's pins.
+fn pin_columns(head: &ByteRecord) -> [Option<usize>; 6]
+    ensures { result ≡ pin_columns (fields_of head.now) }
+{
+    [
+        column_named(head, Cell::Pins1),
+        column_named(head, Cell::Pins2),
+        column_named(head, Cell::Pins3),
+        column_named(head, Cell::Pins4),
+        column_named(head, Cell::Pins5),
+        column_named(head, Cell::Pins6),
+    ]
 }
 
 impl Columns {
@@ -75,24 +166,17 @@ impl Columns {
     {
         Columns {
             count: head.len(),
-            day: column_named(head, "day", "Tag"),
-            model: column_named(head, "model", "Modell"),
-            reflector: column_named(head, "reflector", "Umkehrwalze"),
-            wheels: column_named(head, "wheels", "Walzenlage"),
-            rings: column_named(head, "rings", "Ringstellung"),
-            plugs: column_named(head, "plugs", "Steckerverbindungen"),
-            window: column_named(head, "window", "Grundstellung"),
-            groups: column_named(head, "groups", "Kenngruppen"),
-            list: column_named(head, "list", "Liste"),
-            pins: [
-                column_named(head, "pins 1", "Stifte 1"),
-                column_named(head, "pins 2", "Stifte 2"),
-                column_named(head, "pins 3", "Stifte 3"),
-                column_named(head, "pins 4", "Stifte 4"),
-                column_named(head, "pins 5", "Stifte 5"),
-                column_named(head, "pins 6", "Stifte 6"),
-            ],
-            bars: column_named(head, "bars", "Stangen"),
+            day: column_named(head, Cell::Day),
+            model: column_named(head, Cell::Model),
+            reflector: column_named(head, Cell::Reflector),
+            wheels: column_named(head, Cell::Wheels),
+            rings: column_named(head, Cell::Rings),
+            plugs: column_named(head, Cell::Plugs),
+            window: column_named(head, Cell::Window),
+            groups: column_named(head, Cell::Groups),
+            list: column_named(head, Cell::List),
+            pins: pin_columns(head),
+            bars: column_named(head, Cell::Bars),
         }
     }
 }

@@ -24,7 +24,12 @@ pub type Values<T> = ArrayVec<T, 192>;
 pub fn is_blank(cell: &[u8]) -> bool
     ensures { result ≡ is_blank cell.now }
 {
-    cell.iter().all(|byte| is_gap(*byte))
+    for byte in cell {
+        if !is_gap(*byte) {
+            return false;
+        }
+    }
+    true
 }
 
 /// A space for a gap, and a capital letter for a small letter.

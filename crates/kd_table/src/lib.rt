@@ -13,6 +13,7 @@ mod options;
 mod pin_row;
 mod quotes;
 mod reading;
+mod records;
 mod rotor_row;
 mod row;
 mod sheet;

@@ -1,7 +1,8 @@
 //! Finds models, wheels and reflectors by their names in a table.
-ghost use Rattle.std.specs.Prelude.{◌≡◌, ◌≤◌, ◌+◌, ◌++◌, ◌||◌, length};
-ghost use Rattle.kd_table.specs.Names.{capital, is_digit, is_gap, is_capital_letter, is_named, is_quote, plain, unquoted};
-ghost use Rattle.kd_table.specs.Names.{model_named, wheel_named, reflector_named};
+ghost use Rattle.std.specs.Prelude.{◌≡◌, ◌≤◌, ◌+◌, ◌++◌, ◌||◌, codes, find, length};
+ghost use Rattle.kd_tables.specs.Tables.{model_text, reflector_text, wheel_text};
+ghost use Rattle.kd_table.specs.Names.{capital, is_digit, is_gap, is_capital_letter, is_named, is_no_break, is_quote, plain, unquoted};
+ghost use Rattle.kd_table.specs.Names.{model_named, names_reflector, wheel_named, reflector_named};
 
 use arrayvec::ArrayVec;
 use kd_tables::{Model, Reflector, Wheel};
@@ -31,11 +32,22 @@ pub fn is_digit(byte: u8) -> bool
     48 <= byte && byte <= 57
 }
 
+/// Whether `byte` is one of a no-break space, in UTF-8 or Windows-1252.
+fn is_no_break(byte: u8) -> bool
+    ensures { result ≡ is_no_break byte }
+{
+    byte == 160 || byte == 194
+}
+
 /// Whether `byte` may stand between items.
 pub fn is_gap(byte: u8) -> bool
     ensures { result ≡ is_gap byte }
 {
-    byte == 32 || 44 <= byte && byte <= 47 || byte == 59 || 9 <= byte && byte <= 13
+    byte == 32
+        || 44 <= byte && byte <= 47
+        || byte == 59
+        || 9 <= byte && byte <= 13
+        || is_no_break(byte)
 }
 
 /// Appends the bytes of `text` without gaps, with capital letters for small letters.
@@ -95,27 +107,83 @@ pub fn is_named(name: &str, cell: &[u8]) -> bool
     cell.len() <= 32 && plain(unquoted(cell)).as_slice() == plain(name.as_bytes()).as_slice()
 }
 
+/// All models.
+static MODELS: [Model; 4] = [Model::EnigmaI, Model::M3, Model::M4, Model::M209];
+
+/// The first of `models` that `cell` names.
+fn model_among(models: &[Model], cell: &[u8]) -> Option<Model>
+    ensures { result ≡ find (λ model. is_named (model_text model) cell.now) models.now }
+{
+    for model in models {
+        if is_named(model.text().as_str(), cell) {
+            return Some(*model);
+        }
+    }
+    None
+}
+
 /// The model that `cell` names.
 pub fn model_named(cell: &[u8]) -> Option<Model>
     ensures { result ≡ model_named cell.now }
 {
-    let models = [Model::EnigmaI, Model::M3, Model::M4, Model::M209];
-    let mut models = models.iter().copied();
-    models.find(|model| is_named(model.text().as_str(), cell))
+    model_among(&MODELS, cell)
+}
+
+/// The first of `wheels` that `word` names.
+fn wheel_among(wheels: &[Wheel], word: &[u8]) -> Option<Wheel>
+    ensures { result ≡ find (λ wheel. is_named (wheel_text wheel) word.now) wheels.now }
+{
+    for wheel in wheels {
+        if is_named(wheel.text().as_str(), word) {
+            return Some(*wheel);
+        }
+    }
+    None
 }
 
 /// The wheel that `word` names.
 pub fn wheel_named(word: &[u8]) -> Option<Wheel>
     ensures { result ≡ wheel_named word.now }
 {
-    let mut wheels = Model::M4.wheels().iter().copied();
-    wheels.find(|wheel| is_named(wheel.text().as_str(), word))
+    wheel_among(Model::M4.wheels(), word)
+}
+
+/// The name of a reflector behind `UKW`, for *Umkehrwalze*.
+fn long_name(reflector: Reflector) -> &'static str
+    ensures name { result.now ≡ codes "UKW" ++ reflector_text reflector }
+    ensures short { length result.now ≤ 32 }
+{
+    match reflector {
+        Reflector::A => "UKWA",
+        Reflector::B => "UKWB",
+        Reflector::C => "UKWC",
+        Reflector::ThinB => "UKWb",
+        Reflector::ThinC => "UKWc",
+    }
+}
+
+/// Whether `cell` has the name of `reflector`, alone or behind `UKW`.
+fn names_reflector(reflector: Reflector, cell: &[u8]) -> bool
+    ensures { result ≡ names_reflector reflector cell.now }
+{
+    is_named(reflector.text().as_str(), cell) || is_named(long_name(reflector), cell)
+}
+
+/// The first of `reflectors` that `cell` names.
+fn reflector_among(reflectors: &[Reflector], cell: &[u8]) -> Option<Reflector>
+    ensures { result ≡ find (λ reflector. names_reflector reflector cell.now) reflectors.now }
+{
+    for reflector in reflectors {
+        if names_reflector(*reflector, cell) {
+            return Some(*reflector);
+        }
+    }
+    None
 }
 
 /// The reflector of `model` that `cell` names. On an M4 the letter B means the thin reflector b.
 pub fn reflector_named(model: Model, cell: &[u8]) -> Option<Reflector>
     ensures { result ≡ reflector_named model cell.now }
 {
-    let mut reflectors = model.reflectors().iter().copied();
-    reflectors.find(|reflector| is_named(reflector.text().as_str(), cell))
+    reflector_among(model.reflectors(), cell)
 }

@@ -2,15 +2,18 @@
 ghost use Rattle.std.specs.Prelude.{◌≡◌, ◌&&◌, ◌++◌, ◌∷◌, [], codes, flat_map, ℕ, List, IfOk, MatchOption};
 ghost use Rattle.csv.specs.Records.{fields_of};
 ghost use Rattle.kd_tables.specs.Ports.{port};
-ghost use Rattle.kd_table.specs.Notes.{line_at, unread_note, HasHead, HasRowsNote, IsReadTo, Tells, TellsRows, TellsTable, TellsText};
+ghost use Rattle.kd_table.specs.Notes.{line_at, unread_note, HasHead, HasRowsNote, Tells, TellsRows, TellsTable, TellsText};
 ghost use Rattle.kd_table.specs.Options.{texts_of};
+ghost use Rattle.kd_table.specs.Records.{IsReadTo};
 ghost use Rattle.kd_table.specs.Row.{is_blank_row};
 ghost use Rattle.kd_table.specs.Table.{AreRows};
 
 mod cell_words;
 mod found;
+mod head;
 mod head_words;
 mod letter_words;
+mod near_names;
 mod note;
 mod row_note;
 mod row_numbers;
@@ -21,9 +24,11 @@ use crate::columns::Columns;
 use crate::fault::SpreadsheetFault;
 use crate::options::TableOptions;
 use crate::quotes::{is_well_quoted, separator_of, strip_bom};
+use crate::records::records_of;
 use crate::row::is_blank_row;
-use csv::{ByteRecord, ByteRecordsIntoIter, ReaderBuilder};
+use csv::{ByteRecord, ByteRecordsIntoIter};
 use found::Found;
+use head::Head;
 use head_words::missing_columns;
 use kd_tables::{Sink, put_all};
 use note::{push_bytes, push_due_words, push_line, push_words};
@@ -42,18 +47,6 @@ pub fn put_note<N: Sink>(notes: &mut N, note: &[u8])
     ensures text { TellsText (port N.taken N.has_failed notes.old notes.new) note.now }
 {
     let _ = put_all(notes, note);
-}
-
-/// The records of a table.
-fn records_of(alloc: Global, table: &[u8]) -> ByteRecordsIntoIter<&[u8]>
-    ensures { IsReadTo table.now result [] }
-{
-    let rdr = ReaderBuilder::new()
-        .has_headers(false)
-        .flexible(true)
-        .delimiter(separator_of(table))
-        .from_reader(alloc, table);
-    rdr.into_byte_records()
 }
 
 /// The table's first row, if it has one.
@@ -77,63 +70,51 @@ pub fn read_head(alloc: Global, table: &[u8]) -> Result<Option<ByteRecord>, Spre
 const NO_DAY: &str = "the table has no row with a day";
 
 /// Appends the lines on the first row: the columns that aren't read, and those that any table needs and this one lacks.
-fn push_head(
-    note: &mut Vec<u8>,
-    alloc: Global,
-    options: &TableOptions<&[u8]>,
-    columns: &Columns,
-    head: &ByteRecord,
-) -> Result<(), SpreadsheetFault>
+fn push_head(note: &mut Vec<u8>, head: &Head<'_>) -> Result<(), SpreadsheetFault>
     ensures { IfOk result (λ _. (missing : List (List ℕ)) × (note.new.items ≡ note.old.items
-        ++ (unread_note (fields_of head.now) ++ flat_map (line_at (codes "row 1: ")) missing))) }
+        ++ (unread_note head.now.names ++ flat_map (line_at (codes "row 1: ")) missing))) }
 {
-    let unread = unread_note(alloc, head)?;
+    let unread = unread_note(head.alloc(), head.names())?;
     push_bytes(note, unread.as_slice())?;
-    push_words(note, b"row 1: ", &missing_columns(options, columns, head))
+    push_words(note, b"row 1: ", &missing_columns(head))
 }
 
 /// Appends the note on a row under the first row. Nothing is said of a blank row.
 fn push_body_row(
     note: &mut Vec<u8>,
     found: &mut Found,
-    alloc: Global,
-    options: &TableOptions<&[u8]>,
-    columns: &Columns,
-    head: &ByteRecord,
+    head: &Head<'_>,
     number: u64,
     row: &ByteRecord,
 ) -> Result<(), SpreadsheetFault>
     ensures { IfOk result (λ _. (more : List ℕ) × (note.new.items ≡ note.old.items ++ more)
         × ((rows : List (List (List ℕ))) (text : List ℕ)
-        → TellsRows (texts_of options.now) columns.now (fields_of head.now) rows text
-        → TellsRows (texts_of options.now) columns.now (fields_of head.now)
+        → TellsRows head.now.options head.now.columns head.now.names rows text
+        → TellsRows head.now.options head.now.columns head.now.names
         (rows ++ fields_of row.now ∷ []) (text ++ more))) }
 {
-    if is_blank_row(columns, row) {
+    if is_blank_row(head.columns(), row) {
         return Ok(());
     }
-    push_row(note, found, alloc, options, columns, head, number, row)
+    push_row(note, found, head, number, row)
 }
 
 /// Whether the rows so far have nothing, and `row` neither.
-fn is_still_blank(blank: bool, columns: &Columns, row: &ByteRecord) -> bool
-    ensures { result ≡ (blank && is_blank_row columns.now (fields_of row.now)) }
+fn is_still_blank(blank: bool, head: &Head<'_>, row: &ByteRecord) -> bool
+    ensures { result ≡ (blank && is_blank_row head.now.columns (fields_of row.now)) }
 {
-    blank && is_blank_row(columns, row)
+    blank && is_blank_row(head.columns(), row)
 }
 
-/// Appends the note on the rows under the first row `head`, which `records` still give.
+/// Appends the note on the rows under the first row, which `records` still give.
 fn push_rows(
     note: &mut Vec<u8>,
-    alloc: Global,
     table: &[u8],
-    options: &TableOptions<&[u8]>,
-    columns: &Columns,
-    head: &ByteRecord,
+    head: &Head<'_>,
     records: ByteRecordsIntoIter<&[u8]>,
 ) -> Result<(), SpreadsheetFault>
-    requires { IsReadTo table.now records (fields_of head.now ∷ []) }
-    ensures { IfOk result (λ _. HasRowsNote (texts_of options.now) columns.now (fields_of head.now)
+    requires { IsReadTo table.now records (head.now.names ∷ []) }
+    ensures { IfOk result (λ _. HasRowsNote head.now.options head.now.columns head.now.names
         table.now note.old.items note.new.items) }
 {
     let mut numbers = RowNumbers::new(separator_of(table), strip_bom(table));
@@ -144,11 +125,8 @@ fn push_rows(
         let Ok(row) = row else {
             return Err(SpreadsheetFault::NoMemory);
         };
-        let number = numbers.next_row();
-        push_body_row(
-            note, &mut found, alloc, options, columns, head, number, &row,
-        )?;
-        blank = is_still_blank(blank, columns, &row);
+        push_body_row(note, &mut found, head, numbers.next_row(), &row)?;
+        blank = is_still_blank(blank, head, &row);
     }
     push_due_words(note, b"", &Words::new(), blank, NO_DAY)
 }
@@ -168,12 +146,13 @@ fn push_table(
         Some(first) => first,
         None => return push_line(note, b"", NO_DAY.as_bytes()),
     };
-    let Ok(head) = first else {
+    let Ok(names) = first else {
         return Err(SpreadsheetFault::NoMemory);
     };
-    let columns = Columns::of_head(&head);
-    push_head(note, alloc, options, &columns, &head)?;
-    push_rows(note, alloc, table, options, &columns, &head, records)
+    let columns = Columns::of_head(&names);
+    let head = Head::new(alloc, options, &columns, &names);
+    push_head(note, &head)?;
+    push_rows(note, table, &head, records)
 }
 
 /// The note on a refused table: the columns that aren't read, and at least a line for each row that isn't a day.

@@ -1,8 +1,10 @@
 //! Reads a row as a Converter's day.
 ghost use Rattle.std.specs.Prelude.{◌≡◌, MatchOption, Some, option_map};
+ghost use Rattle.std.specs.Option.{option_and_then};
 ghost use Rattle.csv.specs.Records.{fields_of};
 ghost use Rattle.kd_state.specs.SheetDay.{Pin};
-ghost use Rattle.kd_table.specs.PinRow.{pins_at, pins_in, pin_values};
+ghost use Rattle.kd_table.specs.Items.{exactly, letters_in, readings_in};
+ghost use Rattle.kd_table.specs.PinRow.{pins_after, pins_at, pins_in, pin_values};
 ghost use Rattle.kd_table.specs.Options.{texts_of};
 ghost use Rattle.kd_table.specs.Row.{IsNoDay};
 
@@ -28,19 +30,54 @@ fn pins_at<const N: usize>(
     pins_of_text(ring, text.as_slice())
 }
 
+/// The pins of the six wheels, of which those of the first three are known.
+fn pins_after(
+    columns: &Columns,
+    row: &ByteRecord,
+    w1: [bool; 26],
+    w2: [bool; 25],
+    w3: [bool; 23],
+) -> Option<PinSet>
+    ensures { result ≡ pins_after columns.now.pins (fields_of row.now) w1 w2 w3 }
+{
+    let w4 = pins_at(&ring4(), columns.pins[3], row)?;
+    let w5 = pins_at(&ring5(), columns.pins[4], row)?;
+    let w6 = pins_at(&ring6(), columns.pins[5], row)?;
+    Some(PinSet {
+        w1,
+        w2,
+        w3,
+        w4,
+        w5,
+        w6,
+    })
+}
+
 /// The pins of the six wheels.
 #[tactic(auto, unfolding(crate::specs::PinRow::pins_in))]
 fn pins_in(columns: &Columns, row: &ByteRecord) -> Option<PinSet>
     ensures { result ≡ pins_in columns.now.pins (fields_of row.now) }
 {
-    Some(PinSet {
-        w1: pins_at(&ring1(), columns.pins[0], row)?,
-        w2: pins_at(&ring2(), columns.pins[1], row)?,
-        w3: pins_at(&ring3(), columns.pins[2], row)?,
-        w4: pins_at(&ring4(), columns.pins[3], row)?,
-        w5: pins_at(&ring5(), columns.pins[4], row)?,
-        w6: pins_at(&ring6(), columns.pins[5], row)?,
-    })
+    let w1 = pins_at(&ring1(), columns.pins[0], row)?;
+    let w2 = pins_at(&ring2(), columns.pins[1], row)?;
+    let w3 = pins_at(&ring3(), columns.pins[2], row)?;
+    pins_after(columns, row, w1, w2, w3)
+}
+
+/// Reads exactly `N` letters.
+fn letters_in<const N: usize>(text: &[u8]) -> Option<[Letter; N]>
+    ensures { result ≡ option_and_then (exactly N) (letters_in text.now) }
+{
+    let letters = values_in::<Letter>(text)?;
+    <[Letter; N]>::try_from(letters.as_slice()).ok()
+}
+
+/// Reads the readings of all bars.
+fn bars_in(text: &[u8]) -> Option<[Reading; 27]>
+    ensures { result ≡ option_and_then (exactly 27) (readings_in text.now) }
+{
+    let rows = values_in::<Reading>(text)?;
+    <[Reading; 27]>::try_from(rows.as_slice()).ok()
 }
 
 /// Reads a row as a Converter's day. `None` if it doesn't describe a legal day.
@@ -56,12 +93,9 @@ pub fn pin_day(
         ≡ Some day) }
 {
     let number = number_in(cell_at(row, columns.day))?;
-    let list = values_in::<Letter>(cell_at(row, columns.list))?;
-    let list = <[Letter; 2]>::try_from(list.as_slice()).ok()?;
+    let list = letters_in::<2>(cell_at(row, columns.list))?;
     let pins = pins_in(columns, row)?;
-    let window = values_in::<Letter>(cell_or(options.window, row, columns.window))?;
-    let window = <[Letter; 6]>::try_from(window.as_slice()).ok()?;
-    let rows = values_in::<Reading>(cell_at(row, columns.bars))?;
-    let rows = <[Reading; 27]>::try_from(rows.as_slice()).ok()?;
+    let window = letters_in::<6>(cell_or(options.window, row, columns.window))?;
+    let rows = bars_in(cell_at(row, columns.bars))?;
     SheetDay::pin(number, rows, pins, window, list)
 }

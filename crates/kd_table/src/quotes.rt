@@ -1,5 +1,5 @@
 //! Tests the quotes of a table. The library `csv` refuses nothing: it would read an open quote to the table's end.
-ghost use Rattle.std.specs.Prelude.{◌≡◌, find};
+ghost use Rattle.std.specs.Prelude.{◌≡◌, find, if◌then◌else◌};
 ghost use Rattle.csv.specs.Reading.{strip_bom};
 ghost use Rattle.kd_table.specs.Rows.{is_separator, separator_of, ends_cell, quoting_after_byte, quoting_after, may_end, is_well_quoted};
 
@@ -29,8 +29,12 @@ fn is_separator(byte: u8) -> bool
 fn first_separator(table: &[u8]) -> Option<u8>
     ensures { result ≡ find is_separator table.now }
 {
-    let mut bytes = table.iter().copied();
-    bytes.find(|byte| is_separator(*byte))
+    for byte in table {
+        if is_separator(*byte) {
+            return Some(*byte);
+        }
+    }
+    None
 }
 
 /// The first comma, semicolon or tab of `table`, which separates its cells; a comma if there is none.
@@ -50,6 +54,17 @@ fn ends_cell(separator: u8, byte: u8) -> bool
     byte == separator || byte == 13 || byte == 10
 }
 
+/// Where a table stands after `byte` outside quotes: at the start of a cell if `byte` ends one, and else at `otherwise`.
+fn after_unquoted(separator: u8, byte: u8, otherwise: Quoting) -> Quoting
+    ensures { result ≡ (if ends_cell separator byte then Quoting.CellStart else otherwise) }
+{
+    if ends_cell(separator, byte) {
+        Quoting::CellStart
+    } else {
+        otherwise
+    }
+}
+
 impl Quoting {
     /// Where the table stands after one more byte.
     pub fn after_byte(self, separator: u8, byte: u8) -> Self
@@ -57,15 +72,13 @@ impl Quoting {
     {
         match self {
             Quoting::CellStart if byte == 34 => Quoting::Quoted,
-            Quoting::CellStart if ends_cell(separator, byte) => Quoting::CellStart,
-            Quoting::CellStart => Quoting::Unquoted,
-            Quoting::Unquoted if ends_cell(separator, byte) => Quoting::CellStart,
-            Quoting::Unquoted => Quoting::Unquoted,
+            Quoting::CellStart => after_unquoted(separator, byte, Quoting::Unquoted),
+            Quoting::Unquoted => after_unquoted(separator, byte, Quoting::Unquoted),
             Quoting::Quoted if byte == 34 => Quoting::Closed,
             Quoting::Quoted => Quoting::Quoted,
             Quoting::Closed if byte == 34 => Quoting::Quoted,
-            Quoting::Closed if ends_cell(separator, byte) => Quoting::CellStart,
-            Quoting::Closed | Quoting::Wrong => Quoting::Wrong,
+            Quoting::Closed => after_unquoted(separator, byte, Quoting::Wrong),
+            Quoting::Wrong => Quoting::Wrong,
         }
     }
 

@@ -1,17 +1,15 @@
 //! Reads a table row by row.
-ghost use Rattle.std.specs.Prelude.{◌≡◌, ◌++◌, ◌∷◌, [], List, ℕ, IfOk, false};
+ghost use Rattle.std.specs.Prelude.{◌≡◌, ◌++◌, ◌∷◌, [], List, ℕ, IfOk};
 ghost use Rattle.csv.specs.Records.{fields_of};
-ghost use Rattle.csv.specs.Reading.{AreRecords, strip_bom};
-ghost use Rattle.csv.specs.declared.parser.State.TheVariants as st;
 ghost use Rattle.kd_table.specs.Options.{texts_of};
-ghost use Rattle.kd_table.specs.Rows.{separated};
-ghost use Rattle.kd_table.specs.Table.{is_taken, IsBodyRead, IsRead};
+ghost use Rattle.kd_table.specs.Table.{is_taken, AreRows, IsBodyRead, IsRead};
 
 use crate::columns::Columns;
 use crate::fault::SpreadsheetFault;
 use crate::options::TableOptions;
+use crate::records::records_of;
 use crate::row::{is_blank_row, row_day};
-use csv::{ByteRecord, ReaderBuilder};
+use csv::ByteRecord;
 use kd_state::SheetDay;
 use std::alloc::Global;
 
@@ -87,28 +85,21 @@ fn read_row(
     Ok(())
 }
 
-/// Reads all rows of `table`, whose cells `separator` separates.
+/// Reads all rows of `table`.
 pub fn read_rows(
     alloc: Global,
-    separator: u8,
     table: &[u8],
     options: &TableOptions<&[u8]>,
 ) -> Result<Reading, SpreadsheetFault>
-    ensures { IfOk result (λ reading. (rows : List (List (List ℕ)))
-        × AreRecords (separated separator) st.StartRecord (strip_bom table.now) rows
+    ensures { IfOk result (λ reading. (rows : List (List (List ℕ))) × AreRows table.now rows
         × IsRead (texts_of options.now) rows reading.columns reading.days.items reading.refused) }
 {
-    let rdr = ReaderBuilder::new()
-        .has_headers(false)
-        .flexible(true)
-        .delimiter(separator)
-        .from_reader(alloc, table);
     let mut reading = Reading {
         columns: None,
         days: Vec::new(alloc),
         refused: false,
     };
-    for row in rdr.into_byte_records() {
+    for row in records_of(alloc, table) {
         let Ok(row) = row else {
             return Err(SpreadsheetFault::NoMemory);
         };

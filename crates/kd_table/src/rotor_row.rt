@@ -4,7 +4,7 @@ ghost use Rattle.csv.specs.Records.{fields_of};
 ghost use Rattle.kd_state.specs.SheetDay.{Rotor};
 ghost use Rattle.kd_table.specs.Options.{texts_of};
 ghost use Rattle.kd_table.specs.Row.{IsNoDay};
-ghost use Rattle.kd_table.specs.RotorRow.{wheels_with, rotor_values};
+ghost use Rattle.kd_table.specs.RotorRow.{plugs_in, rotor_values, seated_in, wheels_with};
 
 use crate::columns::{Columns, cell_at, cell_or};
 use crate::items::{Values, number_in, values_in};
@@ -59,6 +59,29 @@ fn wheels_with(
     Some(wheels)
 }
 
+/// The wheels of a row's day, with their rings and window letters.
+fn seated_in(
+    options: &TableOptions<&[u8]>,
+    columns: &Columns,
+    row: &ByteRecord,
+) -> Option<Values<SheetWheel>>
+    ensures { option_map (λ wheels. wheels.items) result
+        ≡ seated_in (texts_of options.now) columns.now (fields_of row.now) }
+{
+    let names = values_in::<Option<Wheel>>(cell_at(row, columns.wheels))?;
+    let rings = values_in::<Letter>(cell_at(row, columns.rings))?;
+    let letters = values_in::<Letter>(cell_or(options.window, row, columns.window))?;
+    wheels_with(&names, &rings, &letters)
+}
+
+/// The plugged pairs of a row's day. `None` if the table lacks their column.
+fn plugs_in(columns: &Columns, row: &ByteRecord) -> Option<Values<(Letter, Letter)>>
+    ensures { option_map (λ pairs. pairs.items) result ≡ plugs_in columns.now (fields_of row.now) }
+{
+    let place = columns.plugs?;
+    values_in::<(Letter, Letter)>(cell_at(row, Some(place)))
+}
+
 /// Reads a row as a day of `model`. `None` if it doesn't describe a legal day.
 #[tactic(auto, unfolding(crate::specs::RotorRow::rotor_values))]
 pub fn rotor_day(
@@ -75,12 +98,8 @@ pub fn rotor_day(
 {
     let number = number_in(cell_at(row, columns.day))?;
     let reflector = reflector_named(model, cell_or(options.reflector, row, columns.reflector))?;
-    let names = values_in::<Option<Wheel>>(cell_at(row, columns.wheels))?;
-    let rings = values_in::<Letter>(cell_at(row, columns.rings))?;
-    let letters = values_in::<Letter>(cell_or(options.window, row, columns.window))?;
-    let wheels = wheels_with(&names, &rings, &letters)?;
-    let plugs = columns.plugs?;
-    let pairs = values_in::<(Letter, Letter)>(cell_at(row, Some(plugs)))?;
+    let wheels = seated_in(options, columns, row)?;
+    let pairs = plugs_in(columns, row)?;
     let groups = values_in::<[Letter; 3]>(cell_at(row, columns.groups))?;
     SheetDay::rotor(
         number,

@@ -38,7 +38,10 @@ pub fn places_of(columns: &Columns) -> [Option<usize>; 10]
 fn has_nothing(row: &ByteRecord, columns: &[Option<usize>]) -> bool
     ensures { result ≡ list_all (λ column. is_blank (cell_at column (fields_of row.now))) columns.now }
 {
-    columns.iter().all(|column| is_blank(cell_at(row, *column)))
+    match columns {
+        [column, rest @ ..] => is_blank(cell_at(row, *column)) && has_nothing(row, rest),
+        [] => true,
+    }
 }
 
 /// Whether `row` has nothing in the columns that are read.

@@ -12,7 +12,7 @@ ghost use Rattle.kd_table.specs.declared.fault.SpreadsheetFault.TheVariants as f
 use crate::fault::SpreadsheetFault;
 use crate::notes::{put_note, read_head, refused_note, unread_note};
 use crate::options::TableOptions;
-use crate::quotes::{is_well_quoted, separator_of};
+use crate::quotes::is_well_quoted;
 use crate::reading::{Reading, read_rows};
 use crate::sheet_writer::write_sheet;
 use kd_state::SheetDay;
@@ -32,7 +32,7 @@ fn read_days(
     if !is_well_quoted(table) {
         return Err(SpreadsheetFault::Refused);
     }
-    let reading = match read_rows(alloc, separator_of(table), table, options) {
+    let reading = match read_rows(alloc, table, options) {
         Ok(reading) => reading,
         Err(_) => return Err(SpreadsheetFault::NoMemory),
     };

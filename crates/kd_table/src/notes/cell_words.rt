@@ -8,6 +8,12 @@ use arrayvec::ArrayVec;
 use kd_state::split_words;
 use kd_tables::{Letter, Model, Reading, Wheel, allowed, in_box};
 
+/// Said of a cell that has nothing.
+const NOTHING: &str = "nothing is there";
+
+/// Said of a cell that has too many bytes or words.
+pub const TOO_LONG: &str = "the cell is too long";
+
 /// Says what is wrong with the text of `cell`, in a row of `model`.
 pub fn cell_words(cell: Cell, model: Option<Model>, text: &[u8]) -> Words {
     let mut words = Words::new();
@@ -36,20 +42,31 @@ pub fn cell_words(cell: Cell, model: Option<Model>, text: &[u8]) -> Words {
 /// Says which words of `text` have no value, and `what` they aren't. Or that there is nothing.
 pub fn item_words<T: FromWord + Copy>(lines: &mut Words, text: &[u8], what: &str) {
     if is_blank(text) {
-        lines.tell("nothing is there");
-        return;
+        lines.tell(NOTHING);
+    } else if !has_told_words::<T>(lines, text, what) {
+        lines.tell(TOO_LONG);
     }
+}
+
+/// Says which words of `text` have no value, and `what` they aren't. Returns false if the cell is too long.
+fn has_told_words<T: FromWord + Copy>(lines: &mut Words, text: &[u8], what: &str) -> bool {
     if text.len() > CELL_LIMIT {
-        lines.tell("the cell is too long");
-        return;
+        return false;
     }
     let mut items = ArrayVec::new();
     push_item_text::<T>(&mut items, text);
-    let Some(words) = split_words::<192>(items.as_slice()) else {
-        lines.tell("the cell is too long");
-        return;
-    };
-    for word in words.as_slice() {
+    match split_words::<192>(items.as_slice()) {
+        Some(words) => {
+            tell_words::<T>(lines, words.as_slice(), what);
+            true
+        }
+        None => false,
+    }
+}
+
+/// Says which words have no value, and `what` they aren't.
+fn tell_words<T: FromWord + Copy>(lines: &mut Words, words: &[&[u8]], what: &str) {
+    for word in words {
         if !word.is_empty() && T::read_word(word).is_none() {
             lines.tell_item("", word, what);
         }
@@ -70,7 +87,7 @@ fn count_words(lines: &mut Words, found: usize, count: usize, one: &str, many: &
 /// Says what is wrong with a day.
 pub fn day_words(lines: &mut Words, text: &[u8]) {
     if is_blank(text) {
-        lines.tell("nothing is there");
+        lines.tell(NOTHING);
     } else if day_in(text).is_none() {
         lines.tell_item("", text, " isn't a day from 1 to 31");
     }
@@ -78,7 +95,7 @@ pub fn day_words(lines: &mut Words, text: &[u8]) {
 
 fn model_words(lines: &mut Words, text: &[u8]) {
     if is_blank(text) {
-        lines.tell("nothing is there");
+        lines.tell(NOTHING);
     } else if model_named(text).is_none() {
         lines.tell_item("there is no model ", text, "");
     }
@@ -89,7 +106,7 @@ fn reflector_words(lines: &mut Words, model: Option<Model>, text: &[u8]) {
         return;
     };
     if is_blank(text) {
-        lines.tell("nothing is there");
+        lines.tell(NOTHING);
     } else if reflector_named(model, text).is_none() {
         lines.begin();
         lines.add(model.text().as_str());
@@ -125,11 +142,15 @@ fn window_words(lines: &mut Words, model: Option<Model>, text: &[u8]) {
         && let Some(letters) = values_in::<Letter>(text)
         && letters.len() == 6
     {
-        for (index, letter) in letters.as_slice().iter().enumerate() {
-            if index < 6 {
-                off_wheel_words(lines, index as u8 + 1, *letter);
-            }
-        }
+        off_wheels_words(lines, 1, letters.as_slice());
+    }
+}
+
+/// Says which of the letters their wheels lack. The first letter is that of wheel `wheel`.
+fn off_wheels_words(lines: &mut Words, wheel: u8, letters: &[Letter]) {
+    if let [letter, rest @ ..] = letters {
+        off_wheel_words(lines, wheel, *letter);
+        off_wheels_words(lines, wheel.saturating_add(1), rest);
     }
 }
 
@@ -152,26 +173,31 @@ fn wheel_words(lines: &mut Words, model: Option<Model>, text: &[u8]) {
 /// Says which wheels the model's box lacks, which are there twice, and, if all wheels are there, which can't be where they are.
 fn seat_words(lines: &mut Words, wheels: &[Option<Wheel>], model: Model, is_whole: bool) {
     for (index, wheel) in wheels.iter().enumerate() {
-        let Some(wheel) = *wheel else {
-            return;
-        };
-        if !in_box(model, wheel) {
-            one_wheel_words(lines, wheel, no_box_rule(model));
-        } else if is_whole && index < 4 && !allowed(model, index as u8 + 1, wheel) {
-            one_wheel_words(lines, wheel, seat_rule(wheel));
-        }
-        if wheels[..index].contains(&Some(wheel)) {
-            one_wheel_words(lines, wheel, " is there twice");
+        if let Some(wheel) = *wheel {
+            let slot = if is_whole && index < 4 {
+                index as u8 + 1
+            } else {
+                0
+            };
+            one_seat_words(lines, wheel, model, slot);
+            if wheels[..index].contains(&Some(wheel)) {
+                one_wheel_words(lines, wheel, " is there twice");
+            }
         }
     }
 }
 
+/// Says that the model's box lacks `wheel`, or that it can't be in slot `slot`; 0 if the slot isn't known.
+fn one_seat_words(lines: &mut Words, wheel: Wheel, model: Model, slot: u8) {
+    if !in_box(model, wheel) {
+        one_wheel_words(lines, wheel, no_box_rule(model));
+    } else if slot != 0 && !allowed(model, slot, wheel) {
+        one_wheel_words(lines, wheel, seat_rule(wheel));
+    }
+}
+
 fn one_wheel_words(lines: &mut Words, wheel: Wheel, words: &str) {
-    lines.begin();
-    lines.add("wheel ");
-    lines.add(wheel.text().as_str());
-    lines.add(words);
-    lines.end();
+    lines.tell_item("wheel ", wheel.text().as_str().as_bytes(), words);
 }
 
 /// That the box of a model lacks a wheel.

@@ -1,10 +1,10 @@
 //! What was found in the rows so far.
 use super::cell_words::day_words;
+use super::head::Head;
 use super::head_words::missing_of_model;
 use super::words::Words;
 use crate::cell::{day_in, row_model};
 use crate::columns::{Columns, cell_at};
-use crate::options::TableOptions;
 use arrayvec::ArrayVec;
 use csv::ByteRecord;
 use kd_tables::Model;
@@ -28,17 +28,11 @@ impl Found {
     }
 
     /// Says which columns the table lacks that a row needs, at the first row of each model.
-    pub fn missing(
-        &mut self,
-        options: &TableOptions<&[u8]>,
-        columns: &Columns,
-        head: &ByteRecord,
-        row: &ByteRecord,
-    ) -> Words {
-        match row_model(options, columns, row) {
+    pub fn missing(&mut self, head: &Head<'_>, row: &ByteRecord) -> Words {
+        match row_model(head.options(), head.columns(), row) {
             Some(model) if !self.models.as_slice().contains(&Some(model)) => {
                 let _ = self.models.try_push(Some(model));
-                missing_of_model(options, columns, head, model)
+                missing_of_model(head, model)
             }
             _ => Words::new(),
         }

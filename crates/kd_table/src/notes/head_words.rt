@@ -1,119 +1,139 @@
-//! Says which columns a table lacks.
-ghost use Rattle.std.specs.Prelude.{◌≤◌, length};
-
+//! Says which columns a table lacks, or why its first row names none.
+use super::head::Head;
+use super::near_names::near_column;
+use super::note::option_name;
 use super::words::Words;
 use crate::cell::{Cell, cells_of, column_of, has_text, is_optional};
-use crate::columns::{Columns, cell_at};
+use crate::columns::{Columns, cell_at, english_name, german_name, short_name};
 use crate::names::is_named;
-use crate::options::TableOptions;
-use csv::ByteRecord;
+use crate::row::places_of;
 use kd_tables::Model;
 
-/// The name of a column, in English and in German.
-pub fn column_names(cell: Cell) -> (&'static str, &'static str)
-    ensures { length result.1.now ≤ 32 }
-{
-    match cell {
-        Cell::Day => ("day", "Tag"),
-        Cell::Model => ("model", "Modell"),
-        Cell::Reflector => ("reflector", "Umkehrwalze"),
-        Cell::Wheels => ("wheels", "Walzenlage"),
-        Cell::Rings => ("rings", "Ringstellung"),
-        Cell::Window => ("window", "Grundstellung"),
-        Cell::Plugs => ("plugs", "Steckerverbindungen"),
-        Cell::Groups => ("groups", "Kenngruppen"),
-        Cell::List => ("list", "Liste"),
-        Cell::Pins1 => ("pins 1", "Stifte 1"),
-        Cell::Pins2 => ("pins 2", "Stifte 2"),
-        Cell::Pins3 => ("pins 3", "Stifte 3"),
-        Cell::Pins4 => ("pins 4", "Stifte 4"),
-        Cell::Pins5 => ("pins 5", "Stifte 5"),
-        Cell::Pins6 => ("pins 6", "Stifte 6"),
-        Cell::Bars => ("bars", "Stangen"),
+/// The columns that any table needs, unless an option stands for them.
+static NEEDED: [Cell; 2] = [Cell::Day, Cell::Model];
+
+/// The columns of most tables, by whose names the language of a table is told.
+static OFTEN_NAMED: [Cell; 5] = [
+    Cell::Day,
+    Cell::Wheels,
+    Cell::Rings,
+    Cell::Plugs,
+    Cell::Bars,
+];
+
+/// Says which columns the table lacks that any table needs, or why its first row names none.
+pub fn missing_columns(head: &Head<'_>) -> Words {
+    if names_none(head.columns()) {
+        let mut lines = Words::new();
+        lines.tell(nameless_words(cell_at(head.names(), Some(0))));
+        return lines;
     }
+    missing_among(head, &NEEDED)
 }
 
-/// The option in place of a column, if there is one.
-fn option_name(cell: Cell) -> Option<&'static str> {
-    match cell {
-        Cell::Model => Some("--model"),
-        Cell::Reflector => Some("--reflector"),
-        Cell::Window => Some("--window"),
-        _ => None,
+/// Says which columns the table lacks that a day of `model` needs. Nothing if its first row names no column.
+pub fn missing_of_model(head: &Head<'_>, model: Model) -> Words {
+    if names_none(head.columns()) {
+        return Words::new();
     }
+    missing_among(head, cells_of(model))
 }
 
-/// Says which columns the table lacks that any table needs.
-pub fn missing_columns(
-    options: &TableOptions<&[u8]>,
-    columns: &Columns,
-    head: &ByteRecord,
-) -> Words {
+/// Whether a table has none of the columns that are read.
+fn names_none(columns: &Columns) -> bool {
+    are_missing(&places_of(columns)) && are_missing(&columns.pins)
+}
+
+/// Whether all of these columns are missing.
+fn are_missing(columns: &[Option<usize>]) -> bool {
+    for column in columns {
+        if column.is_some() {
+            return false;
+        }
+    }
+    true
+}
+
+/// What is said of a first row that names no column, and begins with `cell`.
+fn nameless_words(cell: &[u8]) -> &'static str {
+    if is_utf16(cell) {
+        return "this table is in UTF-16: save it as CSV in UTF-8";
+    }
+    if says_separator(cell) {
+        return "this row says what separates the cells: remove it, so that the names are first";
+    }
+    "this row doesn't have the names of the columns, such as day (in German Tag)"
+}
+
+/// Whether a table whose first cell is `cell` begins with the mark of UTF-16.
+fn is_utf16(cell: &[u8]) -> bool {
+    matches!(cell, [0xFF, 0xFE, ..] | [0xFE, 0xFF, ..])
+}
+
+/// Whether `cell` begins with `sep=`, from which some programs take what separates the cells.
+fn says_separator(cell: &[u8]) -> bool {
+    if cell.len() < 4 {
+        return false;
+    }
+    let (start, _) = cell.split_at(4);
+    is_named("sep=", start)
+}
+
+/// Says which columns of `cells` the table lacks.
+fn missing_among(head: &Head<'_>, cells: &[Cell]) -> Words {
     let mut lines = Words::new();
-    for cell in &[Cell::Day, Cell::Model] {
-        missing_column(&mut lines, options, columns, head, *cell);
+    for cell in cells {
+        if !is_optional(*cell) && !has_text(head.options(), head.columns(), *cell) {
+            missing_column(&mut lines, head, *cell);
+        }
     }
     lines
 }
 
-/// Says which columns the table lacks that a day of `model` needs.
-pub fn missing_of_model(
-    options: &TableOptions<&[u8]>,
-    columns: &Columns,
-    head: &ByteRecord,
-    model: Model,
-) -> Words {
-    let mut lines = Words::new();
-    for cell in cells_of(model) {
-        missing_column(&mut lines, options, columns, head, *cell);
-    }
-    lines
-}
-
-/// Says that the table lacks the column of `cell`, if it does.
-fn missing_column(
-    lines: &mut Words,
-    options: &TableOptions<&[u8]>,
-    columns: &Columns,
-    head: &ByteRecord,
-    cell: Cell,
-) {
-    if is_optional(cell) || has_text(options, columns, cell) {
-        return;
-    }
-    let names = column_names(cell);
-    let name = if is_german(columns, head) {
-        names.1
-    } else {
-        names.0
-    };
+/// Says that the table lacks the column of `cell`.
+fn missing_column(lines: &mut Words, head: &Head<'_>, cell: Cell) {
+    let option = option_name(cell);
     lines.begin();
-    match option_name(cell) {
-        Some(option) => {
-            lines.add("there is neither a column ");
-            lines.add(name);
-            lines.add(" nor an option ");
-            lines.add(option);
-        }
-        None => {
-            lines.add("there is no column ");
-            lines.add(name);
-        }
+    if option.is_empty() {
+        lines.add("there is no column ");
+        lines.add(name_of(head, cell));
+    } else {
+        lines.add("there is neither a column ");
+        lines.add(name_of(head, cell));
+        lines.add(" nor an option ");
+        lines.add(option);
     }
+    ask_for_name(lines, head, cell);
     lines.end();
 }
 
+/// Asks whether the column of `cell` was meant by a name that is nearly its own.
+fn ask_for_name(lines: &mut Words, head: &Head<'_>, cell: Cell) {
+    if let Some(column) = near_column(head, cell) {
+        lines.add(": did you mean ");
+        lines.add(name_of(head, cell));
+        lines.add(" by ");
+        lines.add_cell(cell_at(head.names(), Some(column)));
+        lines.add("?");
+    }
+}
+
+/// The name of the column of `cell`, in the language of the table.
+fn name_of(head: &Head<'_>, cell: Cell) -> &'static str {
+    if is_german(head) {
+        german_name(cell)
+    } else {
+        english_name(cell)
+    }
+}
+
 /// Whether the table names one of the columns of most tables in German.
-fn is_german(columns: &Columns, head: &ByteRecord) -> bool {
-    let cells = [
-        Cell::Day,
-        Cell::Wheels,
-        Cell::Rings,
-        Cell::Plugs,
-        Cell::Bars,
-    ];
-    cells.iter().any(|cell| is_named(
-        column_names(*cell).1,
-        cell_at(head, column_of(columns, *cell)),
-    ))
+fn is_german(head: &Head<'_>) -> bool {
+    for cell in &OFTEN_NAMED {
+        let name = cell_at(head.names(), column_of(head.columns(), *cell));
+        if is_named(german_name(*cell), name) || is_named(short_name(*cell), name) {
+            return true;
+        }
+    }
+    false
 }

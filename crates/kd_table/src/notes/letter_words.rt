@@ -1,5 +1,5 @@
 //! Says what is wrong with the letters of pins and of pairs.
-use super::cell_words::item_words;
+use super::cell_words::{TOO_LONG, item_words};
 use super::words::Words;
 use crate::items::{joined, values_in};
 use kd_tables::{Letter, place_on_wheel};
@@ -18,19 +18,27 @@ pub fn off_wheel_words(lines: &mut Words, wheel: u8, letter: Letter) {
 
 /// Says what is wrong with the letters of the effective pins of wheel `wheel`.
 pub fn pins_words(lines: &mut Words, text: &[u8], wheel: u8) {
-    let Some(letters) = joined(text) else {
-        lines.tell("the cell is too long");
-        return;
-    };
-    let letters = letters.as_slice();
+    match joined(text) {
+        Some(letters) => pin_letters_words(lines, letters.as_slice(), wheel),
+        None => lines.tell(TOO_LONG),
+    }
+}
+
+/// Says which bytes are no letters of wheel `wheel`, and which are there twice.
+fn pin_letters_words(lines: &mut Words, letters: &[u8], wheel: u8) {
     for (index, byte) in letters.iter().enumerate() {
-        match Letter::from_byte(*byte) {
-            Some(letter) => off_wheel_words(lines, wheel, letter),
-            None => lines.tell_item("", &[*byte], " isn't a letter"),
-        }
+        pin_letter_words(lines, *byte, wheel);
         if letters[..index].contains(byte) {
             lines.tell_item("the letter ", &[*byte], " is there twice");
         }
+    }
+}
+
+/// Says that `byte` is no letter, or no letter of wheel `wheel`, if so.
+fn pin_letter_words(lines: &mut Words, byte: u8, wheel: u8) {
+    match Letter::from_byte(byte) {
+        Some(letter) => off_wheel_words(lines, wheel, letter),
+        None => lines.tell_item("", &[byte], " isn't a letter"),
     }
 }
 
@@ -61,14 +69,19 @@ fn shared_words(lines: &mut Words, other: (Letter, Letter), pair: (Letter, Lette
     let two = [pair.0.byte(), pair.1.byte()];
     for letter in &two {
         if one.contains(letter) {
-            lines.begin();
-            lines.add("the letter ");
-            lines.add_cell(&[*letter]);
-            lines.add(" is in ");
-            lines.add_cell(&one);
-            lines.add(" and in ");
-            lines.add_cell(&two);
-            lines.end();
+            shared_letter_words(lines, *letter, &one, &two);
         }
     }
+}
+
+/// Says that `letter` is in two pairs.
+fn shared_letter_words(lines: &mut Words, letter: u8, one: &[u8], two: &[u8]) {
+    lines.begin();
+    lines.add("the letter ");
+    lines.add_cell(&[letter]);
+    lines.add(" is in ");
+    lines.add_cell(one);
+    lines.add(" and in ");
+    lines.add_cell(two);
+    lines.end();
 }

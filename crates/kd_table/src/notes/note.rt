@@ -1,14 +1,13 @@
 //! Appends lines to a note: each begins with the place of what it tells.
-ghost use Rattle.std.specs.Prelude.{◌≡◌, ◌++◌, ◌∷◌, ◌<◌, [], codes, ℕ, List, true, flat_map, length, map, IfOk};
-ghost use Rattle.csv.specs.Records.{fields_of};
+ghost use Rattle.std.specs.Prelude.{◌≡◌, ◌++◌, ◌∷◌, ◌<◌, [], codes, decimal, ℕ, List, true, flat_map, length, map, IfOk};
 ghost use Rattle.std.specs.List.{slice_split};
-ghost use Rattle.kd_table.specs.Notes.{cell_name, cell_place, line_at, option_name, row_place, shown, shown_byte};
+ghost use Rattle.kd_table.specs.Notes.{cell_name, cell_place, line_at, option_name, row_number, row_place, shown, shown_byte};
 
+use super::head::Head;
 use super::words::{Words, shown_byte};
 use crate::cell::{Cell, column_of};
-use crate::columns::{Columns, cell_at};
+use crate::columns::cell_at;
 use crate::fault::SpreadsheetFault;
-use csv::ByteRecord;
 use itoa::Buffer;
 use kd_state::split_once;
 use std::alloc::Global;
@@ -102,24 +101,43 @@ pub fn push_shown(note: &mut Vec<u8>, cell: &[u8]) -> Result<(), SpreadsheetFaul
     push_shown_bytes(note, false, cell)
 }
 
+/// Appends a number, and then `after`.
+fn push_number(note: &mut Vec<u8>, number: u64, after: &[u8]) -> Result<(), SpreadsheetFault>
+    ensures { IfOk result (λ _. note.new.items ≡ note.old.items ++ (decimal number ++ after.now)) }
+{
+    push_bytes(note, Buffer::new().format(number).as_bytes())?;
+    push_bytes(note, after)
+}
+
+/// Appends a row's number, and its day if the day can be read.
+fn push_row_number(
+    place: &mut Vec<u8>,
+    number: u64,
+    day: Option<u8>,
+) -> Result<(), SpreadsheetFault>
+    ensures { IfOk result (λ _. place.new.items ≡ place.old.items ++ row_number number day) }
+{
+    match day {
+        Some(day) => {
+            push_number(place, number, b" (day ")?;
+            push_number(place, u64::from(day), b"), ")
+        }
+        None => push_number(place, number, b", "),
+    }
+}
+
 /// Where a row is: its number, and its day if the day can be read.
 pub fn row_place(alloc: Global, number: u64, day: Option<u8>) -> Result<Vec<u8>, SpreadsheetFault>
     ensures { IfOk result (λ place. place.items ≡ row_place number day) }
 {
     let mut place = Vec::new(alloc);
     push_bytes(&mut place, b"row ")?;
-    push_bytes(&mut place, Buffer::new().format(number).as_bytes())?;
-    if let Some(day) = day {
-        push_bytes(&mut place, b" (day ")?;
-        push_bytes(&mut place, Buffer::new().format(day).as_bytes())?;
-        push_bytes(&mut place, b")")?;
-    }
-    push_bytes(&mut place, b", ")?;
+    push_row_number(&mut place, number, day)?;
     Ok(place)
 }
 
-/// The option that stands for a cell.
-fn option_name(cell: Cell) -> &'static str
+/// The option that stands for a cell; an empty text if there is none.
+pub fn option_name(cell: Cell) -> &'static str
     ensures { result.now ≡ option_name cell }
 {
     match cell {
@@ -131,35 +149,24 @@ fn option_name(cell: Cell) -> &'static str
 }
 
 /// Appends the name of a cell's column, or the option that stands for it.
-fn push_cell_name(
-    place: &mut Vec<u8>,
-    columns: &Columns,
-    head: &ByteRecord,
-    cell: Cell,
-) -> Result<(), SpreadsheetFault>
+fn push_cell_name(place: &mut Vec<u8>, head: &Head<'_>, cell: Cell) -> Result<(), SpreadsheetFault>
     ensures { IfOk result (λ _. place.new.items
-        ≡ place.old.items ++ cell_name columns.now (fields_of head.now) cell) }
+        ≡ place.old.items ++ cell_name head.now.columns head.now.names cell) }
 {
-    match column_of(columns, cell) {
-        Some(column) => push_shown(place, cell_at(head, Some(column))),
+    match column_of(head.columns(), cell) {
+        Some(column) => push_shown(place, cell_at(head.names(), Some(column))),
         None => push_bytes(place, option_name(cell).as_bytes()),
     }
 }
 
 /// Where a cell is: its row, and its column's name.
-pub fn cell_place(
-    alloc: Global,
-    columns: &Columns,
-    head: &ByteRecord,
-    row: &[u8],
-    cell: Cell,
-) -> Result<Vec<u8>, SpreadsheetFault>
+pub fn cell_place(head: &Head<'_>, row: &[u8], cell: Cell) -> Result<Vec<u8>, SpreadsheetFault>
     ensures { IfOk result (λ place. place.items
-        ≡ cell_place columns.now (fields_of head.now) row.now cell) }
+        ≡ cell_place head.now.columns head.now.names row.now cell) }
 {
-    let mut place = Vec::new(alloc);
+    let mut place = Vec::new(head.alloc());
     push_bytes(&mut place, row)?;
-    push_cell_name(&mut place, columns, head, cell)?;
+    push_cell_name(&mut place, head, cell)?;
     push_bytes(&mut place, b": ")?;
     Ok(place)
 }

@@ -27,11 +27,14 @@ fn is_at(place: usize, column: Option<usize>) -> bool
 fn is_among(place: usize, columns: &[Option<usize>]) -> bool
     ensures { result ≡ list_any (is_at place) columns.now }
 {
-    columns.iter().any(|column| is_at(place, *column))
+    match columns {
+        [column, rest @ ..] => is_at(place, *column) || is_among(place, rest),
+        [] => false,
+    }
 }
 
 /// Whether the column at `place` is read.
-fn is_column_read(columns: &Columns, place: usize) -> bool
+pub fn is_column_read(columns: &Columns, place: usize) -> bool
     ensures { result ≡ is_column_read columns.now place }
 {
     is_among(place, &places_of(columns)) || is_among(place, &columns.pins)

@@ -6,19 +6,21 @@ use Rattle.kd_table.specs.Notes.{BlankTold, RowTold}
 use Rattle.kd_table.proofs.notes.push_body_row.Goals as goal
 
 pub returns-then-is_blank_row : goal.returns-then-is_blank_row
-returns-then-is_blank_row c = (
-  [],
-  sym (append-nil c.args.note.now.items),
-  λ rows text told. rw (append-nil text) (BlankTold rows text (fields_of c.args.row.now) told
-      (sym c.is_blank_row.ensures ∙ c.if-is_blank_row.true)),
-)
+returns-then-is_blank_row c =
+    let blank = rw c.columns.ensures at c.is_blank_row.ensures in (
+      [],
+      sym (append-nil c.args.note.now.items),
+      λ rows text told. rw (append-nil text) (BlankTold rows text (fields_of c.args.row.now) told
+          (sym blank ∙ c.if-is_blank_row.true)),
+    )
 
 pub returns : goal.returns
 returns c =
+    let filled = rw c.columns.ensures at c.is_blank_row.ensures in
     IfOk-weaker c.push_row.result _ _ (λ done pushed. (
       pushed.0,
       pushed.1,
       λ rows text told. RowTold rows text (fields_of c.args.row.now) c.args.number pushed.0 told
-          (sym c.is_blank_row.ensures ∙ c.if-is_blank_row.false) pushed.2,
+          (sym filled ∙ c.if-is_blank_row.false) pushed.2,
     ))
     c.push_row.ensures

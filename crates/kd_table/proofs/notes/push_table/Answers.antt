@@ -4,7 +4,7 @@ use Rattle.csv.specs.Records.{fields_of}
 use Rattle.kd_table.specs.Notes.{OfNothing, nothing_note}
 use Rattle.kd_table.specs.Options.{texts_of}
 use Rattle.kd_table.proofs.Noting.{of_rows, of_text}
-use Rattle.kd_table.proofs.Records.{reads_end, reads_next}
+use Rattle.kd_table.proofs.ReadRows.{reads_end, reads_next}
 use Rattle.kd_table.proofs.notes.push_table.Goals as goal
 
 pub returns-in-None : goal.returns-in-None
@@ -18,13 +18,14 @@ returns-in-None c =
 
 pub push_rows-requires : goal.push_rows-requires
 push_rows-requires c =
-    let is = c.records_of-records.ensures in
+    rw c.new-head.ensures (let is = c.records_of-records.ensures in
     let step = rw (c.in-Some.is, c.in-Ok.is) at ((c.next.ensures.steps is.left is.untrimmed).0 is.ready) in
-    reads_next c.args.table.now [] c.records_of-records.result c.next.new.self c.in-Ok.head is step.0 step.1 step.2
+    reads_next c.args.table.now [] c.records_of-records.result c.next.new.self c.in-Ok.names is step.0 step.1 step.2)
 
 pub returns : goal.returns
 returns c =
-    let rows = rw c.of_head-columns.ensures at c.push_rows.ensures in
+    let rows = rw (c.new-head.ensures, c.of_head-columns.ensures) at c.push_rows.ensures in
+    let pushed = rw c.new-head.ensures at c.in_ok-push_head.ensures in
     IfOk-weaker c.push_rows.result _ _ (λ done has. of_rows (texts_of c.args.options.now) c.args.table.now
-    (fields_of c.in-Ok.head) _ _ _ c.requires c.in_ok-push_head.ensures has)
+    (fields_of c.in-Ok.names) _ _ _ c.requires pushed has)
     rows

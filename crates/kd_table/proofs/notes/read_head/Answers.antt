@@ -1,5 +1,5 @@
 use Rattle.std.proofs.Common.{[]}
-use Rattle.kd_table.proofs.Records.{reads_end, reads_next}
+use Rattle.kd_table.proofs.ReadRows.{reads_end, reads_next}
 use Rattle.kd_table.proofs.notes.read_head.Goals as goal
 
 pub returns-in-None : goal.returns-in-None

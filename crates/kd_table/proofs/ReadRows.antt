@@ -6,7 +6,7 @@ use Rattle.csv.specs.declared.iter.ByteRecordsIntoIter.{ByteRecordsIntoIter}
 use Rattle.csv.specs.declared.parser.State.TheVariants as st
 use Rattle.csv.specs.declared.record.ByteRecord.{ByteRecord}
 use Rattle.csv.proofs.ReadFacts.{rows-end, rows-more}
-use Rattle.kd_table.specs.Notes.{IsReadTo}
+use Rattle.kd_table.specs.Records.{IsReadTo}
 use Rattle.kd_table.specs.Rows.{separated, separator_of}
 use Rattle.kd_table.specs.Table.{AreRows}
 

@@ -1,6 +1,6 @@
-use Rattle.std.proofs.Common.{◌∙◌, inl, inr, refl, sym}
+use Rattle.std.proofs.Common.{◌∙◌, inr, refl, sym}
 use Rattle.csv.specs.Reading.{Reached, strip_bom}
-use Rattle.kd_table.proofs.notes.records_of.Goals as goal
+use Rattle.kd_table.proofs.records.records_of.Goals as goal
 
 pub returns : goal.returns
 unfolding Reached

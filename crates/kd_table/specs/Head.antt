@@ -1,0 +1,21 @@
+-- What the notes on all rows of a table share, and a row with its place. No public contract cites these definitions.
+use Rattle.std.specs.Prelude.{ℕ, List}
+use Rattle.kd_table.specs.declared.columns.Columns.{Columns}
+use Rattle.kd_table.specs.Options.{OptionTexts}
+
+-- The options, the columns, and the table's first row, which names them.
+pub record Head : Type 0 where
+  pub options : OptionTexts
+  pub columns : Columns
+  pub names : List (List ℕ)
+
+abbrev pub head_of : OptionTexts → Columns → List (List ℕ) → Head
+head_of options columns names = record { options = options; columns = columns; names = names }
+
+-- A row's place, with which its lines begin, and its cells.
+pub record PlacedRow : Type 0 where
+  pub place : List ℕ
+  pub cells : List (List ℕ)
+
+abbrev pub placed_row : List ℕ → List (List ℕ) → PlacedRow
+placed_row place cells = record { place = place; cells = cells }

@@ -1,0 +1,53 @@
+//! Says which column was probably meant by a name that is nearly a column's name.
+use super::head::Head;
+use super::unread::is_column_read;
+use crate::cell::Cell;
+use crate::columns::{COLUMNS, cell_at, english_name, german_name, short_name};
+use crate::names::capital;
+
+/// The first column that isn't read, and whose name is nearly a name of the column of `cell`.
+pub fn near_column(head: &Head<'_>, cell: Cell) -> Option<usize> {
+    for place in 0..COLUMNS {
+        let name = cell_at(head.names(), Some(place));
+        if !is_column_read(head.columns(), place) && is_near_column(cell, name) {
+            return Some(place);
+        }
+    }
+    None
+}
+
+/// Whether `name` is nearly a name of the column of `cell`.
+fn is_near_column(cell: Cell, name: &[u8]) -> bool {
+    is_near(name, english_name(cell).as_bytes())
+        || is_near(name, german_name(cell).as_bytes())
+        || is_near(name, short_name(cell).as_bytes())
+}
+
+/// Whether `name` differs from `known` in one stretch of at most two letters, or in one letter if `known` is short.
+fn is_near(name: &[u8], known: &[u8]) -> bool {
+    let slips = if known.len() < 5 { 1 } else { 2 };
+    let explained = alike_at_start(name, known)
+        .saturating_add(alike_at_end(name, known))
+        .saturating_add(slips);
+    name.len() <= explained && known.len() <= explained && name.len().abs_diff(known.len()) <= slips
+}
+
+/// How many letters are alike at the starts of two names.
+fn alike_at_start(name: &[u8], known: &[u8]) -> usize {
+    match (name, known) {
+        ([letter, name @ ..], [other, known @ ..]) if capital(*letter) == capital(*other) => {
+            alike_at_start(name, known).saturating_add(1)
+        }
+        _ => 0,
+    }
+}
+
+/// How many letters are alike at the ends of two names.
+fn alike_at_end(name: &[u8], known: &[u8]) -> usize {
+    match (name, known) {
+        ([name @ .., letter], [known @ .., other]) if capital(*letter) == capital(*other) => {
+            alike_at_end(name, known).saturating_add(1)
+        }
+        _ => 0,
+    }
+}
