@@ -7,7 +7,8 @@ use Rattle.kd_tables.specs.Ports.{Port}
 use Rattle.kd_tables.specs.declared.model.Model.{Model}
 use Rattle.kd_curator_command.specs.CommandLine.{IsCommandLineOf, IsMeant, NamedCommand, ReadCommand, curator_grammar}
 use Rattle.kd_curator_command.specs.declared.command.Command.TheVariants as commands
-use Rattle.kd_curator.specs.Program.{AreAlike, HasMonth, HasNotes, HasTold, IsLeftAlone, NoNotes, TableNotes}
+use Rattle.kd_host.specs.Files.{AreAskedFor, AskedName}
+use Rattle.kd_curator.specs.Program.{AreAlike, HasMonth, HasNotes, HasTold, IsLeftAlone, NoNotes, TableNotes, names_of}
 use Rattle.kd_curator.specs.Ending.{stop_after}
 use Rattle.kd_curator.specs.Program.{IsTold, IsAnswerAfterFlush, is_stopped_before_writing}
 use Rattle.kd_curator.specs.Program.{is_stopped_by_device}
@@ -73,17 +74,18 @@ pub left_alone : (had : Option (List ℕ)) (failed : Bool)
 left_alone had failed = record { same = refl; failed = refl }
 
 -- what the command tells, the words allow
-pub notes_so : (words : List (List ℕ)) (errors : Port) (command : NamedCommand) (read : ReadCommand)
-    → IsCommandLineOf words command → AreAlike command read → HasTold read errors → HasNotes words errors
-notes_so words errors (commands.OnMachine a b c) (commands.OnMachine d e f) says alike told = NoNotes told
-notes_so words errors (commands.Message a b c d) (commands.Message e f g h) says alike told = NoNotes told
-notes_so words errors (commands.TypingPage a b) (commands.TypingPage c d) says alike told = NoNotes told
-notes_so words errors (commands.Table a b c) (commands.Table d e f) says alike told = NoNotes told
-notes_so words errors (commands.EmptySheet a b) (commands.EmptySheet c d) says alike told = NoNotes told
-notes_so words errors (commands.Sheet table options) (commands.Sheet bytes same) says alike told =
-    TableNotes table options says told
-notes_so words errors (commands.Look a b) (commands.Look c d) says alike told = NoNotes told
-notes_so words errors _ _ says alike told = absurd alike
+pub notes_so : (words : List (List ℕ)) (asked : List AskedName) (errors : Port) (command : NamedCommand) (read : ReadCommand)
+    → IsCommandLineOf words command → AreAlike command read → AreAskedFor (names_of command) [] asked true
+    → HasTold read errors → HasNotes words asked errors
+notes_so words asked errors (commands.OnMachine a b c) (commands.OnMachine d e f) says alike read told = NoNotes told
+notes_so words asked errors (commands.Message a b c d) (commands.Message e f g h) says alike read told = NoNotes told
+notes_so words asked errors (commands.TypingPage a b) (commands.TypingPage c d) says alike read told = NoNotes told
+notes_so words asked errors (commands.Table a b c) (commands.Table d e f) says alike read told = NoNotes told
+notes_so words asked errors (commands.EmptySheet a b) (commands.EmptySheet c d) says alike read told = NoNotes told
+notes_so words asked errors (commands.Sheet table options) (commands.Sheet bytes same) says alike read told =
+    TableNotes table options says read told
+notes_so words asked errors (commands.Look a b) (commands.Look c d) says alike read told = NoNotes told
+notes_so words asked errors _ _ says alike read told = absurd alike
 
 -- the number of days that the words ask for is that of a month
 meant_month : (said : Option (List ℕ × List Row)) (model : Model) (days : ℕ)

@@ -210,11 +210,11 @@ is_stopped_before_writing (Err (stops.Refused refused)) = not (comes_after_writi
 is_stopped_before_writing (Err stop) = true
 
 -- What was written to standard error before the program's answer was known: something about a table, if the words mean
--- the command `sheet`. Otherwise nothing.
-pub data HasNotes (words : List (List ℕ)) (errors : Port) : Type 0 where
-  NoNotes : IsLeftAlone errors → HasNotes words errors
+-- the command `sheet` and the table was read. Otherwise nothing.
+pub data HasNotes (words : List (List ℕ)) (asked : List AskedName) (errors : Port) : Type 0 where
+  NoNotes : IsLeftAlone errors → HasNotes words asked errors
   TableNotes : (table : List ℕ) (options : OptionTexts) → IsCommandLineOf words (commands.Sheet table options)
-      → Tells errors → HasNotes words errors
+      → AreAskedFor (table ∷ []) [] asked true → Tells errors → HasNotes words asked errors
 
 -- What holds of the program's answer to a command line. `carried`: what was read and written. `untouched`: when nothing
 -- happened to the sink. `failed`: the sink has failed exactly if the program says so, or if it had failed before.
@@ -225,7 +225,7 @@ pub record IsRun (l : Language) (words : List (List ℕ)) (known : Option (List 
   pub carried : CarriesOut l words known asked sink left answer
   pub untouched : IsTrue (is_stopped_before_writing answer) → Untouched
   pub failed : sink.has_failed ≡ (sink.had_failed || is_stopped_by_device answer)
-  pub noted : HasNotes words errors
+  pub noted : HasNotes words asked errors
 
 -- a sink before and after a call; bytes that are gathered, and that it hasn't taken, count as taken
 abbrev pub port_with_untaken : {P : Type 0} → (P → Option (List ℕ)) → (P → Bool) → P → P → List ℕ → Port

@@ -100,7 +100,7 @@ fn run_words<'n, S: AsStr, F: Files<'n>, W: Sink, E: Sink>(
         (F.known files.old) (F.asked files.new) (port W.taken W.has_failed sink.old sink.new) [] result }
     ensures untouched { IsTrue (is_stopped_before_writing result) → sink.new ≡ sink.old }
     ensures failed { W.has_failed sink.new ≡ (W.has_failed sink.old || is_stopped_by_device result) }
-    ensures noted { HasNotes (map S.text words.entry.now)
+    ensures noted { HasNotes (map S.text words.entry.now) (F.asked files.new)
         (port E.taken E.has_failed errors.old errors.new) }
 {
     match parse_words(alloc, words) {

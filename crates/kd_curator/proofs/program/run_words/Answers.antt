@@ -44,7 +44,8 @@ carry_out-requires g c = months_so _ _ _ c.in-Ok.ensures.said c.in_ok-command-in
 
 pub returns-in_ok-command-in-Ok-clause-noted : goal.returns-in_ok-command-in-Ok-clause-noted
 returns-in_ok-command-in-Ok-clause-noted g c =
-    notes_so _ _ _ _ c.in-Ok.ensures.said c.in_ok-command-in-Ok.ensures.alike c.carry_out.ensures.told
+    notes_so _ _ _ _ _ c.in-Ok.ensures.said c.in_ok-command-in-Ok.ensures.alike
+    (rw c.requires at c.in_ok-command-in-Ok.ensures.asked) c.carry_out.ensures.told
 
 pub returns-in_err-command-in-Ok-clause-noted : goal.returns-in_err-command-in-Ok-clause-noted
 returns-in_err-command-in-Ok-clause-noted g c = NoNotes (left_alone _ _)
