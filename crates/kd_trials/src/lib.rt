@@ -17,8 +17,6 @@ mod form;
 #[cfg(test)]
 mod letters;
 #[cfg(test)]
-mod lost;
-#[cfg(test)]
 mod machines;
 pub mod named;
 #[cfg(test)]
