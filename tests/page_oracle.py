@@ -279,7 +279,9 @@ def bar_row(i, before, after, settings):
         out += '<td>'
         if place < len(moves):
             _, _, lug, to = moves[place]
-            out += tick(say('left to <b>%s</b>' if lug == 'L' else 'right to <b>%s</b>', to), ' '.join(moves[place]))
+            left = lug == 'L'
+            words = say(f"{'left' if left else 'right'} lug from %s to <b>%s</b>", was[0 if left else 1], to)
+            out += tick(words, ' '.join(moves[place]))
     return out + '\n'
 
 

@@ -5,13 +5,14 @@ use Rattle.kd_tables.specs.declared.lug.Lug.{Lug}
 use Rattle.kd_tables.specs.declared.lug.Lug.TheVariants as lugs
 use Rattle.kd_tables.specs.declared.model.Model.{Model}
 use Rattle.kd_tables.specs.declared.wheel.Wheel.{Wheel}
+use Rattle.kd_tables.specs.declared.place.Place.{Place}
 use Rattle.kd_tables.specs.Places.{place_text}
 use Rattle.kd_tables.specs.Tables.{reflector_text, slots_of, wheel_text}
 use Rattle.kd_state.specs.declared.machine.parts.Parts.{Parts}
 use Rattle.kd_state.specs.declared.setting.Setting.{Setting}
 use Rattle.kd_state.specs.declared.setting.Setting.TheVariants as settings
 use Rattle.kd_state.specs.Line.{setting_line}
-use Rattle.kd_state.specs.Machine.{machine_ring, model_of}
+use Rattle.kd_state.specs.Machine.{machine_ring, machine_standing, model_of}
 use Rattle.kd_pictures.specs.declared.language.Language.{Language}
 use Rattle.kd_pictures.specs.declared.numbers.TheConstants.{SLOTS}
 use Rattle.kd_page.specs.declared.spots.Spot.{Spot}
@@ -19,7 +20,7 @@ use Rattle.kd_pictures.specs.declared.words.Word.{Word}
 use Rattle.kd_pictures.specs.declared.words.Word.TheVariants.{Greek, Left, LeftLug, Middle, Off, On, Right, RightLug}
 use Rattle.kd_pictures.specs.declared.words.Mark.{Mark}
 use Rattle.kd_pictures.specs.declared.words.Mark.TheVariants.{Effective, Ineffective}
-use Rattle.kd_pictures.specs.declared.texts.TheConstants.{BOX_RING, LUG, PIN, PLUG, REFLECTOR, RING, SEAT, SEAT_END, SEAT_FROM}
+use Rattle.kd_pictures.specs.declared.texts.TheConstants.{BOX_RING, LUG, LUG_END, LUG_FROM, PIN, PLUG, REFLECTOR, RING, SEAT, SEAT_END, SEAT_FROM}
 use Rattle.kd_pictures.specs.declared.texts.TheConstants.{TURN}
 use Rattle.kd_pictures.specs.Language.{text_in}
 use Rattle.kd_page.specs.Page.{Page}
@@ -63,6 +64,18 @@ abbrev pub lug_word : Lug → Word
 lug_word lugs.Left = LeftLug
 lug_word lugs.Right = RightLug
 
+-- where a lug is before, if its bar is a machine's
+abbrev pub lug_from_text : Language → Lug → Option (Place × Place) → List ℕ
+lug_from_text l lug None = []
+lug_from_text l lugs.Left (Some bar) = filled (text_in l LUG_FROM) (place_text bar.0 ∷ [])
+lug_from_text l lugs.Right (Some bar) = filled (text_in l LUG_FROM) (place_text bar.1 ∷ [])
+
+-- a lug to be moved to a place of its bar, and where it is before
+abbrev pub lug_text : Language → Setting → Lug → Option (Place × Place) → Place → List ℕ
+lug_text l x lug bar place =
+    filled LUG.now (word_text l (lug_word lug) ∷ []) ++ lug_from_text l lug bar
+    ++ filled (text_in l LUG_END) (place_text place ∷ setting_line x ∷ [])
+
 -- a pin's mark, and the word for setting it so
 abbrev pub pin_mark : Bool → Mark
 pin_mark effective = if effective then Effective else Ineffective
@@ -86,7 +99,7 @@ box_text page (settings.Turn slot letter) = filled TURN.now (setting_line (setti
 box_text page (settings.PinTo wheel letter effective) =
     filled PIN.now (letter_text letter ∷ mark_text (pin_mark effective) ∷ word_text page.language (pin_word effective) ∷ [])
 box_text page (settings.LugTo bar lug place) =
-    filled LUG.now (word_text page.language (lug_word lug) ∷ place_text place ∷ setting_line (settings.LugTo bar lug place) ∷ [])
+    lug_text page.language (settings.LugTo bar lug place) lug (machine_standing page.before bar) place
 
 abbrev pub box_at : Page → Spot → Setting → List ℕ
 box_at page spot x = if is_at spot x then box_text page x else []

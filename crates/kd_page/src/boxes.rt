@@ -1,8 +1,9 @@
 //! The boxes to tick: for each setting the words for the hand, and the setting's line.
 ghost use Rattle.std.specs.Prelude.{◌≡◌, flat_map};
-ghost use Rattle.kd_state.specs.declared.setting.Setting.TheVariants.{Seat};
+ghost use Rattle.kd_state.specs.declared.setting.Setting.TheVariants.{LugTo, Seat};
+ghost use Rattle.kd_state.specs.Machine.{machine_standing};
 ghost use Rattle.kd_pictures.specs.Drawing.{Draws};
-ghost use Rattle.kd_page.specs.Boxes.{box_at, box_ring_text, box_text, boxes_at, from_box_text, lug_word};
+ghost use Rattle.kd_page.specs.Boxes.{box_at, box_ring_text, box_text, boxes_at, from_box_text, lug_from_text, lug_text, lug_word};
 ghost use Rattle.kd_page.specs.Boxes.{pin_mark, pin_word, seat_text, slot_holding, slot_name};
 ghost use Rattle.kd_pictures.specs.declared.numbers.TheConstants.{SLOTS as ALL_SLOTS};
 
@@ -11,13 +12,13 @@ use crate::spots::{Spot, is_at};
 use kd_pictures::numbers::SLOTS;
 use kd_pictures::template::{Value, fill, fill_in};
 use kd_pictures::texts::{
-    BOX_RING, LUG, PIN, PLUG, REFLECTOR, RING, SEAT, SEAT_END, SEAT_FROM, TURN,
+    BOX_RING, LUG, LUG_END, LUG_FROM, PIN, PLUG, REFLECTOR, RING, SEAT, SEAT_END, SEAT_FROM, TURN,
 };
 use kd_pictures::wheels::is_seated;
 use kd_pictures::words::{Mark, Word};
 use kd_pictures::{Language, draw};
 use kd_state::{Machine, Setting};
-use kd_tables::{Letter, Lug, Model, Sink, Wheel};
+use kd_tables::{Letter, Lug, Model, Place, Sink, Standing, Wheel};
 
 /// Writes the boxes of the page's settings at `spot`.
 pub(crate) fn draw_boxes<W: Sink>(sink: &mut W, page: &Page<'_>, spot: &Spot)
@@ -93,14 +94,7 @@ fn draw_box<W: Sink>(sink: &mut W, page: &Page<'_>, setting: &Setting)
                 Value::Word(pin_word(effective)),
             ],
         ),
-        Setting::LugTo { lug, place, .. } => {
-            fill(
-                sink,
-                language,
-                LUG,
-                &[Value::Word(lug_word(lug)), Value::Place(place), line],
-            )
-        }
+        Setting::LugTo { bar, lug, place } => draw_lug(sink, page, bar, lug, place),
     }
 }
 
@@ -159,6 +153,30 @@ fn draw_box_ring<W: Sink>(sink: &mut W, language: Language, ring: Option<Letter>
             BOX_RING,
             &[Value::Letter(ring), Value::Ordinal(ring)],
         ),
+    }
+}
+
+/// Writes the box of a lug to be moved to a place of its bar.
+fn draw_lug<W: Sink>(sink: &mut W, page: &Page<'_>, bar: u8, lug: Lug, place: Place)
+    ensures { Draws W.taken W.has_failed sink.old sink.new
+        (lug_text page.now.language (LugTo bar lug place) lug
+        (machine_standing page.now.before bar) place) }
+{
+    let language = page.language();
+    fill(sink, language, LUG, &[Value::Word(lug_word(lug))]);
+    draw_lug_from(sink, language, lug, page.before().standing(bar));
+    let line = Value::Line(Setting::LugTo { bar, lug, place });
+    fill_in(sink, language, LUG_END, &[Value::Place(place), line]);
+}
+
+/// Writes where the lug is before, if its bar is a machine's.
+fn draw_lug_from<W: Sink>(sink: &mut W, language: Language, lug: Lug, bar: Option<Standing>)
+    ensures { Draws W.taken W.has_failed sink.old sink.new (lug_from_text language lug bar) }
+{
+    match (bar, lug) {
+        (None, _) => draw(sink, ""),
+        (Some(bar), Lug::Left) => fill_in(sink, language, LUG_FROM, &[Value::Place(bar.left())]),
+        (Some(bar), Lug::Right) => fill_in(sink, language, LUG_FROM, &[Value::Place(bar.right())]),
     }
 }
 

@@ -23,8 +23,8 @@ TemplatesTakeTheirValues =
     × Takes texts.DAY 4 × Takes texts.COMPARE_PIN 2 × Takes texts.STEP 4 × Takes texts.IDLE_STEP 4
     × Takes texts.PLAIN_STEP 3 × HasGaps texts.BOXED_WHEEL.now 1 × Takes texts.BOXED_REFLECTOR 1 × Takes texts.RING 4
     × Takes texts.SEAT 3 × Takes texts.BOX_RING 2 × HasGaps texts.SEAT_END.now 1 × Takes texts.SEAT_FROM 5
-    × Takes texts.REFLECTOR 2 × HasGaps texts.PLUG.now 2 × HasGaps texts.PIN.now 3 × HasGaps texts.LUG.now 3
-    × HasGaps texts.TURN.now 1 × Takes texts.WINDOW_BOX 3 × HasGaps texts.LETTER_BOX.now 1
+    × Takes texts.REFLECTOR 2 × HasGaps texts.PLUG.now 2 × HasGaps texts.PIN.now 3 × HasGaps texts.LUG.now 1
+    × Takes texts.LUG_FROM 1 × Takes texts.LUG_END 2 × HasGaps texts.TURN.now 1 × Takes texts.WINDOW_BOX 3 × HasGaps texts.LETTER_BOX.now 1
     × Takes texts.REFLECTOR_WORDS 1 × Takes texts.EMPTY_WORDS 1 × Takes texts.WHEEL_WORDS 2 × Takes texts.RING_WORDS 1
     × Takes texts.WINDOW_WORDS 1 × Takes texts.BAND 6 × HasGaps texts.REFLECTOR_SHOWN.now 3
     × HasGaps texts.NEW_REFLECTOR.now 3 × Takes texts.EMPTY 7 × Takes texts.WHEEL 8 × Takes texts.NEW_WHEEL 8
@@ -46,8 +46,8 @@ Reads word english german = (word_text English word ≡ english) × (word_text G
 abbrev pub WordsTellWhatToDo : Type 0
 WordsTellWhatToDo =
     Reads words.On (codes "ON") (codes "EIN") × Reads words.Off (codes "OFF") (codes "AUS")
-    × Reads words.LeftLug (codes "left to") (codes "linker auf")
-    × Reads words.RightLug (codes "right to") (codes "rechter auf")
+    × Reads words.LeftLug (codes "left lug") (codes "linker")
+    × Reads words.RightLug (codes "right lug") (codes "rechter")
     × Reads words.Left (codes "left") (codes "links") × Reads words.Middle (codes "middle") (codes "Mitte")
     × Reads words.Right (codes "right") (codes "rechts") × Reads words.Greek (codes "Greek") (codes "Griechenwalze")
     × Reads words.Before (codes "before") (codes "vorher") × Reads words.After (codes "after") (codes "nachher")

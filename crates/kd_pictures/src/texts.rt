@@ -120,8 +120,9 @@ h2.idle{margin:.2em 0}
 h2 span{display:inline;float:right;font-weight:400;font-size:11pt;color:var(--soft)}
 label{padding-top:.08em;padding-bottom:.08em}
 .plugs label{padding:.04em 0}
-.drum thead th{width:4.4%}
-.drum td{white-space:nowrap}
+.drum thead th{width:3.6%}
+.drum thead th:first-child{width:7.4%}
+.drum td,.drum th{font-size:9.5pt;white-space:nowrap}
 .drum code{font-size:.6em}
 .wheels svg{width:100mm}
 .beside figure{flex-basis:54%}
@@ -223,7 +224,7 @@ pub const NAV_DAY: Text = (
 pub const NAV_END: &str = "</ul>\n</nav>\n";
 
 /// How many settings there are: none, one, or several.
-pub const NO_SETTINGS: Text = ("nothing to change", "nichts zu \u{e4}ndern");
+pub const NO_SETTINGS: Text = ("nothing to change", "nichts zu ändern");
 
 pub const ONE_SETTING: Text = ("1 setting", "1 Handgriff");
 
@@ -232,12 +233,12 @@ pub const SETTINGS: Text = (" settings", " Handgriffe");
 /// The head of a day: the day, the model, the day again, and the number of settings. Then what to compare first.
 pub const DAY: Text = (
     "<article id=day-~>\n<header>\n<h1>~, day ~ <small>~</small></h1>\n<p class=fields><span>Machine</span><span>Date</span><span>Done by</span></p>\n<p>",
-    "<article id=day-~>\n<header>\n<h1>~, Tag ~ <small>~</small></h1>\n<p class=fields><span>Maschine</span><span>Datum</span><span>Ausgef\u{fc}hrt von</span></p>\n<p>",
+    "<article id=day-~>\n<header>\n<h1>~, Tag ~ <small>~</small></h1>\n<p class=fields><span>Maschine</span><span>Datum</span><span>Ausgeführt von</span></p>\n<p>",
 );
 
 pub const COMPARE_PIN: Text = (
     "First compare. Framed pins still stand the other way, all others as drawn; the lugs are at ~ and ~.</p>\n</header>\n",
-    "Zuerst vergleichen. Umrahmte Stifte stehen noch umgekehrt, alle \u{fc}brigen wie gezeichnet; die Reiter sind bei ~ und ~.</p>\n</header>\n",
+    "Zuerst vergleichen. Umrahmte Stifte stehen noch umgekehrt, alle übrigen wie gezeichnet; die Reiter sind bei ~ und ~.</p>\n</header>\n",
 );
 
 pub const DAY_END: &str = "</article>\n";
@@ -316,12 +317,19 @@ pub const ON: Text = ("ON", "EIN");
 
 pub const OFF: Text = ("OFF", "AUS");
 
-/// A lug with its box: which of the bar's two lugs it is, where it goes, and its line.
-pub const LUG: &str = "<td><label><input type=checkbox> ~ <b>~</b> <code>~</code></label>";
+/// A lug with its box: which of the bar's two lugs it is; then where it is before; then where it goes, and its line.
+pub const LUG: &str = "<td><label><input type=checkbox> ~";
 
-pub const LEFT_LUG: Text = ("left to", "linker auf");
+pub const LEFT_LUG: Text = ("left lug", "linker");
 
-pub const RIGHT_LUG: Text = ("right to", "rechter auf");
+pub const RIGHT_LUG: Text = ("right lug", "rechter");
+
+pub const LUG_FROM: Text = (" from ~", " von ~");
+
+pub const LUG_END: Text = (
+    " to <b>~</b> <code>~</code></label>",
+    " auf <b>~</b> <code>~</code></label>",
+);
 
 /// The line of a turn. It stands in the box of the window.
 pub const TURN: &str = " <code>~</code>";
@@ -329,7 +337,7 @@ pub const TURN: &str = " <code>~</code>";
 /// The windows of a rotor machine: all have a box.
 pub const WINDOWS: Text = (
     "<p>Set all of them: typing may have turned the wheels.</p>\n<ul>\n",
-    "<p>Alle einstellen: Beim Tippen k\u{f6}nnen sich die Walzen gedreht haben.</p>\n<ul>\n",
+    "<p>Alle einstellen: Beim Tippen können sich die Walzen gedreht haben.</p>\n<ul>\n",
 );
 
 pub const WINDOW_BOX: Text = (
@@ -342,7 +350,7 @@ pub const WINDOW_BOX_END: &str = "</label>\n";
 /// The letters of a Converter's wheels: all have a box.
 pub const LETTERS: Text = (
     "<p>Set all of them: enciphering may have turned the wheels.</p>\n<table class=letters>\n<tr><th scope=row>Wheel<th scope=col>1<th scope=col>2<th scope=col>3<th scope=col>4<th scope=col>5<th scope=col>6\n<tr><th scope=row>letter",
-    "<p>Alle einstellen: Beim Schl\u{fc}sseln k\u{f6}nnen sich die R\u{e4}der gedreht haben.</p>\n<table class=letters>\n<tr><th scope=row>Rad<th scope=col>1<th scope=col>2<th scope=col>3<th scope=col>4<th scope=col>5<th scope=col>6\n<tr><th scope=row>Buchstabe",
+    "<p>Alle einstellen: Beim Schlüsseln können sich die Räder gedreht haben.</p>\n<table class=letters>\n<tr><th scope=row>Rad<th scope=col>1<th scope=col>2<th scope=col>3<th scope=col>4<th scope=col>5<th scope=col>6\n<tr><th scope=row>Buchstabe",
 );
 
 pub const LETTER_BOX: &str = "<td><label><input type=checkbox> <b>~</b>";
@@ -354,14 +362,14 @@ pub const LETTERS_END: &str = "\n</table>\n</section>\n";
 /// The picture of the wheels before and after, and in words; if nothing changes, only after.
 pub const WHEELS: Text = (
     "First compare the machine with <i>before</i>; only windows may differ. Thick frames: to set.</p>\n</header>\n<figure class=wheels><svg role=\"img\" viewBox=\"0 0 600 314\"><title>The wheels, from the left. Before: ",
-    "Zuerst die Maschine mit <i>vorher</i> vergleichen; nur die Fenster d\u{fc}rfen abweichen. Dick Umrahmtes ist einzustellen.</p>\n</header>\n<figure class=wheels><svg role=\"img\" viewBox=\"0 0 600 314\"><title>Die Walzen, von links. Vorher: ",
+    "Zuerst die Maschine mit <i>vorher</i> vergleichen; nur die Fenster dürfen abweichen. Dick Umrahmtes ist einzustellen.</p>\n</header>\n<figure class=wheels><svg role=\"img\" viewBox=\"0 0 600 314\"><title>Die Walzen, von links. Vorher: ",
 );
 
 pub const WHEELS_THEN: Text = (". After: ", ". Nachher: ");
 
 pub const WHEELS_ONCE: Text = (
     "The machine has to stand as shown; only windows may differ.</p>\n</header>\n<figure class=wheels><svg role=\"img\" viewBox=\"0 0 600 150\"><title>The wheels, from the left: ",
-    "Die Maschine muss wie gezeigt stehen; nur die Fenster d\u{fc}rfen abweichen.</p>\n</header>\n<figure class=wheels><svg role=\"img\" viewBox=\"0 0 600 150\"><title>Die Walzen, von links: ",
+    "Die Maschine muss wie gezeigt stehen; nur die Fenster dürfen abweichen.</p>\n</header>\n<figure class=wheels><svg role=\"img\" viewBox=\"0 0 600 150\"><title>Die Walzen, von links: ",
 );
 
 pub const TITLE_END: &str = ".</title>\n";
@@ -454,18 +462,18 @@ pub const GOES_IN: &str =
 
 /// What the marks of a plugboard mean. The table of the plugs to move, with a row for each cable.
 pub const CAPTION_SAME: Text = (
-    "After. Circle: stays. Number: the cable\u{2019}s.</figcaption></figure>\n",
+    "After. Circle: stays. Number: the cable’s.</figcaption></figure>\n",
     "Nachher. Kreis: bleibt. Zahl: Nummer der Schnur.</figcaption></figure>\n",
 );
 
 pub const PLUGS_OUT: Text = (
-    "Before. Square: take out. Circle: stays. Number: the cable\u{2019}s.</figcaption></figure>\n<table class=plugs>\n<tr><th scope=col>Cable<th scope=col colspan=2>take out at\n",
+    "Before. Square: take out. Circle: stays. Number: the cable’s.</figcaption></figure>\n<table class=plugs>\n<tr><th scope=col>Cable<th scope=col colspan=2>take out at\n",
     "Vorher. Quadrat: ziehen. Kreis: bleibt. Zahl: Nummer der Schnur.</figcaption></figure>\n<table class=plugs>\n<tr><th scope=col>Schnur<th scope=col colspan=2>ziehen bei\n",
 );
 
 pub const PLUGS_IN: Text = (
-    "After. Disc: put in. Circle: stays. Number: the cable\u{2019}s.</figcaption></figure>\n<table class=plugs>\n<tr><th scope=col>Cable<th scope=col colspan=2>put in at\n",
-    "Nachher. Gef\u{fc}llter Kreis: stecken. Kreis: bleibt. Zahl: Nummer der Schnur.</figcaption></figure>\n<table class=plugs>\n<tr><th scope=col>Schnur<th scope=col colspan=2>stecken bei\n",
+    "After. Disc: put in. Circle: stays. Number: the cable’s.</figcaption></figure>\n<table class=plugs>\n<tr><th scope=col>Cable<th scope=col colspan=2>put in at\n",
+    "Nachher. Gefüllter Kreis: stecken. Kreis: bleibt. Zahl: Nummer der Schnur.</figcaption></figure>\n<table class=plugs>\n<tr><th scope=col>Schnur<th scope=col colspan=2>stecken bei\n",
 );
 
 pub const PLUG_ROW: &str = "<tr><th scope=row>~";
@@ -526,12 +534,12 @@ pub const DRUM_END: &str = "</table>\n</section>\n";
 /// The test: the keys, and what the machine makes of them. Then the letters to set again, and the number of settings.
 pub const TEST_ROTOR: Text = (
     "<p>Type the alphabet. The lamps have to give the second line:</p>\n<pre>",
-    "<p>Das Alphabet eintippen. Die Lampen m\u{fc}ssen die zweite Zeile ergeben:</p>\n<pre>",
+    "<p>Das Alphabet eintippen. Die Lampen müssen die zweite Zeile ergeben:</p>\n<pre>",
 );
 
 pub const TEST_PIN: Text = (
     "<p>Set the knob to C, and encipher 26 times A. The machine has to print the second line:</p>\n<pre>",
-    "<p>Den Knopf auf C stellen und 26-mal A schl\u{fc}sseln. Die Maschine muss die zweite Zeile drucken:</p>\n<pre>",
+    "<p>Den Knopf auf C stellen und 26-mal A schlüsseln. Die Maschine muss die zweite Zeile drucken:</p>\n<pre>",
 );
 
 pub const TEST_LAMPS: &str = "\n<b>";
@@ -543,19 +551,19 @@ pub const TEST_END_ROTOR: Text = (
 
 pub const TEST_END_PIN: Text = (
     "</b></pre>\n<p>Then set the letters to <b>",
-    "</b></pre>\n<p>Danach die R\u{e4}der wieder auf <b>",
+    "</b></pre>\n<p>Danach die Räder wieder auf <b>",
 );
 
 pub const AGAIN_ROTOR: &str = "~\u{a0}~";
 
 pub const NOTE_ROTOR: Text = (
-    "</b> again.</p>\n<p class=fields><span>Windows when put away</span></p>\n<p class=note>~; fewer aren\u{2019}t possible.</p>\n</section>\n",
-    "</b> einstellen.</p>\n<p class=fields><span>Buchstaben in den Fenstern beim Wegr\u{e4}umen</span></p>\n<p class=note>~; mit weniger geht es nicht.</p>\n</section>\n",
+    "</b> again.</p>\n<p class=fields><span>Windows when put away</span></p>\n<p class=note>~; fewer aren’t possible.</p>\n</section>\n",
+    "</b> einstellen.</p>\n<p class=fields><span>Buchstaben in den Fenstern beim Wegräumen</span></p>\n<p class=note>~; mit weniger geht es nicht.</p>\n</section>\n",
 );
 
 pub const NOTE_PIN: Text = (
-    "</b> again.</p>\n<p class=fields><span>Letters when put away</span></p>\n<p class=note>~; fewer aren\u{2019}t possible.</p>\n</section>\n",
-    "</b> einstellen.</p>\n<p class=fields><span>Buchstaben beim Wegr\u{e4}umen</span></p>\n<p class=note>~; mit weniger geht es nicht.</p>\n</section>\n",
+    "</b> again.</p>\n<p class=fields><span>Letters when put away</span></p>\n<p class=note>~; fewer aren’t possible.</p>\n</section>\n",
+    "</b> einstellen.</p>\n<p class=fields><span>Buchstaben beim Wegräumen</span></p>\n<p class=note>~; mit weniger geht es nicht.</p>\n</section>\n",
 );
 
 /// The names of the models.

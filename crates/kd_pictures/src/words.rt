@@ -99,11 +99,11 @@ impl Mark {
         ensures { result.now ≡ mark_text self }
     {
         match self {
-            Mark::Effective => "\u{25cf}",
-            Mark::Ineffective => "\u{25cb}",
-            Mark::LugStays => "\u{25aa}",
-            Mark::LugLeaves => "\u{d7}",
-            Mark::LugComes => "\u{25a0}",
+            Mark::Effective => "●",
+            Mark::Ineffective => "○",
+            Mark::LugStays => "▪",
+            Mark::LugLeaves => "×",
+            Mark::LugComes => "■",
         }
     }
 }
