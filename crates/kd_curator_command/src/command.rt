@@ -27,7 +27,7 @@ use std::convert::AsStr;
 const NO_MONTH: &str =
     "--empty needs Enigma I, M3, M4 or M-209, then a number of days from 1 to 31, and no other option";
 
-/// What is said of a model's name that was typed without quotes.
+/// The hint for a model's name without quotes.
 const IN_QUOTES: &str = "Write \"Enigma I\" in quotes.\n";
 
 /// The text of the error for an argument that isn't a day.

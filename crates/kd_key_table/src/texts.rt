@@ -4,7 +4,7 @@
 use kd_pictures::texts::Text;
 
 /// The file's title.
-pub const TITLE: Text = ("Key table", "Schl\u{fc}sseltafel");
+pub const TITLE: Text = ("Key table", "Schlüsseltafel");
 
 /// The end of the style sheet, and the beginning of the body, which is wider than a page's.
 pub const WIDE_BODY: &str = "</style>\n<body>\n<main class=wide>\n";
@@ -12,13 +12,13 @@ pub const WIDE_BODY: &str = "</style>\n<body>\n<main class=wide>\n";
 /// What stands in place of the tables of a sheet without days.
 pub const NO_DAYS: Text = (
     "<p>The sheet has no days.</p>\n",
-    "<p>Die Schl\u{fc}sseltafel hat keine Tage.</p>\n",
+    "<p>Die Schlüsseltafel hat keine Tage.</p>\n",
 );
 
 /// The head of a month's table: the model; its day, or its first day and its last.
 pub const MONTH: Text = (
     "<article class=sheet>\n<header>\n<h1>~: key table <small>",
-    "<article class=sheet>\n<header>\n<h1>~: Schl\u{fc}sseltafel <small>",
+    "<article class=sheet>\n<header>\n<h1>~: Schlüsseltafel <small>",
 );
 
 pub const ONE_DAY: Text = ("day ~", "Tag ~");
@@ -28,7 +28,7 @@ pub const FIRST_TO_LAST: Text = ("days ~ to ~", "Tag ~ bis ~");
 /// The columns of a month's table. Wheels and rings have a column for each slot.
 pub const COLUMNS: Text = (
     "</small></h1>\n<p class=fields><span>Network</span><span>Month</span><span>Copy</span></p>\n</header>\n<p class=note>After use, cut off the day at the bottom. A\u{a0}01, B\u{a0}02, C\u{a0}03, D\u{a0}04, E\u{a0}05, F\u{a0}06, G\u{a0}07, H\u{a0}08, I\u{a0}09, J\u{a0}10, K\u{a0}11, L\u{a0}12, M\u{a0}13, N\u{a0}14, O\u{a0}15, P\u{a0}16, Q\u{a0}17, R\u{a0}18, S\u{a0}19, T\u{a0}20, U\u{a0}21, V\u{a0}22, W\u{a0}23, X\u{a0}24, Y\u{a0}25, Z\u{a0}26.</p>\n<table class=month>\n<colgroup><colgroup><colgroup span=~><colgroup span=~><colgroup><colgroup><colgroup>\n<thead>\n<tr><th scope=col>Day<br><small lang=de>Tag</small><th scope=col>Reflector<br><small lang=de>Umkehrwalze</small><th scope=col colspan=~>Wheels<br><small lang=de>Walzenlage</small><th scope=col colspan=~>Rings<br><small lang=de>Ringstellung</small><th scope=col>Cables<br><small lang=de>Steckerverbindungen</small><th scope=col>Ground<br><small lang=de>Grundstellung</small><th scope=col>Groups<br><small lang=de>Kenngruppen</small>\n<tbody>\n",
-    "</small></h1>\n<p class=fields><span>Schl\u{fc}sselkreis</span><span>Monat</span><span>Pr\u{fc}fnummer</span></p>\n</header>\n<p class=note>Nach Gebrauch den untersten Tag abschneiden. A\u{a0}01, B\u{a0}02, C\u{a0}03, D\u{a0}04, E\u{a0}05, F\u{a0}06, G\u{a0}07, H\u{a0}08, I\u{a0}09, J\u{a0}10, K\u{a0}11, L\u{a0}12, M\u{a0}13, N\u{a0}14, O\u{a0}15, P\u{a0}16, Q\u{a0}17, R\u{a0}18, S\u{a0}19, T\u{a0}20, U\u{a0}21, V\u{a0}22, W\u{a0}23, X\u{a0}24, Y\u{a0}25, Z\u{a0}26.</p>\n<table class=month>\n<colgroup><colgroup><colgroup span=~><colgroup span=~><colgroup><colgroup><colgroup>\n<thead>\n<tr><th scope=col>Tag<th scope=col>Umkehrwalze<th scope=col colspan=~>Walzenlage<th scope=col colspan=~>Ringstellung<th scope=col>Steckerverbindungen<th scope=col>Grundstellung<th scope=col>Kenngruppen\n<tbody>\n",
+    "</small></h1>\n<p class=fields><span>Schlüsselkreis</span><span>Monat</span><span>Prüfnummer</span></p>\n</header>\n<p class=note>Nach Gebrauch den untersten Tag abschneiden. A\u{a0}01, B\u{a0}02, C\u{a0}03, D\u{a0}04, E\u{a0}05, F\u{a0}06, G\u{a0}07, H\u{a0}08, I\u{a0}09, J\u{a0}10, K\u{a0}11, L\u{a0}12, M\u{a0}13, N\u{a0}14, O\u{a0}15, P\u{a0}16, Q\u{a0}17, R\u{a0}18, S\u{a0}19, T\u{a0}20, U\u{a0}21, V\u{a0}22, W\u{a0}23, X\u{a0}24, Y\u{a0}25, Z\u{a0}26.</p>\n<table class=month>\n<colgroup><colgroup><colgroup span=~><colgroup span=~><colgroup><colgroup><colgroup>\n<thead>\n<tr><th scope=col>Tag<th scope=col>Umkehrwalze<th scope=col colspan=~>Walzenlage<th scope=col colspan=~>Ringstellung<th scope=col>Steckerverbindungen<th scope=col>Grundstellung<th scope=col>Kenngruppen\n<tbody>\n",
 );
 
 /// The row of a day: its number and its reflector, a wheel, a ring, and the cells of cables, ground and groups.
@@ -53,12 +53,12 @@ pub const SPACE: &str = " ";
 /// The head of a Converter's key list: the model and the day, before the letters of the list. Then the columns.
 pub const KEY_LIST: Text = (
     "<article class=list>\n<header>\n<h1>~, day ~: key list ",
-    "<article class=list>\n<header>\n<h1>~, Tag ~: Schl\u{fc}sselliste ",
+    "<article class=list>\n<header>\n<h1>~, Tag ~: Schlüsselliste ",
 );
 
 pub const KEY_LIST_COLUMNS: Text = (
     "</h1>\n<p class=fields><span>Network</span><span>Date</span><span>Copy</span></p>\n</header>\n<table class=keylist>\n<thead>\n<tr><th scope=col rowspan=2>Bar<th scope=col rowspan=2>Lugs<th scope=colgroup colspan=6>Effective pins of wheel\n<tr><th scope=col>1<th scope=col>2<th scope=col>3<th scope=col>4<th scope=col>5<th scope=col>6\n<tbody>\n",
-    "</h1>\n<p class=fields><span>Schl\u{fc}sselkreis</span><span>Datum</span><span>Pr\u{fc}fnummer</span></p>\n</header>\n<table class=keylist>\n<thead>\n<tr><th scope=col rowspan=2>Stange<th scope=col rowspan=2>Reiter<th scope=colgroup colspan=6>Wirksame Stifte von Rad\n<tr><th scope=col>1<th scope=col>2<th scope=col>3<th scope=col>4<th scope=col>5<th scope=col>6\n<tbody>\n",
+    "</h1>\n<p class=fields><span>Schlüsselkreis</span><span>Datum</span><span>Prüfnummer</span></p>\n</header>\n<table class=keylist>\n<thead>\n<tr><th scope=col rowspan=2>Stange<th scope=col rowspan=2>Reiter<th scope=colgroup colspan=6>Wirksame Stifte von Rad\n<tr><th scope=col>1<th scope=col>2<th scope=col>3<th scope=col>4<th scope=col>5<th scope=col>6\n<tbody>\n",
 );
 
 /// The row of a bar: its number, with two digits, and its lugs.
@@ -81,7 +81,7 @@ pub const CHECK: Text = (
 
 pub const CHECK_END: Text = (
     "</b></pre>\n<p class=note>Wheels at A A A A A A, knob at C: 26 times A prints the check. Letters of the day: ",
-    "</b></pre>\n<p class=note>R\u{e4}der auf A A A A A A, Knopf auf C: 26-mal A druckt die Probe. Buchstaben des Tages: ",
+    "</b></pre>\n<p class=note>Räder auf A A A A A A, Knopf auf C: 26-mal A druckt die Probe. Buchstaben des Tages: ",
 );
 
 pub const KEY_LIST_END: &str = ".</p>\n</article>\n";

@@ -15,39 +15,39 @@ pub const BODY: &str = "</style>\n<body>\n";
 /// The head of a rotor machine's page, with the model, and of a Converter's. After it come the wheels.
 pub const ROTOR_HEAD: Text = (
     "<main class=enigma>\n<header><h1>~ <small>Press a key: a lamp shows the letter.</small></h1></header>\n<p id=off>This page needs JavaScript: without it no key works. If this is a preview, open the file in a browser.</p>\n<div>\n<div class=windows role=group aria-label=\"Windows\">\n",
-    "<main class=enigma>\n<header><h1>~ <small>Taste dr\u{fc}cken: Die Lampe zeigt den Buchstaben.</small></h1></header>\n<p id=off>Diese Seite braucht JavaScript: Ohne JavaScript wirkt keine Taste. Ist dies nur eine Vorschau, die Datei in einem Browser \u{f6}ffnen.</p>\n<div>\n<div class=windows role=group aria-label=\"Fenster\">\n",
+    "<main class=enigma>\n<header><h1>~ <small>Taste drücken: Die Lampe zeigt den Buchstaben.</small></h1></header>\n<p id=off>Diese Seite braucht JavaScript: Ohne JavaScript wirkt keine Taste. Ist dies nur eine Vorschau, die Datei in einem Browser öffnen.</p>\n<div>\n<div class=windows role=group aria-label=\"Fenster\">\n",
 );
 
 pub const PIN_HEAD: Text = (
     "<main class=alphabet>\n<header><h1>~ <small>Press a letter: the machine prints one.</small></h1></header>\n<p id=off>This page needs JavaScript: without it no key works. If this is a preview, open the file in a browser.</p>\n<div>\n<div class=windows role=group aria-label=\"Wheels\">\n",
-    "<main class=alphabet>\n<header><h1>~ <small>Buchstaben dr\u{fc}cken: Die Maschine druckt einen.</small></h1></header>\n<p id=off>Diese Seite braucht JavaScript: Ohne JavaScript wirkt keine Taste. Ist dies nur eine Vorschau, die Datei in einem Browser \u{f6}ffnen.</p>\n<div>\n<div class=windows role=group aria-label=\"R\u{e4}der\">\n",
+    "<main class=alphabet>\n<header><h1>~ <small>Buchstaben drücken: Die Maschine druckt einen.</small></h1></header>\n<p id=off>Diese Seite braucht JavaScript: Ohne JavaScript wirkt keine Taste. Ist dies nur eine Vorschau, die Datei in einem Browser öffnen.</p>\n<div>\n<div class=windows role=group aria-label=\"Räder\">\n",
 );
 
 /// The window of a slot: before its letters, which are the same for all slots, and after them.
 pub const WINDOW: Text = (
-    "<div class=wheel><button type=button value=1 aria-label=\"slot ~: next letter\">\u{25b2}</button><label><span>slot ~</span><select autocomplete=off aria-label=\"slot ~: window\">",
-    "<div class=wheel><button type=button value=1 aria-label=\"Platz ~: n\u{e4}chster Buchstabe\">\u{25b2}</button><label><span>Platz ~</span><select autocomplete=off aria-label=\"Platz ~: Fenster\">",
+    "<div class=wheel><button type=button value=1 aria-label=\"slot ~: next letter\">▲</button><label><span>slot ~</span><select autocomplete=off aria-label=\"slot ~: window\">",
+    "<div class=wheel><button type=button value=1 aria-label=\"Platz ~: nächster Buchstabe\">▲</button><label><span>Platz ~</span><select autocomplete=off aria-label=\"Platz ~: Fenster\">",
 );
 
 pub const LETTERS: &str =
     "<option>A<option>B<option>C<option>D<option>E<option>F<option>G<option>H<option>I<option>J<option>K<option>L<option>M<option>N<option>O<option>P<option>Q<option>R<option>S<option>T<option>U<option>V<option>W<option>X<option>Y<option>Z";
 
 pub const WINDOW_END: Text = (
-    "</select><small></small></label><button type=button value=-1 aria-label=\"slot ~: letter before\">\u{25bc}</button></div>\n",
-    "</select><small></small></label><button type=button value=-1 aria-label=\"Platz ~: voriger Buchstabe\">\u{25bc}</button></div>\n",
+    "</select><small></small></label><button type=button value=-1 aria-label=\"slot ~: letter before\">▼</button></div>\n",
+    "</select><small></small></label><button type=button value=-1 aria-label=\"Platz ~: voriger Buchstabe\">▼</button></div>\n",
 );
 
 /// A pin wheel: before its letters, a letter, and after them.
 pub const WHEEL: Text = (
-    "<div class=wheel><button type=button value=1 aria-label=\"wheel ~: next letter\">\u{25b2}</button><label><span>wheel ~</span><select autocomplete=off aria-label=\"wheel ~: letter\">",
-    "<div class=wheel><button type=button value=1 aria-label=\"Rad ~: n\u{e4}chster Buchstabe\">\u{25b2}</button><label><span>Rad ~</span><select autocomplete=off aria-label=\"Rad ~: Buchstabe\">",
+    "<div class=wheel><button type=button value=1 aria-label=\"wheel ~: next letter\">▲</button><label><span>wheel ~</span><select autocomplete=off aria-label=\"wheel ~: letter\">",
+    "<div class=wheel><button type=button value=1 aria-label=\"Rad ~: nächster Buchstabe\">▲</button><label><span>Rad ~</span><select autocomplete=off aria-label=\"Rad ~: Buchstabe\">",
 );
 
 pub const LETTER: &str = "<option>~";
 
 pub const WHEEL_END: Text = (
-    "</select><small></small></label><button type=button value=-1 aria-label=\"wheel ~: letter before\">\u{25bc}</button></div>\n",
-    "</select><small></small></label><button type=button value=-1 aria-label=\"Rad ~: voriger Buchstabe\">\u{25bc}</button></div>\n",
+    "</select><small></small></label><button type=button value=-1 aria-label=\"wheel ~: letter before\">▼</button></div>\n",
+    "</select><small></small></label><button type=button value=-1 aria-label=\"Rad ~: voriger Buchstabe\">▼</button></div>\n",
 );
 
 /// The end of the windows, and the lamps.
@@ -57,7 +57,7 @@ pub const LAMPS: &str =
 /// The end of the pin wheels, the knob, and the end of the printed tape.
 pub const KNOB: Text = (
     "</div>\n<fieldset class=knob><legend>Knob</legend><label><input type=radio name=knob value=C autocomplete=off checked><span><b>C</b> encipher</span></label><label><input type=radio name=knob value=D autocomplete=off><span><b>D</b> decipher</span></label></fieldset>\n<div id=strip class=strip aria-hidden=true></div>\n",
-    "</div>\n<fieldset class=knob><legend>Knopf</legend><label><input type=radio name=knob value=C autocomplete=off checked><span><b>C</b> verschl\u{fc}sseln</span></label><label><input type=radio name=knob value=D autocomplete=off><span><b>D</b> entschl\u{fc}sseln</span></label></fieldset>\n<div id=strip class=strip aria-hidden=true></div>\n",
+    "</div>\n<fieldset class=knob><legend>Knopf</legend><label><input type=radio name=knob value=C autocomplete=off checked><span><b>C</b> verschlüsseln</span></label><label><input type=radio name=knob value=D autocomplete=off><span><b>D</b> entschlüsseln</span></label></fieldset>\n<div id=strip class=strip aria-hidden=true></div>\n",
 );
 
 /// The report, and the keys: those of a rotor machine, and those of a Converter.
@@ -75,12 +75,12 @@ pub const PIN_KEYS: &str =
 /// The buttons, the tape, and the field for a whole text.
 pub const ROTOR_TAPE: Text = (
     "</div>\n<p class=buttons><button type=button id=undo>Undo</button><button type=button id=back>To the start</button><button type=button id=copy>Copy</button><button type=button id=clear>Clear</button></p>\n</div>\n<section>\n<h2>Tape <small>letters: <b id=count>0</b></small></h2>\n<div id=tape tabindex=0 role=group aria-label=\"Tape\"></div>\n<details id=whole><summary>Type a whole text</summary>\n<textarea id=text aria-label=\"Text\" autocomplete=off spellcheck=false></textarea>\n<button type=button id=go>Type it</button> <span class=note>A to Z; spaces and line ends are left out.</span></details>\n",
-    "</div>\n<p class=buttons><button type=button id=undo>R\u{fc}ckg\u{e4}ngig</button><button type=button id=back>Zum Anfang</button><button type=button id=copy>Kopieren</button><button type=button id=clear>L\u{f6}schen</button></p>\n</div>\n<section>\n<h2>Streifen <small>Buchstaben: <b id=count>0</b></small></h2>\n<div id=tape tabindex=0 role=group aria-label=\"Streifen\"></div>\n<details id=whole><summary>Einen ganzen Text eingeben</summary>\n<textarea id=text aria-label=\"Text\" autocomplete=off spellcheck=false></textarea>\n<button type=button id=go>Eintippen</button> <span class=note>A bis Z; Zwischenr\u{e4}ume und Zeilenenden fallen weg.</span></details>\n",
+    "</div>\n<p class=buttons><button type=button id=undo>Rückgängig</button><button type=button id=back>Zum Anfang</button><button type=button id=copy>Kopieren</button><button type=button id=clear>Löschen</button></p>\n</div>\n<section>\n<h2>Streifen <small>Buchstaben: <b id=count>0</b></small></h2>\n<div id=tape tabindex=0 role=group aria-label=\"Streifen\"></div>\n<details id=whole><summary>Einen ganzen Text eingeben</summary>\n<textarea id=text aria-label=\"Text\" autocomplete=off spellcheck=false></textarea>\n<button type=button id=go>Eintippen</button> <span class=note>A bis Z; Zwischenräume und Zeilenenden fallen weg.</span></details>\n",
 );
 
 pub const PIN_TAPE: Text = (
     "</div>\n<p class=buttons><button type=button id=undo>Undo</button><button type=button id=back>To the start</button><button type=button id=copy>Copy</button><button type=button id=clear>Clear</button></p>\n</div>\n<section>\n<h2>Tape <small>letters: <b id=count>0</b></small></h2>\n<div id=tape tabindex=0 role=group aria-label=\"Tape\"></div>\n<details id=whole><summary>Type a whole text</summary>\n<textarea id=text aria-label=\"Text\" autocomplete=off spellcheck=false></textarea>\n<button type=button id=go>Type it</button> <span class=note>A to Z; at C each space becomes Z, and line ends are left out.</span></details>\n",
-    "</div>\n<p class=buttons><button type=button id=undo>R\u{fc}ckg\u{e4}ngig</button><button type=button id=back>Zum Anfang</button><button type=button id=copy>Kopieren</button><button type=button id=clear>L\u{f6}schen</button></p>\n</div>\n<section>\n<h2>Streifen <small>Buchstaben: <b id=count>0</b></small></h2>\n<div id=tape tabindex=0 role=group aria-label=\"Streifen\"></div>\n<details id=whole><summary>Einen ganzen Text eingeben</summary>\n<textarea id=text aria-label=\"Text\" autocomplete=off spellcheck=false></textarea>\n<button type=button id=go>Eintippen</button> <span class=note>A bis Z; bei C wird jeder Zwischenraum zu Z, Zeilenenden fallen weg.</span></details>\n",
+    "</div>\n<p class=buttons><button type=button id=undo>Rückgängig</button><button type=button id=back>Zum Anfang</button><button type=button id=copy>Kopieren</button><button type=button id=clear>Löschen</button></p>\n</div>\n<section>\n<h2>Streifen <small>Buchstaben: <b id=count>0</b></small></h2>\n<div id=tape tabindex=0 role=group aria-label=\"Streifen\"></div>\n<details id=whole><summary>Einen ganzen Text eingeben</summary>\n<textarea id=text aria-label=\"Text\" autocomplete=off spellcheck=false></textarea>\n<button type=button id=go>Eintippen</button> <span class=note>A bis Z; bei C wird jeder Zwischenraum zu Z, Zeilenenden fallen weg.</span></details>\n",
 );
 
 /// How a rotor machine is set: before its reflector and its wheels, which are in words, and before its cables.
@@ -112,13 +112,13 @@ pub const SETTING_END: &str = ".</p></details>\n</section>\n</main>\n";
 pub const START: &str = "<script type=\"application/json\" id=data>{\"start\": \"";
 
 pub const ROTOR_WORDS: Text = (
-    "\", \"words\": {\"lit\": \"Key %s, lamp %s\", \"blank\": \"space\", \"nokey\": \"The machine has no key \u{201c}%s\u{201d}: nothing typed.\", \"space\": \"The machine has no key for a space: leave it out.\", \"bad\": \"Nothing typed: character %s is \u{201c}%s\u{201d}. Write \u{c4} as AE, \u{df} as SS, numbers in words.\", \"long\": \"Nothing typed: the text has more than 5000 letters.\", \"empty\": \"There is no letter to type.\", \"typed\": \"Letters typed: %s.\", \"undone\": \"Taken back: %s. The windows show %s.\", \"nothing\": \"The tape has no letter.\", \"back\": \"The windows show %s, as in the file.\", \"cleared\": \"The tape is empty.\", \"copied\": \"Letters copied: %s.\", \"byhand\": \"The browser can\u{2019}t copy. The letters are marked below.\"}}</script>\n<script type=\"text/plain\" id=table>",
-    "\", \"words\": {\"lit\": \"Taste %s, Lampe %s\", \"blank\": \"Zwischenraum\", \"nokey\": \"Die Maschine hat keine Taste \u{201e}%s\u{201c}: nichts getippt.\", \"space\": \"Die Maschine hat keine Leertaste: Zwischenraum weglassen.\", \"bad\": \"Nichts getippt: Zeichen %s ist \u{201e}%s\u{201c}. \u{c4} als AE, \u{df} als SS, Zahlen in Worten schreiben.\", \"long\": \"Nichts getippt: Der Text hat mehr als 5000 Buchstaben.\", \"empty\": \"Es ist kein Buchstabe zu tippen.\", \"typed\": \"Getastete Buchstaben: %s.\", \"undone\": \"Zur\u{fc}ckgenommen: %s. Die Fenster zeigen %s.\", \"nothing\": \"Auf dem Streifen steht kein Buchstabe.\", \"back\": \"Die Fenster zeigen %s, wie in der Datei.\", \"cleared\": \"Der Streifen ist leer.\", \"copied\": \"Kopierte Buchstaben: %s.\", \"byhand\": \"Der Browser kann nicht kopieren. Die Buchstaben sind unten markiert.\"}}</script>\n<script type=\"text/plain\" id=table>",
+    "\", \"words\": {\"lit\": \"Key %s, lamp %s\", \"blank\": \"space\", \"nokey\": \"The machine has no key “%s”: nothing typed.\", \"space\": \"The machine has no key for a space: leave it out.\", \"bad\": \"Nothing typed: character %s is “%s”. Write Ä as AE, ß as SS, numbers in words.\", \"long\": \"Nothing typed: the text has more than 5000 letters.\", \"empty\": \"There is no letter to type.\", \"typed\": \"Letters typed: %s.\", \"undone\": \"Taken back: %s. The windows show %s.\", \"nothing\": \"The tape has no letter.\", \"back\": \"The windows show %s, as in the file.\", \"cleared\": \"The tape is empty.\", \"copied\": \"Letters copied: %s.\", \"byhand\": \"The browser can’t copy. The letters are marked below.\"}}</script>\n<script type=\"text/plain\" id=table>",
+    "\", \"words\": {\"lit\": \"Taste %s, Lampe %s\", \"blank\": \"Zwischenraum\", \"nokey\": \"Die Maschine hat keine Taste „%s“: nichts getippt.\", \"space\": \"Die Maschine hat keine Leertaste: Zwischenraum weglassen.\", \"bad\": \"Nichts getippt: Zeichen %s ist „%s“. Ä als AE, ß als SS, Zahlen in Worten schreiben.\", \"long\": \"Nichts getippt: Der Text hat mehr als 5000 Buchstaben.\", \"empty\": \"Es ist kein Buchstabe zu tippen.\", \"typed\": \"Getastete Buchstaben: %s.\", \"undone\": \"Zurückgenommen: %s. Die Fenster zeigen %s.\", \"nothing\": \"Auf dem Streifen steht kein Buchstabe.\", \"back\": \"Die Fenster zeigen %s, wie in der Datei.\", \"cleared\": \"Der Streifen ist leer.\", \"copied\": \"Kopierte Buchstaben: %s.\", \"byhand\": \"Der Browser kann nicht kopieren. Die Buchstaben sind unten markiert.\"}}</script>\n<script type=\"text/plain\" id=table>",
 );
 
 pub const PIN_WORDS: Text = (
-    "\", \"words\": {\"lit\": \"Letter %s, printed: %s\", \"blank\": \"space\", \"nokey\": \"The machine has no key \u{201c}%s\u{201d}: nothing typed.\", \"space\": \"At D a space is left out.\", \"bad\": \"Nothing typed: character %s is \u{201c}%s\u{201d}. Write \u{c4} as AE, \u{df} as SS, numbers in words.\", \"long\": \"Nothing typed: the text has more than 5000 letters.\", \"empty\": \"There is no letter to type.\", \"typed\": \"Letters typed: %s.\", \"undone\": \"Taken back: %s. The windows show %s.\", \"nothing\": \"The tape has no letter.\", \"back\": \"The windows show %s, as in the file.\", \"cleared\": \"The tape is empty.\", \"copied\": \"Letters copied: %s.\", \"byhand\": \"The browser can\u{2019}t copy. The letters are marked below.\"}}</script>\n<script type=\"text/plain\" id=table>",
-    "\", \"words\": {\"lit\": \"Buchstabe %s, gedruckt: %s\", \"blank\": \"Zwischenraum\", \"nokey\": \"Die Maschine hat keine Taste \u{201e}%s\u{201c}: nichts getippt.\", \"space\": \"Bei D f\u{e4}llt ein Zwischenraum weg.\", \"bad\": \"Nichts getippt: Zeichen %s ist \u{201e}%s\u{201c}. \u{c4} als AE, \u{df} als SS, Zahlen in Worten schreiben.\", \"long\": \"Nichts getippt: Der Text hat mehr als 5000 Buchstaben.\", \"empty\": \"Es ist kein Buchstabe zu tippen.\", \"typed\": \"Getastete Buchstaben: %s.\", \"undone\": \"Zur\u{fc}ckgenommen: %s. Die Fenster zeigen %s.\", \"nothing\": \"Auf dem Streifen steht kein Buchstabe.\", \"back\": \"Die Fenster zeigen %s, wie in der Datei.\", \"cleared\": \"Der Streifen ist leer.\", \"copied\": \"Kopierte Buchstaben: %s.\", \"byhand\": \"Der Browser kann nicht kopieren. Die Buchstaben sind unten markiert.\"}}</script>\n<script type=\"text/plain\" id=table>",
+    "\", \"words\": {\"lit\": \"Letter %s, printed: %s\", \"blank\": \"space\", \"nokey\": \"The machine has no key “%s”: nothing typed.\", \"space\": \"At D a space is left out.\", \"bad\": \"Nothing typed: character %s is “%s”. Write Ä as AE, ß as SS, numbers in words.\", \"long\": \"Nothing typed: the text has more than 5000 letters.\", \"empty\": \"There is no letter to type.\", \"typed\": \"Letters typed: %s.\", \"undone\": \"Taken back: %s. The windows show %s.\", \"nothing\": \"The tape has no letter.\", \"back\": \"The windows show %s, as in the file.\", \"cleared\": \"The tape is empty.\", \"copied\": \"Letters copied: %s.\", \"byhand\": \"The browser can’t copy. The letters are marked below.\"}}</script>\n<script type=\"text/plain\" id=table>",
+    "\", \"words\": {\"lit\": \"Buchstabe %s, gedruckt: %s\", \"blank\": \"Zwischenraum\", \"nokey\": \"Die Maschine hat keine Taste „%s“: nichts getippt.\", \"space\": \"Bei D fällt ein Zwischenraum weg.\", \"bad\": \"Nichts getippt: Zeichen %s ist „%s“. Ä als AE, ß als SS, Zahlen in Worten schreiben.\", \"long\": \"Nichts getippt: Der Text hat mehr als 5000 Buchstaben.\", \"empty\": \"Es ist kein Buchstabe zu tippen.\", \"typed\": \"Getastete Buchstaben: %s.\", \"undone\": \"Zurückgenommen: %s. Die Fenster zeigen %s.\", \"nothing\": \"Auf dem Streifen steht kein Buchstabe.\", \"back\": \"Die Fenster zeigen %s, wie in der Datei.\", \"cleared\": \"Der Streifen ist leer.\", \"copied\": \"Kopierte Buchstaben: %s.\", \"byhand\": \"Der Browser kann nicht kopieren. Die Buchstaben sind unten markiert.\"}}</script>\n<script type=\"text/plain\" id=table>",
 );
 
 /// The end of the table, and the end of the script and of the file.

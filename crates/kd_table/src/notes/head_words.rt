@@ -54,7 +54,7 @@ fn are_missing(columns: &[Option<usize>]) -> bool {
     true
 }
 
-/// What is said of a first row that names no column, and begins with `cell`.
+/// Why a first row that begins with `cell` names no column.
 fn nameless_words(cell: &[u8]) -> &'static str {
     if is_utf16(cell) {
         return "this table is in UTF-16: save it as CSV in UTF-8";
