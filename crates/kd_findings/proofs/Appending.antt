@@ -1,5 +1,5 @@
 -- Texts that are appended, one after another.
-use Rattle.std.proofs.Common.{◌≡◌, ℕ, List, [], ◌∷◌, ◌++◌, ap, sym, ◌∙◌, append_assoc, append-nil, refl}
+use Rattle.std.proofs.Common.{ℕ, List, [], ◌∷◌, ◌++◌, ap, sym, ◌∙◌, append_assoc, append-nil, refl}
 use Rattle.kd_findings.specs.Texts.{AppendsText, ArePieces, BeginsWith}
 
 -- a piece is appended, and then others

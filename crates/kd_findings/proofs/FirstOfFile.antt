@@ -1,18 +1,22 @@
 -- The first of a file's faults is the fault of its reading.
-use Rattle.std.proofs.Common.{◌≡◌, ℕ, List, Option, Some, None, Result, Ok, Err, ap, sym, ◌∙◌, arith, ok_or, refl}
+use Rattle.std.proofs.Common.{◌≡◌, ℕ, true, false, List, Option, Some, None, Result, Ok, Err, ap, sym, ◌∙◌, arith}
+use Rattle.std.proofs.Common.{is_some, ok_or, refl, if◌then◌else◌}
 use Rattle.std.specs.Option.{option_and_then}
 use Rattle.std.specs.Result.{result_err}
-use Rattle.toml.specs.Data.{Data, Members}
+use Rattle.toml.specs.Data.{Data, Members, get_member}
 use Rattle.kd_state.specs.SheetDay.{Day}
 use Rattle.kd_sheet.specs.Document.{◌>>=◌, as_items, document_of, read_at, read_items}
 use Rattle.kd_sheet.specs.Sheet.{month_of}
-use Rattle.kd_sheet.specs.SheetFile.{day_for}
+use Rattle.kd_sheet.specs.Key.{key_name}
+use Rattle.kd_sheet.specs.SheetFile.{day_for, sheet_of}
 use Rattle.kd_sheet.specs.declared.key.Key.{Key}
 use Rattle.kd_sheet.specs.declared.key.Key.TheVariants as keys
 use Rattle.kd_sheet.specs.declared.fault.SheetFault.{SheetFault}
+use Rattle.kd_sheet.specs.declared.fault.SheetFault.TheVariants.{BadValue, Missing}
 use Rattle.kd_findings.specs.declared.place.Place.{Place}
 use Rattle.kd_findings.specs.Faults.{first_fault, machine_faults}
-use Rattle.kd_findings.specs.SheetFaults.{AreSheetFaults, entries_of, file_fault}
+use Rattle.kd_findings.specs.Kind.{entries_of, is_machine_file}
+use Rattle.kd_findings.specs.SheetFaults.{AreFaultsOf, file_fault}
 use Rattle.kd_findings.proofs.FirstFault.{of_machine}
 use Rattle.kd_findings.proofs.FirstSheetFault.{of_sheet}
 
@@ -27,13 +31,31 @@ err-month : (days : Result (List Day) SheetFault) → result_err (days >>= (λ r
 err-month (Ok days) = refl
 err-month (Err fault) = refl
 
-pub first_of_sheet : (bytes : List ℕ) (document : Members) (items : List Data) (faults : List (Place × SheetFault))
-    → document_of bytes ≡ Ok document → entries_of document ≡ Some items → AreSheetFaults items faults
-    → first_fault faults ≡ file_fault bytes document
-first_of_sheet bytes document items faults parsed has are =
+-- the reading of an array that isn't there has a fault, whatever follows
+no_array : {A : Type 0} (value : Option Data) (next : List Data → Result A SheetFault)
+    → option_and_then as_items value ≡ None
+    → result_err ((ok_or value (Missing keys.Day) >>= (λ found. ok_or (as_items found) (BadValue keys.Day))) >>= next)
+    ≡ Some (if is_some value then BadValue keys.Day else Missing keys.Day)
+no_array None next none = refl
+no_array (Some found) next none = rw none refl
+
+-- the first of the entries' faults, or the fault at `day`, is the fault of the reading of a key sheet
+first_of_entries : (bytes : List ℕ) (document : Members) (entries : Option (List Data)) (faults : List (Place × SheetFault))
+    → document_of bytes ≡ Ok document → entries_of document ≡ entries → AreFaultsOf false entries document faults
+    → first_fault faults ≡ result_err (sheet_of bytes)
+first_of_entries bytes document (Some items) faults parsed has are =
     let entries : read_at keys.Day as_items document ≡ Ok items = array_read keys.Day _ items has _ _ in
-    rw (has, parsed, entries) ((of_sheet items faults are).first ∙ sym (err-month (read_items day_for items)))
+    rw (parsed, entries) ((of_sheet items faults are).first ∙ sym (err-month (read_items day_for items)))
+first_of_entries bytes document None faults parsed has are =
+    let reading = no_array (get_member (key_name keys.Day) document) (read_items day_for) has in
+    rw (parsed, are) (sym (err-month (read_at keys.Day as_items document >>= read_items day_for) ∙ reading))
+
+pub first_of_sheet : (bytes : List ℕ) (document : Members) (faults : List (Place × SheetFault))
+    → document_of bytes ≡ Ok document → is_machine_file document ≡ false
+    → AreFaultsOf false (entries_of document) document faults → first_fault faults ≡ file_fault bytes document
+first_of_sheet bytes document faults parsed other are =
+    rw other (first_of_entries bytes document (entries_of document) faults parsed refl are)
 
 pub first_of_machine : (bytes : List ℕ) (document : Members) → document_of bytes ≡ Ok document
-    → entries_of document ≡ None → first_fault (machine_faults document) ≡ file_fault bytes document
-first_of_machine bytes document parsed has = rw (has, parsed) (of_machine document).first
+    → is_machine_file document ≡ true → first_fault (machine_faults document) ≡ file_fault bytes document
+first_of_machine bytes document parsed is = rw (is, parsed) (of_machine document).first

@@ -5,7 +5,7 @@ use Rattle.std.specs.List.{filter}
 use Rattle.toml.specs.View.{members_view}
 use Rattle.toml.specs.declared.value.Value.{Value}
 use Rattle.kd_sheet.specs.declared.key.Key.{Key}
-use Rattle.kd_findings.specs.Unread.{UnreadKey, is_name_of, names_in}
+use Rattle.kd_findings.specs.Unread.{is_name_of, names_in}
 unfoldable use Rattle.kd_findings.specs.Unread.{unread_in}
 
 mapped_cond : {X Y : Type 0} (form : X → Y) (known : Bool) (x : X) (xs : List X)

@@ -2,6 +2,7 @@
 -- value. The desk stops at a file's first fault; here each key is judged for itself.
 -- Test: tests/cases/curator-look.toml
 use Rattle.std.specs.Prelude.{ℕ, nat_le, true, List, [], ◌∷◌, ◌++◌, length, map, slice_get, Option, None, Result, Ok, Err}
+use Rattle.std.specs.Prelude.{if◌then◌else◌}
 use Rattle.std.specs.Option.{option_map, option_map_or, option_to_list}
 use Rattle.std.specs.Result.{result_ok, result_err}
 use Rattle.toml.specs.Data.{Members}
@@ -21,6 +22,9 @@ use Rattle.kd_sheet.specs.declared.key.Key.{Key}
 use Rattle.kd_sheet.specs.declared.key.Key.TheVariants as keys
 use Rattle.kd_sheet.specs.declared.fault.SheetFault.{SheetFault}
 use Rattle.kd_sheet.specs.declared.fault.SheetFault.TheVariants.{UnknownModel}
+use Rattle.kd_sheet.specs.contracts.fault.SheetFaultPartialEq.TheImpl as fault_eq
+use Rattle.kd_slips.specs.declared.slip.Slip.{Slip}
+use Rattle.kd_slips.specs.declared.slip.Slip.TheVariants as slips
 use Rattle.kd_findings.specs.declared.findings.Finding.{Finding}
 use Rattle.kd_findings.specs.declared.place.Place.{Place}
 
@@ -87,3 +91,10 @@ faults_of findings = map (λ finding. (finding.place, finding.fault)) findings
 -- the first of the faults, without its place
 abbrev pub first_fault : List (Place × SheetFault) → Option SheetFault
 first_fault faults = option_map (λ fault. fault.1) (slice_get faults 0)
+
+-- ---- What inner functions answer. No public contract cites this definition.
+
+-- the item of which the words for a fault speak: the item of the check's slip, if the slip has this fault
+abbrev pub told_item : SheetFault → Result (Unit {0}) Slip → Option ℕ
+told_item fault (Err (slips.Fault found item words)) = if (fault_eq.ghosts).eq found fault then item else None
+told_item fault checked = None

@@ -1,4 +1,5 @@
 pub mod Faults
+pub mod Kind
 pub mod NotToml
 pub mod SheetFaults
 pub mod Texts

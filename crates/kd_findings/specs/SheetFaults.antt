@@ -2,18 +2,17 @@
 -- the desk refuses the key's value. The desk stops at a sheet's first fault; here the other entries are judged, too.
 -- Test: tests/cases/curator-look.toml
 use Rattle.std.specs.Prelude.{◌≡◌, ◌⊎◌, ℕ, ◌+◌, ◌≤◌, ◌==◌, Bool, false, not, List, [], ◌∷◌, ◌++◌, length, take}
-use Rattle.std.specs.Prelude.{Option, Some, None, MatchOption, Result, Ok}
+use Rattle.std.specs.Prelude.{Option, Some, None, Result, Ok, true, if◌then◌else◌}
 use Rattle.std.specs.List.{list_any}
 use Rattle.std.specs.Option.{option_and_then, option_map_or}
 use Rattle.std.specs.Result.{result_err, result_ok}
-use Rattle.toml.specs.Data.{Data, Members, get_member, as_table}
+use Rattle.toml.specs.Data.{Data, Members, as_table}
 use Rattle.kd_tables.specs.Tables.{slots_of}
 use Rattle.kd_tables.specs.declared.model.Model.{Model}
 use Rattle.kd_tables.specs.declared.model.Model.TheVariants.{M209}
 use Rattle.kd_sheet.specs.Bars.{rows_in}
 use Rattle.kd_sheet.specs.Cables.{pairs_in}
-use Rattle.kd_sheet.specs.Document.{◌>>=◌, ◌>>◌, demand, read_at, as_items}
-use Rattle.kd_sheet.specs.Key.{key_name}
+use Rattle.kd_sheet.specs.Document.{◌>>=◌, ◌>>◌, demand, read_at}
 use Rattle.kd_sheet.specs.Letters.{letters_at}
 use Rattle.kd_sheet.specs.MachineFile.{machine_of, model_in, reflector_in}
 use Rattle.kd_sheet.specs.Numbers.{number_up_to}
@@ -23,8 +22,9 @@ use Rattle.kd_sheet.specs.Slots.{slots_in}
 use Rattle.kd_sheet.specs.declared.key.Key.{Key}
 use Rattle.kd_sheet.specs.declared.key.Key.TheVariants as keys
 use Rattle.kd_sheet.specs.declared.fault.SheetFault.{SheetFault}
-use Rattle.kd_sheet.specs.declared.fault.SheetFault.TheVariants.{BadValue, DayTwice}
-use Rattle.kd_findings.specs.Faults.{after_model, at_key, fault_at, machine_faults}
+use Rattle.kd_sheet.specs.declared.fault.SheetFault.TheVariants.{BadValue, DayTwice, Missing}
+use Rattle.kd_findings.specs.Faults.{after_model, at_key, fault_at, in_file, machine_faults}
+use Rattle.kd_findings.specs.Kind.{entries_of, is_given, is_machine_file}
 use Rattle.kd_findings.specs.declared.place.Place.{Place}
 
 -- the place of a key in an entry, which is counted from 1, with the entry's day if it is known
@@ -97,18 +97,21 @@ pub record AreSheetFaults (items : List Data) (faults : List (Place × SheetFaul
   pub are : faults ≡ faults_after [] (take count items)
   pub many : (count ≡ length items) ⊎ (300 ≤ length faults)
 
--- the items of the array `day`, if the document has this array
-abbrev pub entries_of : Members → Option (List Data)
-entries_of document = option_and_then as_items (get_member (key_name keys.Day) document)
+-- the fault at the key `day` of a document without the array `day`
+abbrev pub day_fault : Members → SheetFault
+day_fault document = if is_given keys.Day document then BadValue keys.Day else Missing keys.Day
 
--- The list has the faults of the document: of a key sheet if the document has the array `day`, otherwise of a machine
--- file.
+-- the list has the faults of the document, which is a machine file or not, and whose array `day` has these items
+abbrev pub AreFaultsOf : Bool → Option (List Data) → Members → List (Place × SheetFault) → Type 0
+AreFaultsOf true entries document faults = faults ≡ machine_faults document
+AreFaultsOf false (Some items) document faults = AreSheetFaults items faults
+AreFaultsOf false None document faults = faults ≡ (in_file keys.Day, day_fault document) ∷ []
+
+-- The list has the faults of the document: of a machine file, of the entries of a key sheet, or the one at the key `day`.
 abbrev pub AreFaults : Members → List (Place × SheetFault) → Type 0
-AreFaults document faults = MatchOption (entries_of document) (faults ≡ machine_faults document)
-    (λ items. AreSheetFaults items faults)
+AreFaults document faults = AreFaultsOf (is_machine_file document) (entries_of document) document faults
 
--- the first fault of a file with these bytes and this document: of a key sheet if the document has the array `day`,
--- otherwise of a machine file
+-- the first fault of a file with these bytes and this document: of a machine file, otherwise of a key sheet
 abbrev pub file_fault : List ℕ → Members → Option SheetFault
-file_fault bytes document = option_map_or (λ items. result_err (sheet_of bytes)) (entries_of document)
-    (result_err (machine_of bytes))
+file_fault bytes document =
+    if is_machine_file document then result_err (machine_of bytes) else result_err (sheet_of bytes)

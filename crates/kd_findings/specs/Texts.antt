@@ -1,5 +1,6 @@
 -- Texts made of pieces, one after another, and the words for a place in a file.
-use Rattle.std.specs.Prelude.{codes, ◌≡◌, ◌≢◌, ℕ, ◌++◌, List, [], ◌∷◌, Option, Some, None, decimal, slice_index, EachIndex}
+use Rattle.std.specs.Prelude.{codes, ◌≡◌, ◌≢◌, ◌⊎◌, ℕ, ◌++◌, List, [], ◌∷◌, Option, Some, None, decimal, slice_index, EachIndex}
+use Rattle.std.specs.Option.{option_map_or}
 
 -- The text is a piece that satisfies `First`, and then what `Others` holds of.
 pub record BeginsWith (First Others : List ℕ → Type 0) (text : List ℕ) : Type 0 where
@@ -18,9 +19,17 @@ ArePieces IsPiece (first ∷ rest) text = BeginsWith (IsPiece first) (λ others.
 abbrev pub IsInOneLine : List ℕ → Type 0
 IsInOneLine text = EachIndex text (λ index. slice_index text index ≢ 10)
 
+-- The line is the text up to its first line feed, or the whole text.
+abbrev pub EndsAtFeed : List ℕ → List ℕ → Type 0
+EndsAtFeed text line = (text ≡ line) ⊎ ((rest : List ℕ) × (text ≡ line ++ 10 ∷ rest))
+
 -- a number with what stands before it
 unfoldable pub titled : List ℕ → ℕ → List ℕ
 titled title number = title ++ decimal number
+
+-- the number of an item, if it has to be told
+abbrev pub item_words : Option ℕ → List ℕ
+item_words item = option_map_or (titled (codes " ")) item []
 
 -- the day of an entry in words; for an entry whose day can't be read, the entry's number
 unfoldable pub entry_words : Option ℕ → Option ℕ → List ℕ

@@ -1,6 +1,7 @@
 -- The keys that a machine file or a key sheet has, and that its reader doesn't read.
 -- Test: tests/cases/curator-look.toml
 use Rattle.std.specs.Prelude.{ℕ, Bool, not, List, [], ◌∷◌, ◌++◌, length, map, Option, Some, None, bytes_eq}
+use Rattle.std.specs.Prelude.{if◌then◌else◌}
 use Rattle.std.specs.List.{filter, flat_map, list_any, range_with_len}
 use Rattle.std.specs.Option.{option_map_or}
 use Rattle.std.specs.Result.{result_ok}
@@ -12,7 +13,8 @@ use Rattle.kd_sheet.specs.Key.{key_name}
 use Rattle.kd_sheet.specs.MachineFile.{model_in}
 use Rattle.kd_sheet.specs.declared.key.Key.{Key}
 use Rattle.kd_sheet.specs.declared.key.Key.TheVariants as keys
-use Rattle.kd_findings.specs.SheetFaults.{entries_of, number_in}
+use Rattle.kd_findings.specs.Kind.{entries_of, is_machine_file}
+use Rattle.kd_findings.specs.SheetFaults.{number_in}
 use Rattle.kd_findings.specs.declared.unread.Unread.{Unread}
 
 -- The name of a key that nobody reads, and where it stands: in an entry of a key sheet, which is counted from 1, with
@@ -74,11 +76,17 @@ abbrev pub unread_in_entries : List Data → List UnreadKey
 unread_in_entries items = flat_map (λ number. option_map_or (unread_in_entry number) (numbered_item items number) [])
     (range_with_len 1 (length items))
 
+-- the keys that are known in a document without the array `day`: those of a machine file, otherwise those of both kinds
+-- of files, since the lines of a day may stand at the top of a file that lacks its first `[[day]]`
+abbrev pub top_keys : Members → List Key
+top_keys document = if is_machine_file document then file_keys (result_ok (model_in document))
+    else rotor_file_keys ++ pin_file_keys ++ rotor_day_keys ++ pin_day_keys
+
 -- The keys of a document that nobody reads. A key sheet has the key `day` alone, and the keys of its entries.
 unfoldable pub unread_keys : Members → List UnreadKey
 unread_keys document = option_map_or
     (λ items. unread_in None None (keys.Day ∷ []) document ++ unread_in_entries items) (entries_of document)
-    (unread_in None None (file_keys (result_ok (model_in document))) document)
+    (unread_in None None (top_keys document) document)
 
 -- ---- What inner functions answer. No public contract cites these definitions.
 

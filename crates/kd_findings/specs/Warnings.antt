@@ -1,7 +1,7 @@
 -- The warnings of a machine file or a key sheet: a line for each key that nobody reads, and a line for each cable whose
 -- letters the desk writes in another order.
 -- Test: tests/cases/curator-look.toml
-use Rattle.std.specs.Prelude.{codes, ◌≡◌, ℕ, ◌++◌, ◌&&◌, nat_le, nat_lt, Bool, is_some, List, [], ◌∷◌, Option}
+use Rattle.std.specs.Prelude.{codes, ◌≡◌, ℕ, ◌++◌, ◌&&◌, nat_le, nat_lt, Bool, List, [], ◌∷◌, Option}
 use Rattle.std.specs.Prelude.{if◌then◌else◌}
 use Rattle.std.specs.List.{flat_map}
 use Rattle.std.specs.Option.{option_and_then, option_map_or}
@@ -14,7 +14,7 @@ use Rattle.kd_sheet.specs.Key.{key_name}
 use Rattle.kd_sheet.specs.MachineFile.{model_in}
 use Rattle.kd_sheet.specs.declared.key.Key.TheVariants as keys
 use Rattle.kd_slips.specs.Shown.{shown_text}
-use Rattle.kd_findings.specs.SheetFaults.{entries_of}
+use Rattle.kd_findings.specs.Kind.{is_machine_file}
 use Rattle.kd_findings.specs.Texts.{ArePieces, IsInOneLine, entry_words}
 use Rattle.kd_findings.specs.Unread.{UnreadKey, unread_keys}
 
@@ -60,10 +60,10 @@ abbrev pub model_lines : List ℕ → Members → Model → List ℕ
 model_lines name document M209 = []
 model_lines name document model = cable_lines name document
 
--- the lines for the cables of a machine file; none for a key sheet, or if the model isn't known
+-- the lines for the cables of a machine file; none for another file, or if the model isn't known
 unfoldable pub order_lines : List ℕ → Members → List ℕ
-order_lines name document = if is_some (entries_of document) then []
-    else option_map_or (model_lines name document) (result_ok (model_in document)) []
+order_lines name document = if is_machine_file document
+    then option_map_or (model_lines name document) (result_ok (model_in document)) [] else []
 
 -- The text has a line for each key of the document that nobody reads, none for another key, and then a line for each
 -- cable that the desk writes in another order.

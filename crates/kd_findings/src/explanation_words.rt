@@ -1,13 +1,21 @@
 //! The words for what is wrong with a value, and for its item.
+ghost use Rattle.std.specs.Prelude.{◌≡◌, ◌++◌, codes, IfOk};
+ghost use Rattle.std.specs.String.{string_bytes};
+ghost use Rattle.kd_findings.specs.Texts.{item_words};
 
 use crate::findings::Explanation;
+use crate::texts::push_item;
 use std::alloc::{AllocError, Global};
 
 /// The words after the key of a fault: the number of the item, if it has to be told, and what is wrong.
-pub fn wrong_words(alloc: Global, explanation: &Explanation) -> Result<String, AllocError> {
-    let words = explanation.words.as_str();
-    match explanation.item {
-        Some(item) => format!(in alloc; " {item}: {words}"),
-        None => format!(in alloc; ": {words}"),
-    }
+#[tactic(auto, using(std::proofs::Common::append_assoc))]
+pub fn wrong_words(alloc: Global, explanation: &Explanation) -> Result<String, AllocError>
+    ensures { IfOk result (λ words. string_bytes words
+        ≡ item_words explanation.now.item ++ codes ": " ++ string_bytes explanation.now.words) }
+{
+    let mut words = String::new(alloc);
+    push_item(&mut words, explanation.item)?;
+    words.push_str(": ")?;
+    words.push_str(explanation.words.as_str())?;
+    Ok(words)
 }

@@ -1,6 +1,6 @@
 //! `Finding`: a fault of a file, with its place and in words.
-ghost use Rattle.std.specs.Prelude.{◌≡◌, ◌++◌, OnOk, Some};
-ghost use Rattle.kd_findings.specs.Faults.{at_place, faults_of};
+ghost use Rattle.std.specs.Prelude.{◌≡◌, ◌++◌, IfOk, OnOk, Some};
+ghost use Rattle.kd_findings.specs.Faults.{at_place, faults_of, told_item};
 
 use crate::place::Place;
 use kd_sheet::SheetFault;
@@ -29,7 +29,9 @@ fn explain(
     alloc: Global,
     fault: SheetFault,
     checked: Result<(), Slip>,
-) -> Result<Explanation, AllocError> {
+) -> Result<Explanation, AllocError>
+    ensures { IfOk result (λ explanation. explanation.item ≡ told_item fault checked) }
+{
     match checked {
         Err(Slip::Fault(found, item, words)) if found == fault => Ok(Explanation { item, words }),
         Err(Slip::NoMemory) => Err(AllocError),

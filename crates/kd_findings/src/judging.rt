@@ -1,18 +1,23 @@
-//! Finds the faults of a file: of a key sheet, or of a machine file.
-ghost use Rattle.std.specs.Prelude.{◌≡◌, ℕ, List, Ok, IfOk, map, option_map};
+//! Tells machine files from key sheets, and finds the faults of a file.
+ghost use Rattle.std.specs.Prelude.{◌≡◌, ◌∷◌, [], ℕ, List, Ok, IfOk, false, map, None, option_map};
 ghost use Rattle.std.specs.Option.{option_and_then};
 ghost use Rattle.toml.specs.Data.{get_member};
 ghost use Rattle.toml.specs.View.{view, table_view};
-ghost use Rattle.kd_findings.specs.Faults.{faults_of, first_fault};
+ghost use Rattle.kd_findings.specs.Faults.{faults_of, first_fault, in_file};
+ghost use Rattle.kd_findings.specs.Kind.{entries_of, is_machine_file};
 ghost use Rattle.kd_sheet.specs.Document.{as_items, document_of};
 ghost use Rattle.kd_sheet.specs.Key.{key_name};
-ghost use Rattle.kd_findings.specs.SheetFaults.{AreFaults, entries_of, file_fault};
+ghost use Rattle.kd_sheet.specs.declared.key.Key.TheVariants as keys;
+ghost use Rattle.kd_findings.specs.SheetFaults.{AreFaults, AreFaultsOf, day_fault, file_fault};
 
-use crate::findings::Finding;
+use crate::findings::{Finding, note};
 use crate::machine::machine_faults;
+use crate::place::Place;
 use crate::sheet::sheet_faults;
-use kd_sheet::Key;
 use kd_sheet::by_key::find_at;
+use kd_sheet::{Key, SheetFault};
+use kd_slips::slip::{Slip, refuse};
+use kd_slips::values::kind_of;
 use std::alloc::{AllocError, Global};
 use toml::{Table, Value};
 
@@ -34,15 +39,79 @@ pub fn entries_of(document: &Table) -> Option<&[Value]>
     items_at(document, Key::Day)
 }
 
-/// Finds the faults of a file: of a key sheet if it has the array `day`, otherwise of a machine file.
+/// Whether a document is a machine file.
+#[tactic(auto, unfolding(crate::specs::Kind::is_machine_file))]
+pub fn is_machine_file(document: &Table) -> bool
+    ensures { result ≡ is_machine_file (table_view document.now) }
+{
+    entries_of(document).is_none()
+        && (find_at(document, Key::Version).is_some()
+            || (find_at(document, Key::Model).is_some() && find_at(document, Key::Day).is_none()))
+}
+
+/// The fault at the key `day` of a document without the array `day`.
+fn day_fault(document: &Table) -> SheetFault
+    ensures { result ≡ day_fault (table_view document.now) }
+{
+    match find_at(document, Key::Day) {
+        Some(_) => SheetFault::BadValue(Key::Day),
+        None => SheetFault::Missing(Key::Day),
+    }
+}
+
+/// Explains why a document is refused that is no machine file and has no array `day`.
+fn check_day(alloc: Global, document: &Table) -> Result<(), Slip> {
+    match find_at(document, Key::Day) {
+        Some(value) => refuse(
+            SheetFault::BadValue(Key::Day),
+            format!(in alloc;
+                "{} stands where a list of days is needed: write `[[day]]` above the lines of each day",
+                kind_of(value)
+            ),
+        ),
+        None => refuse(
+            SheetFault::Missing(Key::Day),
+            String::from_str(
+                alloc,
+                "it can't be told whether this is a key sheet or a machine file: a key sheet has `[[day]]` above the lines of each day, a machine file has `version` and `model`",
+            ),
+        ),
+    }
+}
+
+/// Finds the fault of a document that is no machine file and has no array `day`.
+fn find_day_fault(alloc: Global, document: &Table) -> Result<Vec<Finding>, AllocError>
+    ensures { IfOk result (λ list. faults_of list.items
+        ≡ (in_file keys.Day, day_fault (table_view document.now)) ∷ []) }
+{
+    let mut list = Vec::new(alloc);
+    let place = Place::in_file(Key::Day);
+    let fault = Some(day_fault(document));
+    note(&mut list, alloc, place, fault, check_day(alloc, document))?;
+    Ok(list)
+}
+
+/// Finds the faults of a document that is no machine file.
+fn find_sheet_faults(alloc: Global, document: &Table) -> Result<Vec<Finding>, AllocError>
+    ensures { IfOk result (λ list. AreFaultsOf false (entries_of (table_view document.now))
+        (table_view document.now) (faults_of list.items)) }
+{
+    match entries_of(document) {
+        Some(items) => sheet_faults(alloc, items),
+        None => find_day_fault(alloc, document),
+    }
+}
+
+/// Finds the faults of a document.
 pub fn find_faults(alloc: Global, document: &Table) -> Result<Vec<Finding>, AllocError>
     ensures faults { IfOk result (λ list. AreFaults (table_view document.now) (faults_of list.items)) }
     ensures first { (bytes : List ℕ) → document_of bytes ≡ Ok (table_view document.now)
         → IfOk result (λ list.
         first_fault (faults_of list.items) ≡ file_fault bytes (table_view document.now)) }
 {
-    match entries_of(document) {
-        Some(items) => sheet_faults(alloc, items),
-        None => machine_faults(alloc, document),
+    if is_machine_file(document) {
+        machine_faults(alloc, document)
+    } else {
+        find_sheet_faults(alloc, document)
     }
 }

@@ -1,14 +1,15 @@
 //! The first line of words, and the words for a place in a file.
 ghost use Rattle.std.specs.Prelude.{◌≡◌, ◌++◌, OnOk};
 ghost use Rattle.std.specs.String.{string_bytes};
-ghost use Rattle.kd_findings.specs.Texts.{IsInOneLine, entry_words, titled};
+ghost use Rattle.kd_findings.specs.Texts.{EndsAtFeed, IsInOneLine, entry_words, item_words, titled};
 
 use itoa::Buffer;
 use std::alloc::AllocError;
 
 /// `words` up to the first line feed.
 pub fn first_line(words: &str) -> &str
-    ensures { IsInOneLine result.now }
+    ensures plain { IsInOneLine result.now }
+    ensures first { EndsAtFeed words.now result.now }
 {
     match words.split_once('\n') {
         Some((line, _)) => line,
@@ -24,6 +25,16 @@ pub fn push_titled(text: &mut String, title: &str, number: usize) -> Result<(), 
     let mut buffer = Buffer::new();
     text.push_str(title)?;
     text.push_str(buffer.format(number))
+}
+
+/// Appends the number of an item, if it has to be told.
+pub fn push_item(text: &mut String, item: Option<usize>) -> Result<(), AllocError>
+    ensures { OnOk result (string_bytes text.new ≡ string_bytes text.old ++ item_words item) }
+{
+    match item {
+        Some(number) => push_titled(text, " ", number),
+        None => Ok(()),
+    }
 }
 
 /// Appends the day of an entry; for an entry whose day can't be read, the entry's number.

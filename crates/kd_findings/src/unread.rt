@@ -2,9 +2,9 @@
 ghost use Rattle.std.specs.Prelude.{◌≡◌, ◌++◌, IfOk, OnOk, map};
 ghost use Rattle.toml.specs.View.{table_view, view};
 ghost use Rattle.kd_findings.specs.Unread.{day_keys, file_keys, unread_in, unread_in_entries, unread_in_entry};
-ghost use Rattle.kd_findings.specs.Unread.{unread_keys, unread_of};
+ghost use Rattle.kd_findings.specs.Unread.{top_keys, unread_keys, unread_of};
 
-use crate::judging::entries_of;
+use crate::judging::{entries_of, is_machine_file};
 use crate::key_names::{is_known, is_near, meant_key};
 use kd_sheet::Key;
 use kd_sheet::by_key::{model_in, number_at};
@@ -41,6 +41,36 @@ static ANY_FILE: [Key; 12] = [
     Key::Letters,
     Key::Pins,
     Key::Bars,
+];
+
+/// The keys of machine files and of entries.
+static ANY_KEY: [Key; 26] = [
+    Key::Version,
+    Key::Model,
+    Key::Reflector,
+    Key::Slots,
+    Key::Rings,
+    Key::Letters,
+    Key::Cables,
+    Key::Version,
+    Key::Model,
+    Key::Letters,
+    Key::Pins,
+    Key::Bars,
+    Key::Day,
+    Key::Model,
+    Key::Reflector,
+    Key::Wheels,
+    Key::Rings,
+    Key::Window,
+    Key::Plugs,
+    Key::Groups,
+    Key::Day,
+    Key::Model,
+    Key::Rows,
+    Key::Pins,
+    Key::Window,
+    Key::List,
 ];
 
 static SHEET: [Key; 1] = [Key::Day];
@@ -138,6 +168,17 @@ fn day_keys(model: Option<Model>) -> &'static [Key]
     }
 }
 
+/// The keys that are known in a document without the array `day`.
+fn top_keys(document: &Table) -> &'static [Key]
+    ensures { result.now ≡ top_keys (table_view document.now) }
+{
+    if is_machine_file(document) {
+        file_keys(model_in(document).ok())
+    } else {
+        &ANY_KEY
+    }
+}
+
 /// Appends the keys of `table` other than `keys`.
 #[tactic(auto, unfolding(crate::specs::Unread::unread_in))]
 fn push_unread<'t>(
@@ -196,7 +237,7 @@ fn push_entries<'t>(list: &mut Vec<Unread<'t>>, items: &'t [Value]) -> Result<()
     Ok(())
 }
 
-/// Finds the keys of a document that nobody reads: of a key sheet if it has the array `day`, else of a machine file.
+/// Finds the keys of a document that nobody reads.
 #[tactic(auto, using(std::proofs::Common::append_assoc), unfolding(crate::specs::Unread::unread_keys))]
 pub fn unread_keys(alloc: Global, document: &Table) -> Result<Vec<Unread<'_>>, AllocError>
     ensures { IfOk result (λ list. unread_of list.items ≡ unread_keys (table_view document.now)) }
@@ -208,8 +249,7 @@ pub fn unread_keys(alloc: Global, document: &Table) -> Result<Vec<Unread<'_>>, A
             push_entries(&mut list, items)?;
         }
         None => {
-            let keys = file_keys(model_in(document).ok());
-            push_unread(&mut list, None, None, keys, document)?;
+            push_unread(&mut list, None, None, top_keys(document), document)?;
         }
     }
     Ok(list)

@@ -8,7 +8,7 @@ ghost use Rattle.kd_findings.specs.Unread.{unread_key, unread_of};
 ghost use Rattle.kd_findings.specs.Warnings.{AreWarnings, TellsUnread, cable_line, cable_lines, is_capital};
 ghost use Rattle.kd_findings.specs.Warnings.{order_line, order_lines, unread_line, warning_start};
 
-use crate::judging::{entries_of, items_at};
+use crate::judging::{is_machine_file, items_at};
 use crate::texts::{first_line, push_entry};
 use crate::unread::{Meant, Unread, unread_keys};
 use kd_sheet::Key;
@@ -163,7 +163,7 @@ fn push_orders(lines: &mut String, name: &str, document: &Table) -> Result<(), A
     ensures { OnOk result (string_bytes lines.new
         ≡ string_bytes lines.old ++ order_lines name.now (table_view document.now)) }
 {
-    if entries_of(document).is_some() {
+    if !is_machine_file(document) {
         return Ok(());
     }
     match model_in(document) {

@@ -1,6 +1,6 @@
 -- Warnings of days, one after another.
 use Rattle.std.proofs.Common.{◌≡◌, ℕ, List, [], ◌∷◌, ◌++◌, refl, subst, sym}
-use Rattle.kd_findings.specs.Texts.{ArePieces, IsInOneLine}
+use Rattle.kd_findings.specs.Texts.{IsInOneLine}
 use Rattle.kd_findings.proofs.Appending.{ArePieces-more}
 use Rattle.kd_look.specs.Warnings.{IsDayLine, WarnsOfDays, day_line}
 

@@ -1,10 +1,9 @@
 -- The lines of a file's faults.
-use Rattle.std.proofs.Common.{◌≡◌, ℕ, List, [], ◌∷◌, ◌++◌, Option, Some, None, Result, Ok, Err, ap, sym, ◌∙◌, subst}
+use Rattle.std.proofs.Common.{◌≡◌, ℕ, List, [], ◌∷◌, ◌++◌, Option, Some, Result, Ok, Err, ap, sym, ◌∙◌, subst}
 use Rattle.std.proofs.lemmas.List.{take_all}
-use Rattle.std.proofs.Common.{◌≤◌, ◌-◌, length, map, drop, take, get_or, arith, is_some, if◌then◌else◌}
-use Rattle.std.specs.Option.{option_map_or}
+use Rattle.std.proofs.Common.{◌≤◌, ◌-◌, Bool, true, false, length, map, drop, take, get_or, arith, if◌then◌else◌}
 use Rattle.std.specs.Result.{result_err}
-use Rattle.toml.specs.Data.{Data, Members}
+use Rattle.toml.specs.Data.{Members}
 use Rattle.kd_state.specs.SheetDay.{Day}
 use Rattle.kd_state.specs.declared.machine.parts.Parts.{Parts}
 use Rattle.kd_sheet.specs.Document.{◌>>=◌, document_of}
@@ -12,7 +11,8 @@ use Rattle.kd_sheet.specs.MachineFile.{machine_of}
 use Rattle.kd_sheet.specs.SheetFile.{sheet_of}
 use Rattle.kd_sheet.specs.declared.fault.SheetFault.{SheetFault}
 use Rattle.kd_findings.specs.Faults.{faults_of, first_fault}
-use Rattle.kd_findings.specs.SheetFaults.{AreFaults, entries_of, file_fault}
+use Rattle.kd_findings.specs.Kind.{is_machine_file}
+use Rattle.kd_findings.specs.SheetFaults.{AreFaults, file_fault}
 use Rattle.kd_findings.specs.declared.findings.Finding.{Finding}
 use Rattle.kd_findings.specs.declared.place.Place.{Place}
 use Rattle.kd_look.specs.FaultWords.{AreFaultLines, AreLinesFor, IsFaultLine, IsLineAt}
@@ -47,26 +47,26 @@ AreFaultLines-then name (head ∷ rest) (line ∷ lines) first d old middle new 
     AppendsText-then _ _ old middle new of_line
     (subst (λ list. AppendsText (AreFaultLines name bytes (faults_of list)) middle new) all (others bytes same))
 
--- a choice of what a sheet and what a machine file says, in another form, has the same fault
-of_choice : (entries : Option (List Data)) (sheet : Result (List (Option Day)) SheetFault) (machine : Result Parts SheetFault)
+-- a choice of what a machine file and what a sheet says, in another form, has the same fault
+of_choice : (choice : Bool) (sheet : Result (List (Option Day)) SheetFault) (machine : Result Parts SheetFault)
     (fault : SheetFault)
-    → (if is_some entries then sheet >>= (λ month. Ok (files.Sheet month))
-    else machine >>= (λ parts. Ok (files.Machine parts))) ≡ Err fault
-    → option_map_or (λ items. result_err sheet) entries (result_err machine) ≡ Some fault
-of_choice None sheet (Ok machine) fault is = ap result_err is
-of_choice None sheet (Err wrong) fault is = ap result_err is
-of_choice (Some items) (Ok sheet) machine fault is = ap result_err is
-of_choice (Some items) (Err wrong) machine fault is = ap result_err is
+    → (if choice then machine >>= (λ parts. Ok (files.Machine parts))
+    else sheet >>= (λ month. Ok (files.Sheet month))) ≡ Err fault
+    → (if choice then result_err machine else result_err sheet) ≡ Some fault
+of_choice true sheet (Ok machine) fault is = ap result_err is
+of_choice true sheet (Err wrong) fault is = ap result_err is
+of_choice false (Ok sheet) machine fault is = ap result_err is
+of_choice false (Err wrong) machine fault is = ap result_err is
 
 -- the fault of a file that is a document
 file_fault-is : (bytes : List ℕ) (document : Members) (fault : SheetFault) → document_of bytes ≡ Ok document
     → file_of bytes ≡ Err fault → file_fault bytes document ≡ Some fault
 unfolding file_of
 file_fault-is bytes document fault parsed is =
-    let next : Members → Result File SheetFault = λ table. if is_some (entries_of table)
-    then sheet_of bytes >>= (λ month. Ok (files.Sheet month))
-    else machine_of bytes >>= (λ parts. Ok (files.Machine parts)) in
-    of_choice (entries_of document) (sheet_of bytes) (machine_of bytes) fault
+    let next : Members → Result File SheetFault = λ table. if is_machine_file table
+    then machine_of bytes >>= (λ parts. Ok (files.Machine parts))
+    else sheet_of bytes >>= (λ month. Ok (files.Sheet month)) in
+    of_choice (is_machine_file document) (sheet_of bytes) (machine_of bytes) fault
     (subst (λ answer. (answer >>= next) ≡ Err fault) parsed is)
 
 -- the lines of all faults of a document are the lines for the file

@@ -1,15 +1,18 @@
 -- The lines of findings, found line by line.
 use Rattle.std.proofs.Common.{◌≡◌, ℕ, suc, zero, ◌+◌, Bool, true, false, List, [], ◌∷◌, map, Option, Some, None, find}
 use Rattle.std.proofs.Common.{option_map, take, length, cond, arith, ap, sym, ◌∙◌, subst, refl, if◌then◌else◌}
+use Rattle.std.proofs.Common.{◌↔◌, IsTrue, String, Global, not}
 use Rattle.std.specs.List.{range_with_len}
 use Rattle.std.specs.Option.{option_and_then, option_map_or}
 use Rattle.std.specs.Result.{result_ok}
 use Rattle.toml.specs.Data.{Members}
+use Rattle.toml.specs.View.{members_view}
+use Rattle.toml.specs.declared.value.Value.{Value}
 use Rattle.kd_sheet.specs.Document.{document_of}
 use Rattle.kd_findings.specs.declared.findings.Finding.{Finding}
 use Rattle.kd_findings.specs.NotToml.{line_at}
 use Rattle.kd_look.specs.Line.{ends_line, is_too_long, line_before, line_in_text, line_number, line_of}
-use Rattle.kd_look.specs.Line.{or_line, sought_for}
+use Rattle.kd_look.specs.Line.{has_any_key, or_line, sought_for}
 use Rattle.kd_look.specs.declared.line.Sought.{Sought}
 unfoldable use Rattle.kd_look.specs.Line.{has_value, has_value_at, line_in, line_of_fault, line_so_far}
 
@@ -146,3 +149,13 @@ pub line_of-short : (text : List ℕ) (finding : Finding) → is_too_long text �
     → line_of text finding ≡ line_so_far text (length text) finding
 unfolding line_of_fault line_so_far
 line_of-short text finding short = all_sought text (sought_for finding.place finding.fault) short
+
+-- ---- any key
+
+-- a table that isn't empty has a key
+pub has_any_key-counts : (entries : List (String Global × Value)) (empty : Bool) → IsTrue empty ↔ (length entries ≡ 0)
+    → not empty ≡ has_any_key (members_view entries)
+has_any_key-counts [] true same = refl
+has_any_key-counts [] false same = grind (arith, same)
+has_any_key-counts (first ∷ rest) true same = absurd (omega (arith, same.0 refl))
+has_any_key-counts (first ∷ rest) false same = refl

@@ -1,4 +1,5 @@
--- The line of a value: the first line of the file up to whose end the text is a document that has the value.
+-- The line of a value: the first line of the file up to whose end the text is a document that has the value. A file in
+-- which no line `[[day]]` and nothing of a machine file stands has the line of its first key.
 -- Code: the document is parsed up to the end of each line in turn, once for all faults.
 -- Test: tests/cases/curator-look.toml
 use Rattle.std.specs.Prelude.{ℕ, ◌+◌, ◌==◌, ◌||◌, ◌&&◌, nat_lt, Bool, true, false, List, find, length, take, count_by}
@@ -6,18 +7,19 @@ use Rattle.std.specs.Prelude.{slice_index, Option, Some, None, is_some, option_m
 use Rattle.std.specs.List.{range_with_len}
 use Rattle.std.specs.Option.{option_and_then, option_map_or}
 use Rattle.std.specs.Result.{result_ok}
-use Rattle.toml.specs.Data.{Data, Members, get_member, as_table}
+use Rattle.toml.specs.Data.{Data, Members, member, no_members, as_table}
 use Rattle.kd_state.specs.SameParts.{numbered_item}
 use Rattle.kd_sheet.specs.Document.{document_of}
-use Rattle.kd_sheet.specs.Key.{key_name}
 use Rattle.kd_sheet.specs.declared.key.Key.{Key}
+use Rattle.kd_sheet.specs.declared.key.Key.TheVariants as keys
 use Rattle.kd_sheet.specs.declared.fault.SheetFault.{SheetFault}
 use Rattle.kd_sheet.specs.declared.fault.SheetFault.TheVariants.{Missing}
 use Rattle.kd_findings.specs.NotToml.{line_at}
-use Rattle.kd_findings.specs.SheetFaults.{entries_of}
+use Rattle.kd_findings.specs.Kind.{entries_of, is_given}
 use Rattle.kd_findings.specs.declared.findings.Finding.{Finding}
 use Rattle.kd_findings.specs.declared.place.Place.{Place}
 use Rattle.kd_look.specs.declared.line.Sought.{Sought}
+use Rattle.kd_look.specs.declared.line.Sought.TheVariants as soughts
 
 -- entry `entry` of `items`, counted from 1, if it is a table
 abbrev pub entry_of : List Data → ℕ → Option Members
@@ -28,16 +30,18 @@ unfoldable pub table_at : Members → Option ℕ → Option Members
 table_at document None = Some document
 table_at document (Some entry) = option_and_then (λ items. entry_of items entry) (entries_of document)
 
--- whether the table has the key; without a key, that there is a table suffices
-abbrev pub has_key : Option Key → Members → Bool
-has_key None table = true
-has_key (Some key) table = is_some (get_member (key_name key) table)
+-- whether the document has any key
+abbrev pub has_any_key : Members → Bool
+has_any_key no_members = false
+has_any_key (member name value rest) = true
 
--- whether the document has the entry and the key
+-- whether the document has what is sought: an entry, a key in the document or in an entry, or any key
 unfoldable pub has_value : Sought → Members → Bool
-has_value sought document = option_map_or (has_key sought.key) (table_at document sought.entry) false
+has_value (soughts.Entry entry) document = is_some (table_at document (Some entry))
+has_value (soughts.Key entry key) document = option_map_or (is_given key) (table_at document entry) false
+has_value soughts.AnyKey document = has_any_key document
 
--- whether the text is a document that has the entry and the key
+-- whether the text is a document that has what is sought
 abbrev pub reads_value : Sought → List ℕ → Bool
 reads_value sought text = option_map_or (has_value sought) (result_ok (document_of text)) false
 
@@ -45,11 +49,11 @@ reads_value sought text = option_map_or (has_value sought) (result_ok (document_
 abbrev pub ends_line : List ℕ → ℕ → Bool
 ends_line text index = slice_index text index == 10 || index + 1 == length text
 
--- whether a line ends after the byte at `index`, and the text up to there has the entry and the key
+-- whether a line ends after the byte at `index`, and the text up to there has what is sought
 unfoldable pub has_value_at : List ℕ → Sought → ℕ → Bool
 has_value_at text sought index = ends_line text index && reads_value sought (take (index + 1) text)
 
--- the number of the first of the lines before the byte at `end` up to whose end the text has the entry and the key
+-- the number of the first of the lines before the byte at `end` up to whose end the text has what is sought
 abbrev pub line_before : List ℕ → ℕ → Sought → Option ℕ
 line_before text end sought = option_map (line_at text) (find (has_value_at text sought) (range_with_len 0 end))
 
@@ -57,14 +61,20 @@ line_before text end sought = option_map (line_at text) (find (has_value_at text
 abbrev pub is_too_long : List ℕ → Bool
 is_too_long text = nat_lt 65536 (length text) || nat_lt 2048 (count_by (λ byte. byte == 10) text)
 
--- the number of the first line up to whose end the text has the entry and the key; none if lines aren't sought
+-- the number of the first line up to whose end the text has what is sought; none if lines aren't sought
 abbrev pub line_number : List ℕ → Sought → Option ℕ
 line_number text sought = if is_too_long text then None else line_before text (length text) sought
 
--- what is sought for a fault: its key; for a missing key, the entry that lacks the key
+-- what is sought for a missing key: the entry that lacks it; for `day`, which no entry lacks, the file's first key
+abbrev pub sought_without : Option ℕ → Key → Option Sought
+sought_without (Some entry) key = Some (soughts.Entry entry)
+sought_without None keys.Day = Some soughts.AnyKey
+sought_without None key = None
+
+-- what is sought for a fault
 abbrev pub sought_for : Place → SheetFault → Option Sought
-sought_for place (Missing key) = option_map (λ entry. record { entry = Some entry; key = None }) place.entry
-sought_for place fault = Some (record { entry = place.entry; key = Some place.key })
+sought_for place (Missing key) = sought_without place.entry key
+sought_for place fault = Some (soughts.Key place.entry place.key)
 
 -- the line of a fault
 unfoldable pub line_of_fault : List ℕ → Place → SheetFault → Option ℕ

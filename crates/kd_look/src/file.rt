@@ -2,7 +2,7 @@
 ghost use Rattle.kd_tables.specs.Answers.{AgreesOrNoMemory};
 ghost use Rattle.kd_look.specs.File.{file_of};
 
-use kd_findings::entries_of;
+use kd_findings::is_machine_file;
 use kd_sheet::by_key::parse_table;
 use kd_sheet::{Sheet, SheetFault, read_machine, read_sheet};
 use kd_state::Machine;
@@ -15,15 +15,15 @@ pub enum File {
     Sheet(Sheet),
 }
 
-/// Reads a file: as a key sheet if it has the array `day`, otherwise as a machine file.
+/// Reads a machine file or a key sheet.
 #[tactic(auto, unfolding(crate::specs::File::file_of))]
 pub fn read_file(alloc: Global, bytes: &[u8]) -> Result<File, SheetFault>
     ensures { AgreesOrNoMemory SheetFault.NoMemory (file_of bytes.now) result }
 {
     let document = parse_table(alloc, bytes)?;
-    if entries_of(&document).is_some() {
-        Ok(File::Sheet(read_sheet(alloc, bytes)?))
-    } else {
+    if is_machine_file(&document) {
         Ok(File::Machine(read_machine(alloc, bytes)?))
+    } else {
+        Ok(File::Sheet(read_sheet(alloc, bytes)?))
     }
 }

@@ -1,10 +1,12 @@
 //! Finds the line of a value in a file.
-ghost use Rattle.std.specs.Prelude.{◌≡◌, ◌+◌, ◌<◌, ℕ, Option, None, IfOk, length, map, option_map};
+ghost use Rattle.std.specs.Prelude.{◌≡◌, ◌+◌, ◌<◌, ℕ, Option, None, IfOk, false, length, map, option_map};
+ghost use Rattle.std.specs.Option.{option_map_or};
 ghost use Rattle.toml.specs.View.{table_view, view};
 ghost use Rattle.kd_findings.specs.declared.findings.Finding.{Finding};
 ghost use Rattle.kd_findings.specs.NotToml.{line_at};
-ghost use Rattle.kd_look.specs.Line.{ends_line, entry_of, table_at, has_key, has_value, is_too_long, line_in};
-ghost use Rattle.kd_look.specs.Line.{line_in_text, line_of, line_so_far, or_line, sought_for};
+ghost use Rattle.kd_findings.specs.Kind.{is_given};
+ghost use Rattle.kd_look.specs.Line.{ends_line, entry_of, table_at, has_any_key, has_value, is_too_long};
+ghost use Rattle.kd_look.specs.Line.{line_in, line_in_text, line_of, line_so_far, or_line, sought_for, sought_without};
 
 use kd_findings::{Finding, Place, entries_of};
 use kd_sheet::by_key::{find_at, parse_table};
@@ -18,13 +20,15 @@ const MOST_BYTES: usize = 65_536;
 /// The most line ends of a file in which lines are sought: the file is parsed up to each of them.
 const MOST_LINES: usize = 2_048;
 
-/// Where a value is sought.
+/// What is sought in a document.
 #[derive(Clone, Copy)]
-struct Sought {
-    /// The number of an entry of a key sheet, counted from 1; `None` for the document itself.
-    entry: Option<usize>,
-    /// The key; `None` if that the entry is there suffices.
-    key: Option<Key>,
+enum Sought {
+    /// The entry of a key sheet with this number, counted from 1.
+    Entry(usize),
+    /// A key, in the entry with this number; without a number, in the document itself.
+    Key(Option<usize>, Key),
+    /// Any key of the document.
+    AnyKey,
 }
 
 /// Entry `entry` of `items`, counted from 1, if it is a table.
@@ -48,41 +52,55 @@ fn table_at(document: &Table, entry: Option<usize>) -> Option<&Table>
     }
 }
 
-/// Whether the table has the key, if there is one.
-fn has_key(table: &Table, key: Option<Key>) -> bool
-    ensures { result ≡ has_key key (table_view table.now) }
+/// Whether `document` has any key.
+fn has_any_key(document: &Table) -> bool
+    ensures { result ≡ has_any_key (table_view document.now) }
 {
-    match key {
-        Some(key) => find_at(table, key).is_some(),
-        None => true,
-    }
+    !document.is_empty()
 }
 
-/// Whether `document` has the entry and the key.
-#[tactic(auto, unfolding(crate::specs::Line::has_value))]
-fn has_value(document: &Table, sought: Sought) -> bool
-    ensures { result ≡ has_value sought (table_view document.now) }
+/// Whether the document, or the entry with this number, has `key`.
+fn has_key(document: &Table, entry: Option<usize>, key: Key) -> bool
+    ensures { result
+        ≡ option_map_or (is_given key) (table_at (table_view document.now) entry) false }
 {
-    match table_at(document, sought.entry) {
-        Some(table) => has_key(table, sought.key),
+    match table_at(document, entry) {
+        Some(table) => find_at(table, key).is_some(),
         None => false,
     }
 }
 
-/// What is sought for `finding`: its key; for a missing key, the entry that lacks the key.
+/// Whether `document` has what is sought.
+#[tactic(auto, unfolding(crate::specs::Line::has_value))]
+fn has_value(document: &Table, sought: Sought) -> bool
+    ensures { result ≡ has_value sought (table_view document.now) }
+{
+    match sought {
+        Sought::Entry(entry) => table_at(document, Some(entry)).is_some(),
+        Sought::Key(entry, key) => has_key(document, entry, key),
+        Sought::AnyKey => has_any_key(document),
+    }
+}
+
+/// What is sought for a missing key: the entry that lacks it; for `day`, which no entry lacks, the file's first key.
+fn sought_without(entry: Option<usize>, key: Key) -> Option<Sought>
+    ensures { result ≡ sought_without entry key }
+{
+    match (entry, key) {
+        (Some(entry), _) => Some(Sought::Entry(entry)),
+        (None, Key::Day) => Some(Sought::AnyKey),
+        (None, _) => None,
+    }
+}
+
+/// What is sought for `finding`.
 fn sought_for(finding: &Finding) -> Option<Sought>
     ensures { result ≡ sought_for finding.now.place finding.now.fault }
 {
     let Place { entry, key, .. } = finding.place;
     match finding.fault {
-        SheetFault::Missing(_) => Some(Sought {
-            entry: Some(entry?),
-            key: None,
-        }),
-        _ => Some(Sought {
-            entry,
-            key: Some(key),
-        }),
+        SheetFault::Missing(missing) => sought_without(entry, missing),
+        _ => Some(Sought::Key(entry, key)),
     }
 }
 
@@ -221,7 +239,7 @@ fn seek_lines(
     Ok(lines)
 }
 
-/// The line of each of `findings`: the first line up to whose end `text` is a document with the entry and the key.
+/// The line of each of `findings`: the first line up to whose end `text` is a document with what is sought.
 ///
 /// `None` if the whole text isn't such a document, or is too long.
 pub fn lines_of(

@@ -5,7 +5,7 @@ use Rattle.std.proofs.lemmas.Option.{slice_get-get_or, slice_get-map}
 use Rattle.kd_state.specs.SameParts.{numbered_item}
 use Rattle.kd_tables.proofs.Failing.{err_is}
 use Rattle.kd_sheet.specs.declared.fault.SheetFault.TheVariants.{BadRow}
-use Rattle.kd_slips.specs.Items.{HasFault, HasNoItem, IsOfItem, IsOfItsRow}
+use Rattle.kd_slips.specs.Items.{HasFault, IsOfItem}
 use Rattle.kd_slips.specs.declared.slip.Slip.{Slip}
 use Rattle.kd_slips.specs.declared.slip.Slip.TheVariants as slips
 use Rattle.std.proofs.lemmas.Bool.{cases_lt}
@@ -55,18 +55,6 @@ pub of_row : (number told : ℕ) (slip : Slip) → told ≡ number → HasFault 
     → HasFault (BadRow number) (Some number) slip
 of_row number told (slips.Fault found item words) same is = (is.0, is.1 ∙ ap Some same)
 of_row number told slips.NoMemory same is = tt
-
-pub row-of_fault : (number : ℕ) (slip : Slip) → HasFault (BadRow number) (Some number) slip → IsOfItsRow slip
-row-of_fault number (slips.Fault found item words) is = rw (is.0, is.1) refl
-row-of_fault number slips.NoMemory is = tt
-
-pub row-of_none : (slip : Slip) → HasNoItem slip → IsOfItsRow slip
-row-of_none (slips.Fault found item words) is = rw (is.0, is.1) refl
-row-of_none slips.NoMemory is = tt
-
-pub item-of_none : (told : Option ℕ) (slip : Slip) → told ≡ None → HasNoItem slip → IsOfItem told slip
-item-of_none told (slips.Fault found item words) none is = is.0 ∙ sym none
-item-of_none told slips.NoMemory none is = tt
 
 pub item-same : (told other : Option ℕ) (slip : Slip) → other ≡ told → IsOfItem told slip → IsOfItem other slip
 item-same told other (slips.Fault found item words) same is = is ∙ sym same

@@ -11,7 +11,8 @@ use Rattle.kd_sheet.specs.Document.{as_items, from_text}
 use Rattle.kd_sheet.specs.Key.{key_name}
 use Rattle.kd_sheet.specs.PinWheels.{pins_of_text}
 use Rattle.kd_sheet.specs.declared.fault.SheetFault.{SheetFault}
-use Rattle.kd_sheet.specs.declared.fault.SheetFault.TheVariants.{BadRow}
+use Rattle.kd_sheet.specs.declared.fault.SheetFault.TheVariants.{BadRow, BadValue, Missing}
+use Rattle.kd_sheet.specs.declared.key.Key.{Key}
 use Rattle.kd_sheet.specs.declared.key.Key.TheVariants as keys
 use Rattle.kd_slips.specs.declared.slip.Slip.{Slip}
 use Rattle.kd_slips.specs.declared.slip.Slip.TheVariants as slips
@@ -36,10 +37,9 @@ abbrev pub IsOfItsRow : Slip → Type 0
 IsOfItsRow (slips.Fault found told words) = told ≡ row_in found
 IsOfItsRow slips.NoMemory = Unit {0}
 
--- The words of the slip speak of no item, and its fault has no number of a row; or memory ran out.
-abbrev pub HasNoItem : Slip → Type 0
-HasNoItem (slips.Fault found told words) = (told ≡ None) × (row_in found ≡ None)
-HasNoItem slips.NoMemory = Unit {0}
+-- the fault at a key whose value has another type, or isn't there
+abbrev pub type_fault : Key → Option Data → SheetFault
+type_fault key value = if is_some value then BadValue key else Missing key
 
 -- the number of the first of the items that isn't read; `reads` says of a number and its item whether the item is read
 abbrev pub first_refused : (ℕ → Data → Bool) → List Data → Option ℕ

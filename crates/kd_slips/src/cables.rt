@@ -1,4 +1,7 @@
 //! Refuses cables, pairs and groups that don't have the right letters.
+ghost use Rattle.std.specs.Prelude.{IfErr, None};
+ghost use Rattle.kd_sheet.specs.declared.fault.SheetFault.TheVariants.{LetterTwice};
+ghost use Rattle.kd_slips.specs.Items.{HasFault};
 
 use crate::letters::{check_capitals, check_text};
 use crate::slip::{Slip, refuse};
@@ -9,7 +12,9 @@ use std::alloc::Global;
 use toml::{Table, Value};
 
 /// Refuses a letter that stands twice in `text`.
-fn check_twice_within(alloc: Global, text: &str) -> Result<(), Slip> {
+fn check_twice_within(alloc: Global, text: &str) -> Result<(), Slip>
+    ensures { IfErr result (HasFault LetterTwice None) }
+{
     if let [one, other] = text.as_bytes()
         && one == other
     {
@@ -22,7 +27,9 @@ fn check_twice_within(alloc: Global, text: &str) -> Result<(), Slip> {
 }
 
 /// Refuses the letter `byte` of the cable `text`, if the cable `earlier` has it, too.
-fn check_apart(alloc: Global, earlier: &str, text: &str, byte: u8) -> Result<(), Slip> {
+fn check_apart(alloc: Global, earlier: &str, text: &str, byte: u8) -> Result<(), Slip>
+    ensures { IfErr result (HasFault LetterTwice None) }
+{
     if !earlier.as_bytes().contains(&byte) {
         return Ok(());
     }
@@ -36,7 +43,9 @@ fn check_apart(alloc: Global, earlier: &str, text: &str, byte: u8) -> Result<(),
 }
 
 /// Refuses the cable `text` at place `place` of `items`, if it shares a letter with an earlier item.
-fn check_new(alloc: Global, items: &[Value], place: usize, text: &str) -> Result<(), Slip> {
+fn check_new(alloc: Global, items: &[Value], place: usize, text: &str) -> Result<(), Slip>
+    ensures { IfErr result (HasFault LetterTwice None) }
+{
     check_twice_within(alloc, text)?;
     for earlier in items.iter().take(place) {
         if let Some(before) = earlier.as_str() {
@@ -71,7 +80,9 @@ fn check_ends(
     text: &str,
     fault: SheetFault,
     count: Option<usize>,
-) -> Result<(), Slip> {
+) -> Result<(), Slip>
+    ensures { IfErr result (HasFault fault None) }
+{
     if let Some(count) = count {
         return check_text(alloc, text, fault, count, ", one for each end of a cable");
     }

@@ -1,4 +1,6 @@
 //! Refuses texts that don't have the right capital letters.
+ghost use Rattle.std.specs.Prelude.{◌≡◌, length, IfErr, None, OnOk};
+ghost use Rattle.kd_slips.specs.Items.{HasFault};
 
 use crate::slip::{Slip, refuse};
 use crate::values::{shown, text_at};
@@ -20,7 +22,9 @@ pub fn in_capitals(alloc: Global, text: &str) -> Result<String, AllocError> {
 }
 
 /// Refuses a text with a byte that is no capital letter.
-pub fn check_capitals(alloc: Global, text: &str, fault: SheetFault) -> Result<(), Slip> {
+pub fn check_capitals(alloc: Global, text: &str, fault: SheetFault) -> Result<(), Slip>
+    ensures { IfErr result (HasFault fault None) }
+{
     let bytes = text.as_bytes();
     if bytes.iter().all(|byte| byte.is_ascii_uppercase()) {
         return Ok(());
@@ -65,7 +69,10 @@ pub fn check_text(
     fault: SheetFault,
     count: usize,
     of: &str,
-) -> Result<(), Slip> {
+) -> Result<(), Slip>
+    ensures count { OnOk result (length text.now ≡ count) }
+    ensures slip { IfErr result (HasFault fault None) }
+{
     check_capitals(alloc, text, fault)?;
     if text.len() == count {
         return Ok(());
@@ -100,7 +107,9 @@ pub fn check_on_wheel(
     wheel: u8,
     letter: Letter,
     fault: SheetFault,
-) -> Result<(), Slip> {
+) -> Result<(), Slip>
+    ensures { IfErr result (HasFault fault None) }
+{
     if place_on_wheel(wheel, letter).is_some() {
         return Ok(());
     }

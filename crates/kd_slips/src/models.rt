@@ -1,4 +1,8 @@
 //! Refuses models, reflectors and wheels that the desk doesn't know, or that don't fit together.
+ghost use Rattle.std.specs.Prelude.{IfErr, IsErr, None};
+ghost use Rattle.kd_sheet.specs.declared.fault.SheetFault.TheVariants.{BadValue, UnknownModel, WheelNotAllowed};
+ghost use Rattle.kd_sheet.specs.declared.fault.SheetFault.TheVariants.{WheelTwice};
+ghost use Rattle.kd_slips.specs.Items.{HasFault};
 
 use crate::letters::in_capitals;
 use crate::slip::{Slip, refuse};
@@ -48,7 +52,10 @@ fn reflector_words(model: Model) -> &'static str {
 }
 
 /// Refuses `name`, which is `right` but for capital and small letters.
-fn refuse_case<T>(alloc: Global, fault: SheetFault, name: &str, right: &str) -> Result<T, Slip> {
+fn refuse_case<T>(alloc: Global, fault: SheetFault, name: &str, right: &str) -> Result<T, Slip>
+    ensures refused { IsErr result }
+    ensures slip { IfErr result (HasFault fault None) }
+{
     refuse(
         fault,
         format!(in alloc; "capital and small letters: write `{right}` for `{name}`"),
@@ -86,7 +93,10 @@ fn near_wheel(name: &str) -> Option<Wheel> {
 }
 
 /// Refuses a text that names no model.
-fn unknown_model(alloc: Global, name: &str) -> Result<Model, Slip> {
+fn unknown_model(alloc: Global, name: &str) -> Result<Model, Slip>
+    ensures refused { IsErr result }
+    ensures slip { IfErr result (HasFault UnknownModel None) }
+{
     let fault = SheetFault::UnknownModel;
     if let Some(model) = near_model(name) {
         return refuse_case(alloc, fault, name, model.text().as_str());
@@ -141,7 +151,10 @@ pub fn check_reflector(alloc: Global, table: &Table, model: Model) -> Result<(),
 }
 
 /// Refuses a text that names no wheel.
-fn unknown_wheel(alloc: Global, name: &str, key: Key, model: Model) -> Result<Wheel, Slip> {
+fn unknown_wheel(alloc: Global, name: &str, key: Key, model: Model) -> Result<Wheel, Slip>
+    ensures refused { IsErr result }
+    ensures slip { IfErr result (HasFault (BadValue key) None) }
+{
     let fault = SheetFault::BadValue(key);
     if let Some(wheel) = near_wheel(name) {
         return refuse_case(alloc, fault, name, wheel.text().as_str());
@@ -159,7 +172,9 @@ fn unknown_wheel(alloc: Global, name: &str, key: Key, model: Model) -> Result<Wh
 }
 
 /// Refuses a wheel that the model doesn't allow in slot `slot`.
-fn check_allowed(alloc: Global, model: Model, slot: u8, wheel: Wheel) -> Result<(), Slip> {
+fn check_allowed(alloc: Global, model: Model, slot: u8, wheel: Wheel) -> Result<(), Slip>
+    ensures { IfErr result (HasFault WheelNotAllowed None) }
+{
     if allowed(model, slot, wheel) {
         return Ok(());
     }
@@ -187,7 +202,9 @@ fn check_allowed(alloc: Global, model: Model, slot: u8, wheel: Wheel) -> Result<
 }
 
 /// Refuses the wheel named `name` in slot `slot`, if an earlier slot has it, too.
-fn check_first(alloc: Global, items: &[Value], slot: u8, name: &str) -> Result<(), Slip> {
+fn check_first(alloc: Global, items: &[Value], slot: u8, name: &str) -> Result<(), Slip>
+    ensures { IfErr result (HasFault WheelTwice None) }
+{
     let mut earlier = 1;
     for item in items {
         if earlier < slot {

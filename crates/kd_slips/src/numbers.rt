@@ -1,4 +1,8 @@
 //! Refuses values that aren't the right whole numbers.
+ghost use Rattle.std.specs.Prelude.{◌≡◌, IfErr, IfOk, None, OnErr, Some};
+ghost use Rattle.toml.specs.View.{view};
+ghost use Rattle.kd_sheet.specs.Numbers.{number_up_to};
+ghost use Rattle.kd_slips.specs.Items.{HasFault};
 
 use crate::slip::{Slip, refuse};
 use crate::values::{kind_of, shown, value_at};
@@ -17,7 +21,11 @@ pub fn number_at(alloc: Global, table: &Table, key: Key, last: u8) -> Result<u8,
 }
 
 /// The whole number from 1 to `last` that `value` is, or a slip.
-pub fn number_of(alloc: Global, value: &Value, fault: SheetFault, last: u8) -> Result<u8, Slip> {
+pub fn number_of(alloc: Global, value: &Value, fault: SheetFault, last: u8) -> Result<u8, Slip>
+    ensures value { IfOk result (λ number. number_up_to last (view value.now) ≡ Some number) }
+    ensures refused { OnErr result (number_up_to last (view value.now) ≡ None) }
+    ensures slip { IfErr result (HasFault fault None) }
+{
     if let Some(text) = value.as_str() {
         let text_shown = shown(alloc, text)?;
         return refuse(

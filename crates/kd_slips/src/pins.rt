@@ -1,14 +1,17 @@
 //! Refuses pins, bars and rows that a Converter M-209 can't have.
-ghost use Rattle.std.specs.Prelude.{◌≡◌, ◌≤◌, length, map, IfErr, IsErr, None, OnOk, Some};
+ghost use Rattle.std.specs.Prelude.{◌≡◌, ◌≤◌, ℕ, length, map, Err, IfErr, IsErr, IsOk, None, OnOk, Some};
 ghost use Rattle.toml.specs.View.{table_view, view};
 ghost use Rattle.kd_slips.specs.Items.{HasFault, IsOfItem, IsOfItsRow, first_refused, reads_pins, refused_pins};
-ghost use Rattle.kd_sheet.specs.declared.fault.SheetFault.TheVariants.{BadRow};
+ghost use Rattle.kd_sheet.specs.Bars.{bars_in, rows_in};
+ghost use Rattle.kd_sheet.specs.declared.fault.SheetFault.TheVariants.{BadRow, BadValue};
+ghost use Rattle.kd_sheet.specs.declared.key.Key.TheVariants as keys;
 
 use crate::letters::{check_capitals, check_on_wheel};
 use crate::slip::{Slip, refuse, refuse_item};
 use crate::values::{check_count, item_text, items_at, shown};
+use kd_sheet::by_key::{bars_in, find_at, rows_in};
 use kd_sheet::{Key, SheetFault, pins_of_text};
-use kd_tables::{Letter, Standing, ring1, ring2, ring3, ring4, ring5, ring6};
+use kd_tables::{Letter, ring1, ring2, ring3, ring4, ring5, ring6};
 use std::alloc::Global;
 use toml::{Table, Value};
 
@@ -32,7 +35,9 @@ fn at_item(alloc: Global, checked: Result<(), Slip>, item: usize) -> Result<(), 
 }
 
 /// Refuses the pins of pin wheel `wheel` that `text` names, unless each letter is on the wheel, and none comes twice.
-fn check_wheel_pins(alloc: Global, wheel: u8, text: &str) -> Result<(), Slip> {
+fn check_wheel_pins(alloc: Global, wheel: u8, text: &str) -> Result<(), Slip>
+    ensures { IfErr result (HasFault (BadValue keys.Pins) None) }
+{
     let fault = SheetFault::BadValue(Key::Pins);
     check_capitals(alloc, text, fault)?;
     for (place, byte) in text.as_bytes().iter().enumerate() {
@@ -108,86 +113,80 @@ pub fn check_pins(alloc: Global, table: &Table) -> Result<(), Slip>
     check_pin_items(alloc, items)
 }
 
-/// Whether `text` is a row's reading: two different numbers from 0 to 6 with `-` between them, or `0-0`.
-fn is_row(text: &str) -> bool {
-    match text.as_bytes() {
-        [one, b'-', other] => {
-            (b'0'..=b'6').contains(one)
-                && (b'0'..=b'6').contains(other)
-                && (one != other || *one == b'0')
-        }
-        _ => false,
-    }
+/// Item `number` of the list at `key`, counted from 1.
+fn numbered_item(table: &Table, key: Key, number: u8) -> Option<&Value> {
+    let items = find_at(table, key)?.as_array()?;
+    items.as_slice().get(usize::from(number).checked_sub(1)?)
 }
 
-/// Refuses a bar's standing.
-fn check_standing(alloc: Global, item: &Value, number: u8) -> Result<(), Slip>
-    ensures { IfErr result (HasFault (BadRow number) (Some number)) }
+/// Refuses item `number` of the list at `key`. The words `advice` go on after the item, if it is a text.
+fn refuse_row(alloc: Global, table: &Table, key: Key, number: u8, advice: &str) -> Result<(), Slip>
+    ensures refused { IsErr result }
+    ensures slip { IfErr result (HasFault (BadRow number) (Some number)) }
 {
     let fault = SheetFault::BadRow(number);
-    let text = item_text(alloc, item, usize::from(number), fault)?;
-    if Standing::from_text(text.as_bytes()).is_some() {
-        return Ok(());
-    }
+    let place = usize::from(number);
+    let Some(item) = numbered_item(table, key, number) else {
+        return refuse_item(fault, place, String::from_str(alloc, "the item is missing"));
+    };
+    let text = item_text(alloc, item, place, fault)?;
     let text_shown = shown(alloc, text)?;
     refuse_item(
         fault,
-        usize::from(number),
-        format!(in alloc;
-            "{} is no standing: write the places of the two lugs from the left, such as `0L-3` or `1-0R`",
-            text_shown.as_str()
-        ),
+        place,
+        format!(in alloc; "{} {advice}", text_shown.as_str()),
     )
 }
 
-/// Refuses a row.
-fn check_row(alloc: Global, item: &Value, number: u8) -> Result<(), Slip>
-    ensures { IfErr result (HasFault (BadRow number) (Some number)) }
+/// Refuses the value at `key`, which is no list of an item for each bar.
+fn refuse_list(alloc: Global, table: &Table, key: Key) -> Result<(), Slip>
+    ensures refused { IsErr result }
+    ensures slip { IfErr result IsOfItsRow }
 {
-    let fault = SheetFault::BadRow(number);
-    let text = item_text(alloc, item, usize::from(number), fault)?;
-    if is_row(text) {
-        return Ok(());
-    }
-    let text_shown = shown(alloc, text)?;
-    refuse_item(
-        fault,
-        usize::from(number),
-        format!(in alloc;
-            "{} is no row: write two different numbers from 0 to 6, such as `0-3`, or `0-0`",
-            text_shown.as_str()
-        ),
+    let items = items_at(alloc, table, key)?;
+    check_count(alloc, key, items.len(), BARS, "bars")?;
+    refuse(
+        SheetFault::BadValue(key),
+        String::from_str(alloc, "the list has another form"),
     )
 }
 
-/// Refuses the standings at the key `bars`. The words speak of the bar with the number in the fault.
+/// Refuses the standings at the key `bars`. The words speak of the bar that the desk's reader refuses.
 pub fn check_bars(alloc: Global, table: &Table) -> Result<(), Slip>
-    ensures { IfErr result IsOfItsRow }
+    ensures read { OnOk result (IsOk (bars_in (table_view table.now))) }
+    ensures row { (number : ℕ) → bars_in (table_view table.now) ≡ Err (BadRow number)
+        → IfErr result (HasFault (BadRow number) (Some number)) }
+    ensures item { IfErr result IsOfItsRow }
 {
-    let items = items_at(alloc, table, Key::Bars)?;
-    check_count(alloc, Key::Bars, items.len(), BARS, "bars")?;
-    let mut number = 1;
-    for item in items {
-        check_standing(alloc, item, number)?;
-        if number < 27 {
-            number += 1;
-        }
+    match bars_in(table) {
+        Ok(_) => Ok(()),
+        Err(SheetFault::BadRow(number)) => refuse_row(
+            alloc,
+            table,
+            Key::Bars,
+            number,
+            "is no standing: write the places of the two lugs from the left, such as `0L-3` or `1-0R`",
+        ),
+        Err(_) => refuse_list(alloc, table, Key::Bars),
     }
-    Ok(())
 }
 
-/// Refuses the rows at the key `rows`. The words speak of the row with the number in the fault.
+/// Refuses the rows at the key `rows`. The words speak of the row that the desk's reader refuses.
 pub fn check_rows(alloc: Global, table: &Table) -> Result<(), Slip>
-    ensures { IfErr result IsOfItsRow }
+    ensures read { OnOk result (IsOk (rows_in (table_view table.now))) }
+    ensures row { (number : ℕ) → rows_in (table_view table.now) ≡ Err (BadRow number)
+        → IfErr result (HasFault (BadRow number) (Some number)) }
+    ensures item { IfErr result IsOfItsRow }
 {
-    let items = items_at(alloc, table, Key::Rows)?;
-    check_count(alloc, Key::Rows, items.len(), BARS, "bars")?;
-    let mut number = 1;
-    for item in items {
-        check_row(alloc, item, number)?;
-        if number < 27 {
-            number += 1;
-        }
+    match rows_in(table) {
+        Ok(_) => Ok(()),
+        Err(SheetFault::BadRow(number)) => refuse_row(
+            alloc,
+            table,
+            Key::Rows,
+            number,
+            "is no row: write two different numbers from 0 to 6, such as `0-3`, or `0-0`",
+        ),
+        Err(_) => refuse_list(alloc, table, Key::Rows),
     }
-    Ok(())
 }

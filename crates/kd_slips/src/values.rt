@@ -1,13 +1,14 @@
 //! Finds values in a table, and refuses values of another type.
-ghost use Rattle.std.specs.Prelude.{◌≡◌, ◌≢◌, map, IfErr, IfOk, None, OnErr, OnOk, Some};
+ghost use Rattle.std.specs.Prelude.{◌≡◌, ◌≢◌, ◌<◌, ◌≤◌, map, IfErr, IfOk, None, OnErr, OnOk, Some};
 ghost use Rattle.std.specs.List.{list_all};
 ghost use Rattle.std.specs.Option.{option_and_then};
 ghost use Rattle.std.specs.String.{string_bytes};
-ghost use Rattle.toml.specs.Data.{get_member};
+ghost use Rattle.toml.specs.Data.{as_str, get_member};
 ghost use Rattle.toml.specs.View.{table_view, view};
 ghost use Rattle.kd_sheet.specs.Document.{as_items};
 ghost use Rattle.kd_sheet.specs.Key.{key_name};
-ghost use Rattle.kd_slips.specs.Items.{HasFault, HasNoItem};
+ghost use Rattle.kd_sheet.specs.declared.fault.SheetFault.TheVariants.{BadValue, Missing};
+ghost use Rattle.kd_slips.specs.Items.{HasFault, type_fault};
 ghost use Rattle.kd_slips.specs.Shown.{can_be_shown, is_printed, shown_text};
 
 use crate::slip::{Slip, refuse, refuse_item};
@@ -25,7 +26,7 @@ pub fn value_at(alloc: Global, table: &Table, key: Key) -> Result<&Value, Slip>
     ensures found { IfOk result (λ value.
         get_member (key_name key) (table_view table.now) ≡ Some (view value.now)) }
     ensures missing { OnErr result (get_member (key_name key) (table_view table.now) ≡ None) }
-    ensures slip { IfErr result HasNoItem }
+    ensures slip { IfErr result (HasFault (Missing key) None) }
 {
     match find_at(table, key) {
         Some(value) => Ok(value),
@@ -50,7 +51,14 @@ pub fn kind_of(value: &Value) -> &'static str {
 }
 
 /// The text at `key`, or a slip.
-pub fn text_at(alloc: Global, table: &Table, key: Key) -> Result<&str, Slip> {
+pub fn text_at(alloc: Global, table: &Table, key: Key) -> Result<&str, Slip>
+    ensures found { IfOk result (λ text.
+        option_and_then as_str (get_member (key_name key) (table_view table.now)) ≡ Some text.now) }
+    ensures other { OnErr result
+        (option_and_then as_str (get_member (key_name key) (table_view table.now)) ≡ None) }
+    ensures slip { IfErr result
+        (HasFault (type_fault key (get_member (key_name key) (table_view table.now))) None) }
+{
     let value = value_at(alloc, table, key)?;
     match value.as_str() {
         Some(text) => Ok(text),
@@ -71,7 +79,9 @@ pub fn item_text(
     number: usize,
     fault: SheetFault,
 ) -> Result<&str, Slip>
-    ensures { IfErr result (HasFault fault (Some number)) }
+    ensures found { IfOk result (λ text. as_str (view item.now) ≡ Some text.now) }
+    ensures other { OnErr result (as_str (view item.now) ≡ None) }
+    ensures slip { IfErr result (HasFault fault (Some number)) }
 {
     match item.as_str() {
         Some(text) => Ok(text),
@@ -91,7 +101,7 @@ pub fn item_text(
 pub fn items_of(alloc: Global, value: &Value, key: Key) -> Result<&[Value], Slip>
     ensures found { IfOk result (λ items. as_items (view value.now) ≡ Some (map view items.now)) }
     ensures other { OnErr result (as_items (view value.now) ≡ None) }
-    ensures slip { IfErr result HasNoItem }
+    ensures slip { IfErr result (HasFault (BadValue key) None) }
 {
     match value.as_array() {
         Some(items) => Ok(items.as_slice()),
@@ -111,7 +121,8 @@ pub fn items_at(alloc: Global, table: &Table, key: Key) -> Result<&[Value], Slip
         option_and_then as_items (get_member (key_name key) (table_view table.now)) ≡ Some (map view items.now)) }
     ensures other { OnErr result
         (option_and_then as_items (get_member (key_name key) (table_view table.now)) ≡ None) }
-    ensures slip { IfErr result HasNoItem }
+    ensures slip { IfErr result
+        (HasFault (type_fault key (get_member (key_name key) (table_view table.now))) None) }
 {
     items_of(alloc, value_at(alloc, table, key)?, key)
 }
@@ -129,7 +140,7 @@ fn items_words(alloc: Global, len: usize) -> Result<String, AllocError> {
 pub fn check_count(alloc: Global, key: Key, len: usize, count: usize, of: &str) -> Result<(), Slip>
     ensures same { OnOk result (len ≡ count) }
     ensures other { OnErr result (len ≢ count) }
-    ensures slip { IfErr result HasNoItem }
+    ensures slip { IfErr result (HasFault (BadValue key) None) }
 {
     if len == count {
         return Ok(());
@@ -144,13 +155,11 @@ pub fn check_count(alloc: Global, key: Key, len: usize, count: usize, of: &str) 
 }
 
 /// Refuses a list of more than `most` items; `of` says of what.
-pub fn check_at_most(
-    alloc: Global,
-    key: Key,
-    len: usize,
-    most: usize,
-    of: &str,
-) -> Result<(), Slip> {
+pub fn check_at_most(alloc: Global, key: Key, len: usize, most: usize, of: &str) -> Result<(), Slip>
+    ensures few { OnOk result (len ≤ most) }
+    ensures many { OnErr result (most < len) }
+    ensures slip { IfErr result (HasFault (BadValue key) None) }
+{
     if len <= most {
         return Ok(());
     }

@@ -15,6 +15,6 @@ returns c =
     grind (arith, c.place_after-place.ensures.column, at) in
     IfOk-weaker c.place_words.result _ _ (λ words is. record {
       reason = c.first_line.result.now;
-      plain = c.first_line.ensures;
+      plain = c.first_line.ensures.plain;
       whole = is ∙ rw (line, column) refl;
     }) c.place_words.ensures

@@ -6,4 +6,4 @@ use Rattle.kd_look.proofs.day_lines.push_day_line.Goals as goal
 pub returns : goal.returns
 returns c = IfOk-weaker c.push_line.result _ _
     (λ _ added before. warns_of_more c.args.name.now c.first_line.result.now (string_bytes c.args.lines.now)
-    (string_bytes c.push_line.new.lines) c.first_line.ensures added before) c.push_line.ensures
+    (string_bytes c.push_line.new.lines) c.first_line.ensures.plain added before) c.push_line.ensures

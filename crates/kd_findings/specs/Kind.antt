@@ -1,0 +1,29 @@
+-- Which documents are machine files, and which are key sheets. Names don't count, only the keys at the top of the file.
+--
+-- * A document with the array `day` is a key sheet.
+-- * Without this array, a document with `version`, or with `model` and without `day`, is a machine file.
+-- * Any other document with `day` is a key sheet whose `day` has the wrong type, such as `[day]`.
+-- * A document with none of the keys `day`, `version` and `model` may be either: no line `[[day]]` stands in it, or no
+--   line of a machine file is left. `look` says that it can't tell which.
+--
+-- Source: `docs/FORMATS.md`. Test: tests/cases/curator-look.toml
+use Rattle.std.specs.Prelude.{◌&&◌, ◌||◌, Bool, not, is_some, List, Option}
+use Rattle.std.specs.Option.{option_and_then}
+use Rattle.toml.specs.Data.{Data, Members, get_member}
+use Rattle.kd_sheet.specs.Document.{as_items}
+use Rattle.kd_sheet.specs.Key.{key_name}
+use Rattle.kd_sheet.specs.declared.key.Key.{Key}
+use Rattle.kd_sheet.specs.declared.key.Key.TheVariants as keys
+
+-- the items of the array `day`, if the document has this array
+abbrev pub entries_of : Members → Option (List Data)
+entries_of document = option_and_then as_items (get_member (key_name keys.Day) document)
+
+-- whether the document has the key
+abbrev pub is_given : Key → Members → Bool
+is_given key document = is_some (get_member (key_name key) document)
+
+-- whether the document is a machine file
+unfoldable pub is_machine_file : Members → Bool
+is_machine_file document = not (is_some (entries_of document))
+    && (is_given keys.Version document || (is_given keys.Model document && not (is_given keys.Day document)))
