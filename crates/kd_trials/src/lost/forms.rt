@@ -2,7 +2,7 @@
 use super::places::is_text;
 use crate::form::samples::TWO_PARTS;
 use crate::machines::{PLAIN, keyed};
-use kd_lost::{DamagedPart, PartDamage, part_lines, read_damaged_form};
+use kd_lost::{DamagedPart, PartDamage, read_damaged_form};
 use std::process::Abort;
 use std::test::Fail;
 
@@ -102,11 +102,15 @@ static LINES: [(&str, &[usize]); 3] = [
 
 #[test]
 fn parts_have_their_lines(rt: HostRuntime) -> Result<(), Fail> {
+    let keyed = keyed(&rt, rt.alloc(), &PLAIN);
     for (form, due) in &LINES {
-        let lines = part_lines(rt.alloc(), form.as_bytes())
+        let parts = read_damaged_form(rt.alloc(), &keyed.1, form.as_bytes())
             .ok()
             .ok_or("memory")?;
-        assert!(&rt; lines.as_slice() == *due);
+        assert_eq!(&rt; parts.len(), due.len());
+        for (part, line) in parts.as_slice().iter().zip(*due) {
+            assert_eq!(&rt; part.line, *line);
+        }
     }
     Ok(())
 }
