@@ -10,6 +10,7 @@ pub mod KnownLetters
 pub mod WholeParts
 pub mod Forms
 pub mod Tidying
-pub mod PartLines
 pub mod ShortLines
+pub mod ShortGroups
+pub mod Counting
 pub mod WholeForms

@@ -252,7 +252,7 @@ module _ (s : Day) where
   parts_shown p (part ∷ parts) letters [] read are = absurd are
   parts_shown p (part ∷ parts) letters (one ∷ reads) (inl (fault, none)) are = let off = fault.2 in absurd (cc)
   parts_shown p (part ∷ parts) letters (one ∷ reads) (inr (read, more, is, rest, joined)) are =
-      let text = subst (λ l. IsDamagedTextAnswer s l one.text) (as_it_stands s p part read one is are.0) are.0.text in
+      let text = subst (λ l. IsDamagedTextAnswer s l one.text) (as_it_stands s p part read one is are.0) are.0.as_meant.text in
       let (shown, told, whole) = shown_whole s p part read one.text is text in
       let others = parts_shown (next_part_start p read.parts part) parts more reads rest are.1 in (
         All-cons IsReadWell one reads (shown, told, whole.group, whole.copies) others.0,

@@ -15,7 +15,7 @@ count_push : {X : Type 0} (p : X → Bool) (xs : List X) (x : X)
     → count_by p (xs ++ x ∷ []) ≡ count_by p xs + cond (p x) 1 0
 count_push p xs x = sum_by_push (λ y. cond (p y) 1 0) xs x
 
-letters_pushed : (line : List ℕ) (byte : ℕ)
+pub letters_pushed : (line : List ℕ) (byte : ℕ)
     → length (received_letters (line ++ byte ∷ []))
     ≡ length (received_letters line) + cond (is_some (received_letter byte)) 1 0
 letters_pushed line byte =

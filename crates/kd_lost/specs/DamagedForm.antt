@@ -12,12 +12,14 @@ use Rattle.kd_lost.specs.declared.damaged_text.DamagedText.{DamagedText}
 use Rattle.kd_state.specs.SheetDay.{Day}
 use Rattle.kd_lost.specs.declared.form.DamagedFormFault.{DamagedFormFault}
 use Rattle.kd_lost.specs.declared.form.DamagedFormFault.TheVariants as faults
-use Rattle.kd_lost.specs.declared.part.DamagedPart.{DamagedPart}
+use Rattle.kd_lost.specs.declared.part.{DamagedPart.{DamagedPart}, PartNumbers.{PartNumbers}}
+use Rattle.kd_lost.specs.ByCount.{IsByCount}
 use Rattle.kd_lost.specs.DamagedPart.{AreNumbersRead, IsDamagedHeading, IsDamagedTextAnswer, IsPartShown, body_of}
 use Rattle.kd_lost.specs.DamagedPart.{first_line}
 use Rattle.kd_lost.specs.HeadingLine.{is_heading_line, is_order}
 use Rattle.kd_lost.specs.Lines.{heading_line, line_breaks}
 use Rattle.kd_lost.specs.Lost.{meant_byte, received_letters}
+use Rattle.kd_lost.specs.ShortGroup.{IsFirstShortGroup}
 use Rattle.kd_lost.specs.ShortLine.{short_line}
 use Rattle.kd_lost.specs.Tidy.{respaced, tidied}
 use Rattle.kd_lost.specs.WrongSign.{IsFirstWrongSign}
@@ -66,19 +68,27 @@ pub data IsMeant (s : Day) (part meant : List ℕ) : Type 0 where
   Respaced : ((h : Heading) → ¬ (IsDamagedHeading s (first_line part) h)) → meant ≡ respaced part
       → IsMeant s part meant
 
--- `read` is what `read_damaged_part` reads of `part` as it is meant.
+-- `read` is what is read of `part` as it is meant: what `read_damaged_part` reads of it, and what it gives by the letters
+-- that came. `given` are the numbers that its heading gives as it stands.
+pub record IsReadAs (s : Day) (part : List ℕ) (read : DamagedPart) : Type 0 where
+  pub given : Option PartNumbers
+  pub given_there : AreNumbersRead s (first_line part) given
+  pub came : read.came ≡ length (received_letters (body_of part))
+  pub text : IsDamagedTextAnswer s part read.text
+  pub shown : IfOk read.text (IsPartShown s part)
+  pub by_count : IsByCount s part given read
+  pub wrong_sign : IsFirstWrongSign (body_of part) read.wrong_sign
+  pub short_line : read.short_line ≡ short_line (body_of part)
+  pub short_group : IsFirstShortGroup (body_of part) read.short_group
+  pub as_spelled : IsTrue read.as_spelled ↔ All (λ byte. meant_byte byte ≡ byte) part
+  pub is_order : read.is_order ≡ is_order part
+
+-- `read` is what is read of `part`.
 pub record IsReadOf (s : Day) (part : List ℕ) (read : DamagedPart) : Type 0 where
   pub meant : List ℕ
   pub is_meant : IsMeant s part meant
-  pub numbers : AreNumbersRead s (first_line meant) read.numbers
-  pub came : read.came ≡ length (received_letters (body_of meant))
-  pub text : IsDamagedTextAnswer s meant read.text
-  pub shown : IfOk read.text (IsPartShown s meant)
-  pub wrong_sign : IsFirstWrongSign (body_of meant) read.wrong_sign
-  pub short_line : read.short_line ≡ short_line (body_of meant)
+  pub as_meant : IsReadAs s meant read
   pub respaced : IsTrue read.respaced ↔ (meant ≢ part)
-  pub as_spelled : IsTrue read.as_spelled ↔ All (λ byte. meant_byte byte ≡ byte) meant
-  pub is_order : read.is_order ≡ is_order meant
 
 -- `read` is what is read of `part`, with its line.
 abbrev pub IsReadAt : Day → PlacedPart → DamagedPart → Type 0

@@ -7,7 +7,8 @@ pub mod DamagedPart
 pub mod Tidy
 pub mod WrongSign
 pub mod ShortLine
+pub mod ShortGroup
+pub mod ByCount
 pub mod Lines
 pub mod DamagedForm
-pub mod PartLines
 pub mod Laws

@@ -1,9 +1,13 @@
 //! Reads a form in which letters were lost, part by part.
-ghost use Rattle.std.specs.Prelude.{◌≡◌, ◌≢◌, ◌↔◌, ◌+◌, IsTrue, ◌<◌, ◌≤◌, length, IfOk, IfSome, MatchOption, MatchResult, []};
-ghost use Rattle.kd_lost.specs.DamagedForm.{AreReadOf, IsFormFault, IsReadOf, cut_at_heading_lines};
+ghost use Rattle.std.specs.Prelude.{◌≡◌, ◌≢◌, ◌↔◌, ◌+◌, IsTrue, ◌<◌, ◌≤◌, length, IfOk, IfSome, MatchOption, MatchResult, [], false};
+ghost use Rattle.std.specs.Bool.{OnFalse, OnTrue};
+ghost use Rattle.kd_form.specs.declared.heading.Heading.{Heading};
+ghost use Rattle.kd_lost.specs.DamagedPart.{IsDamagedHeading, first_line};
+ghost use Rattle.kd_lost.specs.DamagedForm.{AreReadOf, IsFormFault, IsReadAs, IsReadOf, cut_at_heading_lines};
 ghost use Rattle.kd_lost.specs.DamagedForm.{damaged_parts_of, parts_cut};
 ghost use Rattle.kd_lost.specs.DamagedForm.{ends_part};
 
+use crate::by_count::{find_by_count, is_count_doubted, numbers_by_count};
 use crate::heading_line::is_heading_line;
 use crate::lines::{heading_line, line_breaks};
 use crate::part::{DamagedPart, read_damaged_part};
@@ -87,16 +91,48 @@ fn read_as_meant(
         (IsReadOf day.now part.now)
         (λ fault. fault ≡ DamagedFormFault.NoMemory) }
 {
-    let read = read_damaged_part(day, part);
-    if read.numbers.is_some() {
-        return Ok(read);
+    if is_headed(day, part) {
+        return read_with_count(alloc, day, part);
     }
     let Ok(meant) = respaced(alloc, part) else {
         return Err(DamagedFormFault::NoMemory);
     };
     let meant = meant.as_slice();
-    let mut read = read_damaged_part(day, meant);
+    let Ok(mut read) = read_with_count(alloc, day, meant) else {
+        return Err(DamagedFormFault::NoMemory);
+    };
     read.respaced = differs(meant, part);
+    Ok(read)
+}
+
+/// Whether the first line of `part` is a heading.
+fn is_headed(day: &SheetDay, part: &[u8]) -> bool
+    ensures headed { OnTrue result ((h : Heading) × IsDamagedHeading day.now (first_line part.now) h) }
+    ensures unheaded { OnFalse result
+        ((h : Heading) → ¬ (IsDamagedHeading day.now (first_line part.now) h)) }
+{
+    read_damaged_part(day, part).numbers.is_some()
+}
+
+/// Reads `part` as it stands; if its count is wrong or damaged, also by the letters that came.
+fn read_with_count(
+    alloc: Global,
+    day: &SheetDay,
+    part: &[u8],
+) -> Result<DamagedPart, DamagedFormFault>
+    ensures { MatchResult result
+        (λ read. IsReadAs day.now part.now read × (read.respaced ≡ false))
+        (λ fault. fault ≡ DamagedFormFault.NoMemory) }
+{
+    let mut read = read_damaged_part(day, part);
+    if !is_count_doubted(&read) {
+        return Ok(read);
+    }
+    let Ok((counted, found)) = find_by_count(alloc, day, part, read.came) else {
+        return Err(DamagedFormFault::NoMemory);
+    };
+    read.numbers = numbers_by_count(read.numbers, counted, &found);
+    read.by_count = found;
     Ok(read)
 }
 

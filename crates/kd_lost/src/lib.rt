@@ -5,6 +5,7 @@
 #![tactic(auto)]
 
 mod body;
+mod by_count;
 mod copies;
 mod damage;
 mod damaged_text;
@@ -14,16 +15,16 @@ pub mod laws;
 mod lines;
 mod part;
 mod received;
+mod short_group;
 mod short_line;
 mod tidy;
 mod warnings;
 mod wrong_sign;
 
+pub use by_count::part_line;
 pub use damage::PartDamage;
 pub use damaged_text::{DamagedText, GroupTest, LostCopies, PinTextKeys, TextKeys};
 pub use form::{DamagedFormFault, read_damaged_form};
-pub use lines::part_lines;
 pub use part::{DamagedPart, PartNumbers, read_damaged_part};
 pub use short_line::ShortLine;
-pub use tidy::is_tidy;
 pub use wrong_sign::WrongSign;

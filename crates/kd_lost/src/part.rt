@@ -1,5 +1,5 @@
 //! Reads a part of a form in which letters were lost.
-ghost use Rattle.std.specs.Prelude.{◌≡◌, ◌↔◌, All, IsTrue, MatchResult, IfOk, false, length};
+ghost use Rattle.std.specs.Prelude.{◌≡◌, ◌↔◌, All, IsTrue, MatchResult, IfOk, None, false, length};
 ghost use Rattle.kd_state.specs.LineWords.{IsWithout};
 ghost use Rattle.kd_form.specs.FormParts.{IsHeading};
 ghost use Rattle.kd_lost.specs.DamagedPart.{AreNumbersRead, IsDamagedBodyAnswer, IsDamagedLinesAnswer};
@@ -7,6 +7,7 @@ ghost use Rattle.kd_lost.specs.DamagedPart.{IsHeadedPartAnswer};
 ghost use Rattle.kd_lost.specs.DamagedPart.{IsDamagedTextAnswer, IsPartShown, body_of, first_line, numbers_of};
 ghost use Rattle.kd_lost.specs.HeadingLine.{is_order};
 ghost use Rattle.kd_lost.specs.Lost.{meant_byte, received_letters};
+ghost use Rattle.kd_lost.specs.ShortGroup.{IsFirstShortGroup};
 ghost use Rattle.kd_lost.specs.ShortLine.{short_line};
 ghost use Rattle.kd_lost.specs.WrongSign.{IsFirstWrongSign};
 
@@ -17,6 +18,7 @@ use crate::heading_line::is_order;
 use crate::received::{
     are_body_bytes, filled_line, has_lost_byte, is_spelled, letter_count, received_letters,
 };
+use crate::short_group::first_short_group;
 use crate::short_line::{ShortLine, first_short_line};
 use crate::wrong_sign::{WrongSign, first_wrong_sign};
 use kd_form::day_machine::slots_of;
@@ -27,7 +29,8 @@ use kd_state::{SheetDay, split_once};
 /// What can be read of a part of a form in which letters were lost.
 #[derive(Drop)]
 pub struct DamagedPart {
-    /// The numbers in the heading; `None` if the heading is damaged.
+    /// The numbers in the heading; `None` if the heading is damaged. If only its count is damaged, and the part is read
+    /// by the letters that came, their number stands for the count.
     pub numbers: Option<PartNumbers>,
     /// How many letters of the body came, with the lost ones.
     pub came: usize,
@@ -35,8 +38,12 @@ pub struct DamagedPart {
     pub text: Result<DamagedText, PartDamage>,
     /// The first wrong sign of the body, if it has one.
     pub wrong_sign: Option<WrongSign>,
+    /// The text by the letters that came, if the count in the heading is wrong or damaged.
+    pub by_count: Option<DamagedText>,
     /// The first line of the body that isn't full, and isn't the last, if there is one.
     pub short_line: Option<ShortLine>,
+    /// The number of the first group of the body that hasn't five letters, and isn't the last, if there is one.
+    pub short_group: Option<usize>,
     /// Whether blanks in the part's first line were passed over, since it is no heading with them.
     pub respaced: bool,
     /// Whether each byte of the part is meant as it stands: none is a small letter or a tab.
@@ -68,7 +75,9 @@ pub fn read_damaged_part(day: &SheetDay, part: &[u8]) -> DamagedPart
     ensures text { IsDamagedTextAnswer day.now part.now result.text }
     ensures shown { IfOk result.text (IsPartShown day.now part.now) }
     ensures wrong_sign { IsFirstWrongSign (body_of part.now) result.wrong_sign }
+    ensures by_count { result.by_count ≡ None }
     ensures short_line { result.short_line ≡ short_line (body_of part.now) }
+    ensures short_group { IsFirstShortGroup (body_of part.now) result.short_group }
     ensures as_it_stands { result.respaced ≡ false }
     ensures as_spelled { IsTrue result.as_spelled ↔ All (λ byte. meant_byte byte ≡ byte) part.now }
     ensures is_order { result.is_order ≡ is_order part.now }
@@ -87,7 +96,9 @@ fn read_split_part(day: &SheetDay, part: &[u8]) -> DamagedPart
     ensures text { IsDamagedTextAnswer day.now part.now result.text }
     ensures shown { IfOk result.text (IsPartShown day.now part.now) }
     ensures wrong_sign { IsFirstWrongSign (body_of part.now) result.wrong_sign }
+    ensures by_count { result.by_count ≡ None }
     ensures short_line { result.short_line ≡ short_line (body_of part.now) }
+    ensures short_group { IsFirstShortGroup (body_of part.now) result.short_group }
     ensures as_it_stands { result.respaced ≡ false }
     ensures line { result.line ≡ 1 }
 {
@@ -104,20 +115,25 @@ fn read_lines(day: &SheetDay, line: &[u8], body: &[u8]) -> DamagedPart
     ensures came { result.came ≡ length (received_letters body.now) }
     ensures text { IsDamagedLinesAnswer day.now line.now body.now result.text }
     ensures wrong_sign { IsFirstWrongSign body.now result.wrong_sign }
+    ensures by_count { result.by_count ≡ None }
     ensures short_line { result.short_line ≡ short_line body.now }
+    ensures short_group { IsFirstShortGroup body.now result.short_group }
     ensures as_it_stands { result.respaced ≡ false }
     ensures line { result.line ≡ 1 }
 {
     let came = letter_count(body);
     let wrong_sign = first_wrong_sign(body);
     let short_line = first_short_line(body);
+    let short_group = first_short_group(body);
     let Some(heading) = heading_of_ended_line(day, filled_line(line).as_slice()) else {
         return DamagedPart {
             numbers: None,
             came,
             text: Err(PartDamage::HeadingDamaged),
             wrong_sign,
+            by_count: None,
             short_line,
+            short_group,
             respaced: false,
             as_spelled: true,
             is_order: false,
@@ -129,7 +145,9 @@ fn read_lines(day: &SheetDay, line: &[u8], body: &[u8]) -> DamagedPart
         came,
         text: read_body_after(day, &heading, line, body),
         wrong_sign,
+        by_count: None,
         short_line,
+        short_group,
         respaced: false,
         as_spelled: true,
         is_order: false,

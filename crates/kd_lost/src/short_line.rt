@@ -56,7 +56,7 @@ fn is_short(letters: usize) -> bool
 
 /// How many letters stand in `bytes`, with the lost ones.
 #[tactic(auto, using(crate::proofs::Bytes::letters_counted))]
-fn letters_on(bytes: &[u8]) -> usize
+pub(crate) fn letters_on(bytes: &[u8]) -> usize
     ensures { result ≡ letters_on bytes.now }
 {
     letter_count(bytes)

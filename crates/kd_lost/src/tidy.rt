@@ -1,5 +1,5 @@
 //! Forms without noise: what copying a form or typing around it leaves there, and no operator sent.
-ghost use Rattle.std.specs.Prelude.{◌≡◌, ◌↔◌, ◌++◌, None, Some, IsTrue, MatchOption, MatchResult};
+ghost use Rattle.std.specs.Prelude.{◌≡◌, ◌++◌, None, Some, MatchOption, MatchResult};
 ghost use Rattle.kd_lost.specs.DamagedPart.{first_line};
 ghost use Rattle.kd_lost.specs.Tidy.{as_space, ends_word, from_line_end, is_gap, later_heading, respaced};
 ghost use Rattle.kd_lost.specs.Tidy.{single_spaced, spaced_byte, tidied, without_mark};
@@ -7,15 +7,6 @@ ghost use Rattle.kd_lost.specs.Tidy.{single_spaced, spaced_byte, tidied, without
 use crate::form::{DamagedFormFault, ends_part};
 use crate::heading_line::{after_blanks, is_blank, is_heading_line};
 use std::alloc::Global;
-
-/// Whether nothing before the first heading of `form` is passed over: neither a byte order mark nor lines of text.
-///
-/// This holds for a form that `receive` reads.
-pub fn is_tidy(form: &[u8]) -> bool
-    ensures { IsTrue result ↔ (tidied form.now ≡ form.now) }
-{
-    tidied(form) == form
-}
 
 /// `form` without a byte order mark, and without the lines before its first heading, if no slash stands there.
 pub(crate) fn tidied(form: &[u8]) -> &[u8]
@@ -85,7 +76,7 @@ pub(crate) fn respaced(alloc: Global, part: &[u8]) -> Result<Vec<u8>, DamagedFor
 }
 
 /// The first line of `part`, and the bytes from its LF on.
-fn line_and_rest(part: &[u8]) -> (&[u8], &[u8])
+pub(crate) fn line_and_rest(part: &[u8]) -> (&[u8], &[u8])
     ensures line { result.0.now ≡ first_line part.now }
     ensures rest { result.1.now ≡ from_line_end part.now }
 {

@@ -14,6 +14,7 @@ use Rattle.kd_lost.specs.declared.damage.PartDamage.{PartDamage}
 use Rattle.kd_lost.specs.declared.damaged_text.DamagedText.{DamagedText}
 use Rattle.kd_lost.specs.declared.part.{DamagedPart.{DamagedPart}, PartNumbers.{PartNumbers}}
 use Rattle.kd_lost.specs.DamagedForm.{IsReadOf, form_parts, letters_in, shown_byte}
+use Rattle.kd_lost.proofs.Counting.{numbers_given}
 use Rattle.kd_lost.proofs.Forms.{AreAllReadOf, all_read}
 use Rattle.kd_lost.specs.DamagedPart.{AreNumbersRead, IsDamagedHeading, IsDamagedTextAnswer, first_line}
 use Rattle.kd_pictures.specs.declared.language.Language.{Language}
@@ -131,8 +132,9 @@ module _ (s : Day) where
       → read.text ≡ Ok shown
       → (numbers : PartNumbers) × (read.numbers ≡ Some numbers) × (1 ≤ numbers.part) × (numbers.part ≤ numbers.parts)
   number_there part read shown is text =
-      let one = ThenNext-Ok (subst (λ t. IsDamagedTextAnswer s is.meant t) text is.text) in
-      read_numbers (first_line is.meant) read.numbers one.found one.says is.numbers
+      let one = ThenNext-Ok (subst (λ t. IsDamagedTextAnswer s is.meant t) text is.as_meant.text) in
+      read_numbers (first_line is.meant) read.numbers one.found one.says
+      (numbers_given s is.meant read shown text is.as_meant)
 
 -- -------- how many parts the message has
 
@@ -213,7 +215,7 @@ record IsTold (found : Option DamagedPart) (shown : DamagedText) : Type 0 where
   pub read : best.text ≡ Ok text
   pub no_fewer : lost_in text ≤ lost_in shown
 
-chosen : (one other : DamagedPart) (worse : Bool) → is_worse one.text other.text ≡ worse
+chosen : (one other : DamagedPart) (worse : Bool) → is_worse one.text other.text one.by_count other.by_count ≡ worse
     → better one (Some other) ≡ (if worse then Some other else Some one)
 chosen one other worse is = ap (λ b. if b then Some other else Some one) is
 
@@ -223,13 +225,13 @@ no_worse : (one other : DamagedPart) (own text shown : DamagedText) (worse : Boo
     → IsTold (better one (Some other)) shown
 no_worse one other own text shown true is read worse fewer =
     let less : lost_in text < lost_in own = grind (arith, nat_tests, worse) in
-    let told : is_worse one.text other.text ≡ true =
-    ap (λ t. is_worse t other.text) is ∙ ap (is_worse (Ok own)) read ∙ worse in
+    let told : is_worse one.text other.text one.by_count other.by_count ≡ true =
+    ap (λ t. is_worse t other.text one.by_count other.by_count) is ∙ ap (λ t. is_worse (Ok own) t one.by_count other.by_count) read ∙ worse in
     record { best = other; text = text; is = chosen one other true told; read = read; no_fewer = grind (arith, less, fewer) }
 no_worse one other own text shown false is read worse fewer =
     let less : lost_in own ≤ lost_in text = grind (arith, nat_tests, worse) in
-    let told : is_worse one.text other.text ≡ false =
-    ap (λ t. is_worse t other.text) is ∙ ap (is_worse (Ok own)) read ∙ worse in
+    let told : is_worse one.text other.text one.by_count other.by_count ≡ false =
+    ap (λ t. is_worse t other.text one.by_count other.by_count) is ∙ ap (λ t. is_worse (Ok own) t one.by_count other.by_count) read ∙ worse in
     record { best = one; text = own; is = chosen one other false told; read = is; no_fewer = grind (arith, less, fewer) }
 
 told_first_or : (one other : DamagedPart) (shown : DamagedText) (answer : Result DamagedText PartDamage)
@@ -237,8 +239,8 @@ told_first_or : (one other : DamagedPart) (shown : DamagedText) (answer : Result
 told_first_or one other shown (Ok text) is read =
     no_worse one other shown text shown (nat_lt (lost_in text) (lost_in shown)) is read refl (inl (omega arith))
 told_first_or one other shown (Err damage) is read =
-    let told : is_worse one.text other.text ≡ false =
-    ap (λ t. is_worse t other.text) is ∙ ap (is_worse (Ok shown)) read in
+    let told : is_worse one.text other.text one.by_count other.by_count ≡ false =
+    ap (λ t. is_worse t other.text one.by_count other.by_count) is ∙ ap (λ t. is_worse (Ok shown) t one.by_count other.by_count) read in
     record { best = one; text = shown; is = chosen one other false told; read = is; no_fewer = omega arith }
 
 told_first : (one : DamagedPart) (shown : DamagedText) (later : Option DamagedPart) → one.text ≡ Ok shown
@@ -251,8 +253,8 @@ told_after : (one other : DamagedPart) (text shown : DamagedText) (answer : Resu
 told_after one other text shown (Ok own) is read fewer =
     no_worse one other own text shown (nat_lt (lost_in text) (lost_in own)) is read refl (inr fewer)
 told_after one other text shown (Err damage) is read fewer =
-    let told : is_worse one.text other.text ≡ true =
-    ap (λ t. is_worse t other.text) is ∙ ap (is_worse (Err damage)) read in
+    let told : is_worse one.text other.text one.by_count other.by_count ≡ true =
+    ap (λ t. is_worse t other.text one.by_count other.by_count) is ∙ ap (λ t. is_worse (Err damage) t one.by_count other.by_count) read in
     record { best = other; text = text; is = chosen one other true told; read = read; no_fewer = fewer }
 
 told_with : (one : DamagedPart) (later : Option DamagedPart) (shown : DamagedText) (is_it : Bool)

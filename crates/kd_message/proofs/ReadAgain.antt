@@ -27,6 +27,7 @@ use Rattle.kd_lost.specs.declared.damaged_text.GroupTest.{GroupTest}
 use Rattle.kd_lost.specs.declared.damaged_text.GroupTest.TheVariants.{Wrong}
 use Rattle.kd_lost.specs.declared.part.{DamagedPart.{DamagedPart}, PartNumbers.{PartNumbers}}
 use Rattle.kd_lost.specs.DamagedForm.{IsReadOf, form_parts, letters_in, shown_byte}
+use Rattle.kd_lost.proofs.Counting.{numbers_given}
 use Rattle.kd_lost.proofs.Forms.{AreAllReadOf, all_read as all_read_of}
 use Rattle.kd_lost.specs.DamagedPart.{AreNumbersRead, IsDamagedHeading, IsDamagedTextAnswer, IsPartShown, body_of}
 use Rattle.kd_lost.specs.DamagedPart.{filled_byte, first_line, numbers_of}
@@ -273,14 +274,15 @@ part_read : (s : Day) (p : PartStart) (part : List ℕ) (one : DamagedPart) (num
     → IsReadBack s p part numbers.parts shown
 part_read s p part one numbers shown of stands clear is_numbers is_text right numbered expected =
     let its : IsPartShown s part shown =
-    subst (λ l. IsPartShown s l shown) stands (subst (λ t. IfOk t (IsPartShown s of.meant)) is_text of.shown) in
+    subst (λ l. IsPartShown s l shown) stands (subst (λ t. IfOk t (IsPartShown s of.meant)) is_text of.as_meant.shown) in
     let same = clear_whole part its.whole clear its.completes in
     let whole : IsPartText s part its.heading its.text =
     subst (λ w. IsPartText s w its.heading its.text) same its.some in
     let given = subst (λ n. AreNumbersRead s (first_line part) n) is_numbers
-    (subst (λ l. AreNumbersRead s (first_line l) one.numbers) stands of.numbers) in
+    (subst (λ l. AreNumbersRead s (first_line l) one.numbers) stands
+    (numbers_given s of.meant one shown is_text of.as_meant)) in
     let read = subst (λ t. IsDamagedTextAnswer s part t) is_text
-    (subst (λ l. IsDamagedTextAnswer s l one.text) stands of.text) in
+    (subst (λ l. IsDamagedTextAnswer s l one.text) stands of.as_meant.text) in
     first_read s p part whole.body its.text its.heading numbers shown whole.has.first whole.has.is_heading whole.allowed
     whole.counted whole.read clear given read right numbered expected
 

@@ -5,7 +5,8 @@ use Rattle.std.proofs.Common.{Result, append_assoc}
 use Rattle.std.proofs.lemmas.Bool.{false≢true}
 use Rattle.std.proofs.lemmas.List.Elements.{All-cons, All-head, All-nil, All-tail}
 use Rattle.std.specs.List.{range_with_len}
-use Rattle.std.specs.Prelude.{IfOk}
+use Rattle.std.specs.Prelude.{IfOk, IfSome}
+use Rattle.std.proofs.Common.{ap, subst}
 use Rattle.kd_state.specs.SheetDay.{Day, Pin, Rotor}
 use Rattle.kd_state.proofs.OneAnswer.{ThenNext-Ok}
 use Rattle.kd_form.specs.declared.heading.Indicator.{Indicator}
@@ -14,14 +15,16 @@ use Rattle.kd_lost.specs.declared.damage.PartDamage.{PartDamage}
 use Rattle.kd_lost.specs.declared.damaged_text.DamagedText.{DamagedText}
 use Rattle.kd_lost.specs.declared.damaged_text.TextKeys.{TextKeys}
 use Rattle.kd_lost.specs.declared.part.DamagedPart.{DamagedPart}
-use Rattle.kd_lost.specs.DamagedForm.{AreReadOf, PlacedPart}
+use Rattle.kd_lost.specs.declared.part.PartNumbers.{PartNumbers}
+use Rattle.kd_lost.specs.ByCount.{GivesByCount, IsFoundIn, counted_part, text_of}
+use Rattle.kd_lost.specs.DamagedForm.{AreReadOf, IsReadAs, PlacedPart}
 use Rattle.kd_lost.specs.DamagedPart.{IsDamagedTextAnswer}
 use Rattle.kd_lost.specs.DamagedText.{AreTextKeys}
 use Rattle.kd_lost.proofs.PartShown.{shown_there}
 use Rattle.kd_pictures.specs.declared.language.Language.{Language}
 use Rattle.kd_message.specs.ReceivedWork.{AreShowable}
 unfoldable use Rattle.kd_message.specs.ReceivePage.{receive_text}
-use Rattle.kd_message.specs.ReceivePage.{AreWorkable}
+use Rattle.kd_message.specs.ReceivePage.{AreWorkable, HasShowableKeys}
 use Rattle.kd_message.specs.ShownParts.{better, is_number, is_worse, shown_under}
 use Rattle.kd_message.proofs.SendPages.{begins}
 use Rattle.kd_message.proofs.Sheets.{range_first}
@@ -54,7 +57,7 @@ pub better_holds : (P : DamagedPart → Type 0) (one : DamagedPart) (later : Opt
     → ((other : DamagedPart) → later ≡ Some other → P other) → better one later ≡ Some part → P part
 better_holds P one None part holds rest is = let e : one ≡ part = cc in rw (← e) holds
 better_holds P one (Some later) part holds rest is =
-    chosen_holds P (is_worse one.text later.text) later one part (rest later refl) holds is
+    chosen_holds P (is_worse one.text later.text one.by_count later.by_count) later one part (rest later refl) holds is
 
 numbered_holds : (P : DamagedPart → Type 0) (is_it : Bool) (one : DamagedPart) (later : Option DamagedPart)
     (part : DamagedPart) → P one → ((other : DamagedPart) → later ≡ Some other → P other)
@@ -89,14 +92,37 @@ text_showable s part (Ok shown) read =
     (shown_there s one.found.indicator _ shown four.next).keys
 text_showable s part (Err damage) read = tt
 
+count_showable : (s : Day) (part : List ℕ) (numbers : Option PartNumbers) (found : Option DamagedText)
+    → (is : IsFoundIn s part numbers found) → (answer : Result DamagedText PartDamage) → is.answer ≡ answer
+    → IfSome found (λ shown. AreShowable s shown.keys)
+count_showable s part numbers found is (Ok shown) told =
+    subst (λ f. IfSome f (λ (text : DamagedText). AreShowable s text.keys)) (sym (is.is_its ∙ ap text_of told))
+    (text_showable s part (Ok shown) (subst (IsDamagedTextAnswer s part) told is.text))
+count_showable s part numbers found is (Err damage) told =
+    subst (λ f. IfSome f (λ (text : DamagedText). AreShowable s text.keys)) (sym (is.is_its ∙ ap text_of told)) tt
+
+by_count_showable : (doubted : Bool) (s : Day) (part : List ℕ) (came : ℕ) (given numbers : Option PartNumbers)
+    (found : Option DamagedText) → GivesByCount doubted s part came given numbers found
+    → IfSome found (λ shown. AreShowable s shown.keys)
+by_count_showable false s part came given numbers found is =
+    subst (λ f. IfSome f (λ (text : DamagedText). AreShowable s text.keys)) (sym is.0) tt
+by_count_showable true s part came given numbers found (counted, is, same) =
+    count_showable s (counted_part came part) counted found is is.answer refl
+
+part_showable : (s : Day) (part : List ℕ) (read : DamagedPart) → IsReadAs s part read → HasShowableKeys s read
+part_showable s part read is = record {
+  of_text = text_showable s part read.text is.text;
+  of_count = by_count_showable _ s part read.came is.given read.numbers read.by_count is.by_count;
+}
+
 pub are_workable : (s : Day) (parts : List PlacedPart) (reads : List DamagedPart) → AreReadOf s parts reads
     → AreWorkable s reads
-are_workable s [] [] are = All-nil (λ part. IfOk part.text (λ shown. AreShowable s shown.keys))
+are_workable s [] [] are = All-nil (HasShowableKeys s)
 are_workable s [] (read ∷ reads) are = absurd are
 are_workable s (part ∷ parts) [] are = absurd are
 are_workable s (part ∷ parts) (read ∷ reads) are =
-    All-cons (λ part. IfOk part.text (λ shown. AreShowable s shown.keys)) read reads
-    (text_showable s are.0.0.meant read.text are.0.0.text) (are_workable s parts reads are.1)
+    All-cons (HasShowableKeys s) read reads (part_showable s are.0.0.meant read are.0.0.as_meant)
+    (are_workable s parts reads are.1)
 
 -- ---- The page.
 

@@ -20,6 +20,7 @@ use Rattle.kd_lost.specs.DamagedForm.{shown_byte, shown_letters}
 use Rattle.kd_lost.specs.DamagedPart.{AreNumbersRead, IsDamagedHeading, IsDamagedTextAnswer, first_line}
 use Rattle.kd_lost.proofs.Parts.{lines_there}
 use Rattle.kd_lost.proofs.Forms.{AreAllReadOf, all_read}
+use Rattle.kd_lost.proofs.Counting.{numbers_given}
 use Rattle.kd_lost.proofs.WholeForms.{forms_shown, same_parts}
 use Rattle.kd_lost.proofs.WholeParts.{numbers_there, shown_whole, whole_part}
 use Rattle.kd_message.specs.Laws.{FormsReadAreWhole, letters_of_part, message_letters}
@@ -230,10 +231,11 @@ shown_as : (s : Day) (p : PartStart) (part : List ℕ) (read : ReadPart) (one : 
     → IsPartAnswer s p part (Ok read) → IsReadOf s part one → IsShownAs one p.number read
 shown_as s p part read one is of =
     let stands = as_it_stands s p part read one is of in
-    let (numbers, there, numbered, counted) = numbers_there s p part read one.numbers is
-    (subst (λ l. AreNumbersRead s (first_line l) one.numbers) stands of.numbers) in
     let (shown, told, whole) = shown_whole s p part read one.text is
-    (subst (λ l. IsDamagedTextAnswer s l one.text) stands of.text) in
+    (subst (λ l. IsDamagedTextAnswer s l one.text) stands of.as_meant.text) in
+    let (numbers, there, numbered, counted) = numbers_there s p part read one.numbers is
+    (subst (λ l. AreNumbersRead s (first_line l) one.numbers) stands
+    (numbers_given s of.meant one shown told of.as_meant)) in
     let known = subst (All (λ (got : Option ℕ). got ≢ None)) (sym whole.letters) (letters_known read.letters) in
     record {
       numbers = numbers;

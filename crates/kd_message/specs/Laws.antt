@@ -110,7 +110,7 @@ WholeMessagesHaveOneTotal =
     → Contains parts one → Contains parts other → one.numbers ≡ Some numbers → other.numbers ≡ Some others
     → numbers.parts ≡ others.parts
 
--- A repetition of the first part that came of a whole message has the letters of this part, but for lost ones.
+-- A repetition of the first part that came of a whole message has as many letters as this part, and the same, but for lost ones.
 abbrev pub RepetitionsHaveTheLetters : Type 0
 RepetitionsHaveTheLetters =
     (one other : DamagedPart) (others : List DamagedPart) (numbers again : PartNumbers) (shown later : DamagedText)

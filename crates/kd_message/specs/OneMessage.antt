@@ -14,11 +14,12 @@ letter_agrees (Some one) (Some other) = one == other
 letter_agrees (Some one) None = true
 letter_agrees None other = true
 
--- whether two bodies agree at each place that both have
+-- whether two bodies have as many letters, and agree at each place
 abbrev pub letters_agree : List (Option ℕ) → List (Option ℕ) → Bool
 letters_agree (letter ∷ one) (again ∷ other) = letter_agrees letter again && letters_agree one other
-letters_agree [] other = true
-letters_agree (letter ∷ one) [] = true
+letters_agree [] [] = true
+letters_agree [] (again ∷ other) = false
+letters_agree (letter ∷ one) [] = false
 
 -- whether the letters are the same
 abbrev pub same_letters : List ℕ → List ℕ → Bool
@@ -46,11 +47,11 @@ texts_agree (Err damage) other = true
 
 -- ---- The parts of a form.
 
--- Whether two headings can be of one message. Both say how many parts the message has. If they give one number, they also
--- give one count of letters, and the texts agree.
+-- Whether two headings can be of one message. Both say how many parts the message has. If they give one number, the texts
+-- agree.
 abbrev pub numbers_agree : PartNumbers → PartNumbers → Bool → Bool
 numbers_agree one other agree =
-    one.parts == other.parts && (not (one.part == other.part) || one.letters == other.letters && agree)
+    one.parts == other.parts && (not (one.part == other.part) || agree)
 
 -- the same, if both headings give numbers; a damaged heading contradicts none
 abbrev pub headings_agree : Option PartNumbers → Option PartNumbers → Bool → Bool

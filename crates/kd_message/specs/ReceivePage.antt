@@ -1,6 +1,6 @@
 -- The page for receiving a form.
 use Rattle.std.specs.Prelude.{◌≡◌, decimal, ℕ, ◌+◌, ◌≤◌, ◌==◌, ◌&&◌, ◌||◌, if◌then◌else◌, is_none, List, [], ◌∷◌, ◌++◌, flat_map, length}
-use Rattle.std.specs.Prelude.{◌↔◌, All, Bool, true, false, IsTrue, IfOk, Option, Some, None, Result, Ok, Err, is_err}
+use Rattle.std.specs.Prelude.{◌↔◌, All, Bool, true, false, IsTrue, IfOk, IfSome, Option, Some, None, Result, Ok, Err, is_err}
 use Rattle.std.specs.Prelude.{MatchResult}
 use Rattle.std.specs.List.{range_with_len}
 use Rattle.kd_tables.specs.declared.model.Model.{Model}
@@ -34,7 +34,7 @@ use Rattle.kd_message.specs.LoneParts.{listed_lone, lone_text}
 use Rattle.kd_message.specs.OneMessage.{are_of_one_message}
 use Rattle.kd_message.specs.SendPage.{list_head, listed_sheet, part_name, title_text}
 use Rattle.kd_message.specs.ShownParts.{IsWhole, is_any_read, sheet_count, shown_under, times_of, total_of}
-use Rattle.kd_message.specs.TextSheet.{came_text, damage_text, missing_text, order_text, passed_text, read_text}
+use Rattle.kd_message.specs.TextSheet.{came_text, counted_text, damage_text, missing_text, order_text, passed_text, read_text}
 use Rattle.kd_message.specs.TextSheet.{text_part_head}
 use Rattle.kd_message.specs.TextSheet.{text_sheet_head, warnings_of}
 
@@ -47,26 +47,38 @@ sheet_to_receive model = if is_converter model then PinReceive else RotorReceive
 abbrev pub listed_unread : Language → PartName → List ℕ
 listed_unread l name = filled (text_in l texts.LISTED_UNREAD) (decimal name.part ∷ decimal name.parts ∷ [])
 
--- a part in the list of the sheets
-abbrev pub listed_text : Language → PartName → Result DamagedText PartDamage → List ℕ
-listed_text l name (Ok shown) = listed_sheet l name.sheet name.part name.parts
-listed_text l name (Err damage) = listed_unread l name
+-- a part in the list of the sheets; `counted` is its text by count
+abbrev pub listed_text : Language → PartName → Result DamagedText PartDamage → Option DamagedText → List ℕ
+listed_text l name (Ok shown) counted = listed_sheet l name.sheet name.part name.parts
+listed_text l name (Err damage) (Some shown) = listed_sheet l name.sheet name.part name.parts
+listed_text l name (Err damage) None = listed_unread l name
 
--- the sheet on which a part is worked, if it is read
-abbrev pub worked_text : Language → Day → PartName → Result DamagedText PartDamage → List ℕ
-worked_text l s name (Ok shown) =
+-- the sheet of a text
+abbrev pub sheet_of_text : Language → Day → PartName → DamagedText → List ℕ
+sheet_of_text l s name shown =
     part_sheet l (sheet_to_receive (day_model s)) s name (warnings_of shown) (received_work s shown)
-worked_text l s name (Err damage) = []
+
+-- the sheet on which a part is worked, if it is read, be it by count
+abbrev pub worked_text : Language → Day → PartName → Result DamagedText PartDamage → Option DamagedText → List ℕ
+worked_text l s name (Ok shown) counted = sheet_of_text l s name shown
+worked_text l s name (Err damage) (Some shown) = sheet_of_text l s name shown
+worked_text l s name (Err damage) None = []
+
+-- the text of a part that is read by count, or why it isn't read
+abbrev pub counted_or_damage : Language → Day → PartName → DamagedPart → PartDamage → Option DamagedText → List ℕ
+counted_or_damage l s name part damage (Some shown) =
+    counted_text l (sheet_to_receive (day_model s)) s name part damage shown
+counted_or_damage l s name part damage None = damage_text l name part damage
 
 -- the text of a part, or why it isn't read
 abbrev pub text_or_damage : Language → Day → PartName → DamagedPart → Result DamagedText PartDamage → List ℕ
 text_or_damage l s name part (Ok shown) = read_text l (sheet_to_receive (day_model s)) s name shown
-text_or_damage l s name part (Err damage) = damage_text l name part damage
+text_or_damage l s name part (Err damage) = counted_or_damage l s name part damage part.by_count
 
 -- what a section has for a part that came `times` times
 abbrev pub part_in : Section → Language → Day → PartName → ℕ → DamagedPart → List ℕ
-part_in sections.Listed l s name times part = listed_text l name part.text
-part_in sections.Worked l s name times part = worked_text l s name part.text
+part_in sections.Listed l s name times part = listed_text l name part.text part.by_count
+part_in sections.Worked l s name times part = worked_text l s name part.text part.by_count
 part_in sections.Texts l s name times part =
     text_part_head l name ++ came_text l times ++ text_or_damage l s name part part.text ++ SECTION_END.now
 
@@ -174,6 +186,11 @@ pub data IsReceivePageAnswer (l : Language) (s : Day) (form : List ℕ) (sink : 
 
 -- ---- What the code holds. No public contract cites these definitions.
 
+-- The machine can show the letters of the keys of a part's text, be it one by count.
+pub record HasShowableKeys (s : Day) (part : DamagedPart) : Type 0 where
+  pub of_text : IfOk part.text (λ shown. AreShowable s shown.keys)
+  pub of_count : IfSome part.by_count (λ shown. AreShowable s shown.keys)
+
 -- The machine can show the letters of the keys of each text.
 abbrev pub AreWorkable : Day → List DamagedPart → Type 0
-AreWorkable s parts = All (λ part. IfOk part.text (λ shown. AreShowable s shown.keys)) parts
+AreWorkable s parts = All (HasShowableKeys s) parts

@@ -1,6 +1,6 @@
 -- Which parts of a received form are shown under which numbers, and whether the form is one whole message.
 use Rattle.std.specs.Prelude.{◌≡◌, ◌≢◌, ℕ, ◌<◌, ◌==◌, if◌then◌else◌, max, List, [], ◌∷◌, All, Option, None, Some}
-use Rattle.std.specs.Prelude.{MatchOption, Result, Ok, Err, IfOk, IsTrue, is_none, is_ok, length, nat_lt, ◌&&◌, ◌||◌}
+use Rattle.std.specs.Prelude.{MatchOption, Result, Ok, Err, IfOk, IsTrue, is_none, is_ok, is_some, length, nat_lt, ◌&&◌, ◌||◌}
 use Rattle.std.specs.Prelude.{Bool, true, false}
 use Rattle.std.specs.List.{count_by, range_with_len}
 use Rattle.kd_lost.specs.declared.damage.PartDamage.{PartDamage}
@@ -51,17 +51,26 @@ times_of parts number = count_by (λ part. is_number number part.numbers) parts
 abbrev pub lost_in : DamagedText → ℕ
 lost_in shown = count_by (λ letter. is_none letter) shown.letters.items
 
--- whether the other part tells more: it is read where the first isn't, or fewer letters of its text are lost
-abbrev pub is_worse : Result DamagedText PartDamage → Result DamagedText PartDamage → Bool
-is_worse (Ok one) (Ok other) = nat_lt (lost_in other) (lost_in one)
-is_worse (Err damage) (Ok other) = true
-is_worse (Ok one) (Err damage) = false
-is_worse (Err damage) (Err other) = false
+-- whether the other text by count tells more: there is one where the first isn't, or fewer of its letters are lost
+abbrev pub is_worse_by_count : Option DamagedText → Option DamagedText → Bool
+is_worse_by_count (Some one) (Some other) = nat_lt (lost_in other) (lost_in one)
+is_worse_by_count None (Some other) = true
+is_worse_by_count one None = false
+
+-- Whether the other part tells more: it is read where the first isn't, or fewer letters of its text are lost. Of two parts
+-- that aren't read, `counted` and `recounted` are the texts by count.
+abbrev pub is_worse : Result DamagedText PartDamage → Result DamagedText PartDamage → Option DamagedText
+    → Option DamagedText → Bool
+is_worse (Ok one) (Ok other) counted recounted = nat_lt (lost_in other) (lost_in one)
+is_worse (Err damage) (Ok other) counted recounted = true
+is_worse (Ok one) (Err damage) counted recounted = false
+is_worse (Err damage) (Err other) counted recounted = is_worse_by_count counted recounted
 
 -- the part or, if it tells more, the later one
 abbrev pub better : DamagedPart → Option DamagedPart → Option DamagedPart
 better part None = Some part
-better part (Some later) = if is_worse part.text later.text then Some later else Some part
+better part (Some later) =
+    if is_worse part.text later.text part.by_count later.by_count then Some later else Some part
 
 -- the part that is shown under this number: of the parts with the number, the first that none is better than
 abbrev pub shown_under : List DamagedPart → ℕ → Option DamagedPart
@@ -75,10 +84,10 @@ sheet_count parts = max (total_of parts) (length parts)
 
 -- ---- Whether the form is one whole message.
 
--- whether one of the parts is read
+-- whether one of the parts is read, be it by count
 abbrev pub is_any_read : List DamagedPart → Bool
 is_any_read [] = false
-is_any_read (part ∷ parts) = is_ok part.text || is_any_read parts
+is_any_read (part ∷ parts) = is_ok part.text || is_some part.by_count || is_any_read parts
 
 -- The part is read, and no letter of its text is lost.
 abbrev pub IsReadWhole : DamagedPart → Type 0

@@ -14,6 +14,7 @@ use Rattle.kd_lost.specs.declared.damaged_text.LostCopies.{LostCopies}
 use Rattle.kd_lost.specs.declared.part.{DamagedPart.{DamagedPart}, PartNumbers.{PartNumbers}}
 use Rattle.kd_lost.specs.declared.short_line.ShortLine.{ShortLine}
 use Rattle.kd_lost.specs.declared.wrong_sign.WrongSign.{WrongSign}
+use Rattle.kd_lost.specs.ByCount.{heading_count, part_line}
 use Rattle.kd_lost.specs.DamagedForm.{shown_byte}
 use Rattle.kd_pictures.specs.declared.language.Language.{Language}
 use Rattle.kd_pictures.specs.Language.{text_in}
@@ -203,11 +204,6 @@ read_text l sheet s name shown =
 
 -- ---- A part that isn't read.
 
--- how many letters the body has, by the heading
-abbrev pub heading_count : Option PartNumbers → ℕ
-heading_count (Some numbers) = numbers.letters
-heading_count None = 0
-
 -- line `number` of the part, by its number in the form. The part begins on line `line` of the form.
 abbrev pub line_words : Language → ℕ → ℕ → List ℕ
 line_words l line number = text_in l texts.LINE ++ decimal (line + number - 1)
@@ -242,15 +238,6 @@ counts_text l counted came =
     text_in l texts.COUNT_WRONG ++ decimal counted ++ text_in l texts.COUNT_CAME ++ decimal came
     ++ text_in l texts.COUNT_END
 
--- whether the heading's count is right if this line is full
-abbrev pub explains : ℕ → ℕ → ShortLine → Bool
-explains counted came short = counted + short.letters == came + 50
-
--- the line that isn't full, if it explains the heading's count
-abbrev pub telling_line : ℕ → ℕ → Option ShortLine → Option ShortLine
-telling_line counted came None = None
-telling_line counted came (Some short) = if explains counted came short then Some short else None
-
 -- how many letters a line has that isn't full, of a part that begins on this line of the form
 unfoldable pub short_words : Language → ℕ → ShortLine → List ℕ
 short_words l line short =
@@ -261,14 +248,18 @@ abbrev pub short_text : Language → ℕ → Option ShortLine → List ℕ
 short_text l line (Some short) = short_words l line short
 short_text l line None = []
 
--- the ten groups of a line that isn't full
-abbrev pub short_groups : Language → Option ShortLine → List ℕ
-short_groups l (Some short) = groups_words l (short.before / 5 + 1) (short.before / 5 + 10)
-short_groups l None = text_in l texts.ALL_OF_IT
+-- what to ask for if the count is wrong or damaged: the count, and the first group that hasn't five letters; if each has,
+-- and the count isn't damaged, its lines once the count is confirmed
+abbrev pub count_asked : Language → PartDamage → Option ℕ → List ℕ
+count_asked l damage (Some group) = text_in l texts.ITS_COUNT ++ COMMA.now ++ group_words l group
+count_asked l damages.HeadingDamaged None = text_in l texts.ITS_COUNT
+count_asked l _ None = text_in l texts.ITS_COUNT_OR_LINES
 
--- the line that explains the heading's count of a part
-abbrev pub part_line : DamagedPart → Option ShortLine
-part_line part = telling_line (heading_count part.numbers) part.came part.short_line
+-- what to ask for if the count is wrong, and the part isn't read: the ten groups of a line that isn't full, if it explains
+-- the count
+abbrev pub short_groups : Language → Option ℕ → Option ShortLine → List ℕ
+short_groups l group (Some short) = groups_words l (short.before / 5 + 1) (short.before / 5 + 10)
+short_groups l group None = count_asked l damages.CountWrong group
 
 -- the counts of the heading and of the letters that came, and the line in which letters are missing
 unfoldable pub count_text : Language → DamagedPart → List ℕ
@@ -294,7 +285,7 @@ asked_words l part damages.HeadingDamaged =
     if part.came == 0 then text_in l texts.ALL_OF_IT else text_in l texts.ITS_HEADING
 asked_words l part damages.HeadingKeyLost = text_in l texts.ITS_KEYS
 asked_words l part damages.BadByte = sign_group l part.wrong_sign
-asked_words l part damages.CountWrong = short_groups l (part_line part)
+asked_words l part damages.CountWrong = short_groups l part.short_group (part_line part)
 asked_words l part (damages.CopiesDiffer number) = key_letter_groups l part.came number
 asked_words l part (damages.KeyLetterLost number) = key_letter_groups l part.came number
 asked_words l part damages.KeyNotOnWheel = indicator_groups l part.came
@@ -313,3 +304,28 @@ damage_text l name part damage =
 -- a part that didn't come
 abbrev pub missing_text : Language → PartName → List ℕ
 missing_text l name = unread_text l name (text_in l texts.DID_NOT_COME) (text_in l texts.ALL_OF_IT)
+
+-- ---- A part that is read by the letters that came, since its count is wrong or damaged.
+
+-- that the count is damaged in the heading of a part that begins on this line of the form, and how many letters came
+unfoldable pub damaged_count : Language → ℕ → ℕ → List ℕ
+damaged_count l line came =
+    line_words l line 1 ++ text_in l texts.COUNT_DAMAGED ++ decimal came ++ text_in l texts.COUNT_DAMAGED_END
+
+-- what is wrong with the count
+abbrev pub counted_reason : Language → DamagedPart → PartDamage → List ℕ
+counted_reason l part damages.HeadingDamaged = damaged_count l part.line part.came
+counted_reason l part _ = counts_text l (heading_count part.numbers) part.came
+
+-- the first group that hasn't five letters; or that each has, so that the count of those that came may be right
+abbrev pub groups_told : Language → ℕ → Option ℕ → List ℕ
+groups_told l came (Some group) =
+    text_in l texts.SHORT_GROUP ++ decimal group ++ text_in l texts.SHORT_GROUP_END
+groups_told l came None = text_in l texts.FULL_GROUPS ++ decimal came ++ text_in l texts.FULL_GROUPS_END
+
+-- what is wrong with the count; the text; and the count to ask for
+unfoldable pub counted_text : Language → Sheet → Day → PartName → DamagedPart → PartDamage → DamagedText → List ℕ
+counted_text l sheet s name part damage shown =
+    text_in l texts.BY_COUNT ++ counted_reason l part damage ++ groups_told l part.came part.short_group
+    ++ texts.REASON_END.now ++ read_text l sheet s name shown
+    ++ ask_text l name.part (count_asked l damage part.short_group)

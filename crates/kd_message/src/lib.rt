@@ -1,6 +1,7 @@
 //! Pages that say, step by step, how a message is worked by hand on the real machine.
 #![tactic(auto)]
 
+mod counted;
 mod form_sheet;
 mod groups;
 pub mod laws;

@@ -18,7 +18,7 @@ use kd_state::SheetDay;
 use kd_tables::Sink;
 
 /// Writes where a part without a number stands: after the part with the number `after`; 0 if there is no such part.
-fn draw_lone_words<W: Sink>(sink: &mut W, language: Language, after: u8)
+pub(crate) fn draw_lone_words<W: Sink>(sink: &mut W, language: Language, after: u8)
     ensures { Draws W.taken W.has_failed sink.old sink.new (lone_words language after) }
 {
     if after == 0 {
@@ -72,7 +72,7 @@ pub(crate) fn draw_lone_text<W: Sink>(
 }
 
 /// Writes why a part without a number isn't read: it is an order, or its heading is damaged.
-fn draw_lone_reason<W: Sink>(sink: &mut W, language: Language, part: &DamagedPart)
+pub(crate) fn draw_lone_reason<W: Sink>(sink: &mut W, language: Language, part: &DamagedPart)
     ensures { Draws W.taken W.has_failed sink.old sink.new (lone_reason language part.now) }
 {
     if part.is_order {
@@ -103,7 +103,7 @@ fn draw_lone_box<W: Sink>(sink: &mut W, language: Language, came: usize)
 }
 
 /// What to ask for of a part without a number, of whose body `came` letters came.
-fn lone_asked(language: Language, came: usize) -> &'static str
+pub(crate) fn lone_asked(language: Language, came: usize) -> &'static str
     ensures { result.now ≡ lone_asked language came }
 {
     if came == 0 {

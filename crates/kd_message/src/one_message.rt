@@ -42,7 +42,7 @@ fn parts_agree(one: &DamagedPart, other: &DamagedPart) -> bool
 fn numbers_agree(one: &PartNumbers, other: &PartNumbers, agree: bool) -> bool
     ensures { result ≡ numbers_agree one.now other.now agree }
 {
-    one.parts == other.parts && (one.part != other.part || one.letters == other.letters && agree)
+    one.parts == other.parts && (one.part != other.part || agree)
 }
 
 /// Whether two parts may be the same part, sent twice.
@@ -61,7 +61,7 @@ fn texts_agree(
     }
 }
 
-/// Whether two bodies agree at each place that both have.
+/// Whether two bodies have as many letters, and agree at each place.
 fn letters_agree(one: &[Option<Letter>], other: &[Option<Letter>]) -> bool
     ensures { result ≡ letters_agree one.now other.now }
 {
@@ -70,7 +70,7 @@ fn letters_agree(one: &[Option<Letter>], other: &[Option<Letter>]) -> bool
     {
         return letter_agrees(letter, again) && letters_agree(one, other);
     }
-    true
+    one.is_empty() && other.is_empty()
 }
 
 /// Whether both letters may have been sent as one: they are equal, or one is lost.

@@ -1,18 +1,19 @@
 //! The page for receiving a form, in which letters may be lost.
 ghost use Rattle.std.specs.Prelude.{◌≡◌, ◌==◌, ◌≤◌, ◌+◌, ◌&&◌, ◌||◌, [], false, flat_map, if◌then◌else◌, is_none};
-ghost use Rattle.std.specs.Prelude.{IfOk, IsErr, length};
+ghost use Rattle.std.specs.Prelude.{IsErr, length};
 ghost use Rattle.std.specs.List.{range_with_len};
 ghost use Rattle.kd_tables.specs.Ports.{port};
 ghost use Rattle.kd_pictures.specs.Drawing.{Draws};
 ghost use Rattle.kd_message.specs.ReceivedWork.{AreShowable};
-ghost use Rattle.kd_message.specs.ReceivePage.{AreWorkable, IsReceivePageAnswer, as_they_came, by_number};
+ghost use Rattle.kd_message.specs.ReceivePage.{AreWorkable, HasShowableKeys, IsReceivePageAnswer, as_they_came, by_number};
 ghost use Rattle.kd_message.specs.ReceivePage.{is_device_fault, listed_text, listed_unread, lone_after, lone_in};
 ghost use Rattle.kd_message.specs.ReceivePage.{missing_in, name_at, number_in, number_or, page_fault, part_at, part_in};
 ghost use Rattle.kd_message.specs.ReceivePage.{receive_text, section_text, sheet_to_receive, shown_in};
-ghost use Rattle.kd_message.specs.ReceivePage.{text_or_damage, worked_text};
+ghost use Rattle.kd_message.specs.ReceivePage.{sheet_of_text, text_or_damage, worked_text};
 ghost use Rattle.kd_message.specs.SendPage.{part_name};
 ghost use Rattle.kd_message.specs.ShownParts.{shown_under, times_of, total_of};
 
+use crate::counted::draw_counted_text;
 use crate::lone_parts::{draw_listed_lone, draw_lone_text};
 use crate::one_message::are_of_one_message;
 use crate::received_work::received_work;
@@ -24,9 +25,7 @@ use crate::text_sheet::{
 };
 use crate::texts::{ARTICLE_END, LIST_END_WITH_TEXT, LISTED_UNREAD, TITLE_TO_RECEIVE};
 use crate::unread::{draw_damage, draw_missing};
-use kd_lost::{
-    DamagedFormFault, DamagedPart, DamagedText, PartDamage, PartNumbers, read_damaged_form,
-};
+use kd_lost::{DamagedFormFault, DamagedPart, DamagedText, PartNumbers, read_damaged_form};
 use kd_part_sheet::markup::SECTION_END;
 use kd_part_sheet::part_sheet::{PartName, draw_if, draw_part_sheet, note};
 use kd_part_sheet::sheet::Sheet;
@@ -51,8 +50,7 @@ pub enum ReceivePageFault {
 
 /// Writes the page in this language that says how to decipher `form` by hand on a machine on the day's key, and its text.
 ///
-/// Returns whether the form is one whole message of the day, and all of its text was read. For `Device`, a prefix of the page is written. For other faults, nothing is
-/// written.
+/// Returns whether the form is one whole message of the day, and all of its text was read. For `Device`, a prefix of the page is written. For other faults, nothing is written.
 pub fn write_receive_page<W: Sink>(
     alloc: Global,
     language: Language,
@@ -345,7 +343,7 @@ fn draw_part_at<W: Sink>(
     part: &DamagedPart,
 )
     requires place { place ≤ 255 }
-    requires workable { IfOk part.now.text (λ shown. AreShowable day.now shown.keys) }
+    requires workable { HasShowableKeys day.now part.now }
     ensures { Draws W.taken W.has_failed sink.old sink.new
         (part_at section language day.now place before part.now.numbers part.now) }
 {
@@ -380,29 +378,27 @@ fn draw_part<W: Sink>(
     times: usize,
     part: &DamagedPart,
 )
-    requires { IfOk part.now.text (λ shown. AreShowable day.now shown.keys) }
+    requires { HasShowableKeys day.now part.now }
     ensures { Draws W.taken W.has_failed sink.old sink.new
         (part_in section language day.now name times part.now) }
 {
     match section {
-        Section::Listed => draw_listed(sink, language, name, &part.text),
-        Section::Worked => draw_worked(sink, language, day, name, &part.text),
+        Section::Listed => draw_listed(sink, language, name, part),
+        Section::Worked => draw_worked(sink, language, day, name, part),
         Section::Texts => draw_part_text(sink, language, day, name, times, part),
     }
 }
 
 /// Writes a part in the list of the sheets.
-fn draw_listed<W: Sink>(
-    sink: &mut W,
-    language: Language,
-    name: PartName,
-    text: &Result<DamagedText, PartDamage>,
-)
-    ensures { Draws W.taken W.has_failed sink.old sink.new (listed_text language name text.now) }
+fn draw_listed<W: Sink>(sink: &mut W, language: Language, name: PartName, part: &DamagedPart)
+    ensures { Draws W.taken W.has_failed sink.old sink.new
+        (listed_text language name part.now.text part.now.by_count) }
 {
-    match text {
-        Ok(_) => draw_listed_part(sink, language, name.sheet, name.part, name.parts),
-        Err(_) => draw_listed_unread(sink, language, name),
+    match (&part.text, &part.by_count) {
+        (Err(_), None) => draw_listed_unread(sink, language, name),
+        (Ok(_), _) | (Err(_), Some(_)) => {
+            draw_listed_part(sink, language, name.sheet, name.part, name.parts)
+        }
     }
 }
 
@@ -427,24 +423,40 @@ fn draw_worked<W: Sink>(
     language: Language,
     day: &SheetDay,
     name: PartName,
-    text: &Result<DamagedText, PartDamage>,
+    part: &DamagedPart,
 )
-    requires { IfOk text.now (λ shown. AreShowable day.now shown.keys) }
+    requires { HasShowableKeys day.now part.now }
     ensures { Draws W.taken W.has_failed sink.old sink.new
-        (worked_text language day.now name text.now) }
+        (worked_text language day.now name part.now.text part.now.by_count) }
 {
-    match text {
-        Ok(shown) => draw_part_sheet(
-            sink,
-            language,
-            sheet_to_receive(day.model()),
-            day,
-            name,
-            warnings_of(shown),
-            &received_work(day, shown),
-        ),
-        Err(_) => draw(sink, ""),
+    match (&part.text, &part.by_count) {
+        (Ok(shown), _) => draw_sheet_of_text(sink, language, day, name, shown),
+        (Err(_), Some(shown)) => draw_sheet_of_text(sink, language, day, name, shown),
+        (Err(_), None) => draw(sink, ""),
     }
+}
+
+/// Writes the sheet of a text.
+fn draw_sheet_of_text<W: Sink>(
+    sink: &mut W,
+    language: Language,
+    day: &SheetDay,
+    name: PartName,
+    shown: &DamagedText,
+)
+    requires { AreShowable day.now shown.now.keys }
+    ensures { Draws W.taken W.has_failed sink.old sink.new
+        (sheet_of_text language day.now name shown.now) }
+{
+    draw_part_sheet(
+        sink,
+        language,
+        sheet_to_receive(day.model()),
+        day,
+        name,
+        warnings_of(shown),
+        &received_work(day, shown),
+    );
 }
 
 fn sheet_to_receive(model: Model) -> Sheet
@@ -485,12 +497,13 @@ fn draw_text_or_damage<W: Sink>(
     ensures { Draws W.taken W.has_failed sink.old sink.new
         (text_or_damage language day.now name part.now part.now.text) }
 {
-    match &part.text {
-        Ok(shown) => {
-            let sheet = sheet_to_receive(day.model());
-            draw_read_text(sink, language, sheet, day, name, shown)
+    let sheet = sheet_to_receive(day.model());
+    match (&part.text, &part.by_count) {
+        (Ok(shown), _) => draw_read_text(sink, language, sheet, day, name, shown),
+        (Err(damage), Some(shown)) => {
+            draw_counted_text(sink, language, sheet, day, name, part, *damage, shown)
         }
-        Err(damage) => draw_damage(sink, language, name, part, *damage),
+        (Err(damage), None) => draw_damage(sink, language, name, part, *damage),
     }
 }
 

@@ -2,11 +2,11 @@
 ghost use Rattle.std.specs.Prelude.{◌≡◌, ◌≢◌, ◌↔◌, ◌≤◌, ◌+◌, All, IsTrue, MatchOption, None, Some, is_none, length};
 ghost use Rattle.std.specs.List.{range_with_len};
 ghost use Rattle.kd_message.specs.ShownParts.{IsNumberWhole, IsReadWhole, IsWhole, MayBeOfTheDay, are_rising};
-ghost use Rattle.kd_message.specs.ShownParts.{is_any_read, is_number, is_worse, lost_in, numbers_of, sheet_count};
+ghost use Rattle.kd_message.specs.ShownParts.{is_any_read, is_number, is_worse, is_worse_by_count, lost_in, numbers_of, sheet_count};
 ghost use Rattle.kd_message.specs.ShownParts.{shown_under, times_of, total_of};
 
 use crate::one_message::are_of_one_message;
-use kd_lost::{DamagedPart, DamagedText, GroupTest, PartDamage, PartNumbers};
+use kd_lost::{DamagedPart, DamagedText, GroupTest, PartNumbers};
 use kd_tables::Letter;
 
 /// How many parts the message has by the first heading that isn't damaged; 0, if all are.
@@ -77,19 +77,31 @@ pub(crate) fn shown_under(parts: &[DamagedPart], number: u16) -> Option<&Damaged
         return later;
     }
     match later {
-        Some(later) if is_worse(&part.text, &later.text) => Some(later),
+        Some(later) if is_worse(part, later) => Some(later),
         _ => Some(part),
     }
 }
 
 /// Whether the other part tells more: it is read where the first isn't, or fewer letters of its text are lost.
-fn is_worse(one: &Result<DamagedText, PartDamage>, other: &Result<DamagedText, PartDamage>) -> bool
-    ensures { result ≡ is_worse one.now other.now }
+fn is_worse(one: &DamagedPart, other: &DamagedPart) -> bool
+    ensures { result ≡ is_worse one.now.text other.now.text one.now.by_count other.now.by_count }
 {
-    match (one, other) {
+    match (&one.text, &other.text) {
         (Ok(one), Ok(other)) => lost_in(other) < lost_in(one),
         (Err(_), Ok(_)) => true,
-        (_, Err(_)) => false,
+        (Ok(_), Err(_)) => false,
+        (Err(_), Err(_)) => is_worse_by_count(&one.by_count, &other.by_count),
+    }
+}
+
+/// Whether the other text by count tells more: there is one where the first isn't, or fewer of its letters are lost.
+fn is_worse_by_count(one: &Option<DamagedText>, other: &Option<DamagedText>) -> bool
+    ensures { result ≡ is_worse_by_count one.now other.now }
+{
+    match (one, other) {
+        (Some(one), Some(other)) => lost_in(other) < lost_in(one),
+        (None, Some(_)) => true,
+        (_, None) => false,
     }
 }
 
@@ -111,12 +123,12 @@ fn is_lost(letter: &Option<Letter>) -> bool
     letter.is_none()
 }
 
-/// Whether one of the parts is read.
+/// Whether one of the parts is read, be it by count.
 pub(crate) fn is_any_read(parts: &[DamagedPart]) -> bool
     ensures { result ≡ is_any_read parts.now }
 {
     match parts {
-        [part, rest @ ..] => part.text.is_ok() || is_any_read(rest),
+        [part, rest @ ..] => part.text.is_ok() || part.by_count.is_some() || is_any_read(rest),
         [] => false,
     }
 }

@@ -259,7 +259,7 @@ fn is_copy_lost(copies: &Option<LostCopies>) -> bool
     }
 }
 
-fn is_wrong_day(group: GroupTest) -> bool
+pub(crate) fn is_wrong_day(group: GroupTest) -> bool
     ensures { result ≡ is_wrong_day group }
 {
     match group {
@@ -320,7 +320,7 @@ fn draw_ask_groups<W: Sink>(
 }
 
 /// The number of the group with which the text begins.
-fn first_text_group(model: Model) -> usize
+pub(crate) fn first_text_group(model: Model) -> usize
     ensures { result ≡ first_text_group model }
 {
     if is_converter(model) { 3 } else { 2 }

@@ -136,7 +136,7 @@ pub const ASK: Text = (
 pub const GROUP: Text = ("group ", "Gruppe ");
 
 /// Several groups, one after another: before the number of the first, and before that of the last.
-pub const GROUPS: Text = ("groups ", "Gruppe ");
+pub const GROUPS: Text = ("groups ", "Gruppen ");
 
 pub const TO_GROUP: Text = (" to ", " bis ");
 
@@ -145,6 +145,14 @@ pub const ITS_HEADING: Text = ("its heading", "Spruchkopf");
 pub const ITS_KEYS: Text = (
     "ground and key of its heading",
     "Grundstellung und Schlüssel des Spruchkopfs",
+);
+
+/// The count in a heading; and the lines of the body, once the count is confirmed.
+pub const ITS_COUNT: Text = ("its count", "Buchstabenzahl");
+
+pub const ITS_COUNT_OR_LINES: Text = (
+    "its count; if that is right, its lines",
+    "Buchstabenzahl; wenn sie stimmt, die Zeilen",
 );
 
 pub const ALL_OF_IT: Text = ("all of it", "alles");
@@ -175,7 +183,7 @@ pub const IS_ORDER: Text = (
     "Das ist ein Auftrag, kein Spruch: Er ist für <code>curator send</code>.",
 );
 
-pub const DID_NOT_COME: Text = ("It didn\u{2019}t come.", "Der Teil ist nicht eingegangen.");
+pub const DID_NOT_COME: Text = ("It didn’t come.", "Der Teil ist nicht eingegangen.");
 
 pub const HEADING_KEY_LOST: Text = (
     ": a letter of the ground or of the key is lost.",
@@ -202,6 +210,33 @@ pub const COUNT_CAME: Text = (", but ", ", eingegangen: ");
 
 pub const COUNT_END: Text = (" came.", ".");
 
+/// A part that is read by the letters that came: before what is wrong with its count. A damaged count: before the count of
+/// the letters that came; after it.
+pub const BY_COUNT: Text = (
+    "<p class=reason><b>Read by the letters that came.</b> ",
+    "<p class=reason><b>Gelesen nach den eingegangenen Buchstaben.</b> ",
+);
+
+pub const COUNT_DAMAGED: Text = (
+    ": the count in the heading is damaged; ",
+    ": Die Buchstabenzahl im Spruchkopf ist verstümmelt; eingegangen: ",
+);
+
+pub const COUNT_DAMAGED_END: Text = (" letters came.", " Buchstaben.");
+
+/// A group that hasn't five letters: before its number; after it.
+pub const SHORT_GROUP: Text = (" Group ", " Gruppe ");
+
+pub const SHORT_GROUP_END: Text = (" hasn’t five letters.", " hat nicht fünf Buchstaben.");
+
+/// That each group has five letters: before the count of the letters that came; after it.
+pub const FULL_GROUPS: Text = (
+    " Each group but the last has five letters, so ",
+    " Jede Gruppe bis auf die letzte hat fünf Buchstaben, also kann ",
+);
+
+pub const FULL_GROUPS_END: Text = (" may be right.", " stimmen.");
+
 /// A line that isn't full: before it; before the count of its letters; after it.
 pub const GAP: &str = " ";
 
@@ -223,7 +258,7 @@ pub const KEY_LETTER_LOST: Text = (
 );
 
 pub const KEY_NOT_ON_WHEEL: Text = (
-    "A letter of the indicators isn\u{2019}t on its wheel.",
+    "A letter of the indicators isn’t on its wheel.",
     "Ein Kennbuchstabe ist auf seinem Rad nicht vorhanden.",
 );
 

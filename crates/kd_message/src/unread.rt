@@ -1,22 +1,23 @@
 //! Parts that aren't read: why, and what to ask the other station for.
-ghost use Rattle.std.specs.Prelude.{◌≡◌, ◌+◌, ◌-◌};
+ghost use Rattle.std.specs.Prelude.{◌≡◌, ◌+◌, ◌-◌, Some};
 ghost use Rattle.kd_pictures.specs.Drawing.{Draws};
 ghost use Rattle.kd_message.specs.TextSheet.{ask_text, asked_words, bad_byte_text, counts_text, damage_text};
-ghost use Rattle.kd_message.specs.TextSheet.{heading_count, heading_fault, indicator_groups, indicator_place};
+ghost use Rattle.kd_lost.specs.ByCount.{heading_count};
+ghost use Rattle.kd_message.specs.TextSheet.{count_asked, heading_fault, indicator_groups, indicator_place};
 ghost use Rattle.kd_message.specs.TextSheet.{key_letter_groups, line_words, missing_text, reason_text, sign_group};
-ghost use Rattle.kd_message.specs.TextSheet.{count_text, explains, part_line, short_groups, short_text, short_words};
-ghost use Rattle.kd_message.specs.TextSheet.{sign_text, sign_words, telling_line};
+ghost use Rattle.kd_message.specs.TextSheet.{count_text, short_groups, short_text, short_words};
+ghost use Rattle.kd_message.specs.TextSheet.{sign_text, sign_words};
 
 use crate::groups::{draw_group_words, draw_groups_words};
 use crate::text_sheet::draw_count;
 use crate::texts::{
     ALL_OF_IT, ASK, ASK_END, BAD_BYTE, COLON, COPIES_DIFFER, COUNT_CAME, COUNT_END, COUNT_WRONG,
-    DID_NOT_COME, FULL_LINE, GAP, HEADING_DAMAGED, HEADING_KEY_LOST, ITS_HEADING, ITS_KEYS,
-    KEY_LETTER_LOST, KEY_NOT_ON_WHEEL, LETTER_OF_LINE, LINE, LINE_HAS, NO_INTERNAL_KEY, NO_LETTER,
-    REASON_END, THIS_SIGN, UNREAD,
+    DID_NOT_COME, FULL_LINE, GAP, HEADING_DAMAGED, HEADING_KEY_LOST, ITS_COUNT, ITS_COUNT_OR_LINES,
+    ITS_HEADING, ITS_KEYS, KEY_LETTER_LOST, KEY_NOT_ON_WHEEL, LETTER_OF_LINE, LINE, LINE_HAS,
+    NO_INTERNAL_KEY, NO_LETTER, REASON_END, THIS_SIGN, UNREAD,
 };
 use itoa::Buffer;
-use kd_lost::{DamagedPart, PartDamage, PartNumbers, ShortLine, WrongSign};
+use kd_lost::{DamagedPart, PartDamage, PartNumbers, ShortLine, WrongSign, part_line};
 use kd_part_sheet::markup::COMMA;
 use kd_part_sheet::part_sheet::PartName;
 use kd_pictures::template::{Value, fill_in};
@@ -34,7 +35,7 @@ pub(crate) fn draw_missing<W: Sink>(sink: &mut W, language: Language, name: Part
 }
 
 /// Writes the box for `words`.
-fn draw_ask<W: Sink>(sink: &mut W, language: Language, name: PartName, words: &str)
+pub(crate) fn draw_ask<W: Sink>(sink: &mut W, language: Language, name: PartName, words: &str)
     ensures { Draws W.taken W.has_failed sink.old sink.new
         (ask_text language name.part words.now) }
 {
@@ -63,7 +64,12 @@ pub(crate) fn draw_damage<W: Sink>(
 }
 
 /// Writes why a part isn't read.
-fn draw_reason<W: Sink>(sink: &mut W, language: Language, part: &DamagedPart, damage: PartDamage)
+pub(crate) fn draw_reason<W: Sink>(
+    sink: &mut W,
+    language: Language,
+    part: &DamagedPart,
+    damage: PartDamage,
+)
     ensures { Draws W.taken W.has_failed sink.old sink.new
         (reason_text language part.now damage) }
 {
@@ -108,7 +114,7 @@ pub(crate) fn draw_heading_fault<W: Sink>(
 }
 
 /// Writes line `number` of a part that begins on line `line` of the form.
-fn draw_line_words<W: Sink>(sink: &mut W, language: Language, line: usize, number: usize)
+pub(crate) fn draw_line_words<W: Sink>(sink: &mut W, language: Language, line: usize, number: usize)
     ensures { Draws W.taken W.has_failed sink.old sink.new (line_words language line number) }
 {
     draw_in(sink, language, LINE);
@@ -166,7 +172,7 @@ fn draw_sign_group<W: Sink>(sink: &mut W, language: Language, sign: &Option<Wron
 }
 
 /// Writes how many letters the heading counts, and how many came.
-fn draw_counts<W: Sink>(sink: &mut W, language: Language, counted: usize, came: usize)
+pub(crate) fn draw_counts<W: Sink>(sink: &mut W, language: Language, counted: usize, came: usize)
     ensures { Draws W.taken W.has_failed sink.old sink.new
         (counts_text language counted came) }
 {
@@ -183,29 +189,6 @@ fn draw_count_wrong<W: Sink>(sink: &mut W, language: Language, part: &DamagedPar
 {
     draw_counts(sink, language, heading_count(&part.numbers), part.came);
     draw_short(sink, language, part.line, part_line(part));
-}
-
-/// The line that isn't full, if it explains the heading's count.
-fn part_line(part: &DamagedPart) -> Option<ShortLine>
-    ensures { result ≡ part_line part.now }
-{
-    telling_line(heading_count(&part.numbers), part.came, &part.short_line)
-}
-
-fn telling_line(counted: usize, came: usize, short: &Option<ShortLine>) -> Option<ShortLine>
-    ensures { result ≡ telling_line counted came short.now }
-{
-    match short {
-        Some(short) if explains(counted, came, *short) => Some(*short),
-        _ => None,
-    }
-}
-
-/// Whether the heading's count is right if the line is full.
-fn explains(counted: usize, came: usize, short: ShortLine) -> bool
-    ensures { result ≡ explains counted came short }
-{
-    counted as u128 + short.letters as u128 == came as u128 + 50
 }
 
 fn draw_short<W: Sink>(sink: &mut W, language: Language, line: usize, short: Option<ShortLine>)
@@ -228,21 +211,51 @@ fn draw_short_words<W: Sink>(sink: &mut W, language: Language, line: usize, shor
     draw_in(sink, language, FULL_LINE);
 }
 
-/// Writes the ten groups of a line that isn't full.
-fn draw_short_groups<W: Sink>(sink: &mut W, language: Language, short: Option<ShortLine>)
-    ensures { Draws W.taken W.has_failed sink.old sink.new (short_groups language short) }
+/// Writes what to ask for if the count is wrong: the ten groups of a line that isn't full, if it explains the count.
+fn draw_short_groups<W: Sink>(
+    sink: &mut W,
+    language: Language,
+    group: Option<usize>,
+    short: Option<ShortLine>,
+)
+    ensures { Draws W.taken W.has_failed sink.old sink.new (short_groups language group short) }
 {
     match short {
         Some(short) => {
             let before = short.before / 5;
             draw_groups_words(sink, language, before + 1, before + 10)
         }
-        None => draw_in(sink, language, ALL_OF_IT),
+        None => draw_count_asked(sink, language, PartDamage::CountWrong, group),
     }
 }
 
+/// Writes what to ask for if the count is wrong or damaged. `group`: the first group that hasn't five letters.
+pub(crate) fn draw_count_asked<W: Sink>(
+    sink: &mut W,
+    language: Language,
+    damage: PartDamage,
+    group: Option<usize>,
+)
+    ensures { Draws W.taken W.has_failed sink.old sink.new (count_asked language damage group) }
+{
+    match (damage, group) {
+        (_, Some(group)) => draw_count_and_group(sink, language, group),
+        (PartDamage::HeadingDamaged, None) => draw_in(sink, language, ITS_COUNT),
+        (_, None) => draw_in(sink, language, ITS_COUNT_OR_LINES),
+    }
+}
+
+fn draw_count_and_group<W: Sink>(sink: &mut W, language: Language, group: usize)
+    ensures { Draws W.taken W.has_failed sink.old sink.new
+        (count_asked language PartDamage.CountWrong (Some group)) }
+{
+    draw_in(sink, language, ITS_COUNT);
+    draw(sink, COMMA);
+    draw_group_words(sink, language, group);
+}
+
 /// How many letters the body has, by the heading.
-fn heading_count(numbers: &Option<PartNumbers>) -> usize
+pub(crate) fn heading_count(numbers: &Option<PartNumbers>) -> usize
     ensures { result ≡ heading_count numbers.now }
 {
     match numbers {
@@ -263,7 +276,12 @@ fn indicator_place(number: u8) -> u16
 }
 
 /// Writes what to ask for if a part isn't read.
-fn draw_asked<W: Sink>(sink: &mut W, language: Language, part: &DamagedPart, damage: PartDamage)
+pub(crate) fn draw_asked<W: Sink>(
+    sink: &mut W,
+    language: Language,
+    part: &DamagedPart,
+    damage: PartDamage,
+)
     ensures { Draws W.taken W.has_failed sink.old sink.new
         (asked_words language part.now damage) }
 {
@@ -272,7 +290,9 @@ fn draw_asked<W: Sink>(sink: &mut W, language: Language, part: &DamagedPart, dam
         PartDamage::HeadingKeyLost => draw_in(sink, language, ITS_KEYS),
         PartDamage::BadByte => draw_sign_group(sink, language, &part.wrong_sign),
         PartDamage::HeadingDamaged => draw_in(sink, language, ALL_OF_IT),
-        PartDamage::CountWrong => draw_short_groups(sink, language, part_line(part)),
+        PartDamage::CountWrong => {
+            draw_short_groups(sink, language, part.short_group, part_line(part))
+        }
         PartDamage::CopiesDiffer(number) | PartDamage::KeyLetterLost(number) => {
             draw_key_letter_groups(sink, language, part.came, number)
         }

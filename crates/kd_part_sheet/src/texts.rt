@@ -23,21 +23,21 @@ const RECEIVE_HEAD: Text = (
 pub const LEGEND: SheetText = (
     (
         (
-            "</p>\n<p>Above the line: press. On it: write the lamp\u{2019}s letter. Below: what it has to be. Where nothing stands above, copy.<br>A row ends with the letters so far and the windows. If they differ, set the windows as before the row, and begin it again.",
+            "</p>\n<p>Above the line: press. On it: write the lamp’s letter. Below: what it has to be. Where nothing stands above, copy.<br>A row ends with the letters so far and the windows. If they differ, set the windows as before the row, and begin it again.",
             "</p>\n<p>Über der Linie: tippen. Auf die Linie: den Buchstaben der Lampe schreiben. Darunter: wie er lauten muss. Wo darüber nichts steht: abschreiben.<br>Am Ende der Zeile: Buchstaben bis hier, und Fenster. Weichen sie ab, die Fenster wie vor der Zeile einstellen und die Zeile wiederholen.",
         ),
         (
-            "</p>\n<p>Above the line: enter. On it: write what the machine prints. Below: what it has to be. Where nothing stands above, copy.<br>A row ends with the letters so far, those of the indicators too, and the wheels. If they differ, set the wheels as before the row, and begin it again. The machine\u{2019}s own counter counts every letter.",
+            "</p>\n<p>Above the line: enter. On it: write what the machine prints. Below: what it has to be. Where nothing stands above, copy.<br>A row ends with the letters so far, those of the indicators too, and the wheels. If they differ, set the wheels as before the row, and begin it again. The machine’s own counter counts every letter.",
             "</p>\n<p>Über der Linie: eingeben. Auf die Linie: schreiben, was die Maschine druckt. Darunter: wie es lauten muss. Wo darüber nichts steht: abschreiben.<br>Am Ende der Zeile: Buchstaben bis hier, die Kennbuchstaben mitgezählt, und Räder. Weichen sie ab, die Räder wie vor der Zeile einstellen und die Zeile wiederholen. Das Zählwerk der Maschine zählt jeden Buchstaben.",
         ),
     ),
     (
         (
-            "</p>\n<p>Above the line: press. On it: write the lamp\u{2019}s letter. Below: what it has to be. Skip letters in small print above.<br>A row ends with the letters so far and the windows. If they differ, set the windows as before the row, and begin it again.",
+            "</p>\n<p>Above the line: press. On it: write the lamp’s letter. Below: what it has to be. Skip letters in small print above.<br>A row ends with the letters so far and the windows. If they differ, set the windows as before the row, and begin it again.",
             "</p>\n<p>Über der Linie: tippen. Auf die Linie: den Buchstaben der Lampe schreiben. Darunter: wie er lauten muss. Kleingedruckte Buchstaben darüber auslassen.<br>Am Ende der Zeile: Buchstaben bis hier, und Fenster. Weichen sie ab, die Fenster wie vor der Zeile einstellen und die Zeile wiederholen.",
         ),
         (
-            "</p>\n<p>Above the line: enter. On it: write what the machine prints. Below: what it has to be. Skip letters in small print above.<br>A row ends with the letters so far, those of the indicators too, and the wheels. If they differ, set the wheels as before the row, and begin it again. The machine\u{2019}s own counter counts every letter.",
+            "</p>\n<p>Above the line: enter. On it: write what the machine prints. Below: what it has to be. Skip letters in small print above.<br>A row ends with the letters so far, those of the indicators too, and the wheels. If they differ, set the wheels as before the row, and begin it again. The machine’s own counter counts every letter.",
             "</p>\n<p>Über der Linie: eingeben. Auf die Linie: schreiben, was die Maschine druckt. Darunter: wie es lauten muss. Kleingedruckte Buchstaben darüber auslassen.<br>Am Ende der Zeile: Buchstaben bis hier, die Kennbuchstaben mitgezählt, und Räder. Weichen sie ab, die Räder wie vor der Zeile einstellen und die Zeile wiederholen. Das Zählwerk der Maschine zählt jeden Buchstaben.",
         ),
     ),
@@ -171,12 +171,12 @@ pub const WRONG_DAY: SheetText = (
 );
 
 const ROTOR_WRONG_DAY: Text = (
-    "<p>Letters 3 to 5 are no group of the day: the form is another day\u{2019}s, or another network\u{2019}s.</p>\n",
+    "<p>Letters 3 to 5 are no group of the day: the form is another day’s, or another network’s.</p>\n",
     "<p>Buchstabe 3 bis 5 sind keine Kenngruppe des Tages: Der Spruch ist von einem anderen Tag oder aus einem anderen Schlüsselkreis.</p>\n",
 );
 
 const PIN_WRONG_DAY: Text = (
-    "<p>The list letters aren\u{2019}t the day\u{2019}s: the form is another day\u{2019}s, or another network\u{2019}s.</p>\n",
+    "<p>The list letters aren’t the day’s: the form is another day’s, or another network’s.</p>\n",
     "<p>Die Listenbuchstaben sind nicht die des Tages: Der Spruch ist von einem anderen Tag oder aus einem anderen Schlüsselkreis.</p>\n",
 );
 
@@ -186,12 +186,12 @@ pub const NOT_TESTED: SheetText = (
 );
 
 const ROTOR_NOT_TESTED: Text = (
-    "<p>The day isn\u{2019}t tested: a letter of the group is lost.</p>\n",
+    "<p>The day isn’t tested: a letter of the group is lost.</p>\n",
     "<p>Der Tag ist nicht geprüft: In der Kenngruppe fehlt ein Buchstabe.</p>\n",
 );
 
 const PIN_NOT_TESTED: Text = (
-    "<p>The day isn\u{2019}t tested: a list letter is lost both times.</p>\n",
+    "<p>The day isn’t tested: a list letter is lost both times.</p>\n",
     "<p>Der Tag ist nicht geprüft: Ein Listenbuchstabe fehlt beide Male.</p>\n",
 );
 
@@ -199,7 +199,7 @@ const PIN_NOT_TESTED: Text = (
 pub const NOTE: SheetText = ((ENIGMA_NOTE, SENT_NOTE), (ENIGMA_NOTE, RECEIVED_NOTE));
 
 const ENIGMA_NOTE: Text = (
-    "<p class=note>Spaces aren\u{2019}t sent. X often stands for a stop, Q for CH. The last group may be short.</p>\n",
+    "<p class=note>Spaces aren’t sent. X often stands for a stop, Q for CH. The last group may be short.</p>\n",
     "<p class=note>Zwischenräume werden nicht gesendet. X steht oft für einen Punkt, Q für CH. Die letzte Gruppe kann kürzer sein.</p>\n",
 );
 
@@ -214,7 +214,7 @@ const RECEIVED_NOTE: Text = (
 );
 
 pub const NAVAL_NOTE: Text = (
-    "<p class=note>Spaces aren\u{2019}t sent. X often stands for a stop, Y for a comma. The last group may be short.</p>\n",
+    "<p class=note>Spaces aren’t sent. X often stands for a stop, Y for a comma. The last group may be short.</p>\n",
     "<p class=note>Zwischenräume werden nicht gesendet. X steht oft für einen Punkt, Y für ein Komma. Die letzte Gruppe kann kürzer sein.</p>\n",
 );
 
@@ -238,7 +238,7 @@ pub const NO_CABLES: Text = ("none", "keine");
 
 /// The key of the day that a Converter has to be on: the two letters of the key list.
 pub const LIST: Text = (
-    "<p>Pins and lugs have to be the day\u{2019}s. List: <b>~~</b>.",
+    "<p>Pins and lugs have to be the day’s. List: <b>~~</b>.",
     "<p>Stifte und Reiter müssen auf dem Tagesschlüssel stehen. Liste: <b>~~</b>.",
 );
 

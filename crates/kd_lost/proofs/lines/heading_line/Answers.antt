@@ -1,5 +1,5 @@
 use Rattle.std.proofs.Common.{ap, arith, length}
-use Rattle.kd_lost.proofs.PartLines.{tidied_length}
+use Rattle.kd_lost.proofs.Tidying.{tidied_length}
 use Rattle.kd_lost.proofs.lines.heading_line.Goals as goal
 
 pub prove-unreachable-requires : goal.prove-unreachable-requires

@@ -2,6 +2,7 @@ use Rattle.std.proofs.Common.{◌∙◌, ap, length, subst, sym}
 use Rattle.kd_lost.specs.WrongSign.{IsFirstWrongSign}
 use Rattle.kd_lost.specs.DamagedPart.{body_of, first_line}
 use Rattle.kd_lost.specs.Lost.{received_letters}
+use Rattle.kd_lost.specs.ShortGroup.{IsFirstShortGroup}
 use Rattle.kd_lost.specs.ShortLine.{short_line}
 use Rattle.kd_lost.proofs.Parts.{lines_there, one_line}
 use Rattle.kd_lost.proofs.PartShown.{lines_answered}
@@ -23,6 +24,9 @@ returns-in-Some c =
       shown = told.2;
       wrong_sign = subst (λ b. IsFirstWrongSign b c.read_lines.result.wrong_sign)
           (sym (ap body_of first.joined ∙ there.1)) c.read_lines.ensures.wrong_sign;
+      by_count = c.read_lines.ensures.by_count;
+      short_group = subst (λ b. IsFirstShortGroup b c.read_lines.result.short_group)
+          (sym (ap body_of first.joined ∙ there.1)) c.read_lines.ensures.short_group;
       short_line = c.read_lines.ensures.short_line ∙ ap short_line (sym (ap body_of first.joined ∙ there.1));
       as_it_stands = c.read_lines.ensures.as_it_stands;
       line = c.read_lines.ensures.line;
@@ -41,6 +45,9 @@ returns-in-None c =
       shown = told.2;
       wrong_sign = subst (λ b. IsFirstWrongSign b c.read_lines-in-None.result.wrong_sign) (sym there.1)
           c.read_lines-in-None.ensures.wrong_sign;
+      by_count = c.read_lines-in-None.ensures.by_count;
+      short_group = subst (λ b. IsFirstShortGroup b c.read_lines-in-None.result.short_group) (sym there.1)
+          c.read_lines-in-None.ensures.short_group;
       short_line = c.read_lines-in-None.ensures.short_line ∙ ap short_line (sym there.1);
       as_it_stands = c.read_lines-in-None.ensures.as_it_stands;
       line = c.read_lines-in-None.ensures.line;

@@ -1,0 +1,103 @@
+-- What is read of a part whose count is wrong or damaged: its text, if its body has the letters that came, and no more.
+-- Test: tests/cases/curator-messages.toml
+use Rattle.std.specs.Prelude.{decimal, ◌≡◌, ℕ, ◌+◌, ◌==◌, not, Bool, true, false, if◌then◌else◌, is_some}
+use Rattle.std.specs.Prelude.{List, [], ◌∷◌, ◌++◌, drop, Option, None, Some, IfSome, Result, Ok, Err}
+use Rattle.kd_state.specs.SheetDay.{Day}
+use Rattle.kd_lost.specs.declared.damage.PartDamage.{PartDamage}
+use Rattle.kd_lost.specs.declared.damage.PartDamage.TheVariants as damages
+use Rattle.kd_lost.specs.declared.damaged_text.DamagedText.{DamagedText}
+use Rattle.kd_lost.specs.declared.part.{DamagedPart.{DamagedPart}, PartNumbers.{PartNumbers}}
+use Rattle.kd_lost.specs.declared.short_line.ShortLine.{ShortLine}
+use Rattle.kd_lost.specs.DamagedPart.{AreNumbersRead, IsDamagedTextAnswer, IsPartShown, first_line}
+use Rattle.kd_lost.specs.Tidy.{from_line_end}
+
+-- ---- A heading with another count.
+
+-- the word with which `line` begins: the bytes before its first space
+abbrev pub first_word : List ℕ → List ℕ
+first_word [] = []
+first_word (byte ∷ line) = if byte == 32 then [] else byte ∷ first_word line
+
+-- `line`, from its first space on
+abbrev pub from_space : List ℕ → List ℕ
+from_space [] = []
+from_space (byte ∷ line) = if byte == 32 then byte ∷ line else from_space line
+
+-- `line`, from its second word on
+abbrev pub later_words : List ℕ → List ℕ
+later_words line = drop 1 (from_space line)
+
+-- `line`, with `count` in place of its third word
+abbrev pub counted_line : ℕ → List ℕ → List ℕ
+counted_line count line =
+    first_word line ++ 32 ∷ [] ++ first_word (later_words line) ++ 32 ∷ [] ++ decimal count
+    ++ from_space (later_words (later_words line))
+
+-- the part, with `count` in place of the third word of its heading
+abbrev pub counted_part : ℕ → List ℕ → List ℕ
+counted_part count part = counted_line count (first_line part) ++ from_line_end part
+
+-- ---- Whether the count may be what is wrong.
+
+-- how many letters the body has, by the heading
+abbrev pub heading_count : Option PartNumbers → ℕ
+heading_count (Some numbers) = numbers.letters
+heading_count None = 0
+
+-- whether the heading's count is right if this line is full
+abbrev pub explains : ℕ → ℕ → ShortLine → Bool
+explains counted came short = counted + short.letters == came + 50
+
+-- the line that isn't full, if it explains the heading's count
+abbrev pub telling_line : ℕ → ℕ → Option ShortLine → Option ShortLine
+telling_line counted came None = None
+telling_line counted came (Some short) = if explains counted came short then Some short else None
+
+-- the line that explains the heading's count of a part
+abbrev pub part_line : DamagedPart → Option ShortLine
+part_line part = telling_line (heading_count part.numbers) part.came part.short_line
+
+-- whether the count may be what is wrong: the heading is damaged; or it counts other letters than came, and no line
+-- explains that
+abbrev pub is_count_doubted : Result DamagedText PartDamage → Option ShortLine → Bool
+is_count_doubted (Ok shown) line = false
+is_count_doubted (Err damages.HeadingDamaged) line = true
+is_count_doubted (Err damages.CountWrong) line = not (is_some line)
+is_count_doubted (Err _) line = false
+
+-- ---- What is read then.
+
+-- the text, if it is read
+abbrev pub text_of : Result DamagedText PartDamage → Option DamagedText
+text_of (Ok shown) = Some shown
+text_of (Err damage) = None
+
+-- `found` is the text of the part `part`, if it has one. `numbers` are the numbers in its heading.
+pub record IsFoundIn (s : Day) (part : List ℕ) (numbers : Option PartNumbers) (found : Option DamagedText) : Type 0 where
+  pub answer : Result DamagedText PartDamage
+  pub given : AreNumbersRead s (first_line part) numbers
+  pub text : IsDamagedTextAnswer s part answer
+  pub is_its : found ≡ text_of answer
+  pub shown : IfSome found (IsPartShown s part)
+
+-- The numbers of a part: those that its heading gives or, if the heading is damaged, and a text is found by the letters
+-- that came, those of the heading with their number.
+abbrev pub numbers_by_count : Option PartNumbers → Option PartNumbers → Option DamagedText → Option PartNumbers
+numbers_by_count (Some given) counted found = Some given
+numbers_by_count None counted (Some shown) = counted
+numbers_by_count None counted None = None
+
+-- What a part gives by the letters that came, of which there are `came`: a text `found`, and numbers. `given` are the
+-- numbers that its heading gives as it stands. If its count isn't doubted, there is no text by count; otherwise the text
+-- is that of the part with the number `came` in its heading.
+abbrev pub GivesByCount : Bool → Day → List ℕ → ℕ → Option PartNumbers → Option PartNumbers → Option DamagedText → Type 0
+GivesByCount false s part came given numbers found = (found ≡ None) × (numbers ≡ given)
+GivesByCount true s part came given numbers found =
+    (counted : Option PartNumbers) × IsFoundIn s (counted_part came part) counted found
+    × (numbers ≡ numbers_by_count given counted found)
+
+-- `read` has the text and the numbers that `part` gives by the letters that came.
+abbrev pub IsByCount : Day → List ℕ → Option PartNumbers → DamagedPart → Type 0
+IsByCount s part given read =
+    GivesByCount (is_count_doubted read.text (telling_line (heading_count given) read.came read.short_line)) s part
+    read.came given read.numbers read.by_count

@@ -1,0 +1,34 @@
+//! The first group of a body that hasn't five letters.
+ghost use Rattle.std.specs.Prelude.{◌≡◌, ◌≤◌, ◌^◌, ◌+◌, ◌<◌, if◌then◌else◌, is_some};
+ghost use Rattle.kd_lost.specs.Lost.{received_letter};
+ghost use Rattle.kd_lost.specs.ShortGroup.{IsFirstShortGroup};
+
+use crate::received::is_received;
+use crate::short_line::letters_on;
+
+/// The number of the first group of `body` that hasn't five letters, before other letters, counted from 1.
+pub(crate) fn first_short_group(body: &[u8]) -> Option<usize>
+    ensures { IsFirstShortGroup body.now result }
+{
+    let all = letters_on(body);
+    let mut letters = 0;
+    for byte in body {
+        if !is_received(byte) && letters < all && letters % 5 != 0 {
+            return Some(letters / 5 + 1);
+        }
+        letters = letters_after(letters, *byte);
+    }
+    None
+}
+
+/// How many letters stand up to `byte`, if `letters` stand before it.
+fn letters_after(letters: usize, byte: u8) -> usize
+    requires { letters < 2 ^ 63 + 2 }
+    ensures { result ≡ (if is_some (received_letter byte) then letters + 1 else letters) }
+{
+    if is_received(&byte) {
+        letters + 1
+    } else {
+        letters
+    }
+}
