@@ -1,5 +1,5 @@
 -- The copies of a Converter's key letters: the chosen letter stands four times in a part, each external letter twice.
--- Test: copies_are_used
+-- Test: tests/cases/curator-messages.toml
 use Rattle.std.specs.Prelude.{ℕ, ◌+◌, List, [], ◌∷◌, drop, All, Contains, Option, Some, None}
 use Rattle.std.specs.Prelude.{slice_index_or}
 use Rattle.kd_state.specs.AnswerRules.{AnswerRule, ◌>>=◌, Yields, Finds, Demands}

@@ -1,7 +1,7 @@
 -- How a damaged form is cut into parts, and what is read of all of them. The first part begins the form, and another each
 -- later line that is taken for a heading.
 -- Code: the form is cut part by part.
--- Test: damaged_forms_are_read
+-- Test: tests/cases/curator-messages.toml
 use Rattle.std.specs.Prelude.{◌≡◌, ℕ, ◌+◌, ◌<◌, ◌==◌, ◌&&◌, All, Bool, if◌then◌else◌, List, [], ◌∷◌}
 use Rattle.std.specs.Prelude.{◌≢◌, ◌↔◌, IsTrue, length, IfOk, Option, None, Some, Result, Ok, Err}
 use Rattle.std.specs.List.{flat_map}

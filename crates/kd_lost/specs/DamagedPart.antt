@@ -1,5 +1,5 @@
 -- What is read of a part in which letters were lost: its numbers, and its text or the reason why there is none.
--- Test: each_byte_is_lost_in_turn
+-- Test: tests/messages-as-worked
 use Rattle.std.specs.Prelude.{◌≡◌, ℕ, ◌==◌, ◌||◌, Bool, IsTrue, IsFalse, if◌then◌else◌, List, [], ◌∷◌, length, map, All}
 use Rattle.std.specs.Prelude.{Option, MatchOption}
 use Rattle.kd_tables.specs.Text.{is_text_byte}

@@ -1,5 +1,5 @@
 -- What is read of the letters of a body in which letters were lost.
--- Test: each_byte_is_lost_in_turn
+-- Test: tests/messages-as-worked
 use Rattle.std.specs.Prelude.{◌≡◌, ◌⊎◌, ◌↔◌, ℕ, ◌-◌, List, [], ◌∷◌, length, map, take, drop, Any, IsTrue}
 use Rattle.std.specs.Prelude.{Option, Some, None, Ok}
 use Rattle.std.specs.List.{slice_range}

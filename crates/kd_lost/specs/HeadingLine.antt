@@ -1,6 +1,6 @@
 -- Which lines of a damaged form are taken for headings: those that begin like `PART`, and have a digit or a slash. So a
 -- wrong sign in a line of a body begins no part, and a heading begins one even if some of its signs are lost or wrong.
--- Test: damaged_forms_are_read
+-- Test: tests/cases/curator-messages.toml
 use Rattle.std.specs.Prelude.{codes, ℕ, ◌+◌, ◌==◌, ◌&&◌, ◌||◌, nat_le, Bool, false, true, if◌then◌else◌, List, [], ◌∷◌}
 use Rattle.std.specs.Prelude.{Option, None, Some, not, slice_get}
 use Rattle.kd_tables.specs.Text.{is_capital}

@@ -1,7 +1,7 @@
 -- What may have been sent where letters were lost on the air. A lost letter is a `?` or `-`, a small letter means its
 -- capital, and a tab means a space.
 -- Code: the reader puts A in place of each lost letter, deciphers, and leaves out what it deciphered there.
--- Test: each_byte_is_lost_in_turn
+-- Test: tests/messages-as-worked
 use Rattle.std.specs.Prelude.{◌≡◌, ℕ, ◌-◌, ◌<◌, ◌==◌, ◌&&◌, ◌||◌, nat_le, Bool, IsTrue, IsFalse, if◌then◌else◌}
 use Rattle.std.specs.Prelude.{List, [], ◌∷◌, map, filter_map, Option, Some, None, option_map, unwrap_or}
 use Rattle.kd_tables.specs.Text.{is_capital}

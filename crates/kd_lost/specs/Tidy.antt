@@ -2,7 +2,7 @@
 -- is left out, and so are the lines before the first heading, unless a slash stands there: then a line may have been a
 -- heading. In a heading, blanks are left out that only part its words further, or stand around them. Bodies may have any
 -- spaces and line ends.
--- Test: damaged_forms_are_read
+-- Test: tests/cases/curator-messages.toml
 use Rattle.std.specs.Prelude.{ℕ, ◌==◌, ◌&&◌, ◌||◌, Bool, true, if◌then◌else◌, List, [], ◌∷◌, ◌++◌, take, drop}
 use Rattle.std.specs.Prelude.{Option, None, Some, unwrap_or}
 use Rattle.std.specs.Str.{bytes_eq}

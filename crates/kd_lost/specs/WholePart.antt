@@ -1,5 +1,5 @@
 -- The text of a part in which no letter is lost, whatever its group or its list letters.
--- Test: each_byte_is_lost_in_turn
+-- Test: tests/messages-as-worked
 use Rattle.std.specs.Prelude.{◌≡◌, ℕ, ◌-◌, List, length, take, drop, slice_index, All, IsTrue, Option, Some, None}
 use Rattle.kd_tables.specs.Text.{is_text_byte}
 use Rattle.kd_state.specs.SheetDay.{Day}

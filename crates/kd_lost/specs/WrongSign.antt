@@ -1,6 +1,6 @@
 -- The first wrong sign of a part's body: a byte that is neither a letter nor a lost one, nor a blank or part of a line end.
 -- It is named by its line, by its place among the letters of this line, and by its place among all letters of the body.
--- Test: wrong_signs_are_named
+-- Test: tests/cases/curator-messages.toml
 use Rattle.std.specs.Prelude.{◌≡◌, ◌⊎◌, ℕ, ◌+◌, ◌==◌, IsTrue, IsFalse, List, [], ◌∷◌, ◌++◌, length, All}
 use Rattle.std.specs.Prelude.{Option, MatchOption}
 use Rattle.std.specs.List.{count_by}
