@@ -1,18 +1,23 @@
 -- The answer of the page for receiving, as a refusal.
-use Rattle.std.proofs.Common.{◌≡◌, ℕ, List, Option, Some, Bool, true, false, Err, Ok, Result, ap, inl, inr, refl}
+use Rattle.std.proofs.Common.{◌≡◌, ◌∙◌, ℕ, [], IsErr, None, append-nil, take, List, Option, Some, Bool, true, false, Err, Ok, Result, ap, inl, inr, refl, subst, sym}
 use Rattle.std.proofs.lemmas.Bool.{false≢true}
-use Rattle.kd_tables.specs.Ports.{Port}
+use Rattle.std.specs.Io.KnownBytes.{Appends, Keeps}
+use Rattle.kd_tables.specs.Ports.{Port, port}
+use Rattle.kd_table.specs.Notes.{Tells}
+use Rattle.kd_pictures.specs.Drawing.{Draws}
 use Rattle.kd_state.specs.declared.machine.parts.Parts.{Parts}
 use Rattle.kd_state.specs.SheetDay.{Day}
 use Rattle.kd_sheet.specs.Sheet.{day_of}
 use Rattle.kd_form.specs.OnTheKey.{IsReadyOnKey}
 use Rattle.kd_pictures.specs.declared.language.Language.{Language}
-use Rattle.kd_message.specs.ReceivePage.{FormNotRead, IsReceivePageAnswer, ReceivedPageWritten}
+use Rattle.kd_lost.specs.declared.form.DamagedFormFault.{DamagedFormFault}
+use Rattle.kd_lost.specs.declared.form.DamagedFormFault.TheVariants as form_faults
+use Rattle.kd_message.specs.ReceivePage.{FormNotRead, IsFormNoted, IsReceivePageAnswer, NotNoted, Noted, ReceivedPageWritten, page_fault, receive_notes}
 use Rattle.kd_message.specs.ReceivePage.{is_device_fault as is_page_device}
 use Rattle.kd_message.specs.declared.receiving.ReceivePageFault.{ReceivePageFault}
 use Rattle.kd_message.specs.declared.receiving.ReceivePageFault.TheVariants.{NoMemory, TooManyParts, Device}
 use Rattle.kd_curator.specs.Refusals.{has_written, is_device, refused_receive, refused_whole}
-use Rattle.kd_curator.specs.RunReceive.{Cut, NotRead, Page, WritesReceivePage}
+use Rattle.kd_curator.specs.RunReceive.{Cut, NotRead, OfNothing, OfParts, Page, TellsOfForm, WritesReceivePage}
 use Rattle.kd_curator.specs.declared.fault.PageFault.TheVariants.{NotWhole}
 use Rattle.kd_curator.specs.declared.fault.Refused.{Refused}
 
@@ -52,3 +57,68 @@ pub untouched_told : {X : Type 0} (fault : ReceivePageFault) → (is_page_device
 untouched_told NoMemory holds other = holds refl
 untouched_told TooManyParts holds other = holds refl
 untouched_told Device holds other = absurd (cc)
+
+page_quiet : (fault : DamagedFormFault) → is_page_device (Err (page_fault fault)) ≡ false
+page_quiet form_faults.NoMemory = refl
+page_quiet form_faults.TooManyParts = refl
+
+not_written : (fault : DamagedFormFault) → has_written (Err (refused_receive (page_fault fault))) ≡ false
+not_written form_faults.NoMemory = refl
+not_written form_faults.TooManyParts = refl
+
+-- what the page's call tells of the form
+pub notes_told : (l : Language) (month : List (Option Day)) (m : Parts) (number : ℕ) (form : List ℕ) (s : Day)
+    (Told : List ℕ → Type 0) → day_of month number ≡ Some s → IsReadyOnKey m s
+    → (told : Result Bool ReceivePageFault) → IsFormNoted l s form Told told
+    → TellsOfForm l month m number form Told (receive_answer told)
+notes_told l month m number form s Told found ready told (Noted parts read tells) =
+    OfParts s found ready parts read tells
+notes_told l month m number form s Told found ready told (NotNoted fault is) =
+    subst (λ a. TellsOfForm l month m number form Told (receive_answer a)) (sym is) (OfNothing tt (not_written fault))
+
+-- -------- what standard error has taken
+
+kept_whole : (had has : Option (List ℕ)) → Keeps had has → Appends had has []
+kept_whole None has kept = tt
+kept_whole (Some x) None kept = absurd kept
+kept_whole (Some x) (Some y) kept = kept ∙ sym (append-nil x)
+
+same_whole : (had : Option (List ℕ)) → Appends had had []
+same_whole None = tt
+same_whole (Some x) = sym (append-nil x)
+
+module _ {E : Type 0} (taken : E → Option (List ℕ)) (failed : E → Bool) where
+  -- nothing was told
+  pub silent_tells : (old new : E) → new ≡ old → Tells (port taken failed old new)
+  silent_tells old new same = subst (λ e. Tells (port taken failed old e)) (sym same) (record {
+    text = [];
+    written = same_whole (taken old);
+    failed = λ is. is;
+  })
+
+  drawn_tells : (old new : E) (text : List ℕ) (before after : Bool) → failed old ≡ before → failed new ≡ after
+      → Draws taken failed old new text → Tells (port taken failed old new)
+  drawn_tells old new text true after was is drawn = let none = drawn.none was in record {
+    text = [];
+    written = kept_whole (taken old) (taken new) none.1;
+    failed = λ _. none.0;
+  }
+  drawn_tells old new text false true was is drawn = let front = drawn.front was is in record {
+    text = take front.0 text;
+    written = front.2;
+    failed = λ _. is;
+  }
+  drawn_tells old new text false false was is drawn = record {
+    text = text;
+    written = (drawn.whole is).1;
+    failed = λ ill. absurd (false≢true (sym was ∙ ill));
+  }
+
+  -- the page's call told something
+  pub form_tells : (l : Language) (s : Day) (form : List ℕ) (old new : E) (told : Result Bool ReceivePageFault)
+      → IsFormNoted l s form (λ text. Draws taken failed old new text) told
+      → (IsErr told → is_page_device told ≡ false → new ≡ old) → Tells (port taken failed old new)
+  form_tells l s form old new told (Noted parts read drawn) quiet =
+      drawn_tells old new (receive_notes l s parts) (failed old) (failed new) refl refl drawn
+  form_tells l s form old new told (NotNoted fault is) quiet =
+      silent_tells old new (quiet (subst IsErr (sym is) tt) (ap is_page_device is ∙ page_quiet fault))

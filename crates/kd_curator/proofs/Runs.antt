@@ -1,12 +1,15 @@
 -- How a command line is carried out.
 use Rattle.std.proofs.Common.{◌≡◌, ◌||◌, ◌≤◌, ℕ, Bool, true, false, List, [], IsErr, IsTrue, Option, Some, None, Result, Ok}
 use Rattle.std.proofs.Common.{Err}
-use Rattle.std.proofs.Common.{OnErr, inl, refl, arith, ap, subst, sym, ◌∙◌}
+use Rattle.std.proofs.Common.{◌∷◌, OnErr, inl, refl, arith, ap, subst, sym, ◌∙◌}
 use Rattle.clap.specs.Words.{Row, subcommand_of}
 use Rattle.kd_tables.specs.Ports.{Port}
 use Rattle.kd_tables.specs.declared.model.Model.{Model}
 use Rattle.kd_curator_command.specs.CommandLine.{IsCommandLineOf, IsMeant, NamedCommand, ReadCommand, curator_grammar}
 use Rattle.kd_curator_command.specs.declared.command.Command.TheVariants as commands
+use Rattle.kd_curator_command.specs.declared.command.MessageKind.{MessageKind}
+use Rattle.kd_curator_command.specs.declared.command.MessageKind.TheVariants as kinds
+use Rattle.kd_curator_command.specs.declared.command.MessageTask.{MessageTask}
 use Rattle.kd_host.specs.Files.{AreAskedFor, AskedName}
 use Rattle.kd_curator.specs.Program.{AreAlike, HasMonth, HasNotes, HasTold, IsLeftAlone, NoNotes, TableNotes, names_of}
 use Rattle.kd_curator.specs.Ending.{stop_after}
@@ -15,7 +18,7 @@ use Rattle.kd_curator.specs.Program.{is_stopped_by_device}
 use Rattle.kd_curator.specs.Refusals.{comes_after_writing, has_written, is_device, is_device_fault, refused_device}
 use Rattle.kd_curator.specs.declared.fault.PageFault.{PageFault}
 use Rattle.kd_curator.specs.declared.fault.PageFault.TheVariants as faults
-use Rattle.kd_curator.specs.Program.{AnswersAfter, is_whole}
+use Rattle.kd_curator.specs.Program.{AnswersAfter, FormNotes, TellsOfMessage, is_whole}
 use Rattle.kd_curator.specs.declared.fault.Refused.{Refused}
 use Rattle.kd_curator.specs.declared.stop.Stop.{Stop}
 
@@ -73,12 +76,21 @@ pub left_alone : (had : Option (List ℕ)) (failed : Bool)
     → IsLeftAlone (record { had = had; has = had; had_failed = failed; has_failed = failed })
 left_alone had failed = record { same = refl; failed = refl }
 
+message_notes_so : (words : List (List ℕ)) (asked : List AskedName) (errors : Port) (machine sheet message : List ℕ)
+    (task : MessageTask) (kind : MessageKind) → IsCommandLineOf words (commands.Message machine sheet message task)
+    → task.kind ≡ kind → AreAskedFor (machine ∷ sheet ∷ message ∷ []) [] asked true → TellsOfMessage kind errors
+    → HasNotes words asked errors
+message_notes_so words asked errors machine sheet message task kinds.Order says is read told = NoNotes told
+message_notes_so words asked errors machine sheet message task kinds.Form says is read told =
+    FormNotes machine sheet message task says is read told
+
 -- what the command tells, the words allow
 pub notes_so : (words : List (List ℕ)) (asked : List AskedName) (errors : Port) (command : NamedCommand) (read : ReadCommand)
     → IsCommandLineOf words command → AreAlike command read → AreAskedFor (names_of command) [] asked true
     → HasTold read errors → HasNotes words asked errors
 notes_so words asked errors (commands.OnMachine a b c) (commands.OnMachine d e f) says alike read told = NoNotes told
-notes_so words asked errors (commands.Message a b c d) (commands.Message e f g h) says alike read told = NoNotes told
+notes_so words asked errors (commands.Message a b c d) (commands.Message e f g h) says alike read told =
+    message_notes_so words asked errors a b c d h.kind says (ap (λ (t : MessageTask). t.kind) alike) read told
 notes_so words asked errors (commands.TypingPage a b) (commands.TypingPage c d) says alike read told = NoNotes told
 notes_so words asked errors (commands.Table a b c) (commands.Table d e f) says alike read told = NoNotes told
 notes_so words asked errors (commands.EmptySheet a b) (commands.EmptySheet c d) says alike read told = NoNotes told

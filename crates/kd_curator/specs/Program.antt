@@ -210,11 +210,15 @@ is_stopped_before_writing (Err (stops.Refused refused)) = not (comes_after_writi
 is_stopped_before_writing (Err stop) = true
 
 -- What was written to standard error before the program's answer was known: something about a table, if the words mean
--- the command `sheet` and the table was read. Otherwise nothing.
+-- the command `sheet` and the table was read; something about a form, if they mean `receive` and the files were read.
+-- Otherwise nothing.
 pub data HasNotes (words : List (List ℕ)) (asked : List AskedName) (errors : Port) : Type 0 where
   NoNotes : IsLeftAlone errors → HasNotes words asked errors
   TableNotes : (table : List ℕ) (options : OptionTexts) → IsCommandLineOf words (commands.Sheet table options)
       → AreAskedFor (table ∷ []) [] asked true → Tells errors → HasNotes words asked errors
+  FormNotes : (machine sheet message : List ℕ) (task : MessageTask)
+      → IsCommandLineOf words (commands.Message machine sheet message task) → task.kind ≡ kinds.Form
+      → AreAskedFor (machine ∷ sheet ∷ message ∷ []) [] asked true → Tells errors → HasNotes words asked errors
 
 -- What holds of the program's answer to a command line. `carried`: what was read and written. `untouched`: when nothing
 -- happened to the sink. `failed`: the sink has failed exactly if the program says so, or if it had failed before.
@@ -272,12 +276,17 @@ HasMonth (commands.Table sheet form language) = Unit {0}
 HasMonth (commands.Sheet table options) = Unit {0}
 HasMonth (commands.Look names files) = Unit {0}
 
+-- What is told of a message of this kind: of a form, what is wrong with it; of an order, nothing.
+abbrev pub TellsOfMessage : MessageKind → Port → Type 0
+TellsOfMessage kinds.Order errors = IsLeftAlone errors
+TellsOfMessage kinds.Form errors = Tells errors
+
 -- What a command tells on standard error, beside the reason of a refusal: `sheet` tells the columns that it doesn't read,
--- and a table's faults. Other commands tell nothing.
+-- and a table's faults; `receive` tells what is wrong with a form. Other commands tell nothing.
 abbrev pub HasTold : ReadCommand → Port → Type 0
 HasTold (commands.Sheet table options) errors = Tells errors
 HasTold (commands.OnMachine machine sheet task) errors = IsLeftAlone errors
-HasTold (commands.Message machine sheet message task) errors = IsLeftAlone errors
+HasTold (commands.Message machine sheet message task) errors = TellsOfMessage task.kind errors
 HasTold (commands.TypingPage machine language) errors = IsLeftAlone errors
 HasTold (commands.Table sheet form language) errors = IsLeftAlone errors
 HasTold (commands.Look names files) errors = IsLeftAlone errors

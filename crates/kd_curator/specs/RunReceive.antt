@@ -1,5 +1,5 @@
 -- What `run_receive` writes, and when it refuses.
-use Rattle.std.specs.Prelude.{◌≡◌, ◌⊎◌, ◌≤◌, ℕ, List, None, Option, Some, Result, Ok, Err, length}
+use Rattle.std.specs.Prelude.{◌≡◌, ◌⊎◌, ◌≤◌, false, ℕ, List, None, Option, Some, Result, Ok, Err, IsErr, length}
 use Rattle.std.specs.Io.KnownBytes.{Appends}
 use Rattle.kd_tables.specs.Ports.{Port}
 use Rattle.kd_tables.specs.Writing.{TakesPrefix}
@@ -12,9 +12,9 @@ use Rattle.kd_lost.specs.DamagedForm.{AreReadOf, IsFormFault, damaged_parts_of}
 use Rattle.kd_lost.specs.declared.form.DamagedFormFault.{DamagedFormFault}
 use Rattle.kd_lost.specs.declared.part.DamagedPart.{DamagedPart}
 use Rattle.kd_pictures.specs.declared.language.Language.{Language}
-use Rattle.kd_message.specs.ReceivePage.{page_fault, receive_text}
+use Rattle.kd_message.specs.ReceivePage.{page_fault, receive_notes, receive_text}
 use Rattle.kd_message.specs.ShownParts.{IsWhole}
-use Rattle.kd_curator.specs.Refusals.{refused_device, refused_receive, refused_whole}
+use Rattle.kd_curator.specs.Refusals.{has_written, refused_device, refused_receive, refused_whole}
 use Rattle.kd_curator.specs.declared.fault.PageFault.TheVariants.{NotWhole, Message, NoSuchDay}
 use Rattle.kd_curator.specs.declared.fault.Refused.{Refused}
 
@@ -47,3 +47,12 @@ pub data WritesReceivePage (l : Language) (month : List (Option Day)) (m : Parts
   Cut : (s : Day) → day_of month number ≡ Some s → (parts : List DamagedPart)
       → IsFormRead m s form parts → TakesPrefix sink.had sink.has (receive_text l s parts)
       → answer ≡ Err refused_device → WritesReceivePage l month m number form sink answer
+
+-- What is told on standard error, if the page is written, or a prefix of it: what is wrong with the form's parts, and what
+-- to ask for. `Told` says what holds if a text is told.
+pub data TellsOfForm (l : Language) (month : List (Option Day)) (m : Parts) (number : ℕ) (form : List ℕ)
+    (Told : List ℕ → Type 0) (answer : Result (Unit {0}) Refused) : Type 0 where
+  OfParts : (s : Day) → day_of month number ≡ Some s → IsReadyOnKey m s → (parts : List DamagedPart)
+      → AreReadOf s (damaged_parts_of form) parts → Told (receive_notes l s parts)
+      → TellsOfForm l month m number form Told answer
+  OfNothing : IsErr answer → has_written answer ≡ false → TellsOfForm l month m number form Told answer

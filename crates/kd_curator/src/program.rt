@@ -14,7 +14,7 @@ ghost use Rattle.kd_curator.specs.Program.{AreAlike, CarriesOut, DoesCommand, Do
 ghost use Rattle.kd_curator.specs.Program.{port_with_untaken, known_command};
 ghost use Rattle.kd_curator.specs.Program.{HasMonth, HasNotes, HasTold, names_of, read_with_texts};
 ghost use Rattle.kd_curator.specs.Program.{IsAnswerAfterFlush, is_stopped_before_writing, is_stopped_by_device};
-ghost use Rattle.kd_curator.specs.Program.{WorksMessage, is_whole, known_other};
+ghost use Rattle.kd_curator.specs.Program.{TellsOfMessage, WorksMessage, is_whole, known_other};
 ghost use Rattle.kd_curator.specs.Refusals.{has_written, is_device, refused_device};
 ghost use Rattle.kd_curator_command.specs.UpToThree.{list_of_option, list_of_three, unborrowed_three};
 
@@ -45,8 +45,8 @@ use std::convert::AsStr;
 ///
 /// Returns the exit status and the sink. The status is 0 for success, 2 for other words than a command's, and 1 for a
 /// refusal. With status 1 or 2, a text that says why is written to `errors`; the command `sheet` tells there a table's
-/// faults, and the columns that it doesn't read, too. Each file is read once, in the order of
-/// the command line. If a file can't be read, no later file is asked for, and nothing is written to `sink`.
+/// faults, and the columns that it doesn't read, too, and `receive` what is wrong with a form. Each file is read once, in
+/// the order of the command line. If a file can't be read, no later file is asked for, and nothing is written to `sink`.
 pub fn run_curator<'n, S: AsStr, F: Files<'n>, W: Sink + Drop, E: Sink>(
     alloc: Global,
     language: Language,
@@ -362,6 +362,7 @@ fn carry_out<W: Sink, E: Sink>(
             sheet.as_slice(),
             message.as_slice(),
             sink,
+            errors,
         ),
         Command::TypingPage {
             machine,
@@ -413,7 +414,7 @@ fn do_task<W: Sink>(
 }
 
 /// Does `task` with the machine in the file `machine`, the key sheet `sheet`, and `message`.
-fn work_message<W: Sink>(
+fn work_message<W: Sink, E: Sink>(
     alloc: Global,
     language: Language,
     task: MessageTask,
@@ -421,17 +422,21 @@ fn work_message<W: Sink>(
     sheet: &[u8],
     message: &[u8],
     sink: &mut W,
+    errors: &mut E,
 ) -> Result<(), Refused>
     ensures does { WorksMessage language task machine.now sheet.now message.now
         (port W.taken W.has_failed sink.old sink.new) result }
     ensures untouched { IsErr result → has_written result ≡ false → sink.new ≡ sink.old }
     ensures failed { W.has_failed sink.new ≡ (W.has_failed sink.old || is_device result) }
+    ensures told { TellsOfMessage task.kind (port E.taken E.has_failed errors.old errors.new) }
 {
     let language = task.language.unwrap_or(language);
     let day = task.day;
     match task.kind {
         MessageKind::Order => run_send(alloc, language, machine, sheet, day, message, sink),
-        MessageKind::Form => run_receive(alloc, language, machine, sheet, day, message, sink),
+        MessageKind::Form => {
+            run_receive(alloc, language, machine, sheet, day, message, sink, errors)
+        }
     }
 }
 

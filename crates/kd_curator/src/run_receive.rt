@@ -4,7 +4,9 @@ ghost use Rattle.kd_form.specs.OnTheKey.{IsKeyFault, IsReadyOnKey};
 ghost use Rattle.kd_tables.specs.Ports.{port};
 ghost use Rattle.kd_curator.specs.MachineAndSheet.{IsAnswerOnSheet};
 ghost use Rattle.kd_curator.specs.Refusals.{has_written, is_device};
-ghost use Rattle.kd_curator.specs.RunReceive.{WritesReceivePage};
+ghost use Rattle.kd_curator.specs.RunReceive.{TellsOfForm, WritesReceivePage};
+ghost use Rattle.kd_pictures.specs.Drawing.{Draws};
+ghost use Rattle.kd_table.specs.Notes.{Tells};
 
 use crate::fault::{PageFault, Refused};
 use crate::machine_and_sheet::read_both;
@@ -21,8 +23,9 @@ use std::alloc::Global;
 ///
 /// Faults are tested in this order: faults of the machine file, faults of the sheet, `NoSuchDay`, `NotReady`, `NotOnKey`,
 /// and `TooManyParts`. For all of these faults, nothing is written. For `Device`, only a prefix of the page is written. For
-/// `NotWhole`, the page is written.
-pub fn run_receive<W: Sink>(
+/// `NotWhole`, the page is written. If a page is written, what is wrong with the form, and what to ask for, is told to
+/// `errors`.
+pub fn run_receive<W: Sink, E: Sink>(
     alloc: Global,
     language: Language,
     machine: &[u8],
@@ -30,19 +33,27 @@ pub fn run_receive<W: Sink>(
     number: u8,
     form: &[u8],
     sink: &mut W,
+    errors: &mut E,
 ) -> Result<(), Refused>
     ensures page { IsAnswerOnSheet machine.now sheet.now
         (λ m month. WritesReceivePage language month m number form.now
         (port W.taken W.has_failed sink.old sink.new) result) result }
     ensures untouched { IsErr result → has_written result ≡ false → sink.new ≡ sink.old }
     ensures failed { W.has_failed sink.new ≡ (W.has_failed sink.old || is_device result) }
+    ensures told { IsAnswerOnSheet machine.now sheet.now
+        (λ m month. TellsOfForm language month m number form.now
+        (λ text. Draws E.taken E.has_failed errors.old errors.new text) result) result }
+    ensures quiet { IsErr result → has_written result ≡ false → errors.new ≡ errors.old }
+    ensures tells { Tells (port E.taken E.has_failed errors.old errors.new) }
 {
     let (machine, sheet) = read_both(alloc, machine, sheet)?;
-    write_form(alloc, language, &machine, &sheet, number, form, sink)
+    write_form(
+        alloc, language, &machine, &sheet, number, form, sink, errors,
+    )
 }
 
 /// Does what `run_receive` does, for a machine and a sheet that are already read.
-fn write_form<W: Sink>(
+fn write_form<W: Sink, E: Sink>(
     alloc: Global,
     language: Language,
     machine: &Machine,
@@ -50,11 +61,16 @@ fn write_form<W: Sink>(
     number: u8,
     form: &[u8],
     sink: &mut W,
+    errors: &mut E,
 ) -> Result<(), Refused>
     ensures page { WritesReceivePage language sheet.now machine.now number form.now
         (port W.taken W.has_failed sink.old sink.new) result }
     ensures untouched { IsErr result → has_written result ≡ false → sink.new ≡ sink.old }
     ensures failed { W.has_failed sink.new ≡ (W.has_failed sink.old || is_device result) }
+    ensures told { TellsOfForm language sheet.now machine.now number form.now
+        (λ text. Draws E.taken E.has_failed errors.old errors.new text) result }
+    ensures quiet { IsErr result → has_written result ≡ false → errors.new ≡ errors.old }
+    ensures tells { Tells (port E.taken E.has_failed errors.old errors.new) }
 {
     let Some(day) = sheet.day(number) else {
         return Err(Refused::from(PageFault::NoSuchDay));
@@ -62,7 +78,7 @@ fn write_form<W: Sink>(
     if let Err(fault) = check_key(machine, day) {
         return Err(Refused::from(PageFault::Message(fault)));
     }
-    match write_receive_page(alloc, language, day, form, sink) {
+    match write_receive_page(alloc, language, day, form, sink, errors) {
         Ok(true) => Ok(()),
         Ok(false) => Err(Refused::from(PageFault::NotWhole)),
         Err(fault) => Err(Refused::from(fault)),

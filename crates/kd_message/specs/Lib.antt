@@ -6,5 +6,6 @@ pub mod OneMessage
 pub mod ShownParts
 pub mod TextSheet
 pub mod LoneParts
+pub mod Notes
 pub mod ReceivePage
 pub mod Laws

@@ -31,6 +31,7 @@ use Rattle.kd_message.specs.declared.receiving.Section.{Section}
 use Rattle.kd_message.specs.declared.receiving.Section.TheVariants as sections
 use Rattle.kd_message.specs.ReceivedWork.{AreShowable, received_work}
 use Rattle.kd_message.specs.LoneParts.{listed_lone, lone_text}
+use Rattle.kd_message.specs.Notes.{lone_note, missing_note, part_note, several_note}
 use Rattle.kd_message.specs.OneMessage.{are_of_one_message}
 use Rattle.kd_message.specs.SendPage.{list_head, listed_sheet, part_name, title_text}
 use Rattle.kd_message.specs.ShownParts.{IsWhole, is_any_read, sheet_count, shown_under, times_of, total_of}
@@ -75,10 +76,11 @@ abbrev pub text_or_damage : Language → Day → PartName → DamagedPart → Re
 text_or_damage l s name part (Ok shown) = read_text l (sheet_to_receive (day_model s)) s name shown
 text_or_damage l s name part (Err damage) = counted_or_damage l s name part damage part.by_count
 
--- what a section has for a part that came `times` times
+-- what a section, or the notes, have for a part that came `times` times
 abbrev pub part_in : Section → Language → Day → PartName → ℕ → DamagedPart → List ℕ
 part_in sections.Listed l s name times part = listed_text l name part.text part.by_count
 part_in sections.Worked l s name times part = worked_text l s name part.text part.by_count
+part_in sections.Noted l s name times part = part_note l name part
 part_in sections.Texts l s name times part =
     text_part_head l name ++ came_text l times ++ text_or_damage l s name part part.text ++ SECTION_END.now
 
@@ -86,12 +88,14 @@ part_in sections.Texts l s name times part =
 abbrev pub missing_in : Section → Language → PartName → List ℕ
 missing_in sections.Listed l name = listed_unread l name
 missing_in sections.Worked l name = []
+missing_in sections.Noted l name = missing_note l name
 missing_in sections.Texts l name = text_part_head l name ++ missing_text l name ++ SECTION_END.now
 
 -- what a section has for a part without a number, which stands after the part with the number `after`
 abbrev pub lone_in : Section → Language → Day → ℕ → DamagedPart → List ℕ
 lone_in sections.Listed l s after part = listed_lone l after
 lone_in sections.Worked l s after part = []
+lone_in sections.Noted l s after part = lone_note l after part
 lone_in sections.Texts l s after part = lone_text l s after part
 
 -- ---- The parts of one message, by their numbers.
@@ -161,6 +165,10 @@ receive_text l s parts =
     ++ text_if (is_any_read parts) (note l (sheet_to_receive (day_model s)) (day_model s))
     ++ texts.ARTICLE_END.now ++ FOOT.now
 
+-- what is told of the form on standard error
+unfoldable pub receive_notes : Language → Day → List DamagedPart → List ℕ
+receive_notes l s parts = several_note l parts ++ section_text sections.Noted l s parts
+
 -- ---- What `write_receive_page` answers.
 
 abbrev pub page_fault : DamagedFormFault → ReceivePageFault
@@ -183,6 +191,14 @@ pub data IsReceivePageAnswer (l : Language) (s : Day) (form : List ℕ) (sink : 
       → IsReceivePageAnswer l s form sink answer
   FormNotRead : (fault : DamagedFormFault) → IsFormFault (damaged_parts_of form) fault
       → answer ≡ Err (page_fault fault) → IsUntouched sink → IsReceivePageAnswer l s form sink answer
+
+-- What is told on standard error, unless the form has too many parts, or memory is short. `Told` says what holds if a text
+-- is told.
+pub data IsFormNoted (l : Language) (s : Day) (form : List ℕ) (Told : List ℕ → Type 0)
+    (answer : Result Bool ReceivePageFault) : Type 0 where
+  Noted : (parts : List DamagedPart) → AreReadOf s (damaged_parts_of form) parts → Told (receive_notes l s parts)
+      → IsFormNoted l s form Told answer
+  NotNoted : (fault : DamagedFormFault) → answer ≡ Err (page_fault fault) → IsFormNoted l s form Told answer
 
 -- ---- What the code holds. No public contract cites these definitions.
 

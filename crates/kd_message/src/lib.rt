@@ -6,6 +6,7 @@ mod form_sheet;
 mod groups;
 pub mod laws;
 mod lone_parts;
+mod notes;
 mod one_message;
 mod order;
 mod received_work;

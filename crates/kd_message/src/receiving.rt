@@ -8,13 +8,14 @@ ghost use Rattle.kd_message.specs.ReceivedWork.{AreShowable};
 ghost use Rattle.kd_message.specs.ReceivePage.{AreWorkable, HasShowableKeys, IsReceivePageAnswer, as_they_came, by_number};
 ghost use Rattle.kd_message.specs.ReceivePage.{is_device_fault, listed_text, listed_unread, lone_after, lone_in};
 ghost use Rattle.kd_message.specs.ReceivePage.{missing_in, name_at, number_in, number_or, page_fault, part_at, part_in};
-ghost use Rattle.kd_message.specs.ReceivePage.{receive_text, section_text, sheet_to_receive, shown_in};
+ghost use Rattle.kd_message.specs.ReceivePage.{IsFormNoted, receive_notes, receive_text, section_text, sheet_to_receive, shown_in};
 ghost use Rattle.kd_message.specs.ReceivePage.{sheet_of_text, text_or_damage, worked_text};
 ghost use Rattle.kd_message.specs.SendPage.{part_name};
 ghost use Rattle.kd_message.specs.ShownParts.{shown_under, times_of, total_of};
 
 use crate::counted::draw_counted_text;
 use crate::lone_parts::{draw_listed_lone, draw_lone_text};
+use crate::notes::{draw_lone_note, draw_missing_note, draw_part_note, draw_several_note};
 use crate::one_message::are_of_one_message;
 use crate::received_work::received_work;
 use crate::sending::{draw_listed_part, draw_title, list_head, part_name};
@@ -50,24 +51,30 @@ pub enum ReceivePageFault {
 
 /// Writes the page in this language that says how to decipher `form` by hand on a machine on the day's key, and its text.
 ///
-/// Returns whether the form is one whole message of the day, and all of its text was read. For `Device`, a prefix of the page is written. For other faults, nothing is written.
-pub fn write_receive_page<W: Sink>(
+/// What is wrong with the form, and what to ask for, is told to `notes`. Returns whether the form is one whole message of the
+/// day, and all of its text was read. For `Device`, a prefix of the page is written. For other faults, nothing is written.
+pub fn write_receive_page<W: Sink, E: Sink>(
     alloc: Global,
     language: Language,
     day: &SheetDay,
     form: &[u8],
     sink: &mut W,
+    notes: &mut E,
 ) -> Result<bool, ReceivePageFault>
     ensures page { IsReceivePageAnswer language day.now form.now
         (port W.taken W.has_failed sink.old sink.new) result }
     ensures untouched { IsErr result → is_device_fault result ≡ false → sink.new ≡ sink.old }
     ensures failed { W.has_failed sink.new ≡ (W.has_failed sink.old || is_device_fault result) }
+    ensures noted { IsFormNoted language day.now form.now
+        (λ text. Draws E.taken E.has_failed notes.old notes.new text) result }
+    ensures quiet { IsErr result → is_device_fault result ≡ false → notes.new ≡ notes.old }
 {
     let parts = match read_damaged_form(alloc, day, form) {
         Ok(parts) => parts,
         Err(fault) => return Err(page_fault(fault)),
     };
     draw_page(sink, language, day, parts.as_slice());
+    draw_notes(notes, language, day, parts.as_slice());
     if sink.failed() {
         Err(ReceivePageFault::Device)
     } else {
@@ -93,6 +100,8 @@ pub(crate) enum Section {
     Worked,
     /// The texts of the parts.
     Texts,
+    /// What is told on standard error.
+    Noted,
 }
 
 /// Writes the page of a form of which `parts` were read.
@@ -118,6 +127,17 @@ fn draw_page<W: Sink>(sink: &mut W, language: Language, day: &SheetDay, parts: &
     );
     draw(sink, ARTICLE_END);
     draw(sink, FOOT);
+}
+
+/// Tells what is wrong with a form of which `parts` were read.
+fn draw_notes<E: Sink>(notes: &mut E, language: Language, day: &SheetDay, parts: &[DamagedPart])
+    requires few { length parts.now ≤ 255 }
+    requires workable { AreWorkable day.now parts.now }
+    ensures { Draws E.taken E.has_failed notes.old notes.new
+        (receive_notes language day.now parts.now) }
+{
+    draw_several_note(notes, language, parts);
+    draw_section(notes, Section::Noted, language, day, parts);
 }
 
 /// Writes a section: the parts by their numbers or, if they aren't of one message, as they came.
@@ -307,6 +327,7 @@ fn draw_lone<W: Sink>(
         Section::Listed => draw_listed_lone(sink, language, after),
         Section::Worked => draw(sink, ""),
         Section::Texts => draw_lone_text(sink, language, day, after, part),
+        Section::Noted => draw_lone_note(sink, language, after, part),
     }
 }
 
@@ -386,6 +407,7 @@ fn draw_part<W: Sink>(
         Section::Listed => draw_listed(sink, language, name, part),
         Section::Worked => draw_worked(sink, language, day, name, part),
         Section::Texts => draw_part_text(sink, language, day, name, times, part),
+        Section::Noted => draw_part_note(sink, language, name, part),
     }
 }
 
@@ -515,6 +537,7 @@ fn draw_missing_in<W: Sink>(sink: &mut W, section: Section, language: Language, 
         Section::Listed => draw_listed_unread(sink, language, name),
         Section::Worked => draw(sink, ""),
         Section::Texts => draw_missing_text(sink, language, name),
+        Section::Noted => draw_missing_note(sink, language, name),
     }
 }
 

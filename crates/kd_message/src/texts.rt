@@ -179,8 +179,8 @@ pub const HEADING_DAMAGED: Text = (
 );
 
 pub const IS_ORDER: Text = (
-    "This is an order, not a form: it is for <code>curator send</code>.",
-    "Das ist ein Auftrag, kein Spruch: Er ist für <code>curator send</code>.",
+    "This is an order, not a form: it is for curator send.",
+    "Das ist ein Auftrag, kein Spruch: Er ist für curator send.",
 );
 
 pub const DID_NOT_COME: Text = ("It didn’t come.", "Der Teil ist nicht eingegangen.");
@@ -310,3 +310,30 @@ pub const FORM_PIN_NOTE: Text = (
 
 /// The end of the sheet with the form, and of the sheet with the text.
 pub const ARTICLE_END: &str = "</article>\n";
+
+// ---- What is told on standard error.
+
+/// A line about a part: its number, and the number of parts. What stands before what to ask for; the line's end after it.
+pub const NOTE_PART: Text = ("Part ~ of ~: ", "Teil ~ von ~: ");
+
+pub const NOTE_ASK: Text = (" Ask for ", " Wiederholen lassen: ");
+
+pub const ASKED_END: &str = ".";
+
+pub const LINE_END: &str = "\n";
+
+pub const NOTE_END: &str = ".\n";
+
+/// What is told of a part that is read.
+pub const NOTE_LOST: Text = ("Letters are lost.", "Buchstaben fehlen.");
+
+pub const NOTE_OTHER_DAY: Text = (
+    "The form is another day’s, or another network’s.\n",
+    "Der Spruch ist von einem anderen Tag oder aus einem anderen Netz.\n",
+);
+
+/// That the parts aren't of one message.
+pub const NOTE_SEVERAL: Text = (
+    "Not one message: the headings give different numbers of parts, or parts with one number differ.\n",
+    "Nicht ein Spruch: Die Spruchköpfe nennen verschiedene Zahlen von Teilen, oder Teile mit einer Nummer weichen voneinander ab.\n",
+);

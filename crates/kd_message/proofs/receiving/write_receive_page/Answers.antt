@@ -2,7 +2,7 @@ use Rattle.std.proofs.Common.{◌≡◌, ◌∙◌, ◌≤◌, length, arith, re
 use Rattle.kd_lost.specs.DamagedForm.{damaged_parts_of}
 use Rattle.kd_lost.proofs.Forms.{as_many_read}
 use Rattle.kd_pictures.proofs.Drawings.{writes_part}
-use Rattle.kd_message.specs.ReceivePage.{AreWorkable, FormNotRead, ReceivedPageWritten}
+use Rattle.kd_message.specs.ReceivePage.{AreWorkable, FormNotRead, NotNoted, Noted, ReceivedPageWritten}
 use Rattle.kd_message.proofs.ReceivePages.{are_workable, or_true, page_begins}
 use Rattle.kd_message.proofs.receiving.write_receive_page.Goals as goal
 
@@ -49,3 +49,19 @@ pub returns-then-failed-clause-failed : goal.returns-then-failed-clause-failed
 returns-then-failed-clause-failed g c =
     let failed : g.W.Sink.has_failed c.draw_page.new.sink ≡ true = grind (arith, c.failed.ensures, c.if-failed.true) in
     failed ∙ sym (or_true (g.W.Sink.has_failed c.args.sink.now))
+
+pub draw_notes-requires-clause-workable : goal.draw_notes-requires-clause-workable
+draw_notes-requires-clause-workable g c =
+    subst (AreWorkable c.args.day.now) (sym c.as_slice-2.ensures.value)
+    (are_workable c.args.day.now (damaged_parts_of c.args.form.now) c.in-Ok.parts.items c.in-Ok.ensures.read)
+
+pub returns-in-Err-clause-noted : goal.returns-in-Err-clause-noted
+returns-in-Err-clause-noted g c = NotNoted c.in-Err.fault (ap Err c.page_fault.ensures)
+
+pub returns-then-failed-clause-noted : goal.returns-then-failed-clause-noted
+returns-then-failed-clause-noted g c =
+    Noted c.in-Ok.parts.items c.in-Ok.ensures.read (rw c.as_slice-2.ensures.value at c.draw_notes.ensures)
+
+pub returns-clause-noted : goal.returns-clause-noted
+returns-clause-noted g c =
+    Noted c.in-Ok.parts.items c.in-Ok.ensures.read (rw c.as_slice-2.ensures.value at c.draw_notes.ensures)

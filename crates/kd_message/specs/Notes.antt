@@ -1,0 +1,81 @@
+-- What is told of a form on standard error: what is wrong with its parts, and what to ask for, as the page says it.
+-- Test: tests/cases/curator-messages.toml
+use Rattle.std.specs.Prelude.{decimal, ℕ, false, if◌then◌else◌, List, [], ◌∷◌, ◌++◌}
+use Rattle.std.specs.Prelude.{Option, Some, None, Result, Ok, Err}
+use Rattle.kd_lost.specs.declared.damage.PartDamage.{PartDamage}
+use Rattle.kd_lost.specs.declared.damaged_text.DamagedText.{DamagedText}
+use Rattle.kd_lost.specs.declared.damaged_text.GroupTest.{GroupTest}
+use Rattle.kd_lost.specs.declared.part.DamagedPart.{DamagedPart}
+use Rattle.kd_pictures.specs.declared.language.Language.{Language}
+use Rattle.kd_pictures.specs.Language.{text_in}
+use Rattle.kd_pictures.specs.Template.{filled}
+use Rattle.kd_part_sheet.specs.declared.part_sheet.PartName.{PartName}
+use Rattle.kd_part_sheet.specs.Rows.{pieces}
+use Rattle.kd_message.specs.declared.texts.TheConstants as texts
+use Rattle.kd_message.specs.LoneParts.{lone_asked, lone_reason, lone_words}
+use Rattle.kd_message.specs.OneMessage.{are_of_one_message}
+use Rattle.kd_message.specs.TextSheet.{asked_words, count_asked, counted_reason, first_text_group, groups_told, has_lost}
+use Rattle.kd_message.specs.TextSheet.{is_wrong_day, lost_groups, reason_text}
+
+-- the number of a part, at the beginning of its line
+abbrev pub note_name : Language → PartName → List ℕ
+note_name l name = filled (text_in l texts.NOTE_PART) (decimal name.part ∷ decimal name.parts ∷ [])
+
+-- a line about a part: its number, what is wrong, and what to ask for
+unfoldable pub note_line : Language → PartName → List ℕ → List ℕ → List ℕ
+note_line l name reason words =
+    note_name l name ++ reason ++ text_in l texts.NOTE_ASK ++ words ++ texts.NOTE_END.now
+
+-- that the form is another day's, or another network's
+abbrev pub day_note : Language → PartName → GroupTest → List ℕ
+day_note l name group = if is_wrong_day group then note_name l name ++ text_in l texts.NOTE_OTHER_DAY else []
+
+-- the groups in which letters are lost
+abbrev pub lost_line : Language → PartName → List (Option ℕ) → List ℕ
+lost_line l name letters =
+    note_line l name (text_in l texts.NOTE_LOST)
+    (lost_groups l [] false (first_text_group name.model) (pieces 5 letters))
+
+abbrev pub lost_note : Language → PartName → List (Option ℕ) → List ℕ
+lost_note l name letters = if has_lost letters then lost_line l name letters else []
+
+-- a part that is read
+unfoldable pub read_note : Language → PartName → DamagedText → List ℕ
+read_note l name shown = day_note l name shown.group ++ lost_note l name shown.letters.items
+
+-- a part that isn't read as it is counted; `counted` is its text by count
+abbrev pub damage_note : Language → PartName → DamagedPart → PartDamage → Option DamagedText → List ℕ
+damage_note l name part damage (Some shown) =
+    note_line l name (counted_reason l part damage ++ groups_told l part.came part.short_group)
+    (count_asked l damage part.short_group)
+    ++ read_note l name shown
+damage_note l name part damage None =
+    note_line l name (reason_text l part damage) (asked_words l part damage)
+
+abbrev pub part_note_of : Language → PartName → DamagedPart → Result DamagedText PartDamage → List ℕ
+part_note_of l name part (Ok shown) = read_note l name shown
+part_note_of l name part (Err damage) = damage_note l name part damage part.by_count
+
+-- what is told of a part; nothing if nothing is wrong with it
+abbrev pub part_note : Language → PartName → DamagedPart → List ℕ
+part_note l name part = part_note_of l name part part.text
+
+-- a part that didn't come
+abbrev pub missing_note : Language → PartName → List ℕ
+missing_note l name = note_line l name (text_in l texts.DID_NOT_COME) (text_in l texts.ALL_OF_IT)
+
+-- what to ask for of a part without a number; nothing for an order
+abbrev pub lone_asked_note : Language → ℕ → List ℕ
+lone_asked_note l came = text_in l texts.NOTE_ASK ++ lone_asked l came ++ texts.ASKED_END.now
+
+abbrev pub lone_ask_note : Language → DamagedPart → List ℕ
+lone_ask_note l part = if part.is_order then [] else lone_asked_note l part.came
+
+-- a part without a number, which stands after the part with the number `after`
+unfoldable pub lone_note : Language → ℕ → DamagedPart → List ℕ
+lone_note l after part =
+    lone_words l after ++ texts.COLON.now ++ lone_reason l part ++ lone_ask_note l part ++ texts.LINE_END.now
+
+-- that the parts aren't of one message, if they aren't
+abbrev pub several_note : Language → List DamagedPart → List ℕ
+several_note l parts = if are_of_one_message parts then [] else text_in l texts.NOTE_SEVERAL

@@ -1,0 +1,210 @@
+//! What is told of a form on standard error: what is wrong with its parts, and what to ask for.
+ghost use Rattle.std.specs.Prelude.{◌≤◌, length, None, Some};
+ghost use Rattle.kd_pictures.specs.Drawing.{Draws};
+ghost use Rattle.kd_message.specs.Notes.{damage_note, day_note, lone_ask_note, lone_asked_note, lone_note, lost_line};
+ghost use Rattle.kd_message.specs.Notes.{lost_note, missing_note, note_name, part_note, read_note, several_note};
+
+use crate::counted::{draw_counted_reason, draw_groups_told};
+use crate::groups::{draw_lost_groups, has_lost};
+use crate::lone_parts::{draw_lone_reason, draw_lone_words, lone_asked};
+use crate::one_message::are_of_one_message;
+use crate::text_sheet::{first_text_group, is_wrong_day};
+use crate::texts::{
+    ALL_OF_IT, ASKED_END, COLON, DID_NOT_COME, LINE_END, NOTE_ASK, NOTE_END, NOTE_LOST,
+    NOTE_OTHER_DAY, NOTE_PART, NOTE_SEVERAL,
+};
+use crate::unread::{draw_asked, draw_count_asked, draw_reason};
+use kd_lost::{DamagedPart, DamagedText, GroupTest, PartDamage};
+use kd_part_sheet::part_sheet::PartName;
+use kd_pictures::template::{Value, fill_in};
+use kd_pictures::{Language, draw, draw_in};
+use kd_tables::{Letter, Sink};
+
+/// Tells that the parts aren't of one message, if they aren't.
+pub(crate) fn draw_several_note<W: Sink>(sink: &mut W, language: Language, parts: &[DamagedPart])
+    ensures { Draws W.taken W.has_failed sink.old sink.new (several_note language parts.now) }
+{
+    if are_of_one_message(parts) {
+        draw(sink, "");
+    } else {
+        draw_in(sink, language, NOTE_SEVERAL);
+    }
+}
+
+/// Tells what is wrong with a part, if anything is.
+pub(crate) fn draw_part_note<W: Sink>(
+    sink: &mut W,
+    language: Language,
+    name: PartName,
+    part: &DamagedPart,
+)
+    ensures { Draws W.taken W.has_failed sink.old sink.new (part_note language name part.now) }
+{
+    match (&part.text, &part.by_count) {
+        (Ok(shown), _) => draw_read_note(sink, language, name, shown),
+        (Err(damage), Some(shown)) => {
+            draw_counted_note(sink, language, name, part, *damage, shown)
+        }
+        (Err(damage), None) => draw_unread_note(sink, language, name, part, *damage),
+    }
+}
+
+/// Tells what is wrong with a part that is read, if anything is.
+fn draw_read_note<W: Sink>(sink: &mut W, language: Language, name: PartName, shown: &DamagedText)
+    ensures { Draws W.taken W.has_failed sink.old sink.new (read_note language name shown.now) }
+{
+    draw_day_note(sink, language, name, shown.group);
+    draw_lost_note(sink, language, name, shown.letters.as_slice());
+}
+
+fn draw_day_note<W: Sink>(sink: &mut W, language: Language, name: PartName, group: GroupTest)
+    ensures { Draws W.taken W.has_failed sink.old sink.new (day_note language name group) }
+{
+    if is_wrong_day(group) {
+        draw_other_day(sink, language, name);
+    } else {
+        draw(sink, "");
+    }
+}
+
+fn draw_other_day<W: Sink>(sink: &mut W, language: Language, name: PartName)
+    ensures { Draws W.taken W.has_failed sink.old sink.new
+        (day_note language name GroupTest.Wrong) }
+{
+    draw_note_name(sink, language, name);
+    draw_in(sink, language, NOTE_OTHER_DAY);
+}
+
+/// Writes the number of a part at the beginning of its line.
+fn draw_note_name<W: Sink>(sink: &mut W, language: Language, name: PartName)
+    ensures { Draws W.taken W.has_failed sink.old sink.new
+        (note_name language name) }
+{
+    fill_in(
+        sink,
+        language,
+        NOTE_PART,
+        &[
+            Value::Number(u16::from(name.part)),
+            Value::Number(u16::from(name.parts)),
+        ],
+    );
+}
+
+fn draw_lost_note<W: Sink>(
+    sink: &mut W,
+    language: Language,
+    name: PartName,
+    letters: &[Option<Letter>],
+)
+    requires { length letters.now ≤ 500 }
+    ensures { Draws W.taken W.has_failed sink.old sink.new (lost_note language name letters.now) }
+{
+    if has_lost(letters) {
+        draw_lost_line(sink, language, name, letters);
+    } else {
+        draw(sink, "");
+    }
+}
+
+fn draw_lost_line<W: Sink>(
+    sink: &mut W,
+    language: Language,
+    name: PartName,
+    letters: &[Option<Letter>],
+)
+    requires { length letters.now ≤ 500 }
+    ensures { Draws W.taken W.has_failed sink.old sink.new (lost_line language name letters.now) }
+{
+    draw_note_name(sink, language, name);
+    draw_in(sink, language, NOTE_LOST);
+    draw_in(sink, language, NOTE_ASK);
+    let first = first_text_group(name.model);
+    draw_lost_groups(sink, language, "", false, first, letters);
+    draw(sink, NOTE_END);
+}
+
+/// Tells what is wrong with the count of a part that is read by the letters that came.
+fn draw_counted_note<W: Sink>(
+    sink: &mut W,
+    language: Language,
+    name: PartName,
+    part: &DamagedPart,
+    damage: PartDamage,
+    shown: &DamagedText,
+)
+    ensures { Draws W.taken W.has_failed sink.old sink.new
+        (damage_note language name part.now damage (Some shown.now)) }
+{
+    draw_note_name(sink, language, name);
+    draw_counted_reason(sink, language, part, damage);
+    draw_groups_told(sink, language, part.came, part.short_group);
+    draw_in(sink, language, NOTE_ASK);
+    draw_count_asked(sink, language, damage, part.short_group);
+    draw(sink, NOTE_END);
+    draw_read_note(sink, language, name, shown);
+}
+
+/// Tells why a part isn't read.
+fn draw_unread_note<W: Sink>(
+    sink: &mut W,
+    language: Language,
+    name: PartName,
+    part: &DamagedPart,
+    damage: PartDamage,
+)
+    ensures { Draws W.taken W.has_failed sink.old sink.new
+        (damage_note language name part.now damage None) }
+{
+    draw_note_name(sink, language, name);
+    draw_reason(sink, language, part, damage);
+    draw_in(sink, language, NOTE_ASK);
+    draw_asked(sink, language, part, damage);
+    draw(sink, NOTE_END);
+}
+
+/// Tells that a part didn't come.
+pub(crate) fn draw_missing_note<W: Sink>(sink: &mut W, language: Language, name: PartName)
+    ensures { Draws W.taken W.has_failed sink.old sink.new (missing_note language name) }
+{
+    draw_note_name(sink, language, name);
+    draw_in(sink, language, DID_NOT_COME);
+    draw_in(sink, language, NOTE_ASK);
+    draw_in(sink, language, ALL_OF_IT);
+    draw(sink, NOTE_END);
+}
+
+/// Tells why a part without a number isn't read. It stands after the part with the number `after`.
+pub(crate) fn draw_lone_note<W: Sink>(
+    sink: &mut W,
+    language: Language,
+    after: u8,
+    part: &DamagedPart,
+)
+    ensures { Draws W.taken W.has_failed sink.old sink.new (lone_note language after part.now) }
+{
+    draw_lone_words(sink, language, after);
+    draw(sink, COLON);
+    draw_lone_reason(sink, language, part);
+    draw_lone_ask_note(sink, language, part);
+    draw(sink, LINE_END);
+}
+
+fn draw_lone_ask_note<W: Sink>(sink: &mut W, language: Language, part: &DamagedPart)
+    ensures { Draws W.taken W.has_failed sink.old sink.new (lone_ask_note language part.now) }
+{
+    if part.is_order {
+        draw(sink, "");
+    } else {
+        draw_lone_asked(sink, language, part.came);
+    }
+}
+
+fn draw_lone_asked<W: Sink>(sink: &mut W, language: Language, came: usize)
+    ensures { Draws W.taken W.has_failed sink.old sink.new
+        (lone_asked_note language came) }
+{
+    draw_in(sink, language, NOTE_ASK);
+    draw(sink, lone_asked(language, came));
+    draw(sink, ASKED_END);
+}
