@@ -329,7 +329,7 @@ pub const NOTE_LOST: Text = ("Letters are lost.", "Buchstaben fehlen.");
 
 pub const NOTE_OTHER_DAY: Text = (
     "The form is another day’s, or another network’s.\n",
-    "Der Spruch ist von einem anderen Tag oder aus einem anderen Netz.\n",
+    "Der Spruch ist von einem anderen Tag oder aus einem anderen Schlüsselkreis.\n",
 );
 
 /// That the parts aren't of one message.
