@@ -74,7 +74,7 @@ pub notes_told : (l : Language) (month : List (Option Day)) (m : Parts) (number 
 notes_told l month m number form s Told found ready told (Noted parts read tells) =
     OfParts s found ready parts read tells
 notes_told l month m number form s Told found ready told (NotNoted fault is) =
-    subst (λ a. TellsOfForm l month m number form Told (receive_answer a)) (sym is) (OfNothing tt (not_written fault))
+    subst (λ a. TellsOfForm l month m number form Told (receive_answer a)) (sym is) (OfNothing refl (not_written fault))
 
 -- -------- what standard error has taken
 
@@ -121,4 +121,4 @@ module _ {E : Type 0} (taken : E → Option (List ℕ)) (failed : E → Bool) wh
   form_tells l s form old new told (Noted parts read drawn) quiet =
       drawn_tells old new (receive_notes l s parts) (failed old) (failed new) refl refl drawn
   form_tells l s form old new told (NotNoted fault is) quiet =
-      silent_tells old new (quiet (subst IsErr (sym is) tt) (ap is_page_device is ∙ page_quiet fault))
+      silent_tells old new (quiet (subst IsErr (sym is) refl) (ap is_page_device is ∙ page_quiet fault))
