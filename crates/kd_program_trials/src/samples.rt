@@ -30,6 +30,18 @@ window = \"XYZ\"
 plugs = []
 ";
 
+/// The settings from `ENIGMA` to day 2, as the design's sample pages have them.
+pub static DAY_2: &str = "RING I B
+RING IV Z
+SEAT 1 V
+SEAT 2 IV
+SEAT 3 I
+REFLECTOR C
+TURN 1 X
+TURN 2 Y
+TURN 3 Z
+";
+
 /// An order for day 1: five times A, from the windows AAA, at which the lamps are BDZGO. So the message key AAA is sent as
 /// BDZ.
 pub static ORDER: &str = "PART AAA AAA QX ABC
