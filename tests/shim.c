@@ -172,6 +172,32 @@ static int keeps(const struct run *r)
     return 0;
 }
 
+/* How many bytes the command tells on standard error before the line of its refusal. */
+static size_t own_notes(void)
+{
+    size_t size = own->err;
+    if (WEXITSTATUS(own->status) == 0 || size == 0) return size;
+    for (size--; size > 0 && own->err_bytes[size - 1] != '\n'; size--) ;
+    return size;
+}
+
+/* Whether the command is refused so, and told before it what it tells without a fault. */
+static int refuses_behind_notes(const struct run *r, const char *text)
+{
+    size_t told = own_notes(), length = strlen(text);
+    return WIFEXITED(r->status) && WEXITSTATUS(r->status) == 1 && r->err == told + length &&
+        memcmp(r->err_bytes, own->err_bytes, told) == 0 && memcmp(r->err_bytes + told, text, length) == 0;
+}
+
+/* Whether standard error lacks the end of what is told before the refusal, but has its line. */
+static int lacks_notes(const struct run *r)
+{
+    size_t told = own_notes(), last = own->err - told;
+    return WIFEXITED(r->status) && WEXITSTATUS(r->status) == WEXITSTATUS(own->status) && r->err < own->err && r->err >= last &&
+        memcmp(r->err_bytes, own->err_bytes, r->err - last) == 0 &&
+        memcmp(r->err_bytes + r->err - last, own->err_bytes + told, last) == 0;
+}
+
 /* Whether the refused write was the last one, so that no byte came behind those before it. */
 static int stops(const struct run *r)
 {
@@ -185,8 +211,10 @@ static int is_right(const struct run *r)
     case MEMORY: return is_own(r) || lacks_memory(r);
     case OPEN: return refuses(r, device) && r->out == 0;
     case READ: return refuses(r, device) && is_prefix(r) && keeps(r);
-    case WRITE: return refuses(r, device) && is_prefix(r) && stops(r);
-    case ERROR_LINE: return answers(r, WEXITSTATUS(own->status), own->err_bytes, r->err) && r->err < own->err && is_own_out(r);
+    case WRITE: return refuses_behind_notes(r, device) && is_prefix(r) && stops(r);
+    case ERROR_LINE:
+        return is_own_out(r) && (lacks_notes(r) ||
+            (answers(r, WEXITSTATUS(own->status), own->err_bytes, r->err) && r->err < own->err));
     default: return is_own(r);
     }
 }
