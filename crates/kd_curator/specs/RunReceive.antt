@@ -13,7 +13,7 @@ use Rattle.kd_lost.specs.declared.form.DamagedFormFault.{DamagedFormFault}
 use Rattle.kd_lost.specs.declared.part.DamagedPart.{DamagedPart}
 use Rattle.kd_pictures.specs.declared.language.Language.{Language}
 use Rattle.kd_message.specs.ReceivePage.{page_fault, receive_notes, receive_text}
-use Rattle.kd_message.specs.ShownParts.{IsWhole}
+use Rattle.kd_lost.specs.ShownParts.{IsWhole}
 use Rattle.kd_curator.specs.Refusals.{has_written, refused_device, refused_receive, refused_whole}
 use Rattle.kd_curator.specs.declared.fault.PageFault.TheVariants.{NotWhole, Message, NoSuchDay}
 use Rattle.kd_curator.specs.declared.fault.Refused.{Refused}

@@ -14,3 +14,4 @@ pub mod ShortLines
 pub mod ShortGroups
 pub mod Counting
 pub mod WholeForms
+pub mod ShownParts

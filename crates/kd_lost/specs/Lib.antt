@@ -11,4 +11,6 @@ pub mod ShortGroup
 pub mod ByCount
 pub mod Lines
 pub mod DamagedForm
+pub mod OneMessage
+pub mod ShownParts
 pub mod Laws

@@ -1,4 +1,3 @@
-pub mod Sheets
 pub mod Orders
 pub mod Works
 pub mod SendPages

@@ -22,21 +22,21 @@ use Rattle.kd_part_sheet.specs.declared.part_sheet.PartName.{PartName}
 use Rattle.kd_message.specs.declared.receiving.Section.TheVariants as sections
 use Rattle.kd_message.specs.Laws.{IsOn, NothingReadIsHidden, RepetitionsHaveTheLetters, WholeMessagesAreOnThePage}
 use Rattle.kd_message.specs.Laws.{WholeMessagesHaveOneTotal, clear_text, letters_of_part}
-use Rattle.kd_message.specs.OneMessage.{agrees_with_each, are_of_one_message, headings_agree, numbers_agree, parts_agree}
-use Rattle.kd_message.specs.OneMessage.{letters_agree, same_keys, texts_agree}
+use Rattle.kd_lost.specs.OneMessage.{agrees_with_each, are_of_one_message, headings_agree, numbers_agree, parts_agree}
+use Rattle.kd_lost.specs.OneMessage.{letters_agree, same_keys, texts_agree}
 use Rattle.kd_message.specs.ReceivePage.{as_they_came, by_number, name_at, number_in, number_or, part_at}
 use Rattle.kd_message.specs.ReceivePage.{part_in, section_text, sheet_to_receive, shown_in, text_or_damage}
 unfoldable use Rattle.kd_message.specs.ReceivePage.{receive_text}
 use Rattle.kd_message.specs.SendPage.{part_name}
-use Rattle.kd_message.specs.ShownParts.{IsNumberWhole, IsReadWhole, better, is_number, is_worse, lost_in}
-use Rattle.kd_message.specs.ShownParts.{parts_or, shown_under, times_of, total_of}
+use Rattle.kd_lost.specs.ShownParts.{IsNumberWhole, IsReadWhole, better, is_number, is_worse, lost_in}
+use Rattle.kd_lost.specs.ShownParts.{parts_or, shown_under, times_of, total_of}
 unfoldable use Rattle.kd_message.specs.TextSheet.{read_text}
 use Rattle.kd_message.specs.declared.texts.TheConstants.{TEXT_END}
 use Rattle.kd_message.specs.TextSheet.{ask_for_lost, came_text, text_begin, text_part_head, warnings_of}
 use Rattle.kd_part_sheet.specs.declared.markup.TheConstants.{SECTION_END}
 use Rattle.kd_part_sheet.specs.PartSheet.{warnings_text}
 use Rattle.kd_message.proofs.ReceivePages.{better_holds, shown_holds}
-use Rattle.kd_message.proofs.Sheets.{range_first}
+use Rattle.kd_lost.proofs.ShownParts.{range_first}
 
 -- -------- pieces of a page
 

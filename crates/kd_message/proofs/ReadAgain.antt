@@ -41,10 +41,10 @@ use Rattle.kd_lost.proofs.KnownLetters.{not_any_lost, same_known, take_known}
 use Rattle.kd_lost.proofs.Parts.{lines_there}
 use Rattle.kd_lost.proofs.PartShown.{least_count, shown_there}
 use Rattle.kd_message.specs.Laws.{IsClear, WholeMessagesAreRead, letters_of_part}
-use Rattle.kd_message.specs.ShownParts.{IsNumberWhole, IsWhole, MayBeOfTheDay, is_number, shown_under, total_of}
+use Rattle.kd_lost.specs.ShownParts.{IsNumberWhole, IsWhole, MayBeOfTheDay, is_number, shown_under, total_of}
 use Rattle.kd_message.proofs.PagesWhole.{at_range, shown_known, shown_numbered, total_is, whole_under}
 use Rattle.kd_message.proofs.ReceivePages.{shown_holds}
-use Rattle.kd_message.proofs.Sheets.{range_first}
+use Rattle.kd_lost.proofs.ShownParts.{range_first}
 
 -- -------- bytes of which none is lost
 

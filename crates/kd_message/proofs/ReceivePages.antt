@@ -25,26 +25,9 @@ use Rattle.kd_pictures.specs.declared.language.Language.{Language}
 use Rattle.kd_message.specs.ReceivedWork.{AreShowable}
 unfoldable use Rattle.kd_message.specs.ReceivePage.{receive_text}
 use Rattle.kd_message.specs.ReceivePage.{AreWorkable, HasShowableKeys}
-use Rattle.kd_message.specs.ShownParts.{better, is_number, is_worse, shown_under}
+use Rattle.kd_lost.specs.ShownParts.{better, is_number, is_worse, shown_under}
 use Rattle.kd_message.proofs.SendPages.{begins}
-use Rattle.kd_message.proofs.Sheets.{range_first}
-
--- ---- Whether all of the form was read.
-
-pub number_there : (P : ℕ → Type 0) (number count : ℕ) {one more : Bool} → 0 < count → (IsTrue one ↔ P number)
-    → one ≡ true → (IsTrue more ↔ All P (range_with_len (number + 1) (count - 1)))
-    → IsTrue more ↔ All P (range_with_len number count)
-number_there P number count some is there rest =
-    let later = range_with_len (number + 1) (count - 1) in
-    rw (range_first number count some)
-    ((λ told. All-cons P number later (is.0 there) (rest.0 told)), (λ all. rest.1 (All-tail P number later all)))
-
-pub number_missing : (P : ℕ → Type 0) (number count : ℕ) {one : Bool} → 0 < count → (IsTrue one ↔ P number)
-    → one ≡ false → IsTrue one ↔ All P (range_with_len number count)
-number_missing P number count some is missing =
-    let later = range_with_len (number + 1) (count - 1) in
-    rw (range_first number count some)
-    ((λ told. absurd (false≢true (sym missing ∙ told))), (λ all. is.1 (All-head P number later all)))
+use Rattle.kd_lost.proofs.ShownParts.{range_first}
 
 -- ---- What holds for each part holds for the part that is shown.
 

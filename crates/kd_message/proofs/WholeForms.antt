@@ -24,10 +24,10 @@ use Rattle.kd_lost.proofs.Counting.{numbers_given}
 use Rattle.kd_lost.proofs.WholeForms.{forms_shown, same_parts}
 use Rattle.kd_lost.proofs.WholeParts.{numbers_there, shown_whole, whole_part}
 use Rattle.kd_message.specs.Laws.{FormsReadAreWhole, letters_of_part, message_letters}
-use Rattle.kd_message.specs.OneMessage.{agrees_with_each, are_of_one_message, numbers_agree, headings_agree, texts_agree}
-use Rattle.kd_message.specs.ShownParts.{IsNumberWhole, IsReadWhole, MayBeOfTheDay, better, is_number, parts_or}
-use Rattle.kd_message.specs.ShownParts.{shown_under, total_of}
-use Rattle.kd_message.proofs.Sheets.{range_first}
+use Rattle.kd_lost.specs.OneMessage.{agrees_with_each, are_of_one_message, numbers_agree, headings_agree, texts_agree}
+use Rattle.kd_lost.specs.ShownParts.{IsNumberWhole, IsReadWhole, MayBeOfTheDay, better, is_number, parts_or}
+use Rattle.kd_lost.specs.ShownParts.{shown_under, total_of}
+use Rattle.kd_lost.proofs.ShownParts.{range_first}
 
 -- -------- parts in the order of their numbers
 

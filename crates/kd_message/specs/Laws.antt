@@ -19,10 +19,10 @@ use Rattle.kd_part_sheet.specs.declared.part_sheet.PartName.{PartName}
 use Rattle.kd_pictures.specs.declared.language.Language.{Language}
 use Rattle.kd_message.specs.declared.texts.TheConstants.{TEXT_END}
 use Rattle.kd_message.specs.ReceivePage.{receive_text, sheet_to_receive}
-use Rattle.kd_message.specs.OneMessage.{letters_agree}
+use Rattle.kd_lost.specs.OneMessage.{letters_agree}
 use Rattle.kd_message.specs.ReceivedWork.{received_work}
 use Rattle.kd_message.specs.SendPage.{part_name}
-use Rattle.kd_message.specs.ShownParts.{IsWhole, is_number, lost_in, shown_under, times_of, total_of}
+use Rattle.kd_lost.specs.ShownParts.{IsWhole, is_number, lost_in, shown_under, times_of, total_of}
 use Rattle.kd_message.specs.TextSheet.{came_text, read_text, text_begin, text_part_head}
 
 -- The lamps of a row are the machine's cipher of the letters that are pressed in this row, from the letters that the

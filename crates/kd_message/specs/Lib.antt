@@ -2,8 +2,6 @@ pub mod Checked
 pub mod ReceivedWork
 pub mod FormSheet
 pub mod SendPage
-pub mod OneMessage
-pub mod ShownParts
 pub mod TextSheet
 pub mod LoneParts
 pub mod Notes

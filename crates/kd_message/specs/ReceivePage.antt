@@ -1,7 +1,7 @@
 -- The page for receiving a form.
 use Rattle.std.specs.Prelude.{◌≡◌, decimal, ℕ, ◌+◌, ◌≤◌, ◌==◌, ◌&&◌, ◌||◌, if◌then◌else◌, is_none, List, [], ◌∷◌, ◌++◌, flat_map, length}
 use Rattle.std.specs.Prelude.{◌↔◌, All, Bool, true, false, IsTrue, IfOk, IfSome, Option, Some, None, Result, Ok, Err, is_err}
-use Rattle.std.specs.Prelude.{MatchResult}
+use Rattle.std.specs.Prelude.{MatchResult, max}
 use Rattle.std.specs.List.{range_with_len}
 use Rattle.kd_tables.specs.declared.model.Model.{Model}
 use Rattle.kd_tables.specs.Ports.{Port}
@@ -32,9 +32,9 @@ use Rattle.kd_message.specs.declared.receiving.Section.TheVariants as sections
 use Rattle.kd_message.specs.ReceivedWork.{AreShowable, received_work}
 use Rattle.kd_message.specs.LoneParts.{listed_lone, lone_text}
 use Rattle.kd_message.specs.Notes.{lone_note, missing_note, part_note, several_note}
-use Rattle.kd_message.specs.OneMessage.{are_of_one_message}
+use Rattle.kd_lost.specs.OneMessage.{are_of_one_message}
 use Rattle.kd_message.specs.SendPage.{list_head, listed_sheet, part_name, title_text}
-use Rattle.kd_message.specs.ShownParts.{IsWhole, is_any_read, sheet_count, shown_under, times_of, total_of}
+use Rattle.kd_lost.specs.ShownParts.{IsWhole, is_any_read, shown_under, times_of, total_of}
 use Rattle.kd_message.specs.TextSheet.{came_text, counted_text, damage_text, missing_text, order_text, passed_text, read_text}
 use Rattle.kd_message.specs.TextSheet.{text_part_head}
 use Rattle.kd_message.specs.TextSheet.{text_sheet_head, warnings_of}
@@ -153,6 +153,10 @@ section_text section l s parts =
     if are_of_one_message parts then by_number section l s parts else as_they_came section l s 1 0 parts
 
 -- ---- The page.
+
+-- how many sheets the page has at most
+abbrev pub sheet_count : List DamagedPart → ℕ
+sheet_count parts = max (total_of parts) (length parts)
 
 -- The file: the list of the sheets; a sheet on which each part is worked that is read; and the text of all parts, with
 -- what to ask the other station for.

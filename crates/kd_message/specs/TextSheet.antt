@@ -27,8 +27,8 @@ use Rattle.kd_part_sheet.specs.declared.sheet.Sheet.{Sheet}
 use Rattle.kd_message.specs.declared.texts.TheConstants as texts
 use Rattle.kd_part_sheet.specs.PartSheet.{warnings_text}
 use Rattle.kd_part_sheet.specs.Rows.{pieces}
-use Rattle.kd_message.specs.OneMessage.{are_of_one_message}
-use Rattle.kd_message.specs.ShownParts.{are_rising, numbers_of}
+use Rattle.kd_lost.specs.OneMessage.{are_of_one_message}
+use Rattle.kd_lost.specs.ShownParts.{are_rising, numbers_of}
 
 -- the head of the sheet
 abbrev pub text_sheet_head : Language → Day → List ℕ

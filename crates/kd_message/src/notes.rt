@@ -7,14 +7,13 @@ ghost use Rattle.kd_message.specs.Notes.{lost_note, missing_note, note_name, par
 use crate::counted::{draw_counted_reason, draw_groups_told};
 use crate::groups::{draw_lost_groups, has_lost};
 use crate::lone_parts::{draw_lone_reason, draw_lone_words, lone_asked};
-use crate::one_message::are_of_one_message;
 use crate::text_sheet::{first_text_group, is_wrong_day};
 use crate::texts::{
     ALL_OF_IT, ASKED_END, COLON, DID_NOT_COME, LINE_END, NOTE_ASK, NOTE_END, NOTE_LOST,
     NOTE_OTHER_DAY, NOTE_PART, NOTE_SEVERAL,
 };
 use crate::unread::{draw_asked, draw_count_asked, draw_reason};
-use kd_lost::{DamagedPart, DamagedText, GroupTest, PartDamage};
+use kd_lost::{DamagedPart, DamagedText, GroupTest, PartDamage, are_of_one_message};
 use kd_part_sheet::part_sheet::PartName;
 use kd_pictures::template::{Value, fill_in};
 use kd_pictures::{Language, draw, draw_in};

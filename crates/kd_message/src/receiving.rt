@@ -8,25 +8,26 @@ ghost use Rattle.kd_message.specs.ReceivedWork.{AreShowable};
 ghost use Rattle.kd_message.specs.ReceivePage.{AreWorkable, HasShowableKeys, IsReceivePageAnswer, as_they_came, by_number};
 ghost use Rattle.kd_message.specs.ReceivePage.{is_device_fault, listed_text, listed_unread, lone_after, lone_in};
 ghost use Rattle.kd_message.specs.ReceivePage.{missing_in, name_at, number_in, number_or, page_fault, part_at, part_in};
-ghost use Rattle.kd_message.specs.ReceivePage.{IsFormNoted, receive_notes, receive_text, section_text, sheet_to_receive, shown_in};
-ghost use Rattle.kd_message.specs.ReceivePage.{sheet_of_text, text_or_damage, worked_text};
+ghost use Rattle.kd_message.specs.ReceivePage.{IsFormNoted, receive_notes, receive_text, section_text, sheet_count};
+ghost use Rattle.kd_message.specs.ReceivePage.{sheet_of_text, sheet_to_receive, shown_in, text_or_damage, worked_text};
 ghost use Rattle.kd_message.specs.SendPage.{part_name};
-ghost use Rattle.kd_message.specs.ShownParts.{shown_under, times_of, total_of};
+ghost use Rattle.kd_lost.specs.ShownParts.{shown_under, times_of, total_of};
 
 use crate::counted::draw_counted_text;
 use crate::lone_parts::{draw_listed_lone, draw_lone_text};
 use crate::notes::{draw_lone_note, draw_missing_note, draw_part_note, draw_several_note};
-use crate::one_message::are_of_one_message;
 use crate::received_work::received_work;
 use crate::sending::{draw_listed_part, draw_title, list_head, part_name};
-use crate::shown_parts::{is_any_read, is_whole, sheet_count, shown_under, times_of, total_of};
 use crate::text_sheet::{
     draw_came, draw_order, draw_passed, draw_read_text, draw_text_part_head, draw_text_sheet_head,
     warnings_of,
 };
 use crate::texts::{ARTICLE_END, LIST_END_WITH_TEXT, LISTED_UNREAD, TITLE_TO_RECEIVE};
 use crate::unread::{draw_damage, draw_missing};
-use kd_lost::{DamagedFormFault, DamagedPart, DamagedText, PartNumbers, read_damaged_form};
+use kd_lost::{
+    DamagedFormFault, DamagedPart, DamagedText, PartNumbers, are_of_one_message, is_any_read,
+    is_whole, read_damaged_form, shown_under, times_of, total_of,
+};
 use kd_part_sheet::markup::SECTION_END;
 use kd_part_sheet::part_sheet::{PartName, draw_if, draw_part_sheet, note};
 use kd_part_sheet::sheet::Sheet;
@@ -127,6 +128,14 @@ fn draw_page<W: Sink>(sink: &mut W, language: Language, day: &SheetDay, parts: &
     );
     draw(sink, ARTICLE_END);
     draw(sink, FOOT);
+}
+
+/// How many sheets the page has at most.
+fn sheet_count(parts: &[DamagedPart]) -> u16
+    requires { length parts.now ≤ 255 }
+    ensures { result ≡ sheet_count parts.now }
+{
+    u16::from(total_of(parts)).max(parts.len() as u16)
 }
 
 /// Tells what is wrong with a form of which `parts` were read.

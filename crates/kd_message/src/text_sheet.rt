@@ -4,7 +4,7 @@ ghost use Rattle.kd_pictures.specs.Drawing.{Draws};
 ghost use Rattle.kd_form.specs.Sending.{space_letter};
 ghost use Rattle.kd_lost.specs.DamagedForm.{shown_byte};
 ghost use Rattle.kd_part_sheet.specs.Rows.{pieces};
-ghost use Rattle.kd_message.specs.ShownParts.{numbers_of};
+ghost use Rattle.kd_lost.specs.ShownParts.{numbers_of};
 ghost use Rattle.kd_message.specs.TextSheet.{ask_for_lost, ask_text, begins_late, came_text, came_words};
 ghost use Rattle.kd_message.specs.TextSheet.{first_text_group, heading_words, headings_after, is_any_smoothed};
 ghost use Rattle.kd_message.specs.TextSheet.{is_copy_lost, is_not_tested, is_wrong_day, lost_groups, numbers_after};
@@ -12,15 +12,15 @@ ghost use Rattle.kd_message.specs.TextSheet.{order_text, order_words, passed_tex
 ghost use Rattle.kd_message.specs.TextSheet.{text_begin, text_part_head, text_sheet_head, warnings_of};
 
 use crate::groups::{draw_lost_groups, has_lost};
-use crate::one_message::are_of_one_message;
-use crate::shown_parts::are_rising;
 use crate::texts::{
     ASK, ASK_END, CAME, CAME_END, OF_PARTS, ORDER, ORDER_END, PASSED_OVER, SEVERAL, SEVERAL_END,
     TEXT_END, TEXT_LETTERS, TEXT_PART, TEXT_SHEET, TEXT_WORDS,
 };
 use itoa::Buffer;
 use kd_form::text_bytes::space_letter;
-use kd_lost::{DamagedPart, DamagedText, GroupTest, LostCopies, PartNumbers};
+use kd_lost::{
+    DamagedPart, DamagedText, GroupTest, LostCopies, PartNumbers, are_of_one_message, are_rising,
+};
 use kd_part_sheet::markup::{COMMA, LOST_LETTER, SPACE};
 use kd_part_sheet::part_sheet::{PartName, Warnings, draw_warnings};
 use kd_part_sheet::sheet::Sheet;

@@ -1,7 +1,7 @@
 use Rattle.std.proofs.Common.{arith}
-use Rattle.kd_message.specs.ShownParts.{IsNumberWhole}
-use Rattle.kd_message.proofs.ReceivePages.{number_missing, number_there}
-use Rattle.kd_message.proofs.shown_parts.+are_whole.Goals as goal
+use Rattle.kd_lost.specs.ShownParts.{IsNumberWhole}
+use Rattle.kd_lost.proofs.ShownParts.{number_missing, number_there}
+use Rattle.kd_lost.proofs.shown_parts.+are_whole.Goals as goal
 
 pub returns-then-is_number_whole : goal.returns-then-is_number_whole
 returns-then-is_number_whole t c =

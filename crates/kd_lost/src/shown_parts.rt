@@ -1,16 +1,17 @@
 //! Which parts of a received form are shown under which numbers, and whether the form is one whole message.
 ghost use Rattle.std.specs.Prelude.{◌≡◌, ◌≢◌, ◌↔◌, ◌≤◌, ◌+◌, All, IsTrue, MatchOption, None, Some, is_none, length};
 ghost use Rattle.std.specs.List.{range_with_len};
-ghost use Rattle.kd_message.specs.ShownParts.{IsNumberWhole, IsReadWhole, IsWhole, MayBeOfTheDay, are_rising};
-ghost use Rattle.kd_message.specs.ShownParts.{is_any_read, is_number, is_worse, is_worse_by_count, lost_in, numbers_of, sheet_count};
-ghost use Rattle.kd_message.specs.ShownParts.{shown_under, times_of, total_of};
+ghost use Rattle.kd_lost.specs.ShownParts.{IsNumberWhole, IsReadWhole, IsWhole, MayBeOfTheDay, are_rising};
+ghost use Rattle.kd_lost.specs.ShownParts.{is_any_read, is_number, is_worse, is_worse_by_count, lost_in, numbers_of};
+ghost use Rattle.kd_lost.specs.ShownParts.{shown_under, times_of, total_of};
 
+use crate::damaged_text::{DamagedText, GroupTest};
 use crate::one_message::are_of_one_message;
-use kd_lost::{DamagedPart, DamagedText, GroupTest, PartNumbers};
+use crate::part::{DamagedPart, PartNumbers};
 use kd_tables::Letter;
 
 /// How many parts the message has by the first heading that isn't damaged; 0, if all are.
-pub(crate) fn total_of(parts: &[DamagedPart]) -> u8
+pub fn total_of(parts: &[DamagedPart]) -> u8
     ensures { result ≡ total_of parts.now }
 {
     match parts {
@@ -23,7 +24,7 @@ pub(crate) fn total_of(parts: &[DamagedPart]) -> u8
 }
 
 /// Whether the parts that have numbers came in the order of their numbers, and the first has one above `before`.
-pub(crate) fn are_rising(before: u8, parts: &[DamagedPart]) -> bool
+pub fn are_rising(before: u8, parts: &[DamagedPart]) -> bool
     ensures { result ≡ are_rising before (numbers_of parts.now) }
 {
     match parts {
@@ -33,14 +34,6 @@ pub(crate) fn are_rising(before: u8, parts: &[DamagedPart]) -> bool
         },
         [] => true,
     }
-}
-
-/// How many sheets the page has at most.
-pub(crate) fn sheet_count(parts: &[DamagedPart]) -> u16
-    requires { length parts.now ≤ 255 }
-    ensures { result ≡ sheet_count parts.now }
-{
-    u16::from(total_of(parts)).max(parts.len() as u16)
 }
 
 /// Whether the heading gives this number.
@@ -54,7 +47,7 @@ fn is_number(number: u16, numbers: &Option<PartNumbers>) -> bool
 }
 
 /// How often the part with this number came.
-pub(crate) fn times_of(parts: &[DamagedPart], number: u16) -> usize
+pub fn times_of(parts: &[DamagedPart], number: u16) -> usize
     ensures { result ≡ times_of parts.now number }
 {
     parts
@@ -64,7 +57,7 @@ pub(crate) fn times_of(parts: &[DamagedPart], number: u16) -> usize
 }
 
 /// The part that is shown under this number: of the parts with the number, the first that none is better than.
-pub(crate) fn shown_under(parts: &[DamagedPart], number: u16) -> Option<&DamagedPart>
+pub fn shown_under(parts: &[DamagedPart], number: u16) -> Option<&DamagedPart>
     ensures { MatchOption result
         (shown_under parts.now number ≡ None)
         (λ part. shown_under parts.now number ≡ Some part.now) }
@@ -124,7 +117,7 @@ fn is_lost(letter: &Option<Letter>) -> bool
 }
 
 /// Whether one of the parts is read, be it by count.
-pub(crate) fn is_any_read(parts: &[DamagedPart]) -> bool
+pub fn is_any_read(parts: &[DamagedPart]) -> bool
     ensures { result ≡ is_any_read parts.now }
 {
     match parts {
@@ -134,7 +127,7 @@ pub(crate) fn is_any_read(parts: &[DamagedPart]) -> bool
 }
 
 /// Whether the form is one whole message.
-pub(crate) fn is_whole(parts: &[DamagedPart]) -> bool
+pub fn is_whole(parts: &[DamagedPart]) -> bool
     ensures { IsTrue result ↔ IsWhole parts.now }
 {
     let total = total_of(parts);

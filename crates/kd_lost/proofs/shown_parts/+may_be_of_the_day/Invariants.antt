@@ -1,5 +1,5 @@
 use Rattle.std.proofs.Common.{length}
-use Rattle.kd_message.proofs.shown_parts.+may_be_of_the_day.Given as goal
+use Rattle.kd_lost.proofs.shown_parts.+may_be_of_the_day.Given as goal
 
 abbrev pub decreases-may_be_of_the_day : goal.decreases-may_be_of_the_day
 decreases-may_be_of_the_day l = length l.parts.now

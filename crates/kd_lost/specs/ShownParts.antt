@@ -7,7 +7,7 @@ use Rattle.kd_lost.specs.declared.damage.PartDamage.{PartDamage}
 use Rattle.kd_lost.specs.declared.damaged_text.DamagedText.{DamagedText}
 use Rattle.kd_lost.specs.declared.damaged_text.GroupTest.TheVariants.{Wrong}
 use Rattle.kd_lost.specs.declared.part.{DamagedPart.{DamagedPart}, PartNumbers.{PartNumbers}}
-use Rattle.kd_message.specs.OneMessage.{are_of_one_message}
+use Rattle.kd_lost.specs.OneMessage.{are_of_one_message}
 
 -- ---- Numbers. Only a heading gives them: a part with a damaged heading has no number.
 
@@ -77,10 +77,6 @@ abbrev pub shown_under : List DamagedPart → ℕ → Option DamagedPart
 shown_under [] number = None
 shown_under (part ∷ parts) number =
     if is_number number part.numbers then better part (shown_under parts number) else shown_under parts number
-
--- how many sheets the page has at most
-abbrev pub sheet_count : List DamagedPart → ℕ
-sheet_count parts = max (total_of parts) (length parts)
 
 -- ---- Whether the form is one whole message.
 

@@ -1,4 +1,4 @@
-use Rattle.kd_message.proofs.shown_parts.+are_whole.Given as goal
+use Rattle.kd_lost.proofs.shown_parts.+are_whole.Given as goal
 
 abbrev pub decreases-are_whole : goal.decreases-are_whole
 decreases-are_whole l = l.count

@@ -1,14 +1,16 @@
 //! Whether the parts of a received form are of one message.
 ghost use Rattle.std.specs.Prelude.{◌≡◌};
-ghost use Rattle.kd_message.specs.OneMessage.{agrees_with_each, are_of_one_message, headings_agree, letter_agrees};
-ghost use Rattle.kd_message.specs.OneMessage.{letters_agree, numbers_agree, parts_agree, same_keys, same_letters};
-ghost use Rattle.kd_message.specs.OneMessage.{texts_agree};
+ghost use Rattle.kd_lost.specs.OneMessage.{agrees_with_each, are_of_one_message, headings_agree, letter_agrees};
+ghost use Rattle.kd_lost.specs.OneMessage.{letters_agree, numbers_agree, parts_agree, same_keys, same_letters};
+ghost use Rattle.kd_lost.specs.OneMessage.{texts_agree};
 
-use kd_lost::{DamagedPart, DamagedText, PartDamage, PartNumbers, TextKeys};
+use crate::damage::PartDamage;
+use crate::damaged_text::{DamagedText, TextKeys};
+use crate::part::{DamagedPart, PartNumbers};
 use kd_tables::Letter;
 
 /// Whether any two of the parts can be of one message.
-pub(crate) fn are_of_one_message(parts: &[DamagedPart]) -> bool
+pub fn are_of_one_message(parts: &[DamagedPart]) -> bool
     ensures { result ≡ are_of_one_message parts.now }
 {
     match parts {
