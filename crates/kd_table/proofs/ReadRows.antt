@@ -1,5 +1,8 @@
 -- The records of a table that were read so far.
-use Rattle.std.proofs.Common.{◌≡◌, ◌∙◌, ◌<◌, ◌∷◌, ◌++◌, ℕ, List, [], Bor, Some, inl, true, false}
+use Rattle.std.proofs.Common.{◌≡◌, ◌∙◌, ◌<◌, ◌≤◌, ◌-◌, ◌∷◌, ◌++◌, ℕ, List, [], Bor, Some, None, inl, true, false}
+use Rattle.std.proofs.Common.{ap₂, arith, drop, get_or, length, map, refl, sym, take}
+use Rattle.std.proofs.lemmas.List.{take_all}
+use Rattle.std.specs.List.{slice_get}
 use Rattle.csv.specs.Reading.{ReadRecord, strip_bom}
 use Rattle.csv.specs.Records.{fields_of}
 use Rattle.csv.specs.declared.iter.ByteRecordsIntoIter.{ByteRecordsIntoIter}
@@ -37,3 +40,20 @@ reads_end table rows old new is read = (
   rows-end (λ (s : Bor (List ℕ)). Some s.now) old.rdr new.rdr []
       (separated (separator_of table)) is.rest is.config is.source read,
 )
+
+-- ---- the first row
+
+pub no_row : (rows : List ByteRecord) → length rows < 1 → map fields_of rows ≡ []
+no_row [] none = refl
+no_row (row ∷ rows) none = absurd (omega (arith, none))
+
+pub none_first : (rows : List ByteRecord) → slice_get rows 0 ≡ None → map fields_of rows ≡ []
+none_first [] none = refl
+none_first (row ∷ rows) none = cc
+
+pub first_row : (rows : List ByteRecord) (first : ByteRecord) → 1 ≤ length rows → first ≡ get_or rows 0 first
+    → map fields_of rows ≡ fields_of first ∷ map fields_of (take (length rows - 1) (drop 1 rows))
+first_row [] first some is = absurd (omega (arith, some))
+first_row (row ∷ rows) first some is =
+    let rest : take (length (row ∷ rows) - 1) rows ≡ rows = take_all (length (row ∷ rows) - 1) rows (omega arith) in
+    ap₂ (λ one others. fields_of one ∷ map fields_of others) (sym is) (sym rest)

@@ -6,16 +6,13 @@ use Rattle.std.specs.Prelude.{◌≡◌, ◌<◌, ◌+◌, ◌==◌, ◌&&◌, �
 use Rattle.std.specs.Io.KnownBytes.{Appends}
 use Rattle.std.specs.List.{list_all, list_any, range_with_len}
 use Rattle.std.specs.Option.{option_map_or}
-use Rattle.csv.specs.Reading.{Reached, strip_bom}
-use Rattle.csv.specs.declared.parser.State.{State}
-use Rattle.csv.specs.declared.parser.State.TheVariants as st
 use Rattle.kd_tables.specs.Ports.{Port}
 use Rattle.kd_table.specs.Cells.{column_of, day_in, has_columns, is_faulty, row_cells, row_model}
 use Rattle.kd_table.specs.Columns.{cell_at, columns_of}
 use Rattle.kd_table.specs.Items.{is_blank}
 use Rattle.kd_table.specs.Options.{OptionTexts}
 use Rattle.kd_table.specs.Row.{IsNoDay, is_blank_row, places_of, row_values}
-use Rattle.kd_table.specs.Rows.{is_well_quoted, separated, separator_of}
+use Rattle.kd_table.specs.Rows.{is_well_quoted}
 use Rattle.kd_table.specs.Table.{AreRows}
 use Rattle.kd_table.specs.declared.cell.Cell.{Cell}
 use Rattle.kd_table.specs.declared.cell.Cell.TheVariants as cells
@@ -73,8 +70,7 @@ unread_note head = flat_map (unread_line head) (range_with_len 0 64)
 
 -- The table's first row is `head`.
 abbrev pub HasHead : List ℕ → List (List ℕ) → Type 0
-HasHead table head = (state : State) × (left : List ℕ)
-    × Reached (separated (separator_of table)) st.StartRecord (strip_bom table) (head ∷ []) state left
+HasHead table head = (rows : List (List (List ℕ))) × AreRows table (head ∷ rows)
 
 -- The note on the columns that aren't read was written.
 abbrev pub TellsUnread : List ℕ → Port → Type 0

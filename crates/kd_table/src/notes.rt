@@ -1,10 +1,9 @@
 //! Tells in words what is wrong with a table. Which rows and cells are told is proved; the words aren't, but tests try them.
-ghost use Rattle.std.specs.Prelude.{◌≡◌, ◌&&◌, ◌++◌, ◌∷◌, [], codes, flat_map, ℕ, List, IfOk, MatchOption};
+ghost use Rattle.std.specs.Prelude.{◌≡◌, ◌&&◌, ◌++◌, ◌∷◌, [], codes, flat_map, map, ℕ, List, IfOk};
 ghost use Rattle.csv.specs.Records.{fields_of};
 ghost use Rattle.kd_tables.specs.Ports.{port};
-ghost use Rattle.kd_table.specs.Notes.{line_at, unread_note, HasHead, HasRowsNote, Tells, TellsRows, TellsTable, TellsText};
+ghost use Rattle.kd_table.specs.Notes.{line_at, unread_note, HasRowsNote, Tells, TellsRows, TellsTable, TellsText};
 ghost use Rattle.kd_table.specs.Options.{texts_of};
-ghost use Rattle.kd_table.specs.Records.{IsReadTo};
 ghost use Rattle.kd_table.specs.Row.{is_blank_row};
 ghost use Rattle.kd_table.specs.Table.{AreRows};
 
@@ -24,9 +23,9 @@ use crate::columns::Columns;
 use crate::fault::SpreadsheetFault;
 use crate::options::TableOptions;
 use crate::quotes::{is_well_quoted, separator_of, strip_bom};
-use crate::records::records_of;
+use crate::records::read_records;
 use crate::row::is_blank_row;
-use csv::{ByteRecord, ByteRecordsIntoIter};
+use csv::ByteRecord;
 use found::Found;
 use head::Head;
 use head_words::missing_columns;
@@ -47,23 +46,6 @@ pub fn put_note<N: Sink>(notes: &mut N, note: &[u8])
     ensures text { TellsText (port N.taken N.has_failed notes.old notes.new) note.now }
 {
     let _ = put_all(notes, note);
-}
-
-/// The table's first row, if it has one.
-pub fn read_head(alloc: Global, table: &[u8]) -> Result<Option<ByteRecord>, SpreadsheetFault>
-    ensures { IfOk result (λ head. MatchOption head
-        (AreRows table.now [])
-        (λ row. HasHead table.now (fields_of row))) }
-{
-    let mut records = records_of(alloc, table);
-    let first = match records.next() {
-        Some(first) => first,
-        None => return Ok(None),
-    };
-    let Ok(head) = first else {
-        return Err(SpreadsheetFault::NoMemory);
-    };
-    Ok(Some(head))
 }
 
 /// Said of a table in which no row has anything under the first row.
@@ -106,14 +88,14 @@ fn is_still_blank(blank: bool, head: &Head<'_>, row: &ByteRecord) -> bool
     blank && is_blank_row(head.columns(), row)
 }
 
-/// Appends the note on the rows under the first row, which `records` still give.
+/// Appends the note on the rows under the first row.
 fn push_rows(
     note: &mut Vec<u8>,
     table: &[u8],
     head: &Head<'_>,
-    records: ByteRecordsIntoIter<&[u8]>,
+    rows: &[ByteRecord],
 ) -> Result<(), SpreadsheetFault>
-    requires { IsReadTo table.now records (head.now.names ∷ []) }
+    requires { AreRows table.now (head.now.names ∷ map fields_of rows.now) }
     ensures { IfOk result (λ _. HasRowsNote head.now.options head.now.columns head.now.names
         table.now note.old.items note.new.items) }
 {
@@ -121,12 +103,9 @@ fn push_rows(
     numbers.next_row();
     let mut found = Found::new();
     let mut blank = true;
-    for row in records {
-        let Ok(row) = row else {
-            return Err(SpreadsheetFault::NoMemory);
-        };
-        push_body_row(note, &mut found, head, numbers.next_row(), &row)?;
-        blank = is_still_blank(blank, head, &row);
+    for row in rows {
+        push_body_row(note, &mut found, head, numbers.next_row(), row)?;
+        blank = is_still_blank(blank, head, row);
     }
     push_due_words(note, b"", &Words::new(), blank, NO_DAY)
 }
@@ -141,18 +120,14 @@ fn push_table(
     requires { note.old.items ≡ [] }
     ensures { IfOk result (λ _. TellsTable (texts_of options.now) table.now note.new.items) }
 {
-    let mut records = records_of(alloc, table);
-    let first = match records.next() {
-        Some(first) => first,
-        None => return push_line(note, b"", NO_DAY.as_bytes()),
+    let records = read_records(alloc, table)?;
+    let [names, rows @ ..] = records.as_slice() else {
+        return push_line(note, b"", NO_DAY.as_bytes());
     };
-    let Ok(names) = first else {
-        return Err(SpreadsheetFault::NoMemory);
-    };
-    let columns = Columns::of_head(&names);
-    let head = Head::new(alloc, options, &columns, &names);
+    let columns = Columns::of_head(names);
+    let head = Head::new(alloc, options, &columns, names);
     push_head(note, &head)?;
-    push_rows(note, table, &head, records)
+    push_rows(note, table, &head, rows)
 }
 
 /// The note on a refused table: the columns that aren't read, and at least a line for each row that isn't a day.

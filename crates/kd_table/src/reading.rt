@@ -1,5 +1,5 @@
 //! Reads a table row by row.
-ghost use Rattle.std.specs.Prelude.{◌≡◌, ◌++◌, ◌∷◌, [], List, ℕ, IfOk};
+ghost use Rattle.std.specs.Prelude.{◌≡◌, ◌++◌, ◌∷◌, [], List, ℕ, IfOk, map};
 ghost use Rattle.csv.specs.Records.{fields_of};
 ghost use Rattle.kd_table.specs.Options.{texts_of};
 ghost use Rattle.kd_table.specs.Table.{is_taken, AreRows, IsBodyRead, IsRead};
@@ -7,7 +7,7 @@ ghost use Rattle.kd_table.specs.Table.{is_taken, AreRows, IsBodyRead, IsRead};
 use crate::columns::Columns;
 use crate::fault::SpreadsheetFault;
 use crate::options::TableOptions;
-use crate::records::records_of;
+use crate::records::read_records;
 use crate::row::{is_blank_row, row_day};
 use csv::ByteRecord;
 use kd_state::SheetDay;
@@ -85,6 +85,26 @@ fn read_row(
     Ok(())
 }
 
+/// Reads these rows, of which the first names the columns.
+fn read_all(
+    alloc: Global,
+    rows: &[ByteRecord],
+    options: &TableOptions<&[u8]>,
+) -> Result<Reading, SpreadsheetFault>
+    ensures { IfOk result (λ reading. IsRead (texts_of options.now) (map fields_of rows.now)
+        reading.columns reading.days.items reading.refused) }
+{
+    let mut reading = Reading {
+        columns: None,
+        days: Vec::new(alloc),
+        refused: false,
+    };
+    for row in rows {
+        read_row(&mut reading, options, row)?;
+    }
+    Ok(reading)
+}
+
 /// Reads all rows of `table`.
 pub fn read_rows(
     alloc: Global,
@@ -94,16 +114,6 @@ pub fn read_rows(
     ensures { IfOk result (λ reading. (rows : List (List (List ℕ))) × AreRows table.now rows
         × IsRead (texts_of options.now) rows reading.columns reading.days.items reading.refused) }
 {
-    let mut reading = Reading {
-        columns: None,
-        days: Vec::new(alloc),
-        refused: false,
-    };
-    for row in records_of(alloc, table) {
-        let Ok(row) = row else {
-            return Err(SpreadsheetFault::NoMemory);
-        };
-        read_row(&mut reading, options, &row)?;
-    }
-    Ok(reading)
+    let rows = read_records(alloc, table)?;
+    read_all(alloc, rows.as_slice(), options)
 }

@@ -1,13 +1,31 @@
 //! Cuts a table into its rows.
-ghost use Rattle.std.specs.Prelude.{[]};
-ghost use Rattle.kd_table.specs.Records.{IsReadTo};
+ghost use Rattle.std.specs.Prelude.{[], map, IfOk};
+ghost use Rattle.csv.specs.Records.{fields_of};
+ghost use Rattle.kd_table.specs.{Records.{IsReadTo}, Table.{AreRows}};
 
+use crate::fault::SpreadsheetFault;
 use crate::quotes::separator_of;
-use csv::{ByteRecordsIntoIter, ReaderBuilder};
+use csv::{ByteRecord, ByteRecordsIntoIter, ReaderBuilder};
 use std::alloc::Global;
 
-/// The rows of a table, with its first row.
-pub fn records_of(alloc: Global, table: &[u8]) -> ByteRecordsIntoIter<&[u8]>
+/// The rows of a table, with its first row. `NoMemory` if there is no memory for them.
+pub fn read_records(alloc: Global, table: &[u8]) -> Result<Vec<ByteRecord>, SpreadsheetFault>
+    ensures { IfOk result (λ rows. AreRows table.now (map fields_of rows.items)) }
+{
+    let mut rows = Vec::new(alloc);
+    for row in records_of(alloc, table) {
+        let Ok(row) = row else {
+            return Err(SpreadsheetFault::NoMemory);
+        };
+        if rows.push(row).is_err() {
+            return Err(SpreadsheetFault::NoMemory);
+        }
+    }
+    Ok(rows)
+}
+
+/// Reads the rows of a table one after another.
+fn records_of(alloc: Global, table: &[u8]) -> ByteRecordsIntoIter<&[u8]>
     ensures { IsReadTo table.now result [] }
 {
     let rdr = ReaderBuilder::new()

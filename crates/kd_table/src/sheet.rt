@@ -10,10 +10,11 @@ ghost use Rattle.kd_table.specs.Table.{AreRows, TableMeans, IsRefusedTable, is_d
 ghost use Rattle.kd_table.specs.declared.fault.SpreadsheetFault.TheVariants as faults;
 
 use crate::fault::SpreadsheetFault;
-use crate::notes::{put_note, read_head, refused_note, unread_note};
+use crate::notes::{put_note, refused_note, unread_note};
 use crate::options::TableOptions;
 use crate::quotes::is_well_quoted;
 use crate::reading::{Reading, read_rows};
+use crate::records::read_records;
 use crate::sheet_writer::write_sheet;
 use kd_state::SheetDay;
 use kd_tables::{Device, Sink};
@@ -74,9 +75,9 @@ fn note_of_columns(alloc: Global, table: &[u8]) -> Result<Vec<u8>, SpreadsheetFa
     ensures note { IfOk result (λ note. (head : List (List ℕ)) × HasHead table.now head
         × (note.items ≡ unread_note head)) }
 {
-    let head = read_head(alloc, table)?;
-    match head {
-        Some(head) => unread_note(alloc, &head),
+    let rows = read_records(alloc, table)?;
+    match rows.first() {
+        Some(head) => unread_note(alloc, head),
         None => Ok(Vec::new(alloc)),
     }
 }

@@ -1,6 +1,13 @@
+use Rattle.std.proofs.Common.{subst, sym}
+use Rattle.kd_table.specs.Table.{AreRows}
 use Rattle.kd_table.proofs.OneTable.{no_rows}
+use Rattle.kd_table.proofs.ReadRows.{none_first}
 use Rattle.kd_table.proofs.sheet.note_of_columns.Goals as goal
 
-pub returns-in-None : goal.returns-in-None
-returns-in-None c =
-    absurd (no_rows c.args.table.now c.requires.0 c.requires.1 c.requires.2 (rw c.in-None.is at c.in_ok-head.ensures))
+pub returns : goal.returns
+returns c =
+    let table = c.args.table.now in
+    let none = none_first c.in_ok-rows.rows.items
+    (sym (rw (c.in-None.is, c.deref.ensures.value) at c.first.ensures.value)) in
+    let (head, rows, are) = c.requires in
+    absurd (no_rows table head rows are (subst (AreRows table) none c.in_ok-rows.ensures))
