@@ -1,9 +1,13 @@
 //! Tests of the desk's calls, on machine files, sheets, cards, orders and forms in memory, and on ports that fail or never
-//! end.
+//! end; of the texts of all faults; and of the host's ports.
 #![tactic(auto)]
 
 #[cfg(test)]
 mod calls;
+#[cfg(test)]
+mod fault;
+#[cfg(test)]
+mod ports;
 #[cfg(test)]
 mod run_apply;
 #[cfg(test)]

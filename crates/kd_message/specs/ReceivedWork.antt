@@ -12,6 +12,7 @@ use Rattle.kd_lost.specs.declared.damaged_text.DamagedText.{DamagedText}
 use Rattle.kd_lost.specs.declared.damaged_text.PinTextKeys.{PinTextKeys}
 use Rattle.kd_lost.specs.declared.damaged_text.TextKeys.{TextKeys}
 use Rattle.kd_lost.specs.declared.damaged_text.TextKeys.TheVariants as text_keys
+use Rattle.kd_part_sheet.specs.declared.cells.Cell.{Cell}
 use Rattle.kd_part_sheet.specs.Cells.{choice_cells, pressed_cells, received_cells, skipped}
 use Rattle.kd_part_sheet.specs.PartWork.{Work}
 
@@ -28,17 +29,21 @@ rotor_received s i shown =
           ++ received_cells None (drop 5 shown.received.items) shown.letters.items;
     }
 
+-- the body on a Converter: the letters between the indicators are deciphered
+abbrev pub pin_body : Day → DamagedText → List Cell
+pin_body s shown =
+    map skipped (take 10 shown.received.items)
+    ++ received_cells (space_letter s) (slice_range shown.received.items 10 (length shown.received.items - 10))
+    shown.letters.items ++ map skipped (drop (length shown.received.items - 10) shown.received.items)
+
 -- On a Converter: at the external letters, the chosen letter is enciphered twelve times. At the internal key, the
--- letters between the indicators are deciphered.
+-- body is deciphered.
 abbrev pub pin_received : Day → PinTextKeys → DamagedText → Work
 pin_received s k shown = record {
   ground = k.indicator.external;
   key = choice_cells 0 k.indicator.chosen (enciphered_choice s k.indicator);
   start = k.internal.items;
-  body =
-      map skipped (take 10 shown.received.items)
-      ++ received_cells (space_letter s) (slice_range shown.received.items 10 (length shown.received.items - 10))
-      shown.letters.items ++ map skipped (drop (length shown.received.items - 10) shown.received.items);
+  body = pin_body s shown;
 }
 
 -- what is worked with these keys

@@ -4,14 +4,14 @@ ghost use Rattle.kd_state.specs.EngineKey.{IsWindow};
 ghost use Rattle.kd_state.specs.OwnKeys.{sheet_key};
 ghost use Rattle.kd_form.specs.BodyCipher.{HasIndicator};
 ghost use Rattle.kd_part_sheet.specs.PartWork.{IsWorkable};
-ghost use Rattle.kd_message.specs.ReceivedWork.{AreShowable, pin_received, received_work, rotor_received};
+ghost use Rattle.kd_message.specs.ReceivedWork.{AreShowable, pin_body, pin_received, received_work, rotor_received};
 
 use arrayvec::ArrayVec;
 use kd_form::day_machine::DayMachine;
 use kd_form::heading::Indicator;
 use kd_form::text_bytes::space_letter;
 use kd_lost::{DamagedText, PinTextKeys, TextKeys};
-use kd_part_sheet::cells::{push_choice, push_pressed, push_received, push_skipped};
+use kd_part_sheet::cells::{Cell, push_choice, push_pressed, push_received, push_skipped};
 use kd_part_sheet::part_work::{PartWork, letters_of};
 use kd_state::SheetDay;
 
@@ -63,15 +63,26 @@ fn pin_received(day: &SheetDay, keys: &PinTextKeys, shown: &DamagedText) -> Part
 {
     let external = &keys.indicator.external;
     let chosen = keys.indicator.chosen;
-    let received = shown.received.as_slice();
-    let end = received.len().saturating_sub(10);
     let mut machine = DayMachine::new(day);
     let printed = machine.encipher_text::<12>(external, &[chosen; 12]);
     let mut key = ArrayVec::new();
     push_choice(&mut key, 0, chosen, printed.as_slice());
-    let (_, from_text) = received.split_at(received.len().min(10));
+    PartWork {
+        ground: letters_of(external),
+        key,
+        start: letters_of(keys.internal.as_slice()),
+        body: pin_body(day, shown),
+    }
+}
+
+/// The letters of a Converter's body: those of the indicators, at both ends, are skipped, and the others deciphered.
+fn pin_body(day: &SheetDay, shown: &DamagedText) -> ArrayVec<Cell, 520>
+    ensures { result.items ≡ pin_body day.now shown.now }
+{
+    let received = shown.received.as_slice();
+    let end = received.len().saturating_sub(10);
+    let (front, from_text) = received.split_at(received.len().min(10));
     let (text, _) = from_text.split_at(end.saturating_sub(10));
-    let (front, _) = received.split_at(received.len().min(10));
     let (_, back) = received.split_at(end);
     let mut body = ArrayVec::new();
     push_skipped(&mut body, front);
@@ -82,10 +93,5 @@ fn pin_received(day: &SheetDay, keys: &PinTextKeys, shown: &DamagedText) -> Part
         shown.letters.as_slice(),
     );
     push_skipped(&mut body, back);
-    PartWork {
-        ground: letters_of(external),
-        key,
-        start: letters_of(keys.internal.as_slice()),
-        body,
-    }
+    body
 }

@@ -17,6 +17,8 @@ mod form;
 #[cfg(test)]
 mod letters;
 #[cfg(test)]
+mod look;
+#[cfg(test)]
 mod machines;
 pub mod named;
 #[cfg(test)]
@@ -30,6 +32,8 @@ pub mod source;
 mod state;
 #[cfg(test)]
 mod step;
+#[cfg(test)]
+mod table;
 #[cfg(test)]
 mod tables;
 pub mod texts;
