@@ -1,13 +1,14 @@
-//! Tests of public calls of the crates below `kd_host` that no run of the program shows: a module for each crate, and samples.
+//! Tests of public calls that no run of a program shows: a module for each crate, and samples.
 //!
-//! The tests have a crate of their own, since a crate with tests is proved twice. The texts, and the sources without an
-//! end, are also for the tests of the crates above.
+//! The tests have a crate of their own, and nothing else stands in it, since a crate with tests is proved twice.
 #![tactic(auto)]
 
 #[cfg(test)]
 mod assign;
 #[cfg(test)]
 mod card;
+#[cfg(test)]
+mod desk;
 #[cfg(test)]
 mod drum;
 #[cfg(test)]
@@ -20,14 +21,16 @@ mod letters;
 mod look;
 #[cfg(test)]
 mod machines;
-pub mod named;
+#[cfg(test)]
+mod named;
 #[cfg(test)]
 mod pins;
 #[cfg(test)]
 mod prices;
 #[cfg(test)]
 mod sheet;
-pub mod source;
+#[cfg(test)]
+mod source;
 #[cfg(test)]
 mod state;
 #[cfg(test)]
@@ -36,4 +39,5 @@ mod step;
 mod table;
 #[cfg(test)]
 mod tables;
-pub mod texts;
+#[cfg(test)]
+mod texts;

@@ -1,6 +1,9 @@
 //! Tests of `run_type`.
 use super::calls::{Call, PIECES, run, run_on};
 use super::samples::{CANCELLING, DAYS, ENIGMA, LOOSE_END};
+use crate::named::File;
+use crate::named::TextName::{AllMet, Empty, M1, M3, M4, M4AsEnigma, M209, TenCables, Unready};
+use crate::texts;
 use kd_desk::DeskFault::{self, Device, Message};
 use kd_form::FormFault::{BadByte, NotReady};
 use kd_sheet::Key;
@@ -8,9 +11,6 @@ use kd_sheet::SheetFault::{
     BadRow, BadValue, LetterTwice, Missing, NotToml, UnknownModel, WheelNotAllowed, WheelTwice,
 };
 use kd_tables::MemorySource;
-use kd_trials::named::File;
-use kd_trials::named::TextName::{AllMet, Empty, M1, M3, M4, M4AsEnigma, M209, TenCables, Unready};
-use kd_trials::texts;
 use std::alloc::AllocError;
 
 /// A machine file, what is typed, the answer, and the lamps.

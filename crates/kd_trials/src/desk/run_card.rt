@@ -1,14 +1,14 @@
 //! Tests of `run_card`.
 use super::calls::{Call, Ran, run, run_on};
 use super::samples::{CANCELLING, DAYS, ENIGMA, LOOSE_END, ONE_BAR, PLUGGED, TWO_BARS};
+use crate::named::TextName::{
+    Empty, EmptyKinds, EmptySheet, Farthest, FarthestCard, M1, M4AsEnigma, M209, Sheet,
+};
+use crate::named::{File, changed};
 use kd_desk::DeskFault::{self, NoSuchDay, OtherModel};
 use kd_sheet::Key;
 use kd_sheet::SheetFault::{BadRow, BadValue, DayTwice, LetterTwice, Missing, NotToml};
 use kd_tables::MemorySource;
-use kd_trials::named::TextName::{
-    Empty, EmptyKinds, EmptySheet, Farthest, FarthestCard, M1, M4AsEnigma, M209, Sheet,
-};
-use kd_trials::named::{File, changed};
 use std::alloc::{AllocError, Global};
 use std::process::Abort;
 

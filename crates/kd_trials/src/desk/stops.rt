@@ -4,16 +4,16 @@ use super::samples::{
     CANCELLING, CONVERTER_FORM, CONVERTER_ORDER, CONVERTER_TEXT, ENIGMA, FORM, ORDER, PLUGGED,
     TEXT, TWO_BARS,
 };
+use crate::named::TextName::{
+    self, Empty, EmptyKinds, M1Written, M209, NoSettings, TwoCables, WithoutPins,
+};
+use crate::named::{File, changed};
+use crate::source::Endless;
+use crate::texts;
 use kd_desk::DeskFault::{self, Device, Message, ReadTooLong};
 use kd_desk::run_card::run_card;
 use kd_form::FormFault::BadByte;
 use kd_tables::{MemorySink, MemorySource};
-use kd_trials::named::TextName::{
-    self, Empty, EmptyKinds, M1Written, M209, NoSettings, TwoCables, WithoutPins,
-};
-use kd_trials::named::{File, changed};
-use kd_trials::source::Endless;
-use kd_trials::texts;
 use std::alloc::{AllocError, Global};
 use std::process::Abort;
 

@@ -1,17 +1,17 @@
 //! Tests of `run_check`.
 use super::calls::{Call, run_on};
 use super::samples::{CANCELLING, DAYS, ENIGMA, ONE_BAR, PLUGGED, TWO_BARS};
+use crate::named::File;
+use crate::named::TextName::{
+    BarKinds, Empty, EmptyKinds, Farthest, FarthestCard, Higher, Highest, NoPrices, NoSettings,
+    OneLug, TwoCableKinds, TwoCables, TwoLugs, TwoLugsByKind,
+};
 use kd_card::CardFault::{BadHead, BadLine, CountWrong, PriceMissing, Trailing};
 use kd_desk::DeskFault::{self, Card, Doubtful, NoSuchDay, OtherDay};
 use kd_prices::Doubt::{
     self, IllegalAt, NeedlessLine, NotTheSheet, OtherModel, PriceTooHigh, SumDiffers,
 };
 use kd_state::Why;
-use kd_trials::named::File;
-use kd_trials::named::TextName::{
-    BarKinds, Empty, EmptyKinds, Farthest, FarthestCard, Higher, Highest, NoPrices, NoSettings,
-    OneLug, TwoCableKinds, TwoCables, TwoLugs, TwoLugsByKind,
-};
 use std::alloc::AllocError;
 
 /// A machine file, a day, a card, and the verdict that is written, or the fault.

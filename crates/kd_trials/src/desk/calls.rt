@@ -1,4 +1,5 @@
 //! Runs the calls of the desk.
+use crate::named::{File, changed};
 use kd_desk::DeskFault;
 use kd_desk::run_apply::run_apply;
 use kd_desk::run_card::run_card;
@@ -7,7 +8,6 @@ use kd_desk::run_receive::run_receive;
 use kd_desk::run_send::run_send;
 use kd_desk::run_type::run_type;
 use kd_tables::{MemorySink, MemorySource, Source};
-use kd_trials::named::{File, changed};
 use std::alloc::{AllocError, Global};
 use std::process::Abort;
 

@@ -1,15 +1,15 @@
 //! Tests of `run_apply`.
 use super::calls::{Call, run_on};
 use super::samples::{CANCELLING, DAYS, ENIGMA, ONE_BAR, PLUGGED, TWO_BARS};
+use crate::named::TextName::{
+    BarKinds, Empty, M1Written, M4, M209, NoPrices, NoSettings, OneLug, TenCablesWritten,
+    TwoCableKinds, TwoCables,
+};
+use crate::named::{File, changed};
 use kd_card::CardFault;
 use kd_desk::DeskFault::{self, Card, Illegal, List};
 use kd_state::ListFault::BadLine;
 use kd_state::{IllegalAt, Why};
-use kd_trials::named::TextName::{
-    BarKinds, Empty, M1Written, M4, M209, NoPrices, NoSettings, OneLug, TenCablesWritten,
-    TwoCableKinds, TwoCables,
-};
-use kd_trials::named::{File, changed};
 use std::alloc::AllocError;
 
 /// A machine file, a list or a card, and the machine file that is written, or the fault.

@@ -1,6 +1,6 @@
 //! The machine files, orders and forms from which the tests start.
-use kd_trials::named::File;
-use kd_trials::named::TextName::{self, M1, M209, Sheet};
+use crate::named::File;
+use crate::named::TextName::{self, M1, M209, Sheet};
 
 /// The sheet, which has days of all models.
 pub const DAYS: File = (Sheet, "", "");

@@ -3,14 +3,12 @@ use super::calls::{Call, PIECES, run_on};
 use super::samples::{
     CONVERTER_FORM, CONVERTER_TEXT, DAYS, ENIGMA, FORM, M4_FORM, OFF_KEY, PIN_FORM, TEXT, TURNED,
 };
+use crate::named::File;
+use crate::named::TextName::{self, AllMet, Empty, M3, M4AsEnigma, Sheet, TenCables, WithoutPins};
 use kd_desk::DeskFault::{self, Message, NoSuchDay};
 use kd_form::FormFault::{
     BadByte, BadHeading, CountWrong, IndicatorSpent, IndicatorsDiffer, KeyNotOnWheel, NotOnKey,
     PartOrder, WrongGroup,
-};
-use kd_trials::named::File;
-use kd_trials::named::TextName::{
-    self, AllMet, Empty, M3, M4AsEnigma, Sheet, TenCables, WithoutPins,
 };
 use std::alloc::AllocError;
 

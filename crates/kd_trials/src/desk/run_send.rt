@@ -4,12 +4,12 @@ use super::samples::{
     CONVERTER_FORM, CONVERTER_ORDER, DAYS, ENIGMA, FORM, LOOSE_END, M4_FORM, M4_ORDER, OFF_KEY,
     ORDER, PIN_FORM, PIN_ORDER, TURNED,
 };
+use crate::named::File;
+use crate::named::TextName::{AllMet, Empty, M3, M4AsEnigma, WithoutPins};
 use kd_desk::DeskFault::{self, Message, NoSuchDay};
 use kd_form::FormFault::{
     BadByte, EmptyText, IndicatorSpent, KeyNotOnWheel, NotOnKey, NotReady, PartKeys, WrongGroup,
 };
-use kd_trials::named::File;
-use kd_trials::named::TextName::{AllMet, Empty, M3, M4AsEnigma, WithoutPins};
 use std::alloc::AllocError;
 
 /// A machine file, a day, an order, the answer, and the form.
