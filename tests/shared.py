@@ -169,6 +169,8 @@ def style_of(page):
 
 def difference(page, due):
     """Where two texts differ first, with what is around it."""
+    if page == due:
+        return "no difference"
     at = len(os.path.commonprefix([page, due]))
     start = max(0, at - 40)
     return f"differs at {at}: {page[start:at + 40]!r}, due {due[start:at + 40]!r}"
