@@ -6,9 +6,20 @@ import subprocess
 import tempfile
 import time
 
+from shared import end, tell
+
 PATH = shutil.which("chromium") or shutil.which("chromium-browser") or shutil.which("google-chrome")
 # The keys that have another code than their letter.
 CODES = {"Backspace": ("Backspace", 8), " ": ("Space", 32), "Enter": ("Enter", 13)}
+
+
+def need(**packages):
+    """Ends the script untried, and says so, if Chromium or one of these programs isn't there. Each has the name of its package."""
+    missing = [] if PATH else ["chromium"]
+    missing += [package for program, package in packages.items() if not shutil.which(program)]
+    if missing:
+        tell(f"not tried, as there is no {' and no '.join(missing)} (apt-get install {' '.join(missing)})")
+        end()
 
 
 class Browser:

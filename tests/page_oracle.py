@@ -1,70 +1,41 @@
-#!/usr/bin/env python3
-"""Draws the page of each of these days by itself, for a comparison with the pages that curator writes. It was written before
-curator, by another hand, from the rules for the page's looks, and shares no code with it. The environment's DESK names the
-built desk, which makes the cards, carries them out, and types the tests. STYLE names a file with the style sheet. With WORDS=de the
-page is German, by the words of page_words.py.
-
-    page_oracle.py MACHINE SHEET DAY..
+"""Draws the page of days by itself, for a comparison with the pages that curator writes. It was written before curator, by
+another hand, from the rules for the page's looks, and shares no code with it. The built desk makes the cards, carries them out, and
+types the tests. What draws with words takes the function `say` of page_words.py, for its language.
 """
-import os
-import subprocess
-import sys
 import tempfile
 import tomllib
 
-from page_words import GERMAN
+from page_words import say_in
+from shared import ALPHABET, CONVERTER, NAMES, PIN_WHEELS, PLACES, by_wheel, in_fives, letter_number, named, run, settings_of, write
 
-DESK = os.environ['DESK']
-STYLE = os.environ['STYLE']
-LANGUAGE = os.environ.get('WORDS', 'en')
-
-ABC = 'ABCDEFGHIJKLMNOPQRSTUVWXYZ'
-BOX = ['I', 'II', 'III', 'IV', 'V', 'VI', 'VII', 'VIII', 'Beta', 'Gamma']
-PIN_WHEELS = [ABC, ABC.replace('W', ''), ABC[:22] + 'X', ABC[:21], ABC[:19], ABC[:17]]
-PLACES = ['1', '0L', '2', '3', '4', '5', '0R', '6']
-NAMES = {'Enigma I': 'Enigma I', 'M3': 'Enigma M3', 'M4': 'Enigma M4', 'M-209': 'Converter M-209'}
 SIDES = {3: ['left', 'middle', 'right'], 4: ['Greek', 'left', 'middle', 'right']}
+
+
+class Refused(Exception):
+    """What the desk says when it refuses."""
 
 
 # The desk, and what it answers.
 
-def desk(*words, text=''):
-    run = subprocess.run([DESK, *words], input=text, capture_output=True, text=True)
-    if run.returncode:
-        sys.exit(run.stderr.strip())
-    return run.stdout
+def answer_of(desk, *words, given=''):
+    status, out, err = run(desk, *words, given=given)
+    if status:
+        raise Refused(err.strip())
+    return out
 
 
 def machine_of(text):
     m = tomllib.loads(text)
-    if m['model'] != 'M-209':
-        m['ring'] = dict(zip(BOX, m['rings']))
-        m['letter'] = dict(zip(BOX, m['letters']))
+    if m['model'] != CONVERTER:
+        m['ring'] = by_wheel(m, 'rings')
+        m['letter'] = by_wheel(m, 'letters')
     return m
 
 
 # Words.
 
-def say(text, *values):
-    """A fixed text in the page's language, with its values."""
-    text = GERMAN[text] if LANGUAGE == 'de' else text
-    return text % values if values else text
-
-
-def number(letter):
-    return '%02d' % (ABC.index(letter) + 1)
-
-
-def named(letter):
-    return letter + '\u00a0' + number(letter)
-
-
-def count(n):
+def count(say, n):
     return say('nothing to change') if n == 0 else say('1 setting') if n == 1 else say('%d settings', n)
-
-
-def in_fives(text):
-    return ' '.join(text[i:i + 5] for i in range(0, len(text), 5))
 
 
 # The page's parts.
@@ -78,9 +49,9 @@ def ticks(items):
     return '<ul>\n%s</ul>\n' % ''.join('<li>%s\n' % item for item in items)
 
 
-def step(title, settings, name, inside):
+def step(say, title, settings, name, inside):
     """A step's heading, with its number of settings; `name` is for print alone, where sheets come apart."""
-    small = '' if settings is None else ' <small>%s</small>' % count(settings)
+    small = '' if settings is None else ' <small>%s</small>' % count(say, settings)
     return '<section>\n<h2%s>%s%s<span>%s</span></h2>\n%s</section>\n' % (
         '' if inside else ' class=idle', title, small, name, inside)
 
@@ -103,7 +74,7 @@ def circle(x, y, radius, kind):
 
 # The picture of the wheels: a band for before and a band for after.
 
-def band(y, m, word, seated, reflected, ringed, turned):
+def band(say, y, m, word, seated, reflected, ringed, turned):
     """A reflector and its wheels in their slots, from the top y. What the card sets is framed thick, and bold."""
     frame = lambda is_set: 'set' if is_set else ''
     bold = lambda is_set: 'bold' if is_set else ''
@@ -124,25 +95,25 @@ def band(y, m, word, seated, reflected, ringed, turned):
         out += text(x + 48, y + 85, 20, named(m['ring'][wheel]), bold(wheel in ringed))
         out += rect(x + 10, y + 99, 40, 40, frame(slot in turned))
         out += text(x + 30, y + 128, 26, m['letter'][wheel], bold(slot in turned))
-        out += text(x + 70, y + 126, 20, number(m['letter'][wheel]), bold(slot in turned))
+        out += text(x + 70, y + 126, 20, letter_number(m['letter'][wheel]), bold(slot in turned))
     return out
 
 
-def in_words(m):
+def in_words(say, m):
     return say('reflector %s', m['reflector']) + ''.join(
         '; ' + (say('slot %d: wheel %s, ring %s, window %s', slot + 1, w, m['ring'][w], m['letter'][w]) if w else
                 say('slot %d: empty', slot + 1))
         for slot, w in enumerate(m['slots']))
 
 
-def wheels_picture(before, after, settings):
+def wheels_picture(say, before, after, settings):
     of = lambda word: [s for s in settings if s[0] == word]
     sets = ({int(s[1]) - 1 for s in of('SEAT')}, bool(of('REFLECTOR')), {s[1] for s in of('RING')},
             {int(s[1]) - 1 for s in of('TURN')})
     if not settings:
-        return svg(600, 150, say('The wheels, from the left: %s.', in_words(after)), band(0, after, 'after', *sets))
-    return svg(600, 314, say('The wheels, from the left. Before: %s. After: %s.', in_words(before), in_words(after)),
-               band(0, before, 'before', (), False, (), ()) + band(164, after, 'after', *sets))
+        return svg(600, 150, say('The wheels, from the left: %s.', in_words(say, after)), band(say, 0, after, 'after', *sets))
+    return svg(600, 314, say('The wheels, from the left. Before: %s. After: %s.', in_words(say, before), in_words(say, after)),
+               band(say, 0, before, 'before', (), False, (), ()) + band(say, 164, after, 'after', *sets))
 
 
 # The picture of the plugboard: sockets in the order of the keyboard; each cable has a lane of its own.
@@ -196,11 +167,11 @@ def board(cables, moved, kind, title):
     return svg(560, 336, title, out)
 
 
-def joined(cables):
+def joined(say, cables):
     return ', '.join('%d %s' % (i + 1, '-'.join(c)) for i, c in enumerate(cables) if c) or say('none')
 
 
-def plug_table(moves, head):
+def plug_table(say, moves, head):
     rows = {}
     for s in moves:
         rows.setdefault(s[1], []).append('<td>' + tick('<b>%s</b>' % s[2], ' '.join(s)))
@@ -208,19 +179,19 @@ def plug_table(moves, head):
         say('Cable'), say(head), ''.join('<tr><th scope=row>%s%s\n' % (cable, ''.join(row)) for cable, row in rows.items()))
 
 
-def plug_step(title, cables, moves, kind, caption, name):
+def plug_step(say, title, cables, moves, kind, caption, name):
     """The plugboard, and beside it the plugs to move, cable by cable."""
     word = 'before' if kind == 'out' else 'after'
-    picture = board(cables, {s[2] for s in moves}, kind, say('The plugboard %s. Cables: %%s.' % word, joined(cables)))
+    picture = board(cables, {s[2] for s in moves}, kind, say('The plugboard %s. Cables: %%s.' % word, joined(say, cables)))
     inside = '<div class=beside><figure>%s<figcaption>%s</figcaption></figure>\n%s</div>\n' % (
         picture, say(caption if moves else 'After. Circle: stays. Number: the cable’s.'),
-        plug_table(moves, 'take out at' if kind == 'out' else 'put in at') if moves else '')
-    return step(title, len(moves), name, inside if any(cables) and (moves or kind == 'in') else '')
+        plug_table(say, moves, 'take out at' if kind == 'out' else 'put in at') if moves else '')
+    return step(say, title, len(moves), name, inside if any(cables) and (moves or kind == 'in') else '')
 
 
 # The page of an Enigma.
 
-def enigma(before, after, settings, name):
+def enigma(say, before, after, settings, name):
     of = lambda word: [s for s in settings if s[0] == word]
     sides = SIDES[len(after['slots'])]
     place = lambda w: (say('slot %d', before['slots'].index(w) + 1) if w in before['slots'] else
@@ -236,25 +207,25 @@ def enigma(before, after, settings, name):
     turns = {int(s[1]) - 1: ' '.join(s) for s in of('TURN')}
     windows = [tick(say('slot %d: turn the wheel until <b>%s</b> shows', slot + 1, named(after['letter'][w])), turns.get(slot))
                for slot, w in enumerate(after['slots'])]
-    return '<figure class=wheels>%s</figure>\n' % wheels_picture(before, after, settings) \
-        + step(say('1 Rings: wheels out, and back in' if rings else '1 Rings'), len(rings), name, ticks(rings) if rings else '') \
-        + step(say('2 Wheels and reflector'), len(seats), name, boxed + ticks(seats) if seats else '') \
-        + plug_step(say('3 Plugs out'), before['cables'], of('PULL'), 'out',
+    return '<figure class=wheels>%s</figure>\n' % wheels_picture(say, before, after, settings) \
+        + step(say, say('1 Rings: wheels out, and back in' if rings else '1 Rings'), len(rings), name, ticks(rings) if rings else '') \
+        + step(say, say('2 Wheels and reflector'), len(seats), name, boxed + ticks(seats) if seats else '') \
+        + plug_step(say, say('3 Plugs out'), before['cables'], of('PULL'), 'out',
                     'Before. Square: take out. Circle: stays. Number: the cable’s.', name) \
-        + plug_step(say('4 Plugs in'), after['cables'], of('PUT'), 'in',
+        + plug_step(say, say('4 Plugs in'), after['cables'], of('PUT'), 'in',
                     'After. Disc: put in. Circle: stays. Number: the cable’s.', name) \
-        + step(say('5 Windows'), len(turns) or None, name,
+        + step(say, say('5 Windows'), len(turns) or None, name,
                '<p>%s</p>\n' % say('Set all of them: typing may have turned the wheels.') + ticks(windows))
 
 
 # The page of a Converter.
 
-def pin_wheel(i, after, settings):
+def pin_wheel(say, i, after, settings):
     """One wheel: a head, and two rows of letters, A to M and N to Z, each letter in its own column."""
     moves = {s[2]: s[3] for s in settings if s[0] == 'PIN' and int(s[1]) == i + 1}
     out = '<tbody>\n<tr><th scope=rowgroup colspan=13>%s <small>%s</small>%s\n' % (
-        say('Wheel %d', i + 1), count(len(moves)), ' <code>PIN %d</code>' % (i + 1) if moves else '')
-    for half in (ABC[:13], ABC[13:]):
+        say('Wheel %d', i + 1), count(say, len(moves)), ' <code>PIN %d</code>' % (i + 1) if moves else '')
+    for half in (ALPHABET[:13], ALPHABET[13:]):
         out += '<tr>'
         for letter in half:
             dot = '●' if letter in after['pins'][i] else '○'
@@ -268,7 +239,7 @@ def pin_wheel(i, after, settings):
     return out
 
 
-def bar_row(i, before, after, settings):
+def bar_row(say, i, before, after, settings):
     """One bar: what stands at its eight places, and the lugs to move, in the card's order."""
     was, now = before['bars'][i].split('-'), after['bars'][i].split('-')
     moves = [s for s in settings if s[0] == 'LUG' and int(s[1]) == i + 1]
@@ -285,37 +256,35 @@ def bar_row(i, before, after, settings):
     return out + '\n'
 
 
-def converter(before, after, settings, name):
+def converter(say, before, after, settings, name):
     number_of = lambda word: sum(s[0] == word for s in settings)
     turns = {int(s[1]) - 1: ' '.join(s) for s in settings if s[0] == 'TURN'}
     pins = '<table class=pins>\n<caption>%s</caption>\n%s</table>\n' % (
         say('Pins after: ● effective, ○ not. Framed pins are to change: ON makes a pin effective, OFF not.'),
-        ''.join(pin_wheel(i, after, settings) for i in range(6)))
+        ''.join(pin_wheel(say, i, after, settings) for i in range(6)))
     drum = '<table class=drum>\n<caption>%s</caption>\n<thead>\n<tr><th scope=col>%s%s<th scope=col colspan=2>%s\n<tbody>\n%s</table>\n' % (
         say('▪ a lug stays here, × a lug leaves, ■ a lug comes. Move the lugs of a bar in the order shown.'), say('Bar'),
-        ''.join('<th scope=col>' + place for place in PLACES), say('Lugs to move'), ''.join(bar_row(i, before, after, settings) for i in range(27)))
+        ''.join('<th scope=col>' + place for place in PLACES), say('Lugs to move'), ''.join(bar_row(say, i, before, after, settings) for i in range(27)))
     letters = '<p>%s</p>\n<table class=letters>\n<tr><th scope=row>%s%s\n<tr><th scope=row>%s%s\n</table>\n' % (
         say('Set all of them: enciphering may have turned the wheels.'), say('Wheel'),
         ''.join('<th scope=col>%d' % (i + 1) for i in range(6)), say('letter'),
         ''.join('<td>' + tick('<b>%s</b>' % letter, turns.get(i)) for i, letter in enumerate(after['letters'])))
-    return step(say('1 Pins'), number_of('PIN'), name, pins) + step(say('2 Lugs'), number_of('LUG'), name, drum) \
-        + step(say('3 Letters'), len(turns) or None, name, letters)
+    return step(say, say('1 Pins'), number_of('PIN'), name, pins) + step(say, say('2 Lugs'), number_of('LUG'), name, drum) \
+        + step(say, say('3 Letters'), len(turns) or None, name, letters)
 
 
 # A day, and a file of days.
 
-def page(machine_file, sheet, day, folder):
+def article(say, desk, machine_file, sheet, day, folder):
     """The day's article, its number of settings, and the file of the machine after it."""
-    card = desk('card', machine_file, sheet, day)
-    card_file, after_file = os.path.join(folder, 'card-' + day), os.path.join(folder, 'day-%s.toml' % day)
-    open(card_file, 'w').write(card)
-    open(after_file, 'w').write(desk('apply', machine_file, card_file))
-    before, after = machine_of(desk('apply', machine_file, '/dev/null')), machine_of(open(after_file).read())
-    card_lines = [line.split() for line in card.splitlines()]
-    settings = card_lines[1:[line[0] for line in card_lines].index('SETTINGS')]
-    is_converter = after['model'] == 'M-209'
-    keys = 'A' * 26 if is_converter else ABC
-    lamps = desk('type', after_file, text=keys).strip()
+    card = answer_of(desk, 'card', machine_file, sheet, day)
+    set_machine = answer_of(desk, 'apply', machine_file, write('%s/card-%s' % (folder, day), card))
+    after_file = write('%s/day-%s.toml' % (folder, day), set_machine)
+    before, after = machine_of(answer_of(desk, 'apply', machine_file, '/dev/null')), machine_of(set_machine)
+    settings = [line.split() for line in settings_of(card)]
+    is_converter = after['model'] == CONVERTER
+    keys = 'A' * 26 if is_converter else ALPHABET
+    lamps = answer_of(desk, 'type', after_file, given=keys).strip()
     name = say('%s, day %s', NAMES[after['model']], day)
     first = say('First compare. Framed pins still stand the other way, all others as drawn; the lugs are at ▪ and ×.' if is_converter else
                 'First compare the machine with <i>before</i>; only windows may differ. Thick frames: to set.' if settings else
@@ -326,26 +295,24 @@ def page(machine_file, sheet, day, folder):
             'Type the alphabet. The lamps have to give the second line:'),
         in_fives(keys), in_fives(lamps), say('Then set the letters to <b>%s</b> again.' if is_converter else 'Then set the windows to <b>%s</b> again.', shown),
         say('Letters when put away' if is_converter else 'Windows when put away'),
-        say('%s; fewer aren’t possible.', count(len(settings))))
+        say('%s; fewer aren’t possible.', count(say, len(settings))))
     out = '<article id=day-%s>\n<header>\n<h1>%s <small>%s</small></h1>\n<p class=fields><span>%s</span><span>%s</span><span>%s</span></p>\n<p>%s</p>\n</header>\n%s%s</article>\n' % (
-        day, name, count(len(settings)), say('Machine'), say('Date'), say('Done by'), first, (converter if is_converter else enigma)(before, after, settings, name),
-        step(say('4 Test' if is_converter else '6 Test'), None, name, test))
+        day, name, count(say, len(settings)), say('Machine'), say('Date'), say('Done by'), first, (converter if is_converter else enigma)(say, before, after, settings, name),
+        step(say, say('4 Test' if is_converter else '6 Test'), None, name, test))
     return out, len(settings), after_file, NAMES[after['model']]
 
 
-def main():
-    machine, sheet, days = sys.argv[1], sys.argv[2], sys.argv[3:]
+def page(desk, machine, sheet, days, style, language):
+    """The page of these days, each from the machine as the day before left it."""
+    say = say_in(language)
     out = nav = ''
     with tempfile.TemporaryDirectory() as folder:
         for day in days:
-            article, settings, machine, model = page(machine, sheet, day, folder)
-            out += article
-            nav += '<li><a href="#day-%s">%s</a>, %s\n' % (day, say('Day %s', day), count(settings))
+            drawn, settings, machine, model = article(say, desk, machine, sheet, day, folder)
+            out += drawn
+            nav += '<li><a href="#day-%s">%s</a>, %s\n' % (day, say('Day %s', day), count(say, settings))
     if len(days) > 1:
         out = '<nav class=days aria-label="%s">\n<ul>\n%s</ul>\n</nav>\n' % (say('Days'), nav) + out
     title = say('%s, day %s', model, days[0]) if len(days) == 1 else say('%s, days %s to %s', model, days[0], days[-1])
-    sys.stdout.write('<!DOCTYPE html>\n<html lang=%s>\n<meta charset=utf-8>\n<meta name=viewport content="width=device-width,initial-scale=1">\n<title>%s</title>\n<style>\n%s</style>\n<body>\n<main>\n%s</main>\n' % (
-        LANGUAGE, title, open(STYLE).read(), out))
-
-
-main()
+    return '<!DOCTYPE html>\n<html lang=%s>\n<meta charset=utf-8>\n<meta name=viewport content="width=device-width,initial-scale=1">\n<title>%s</title>\n<style>\n%s</style>\n<body>\n<main>\n%s</main>\n' % (
+        language, title, style, out)

@@ -116,3 +116,11 @@ KEY_TABLE = {
 }
 
 GERMAN = {**DAY_PAGE, **KEY_TABLE}
+
+
+def say_in(language):
+    """The function that says a fixed text of these pages, with its values, in a language."""
+    def say(text, *values):
+        text = GERMAN[text] if language == 'de' else text
+        return text % values if values else text
+    return say

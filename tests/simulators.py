@@ -1,7 +1,8 @@
 """The machines once more, as plainly as the published rules say them, for comparisons with what the programs answer. They share no
 code with the programs: the wirings are typed from the published tables, and each press follows the current or the drum by itself.
 """
-ALPHABET = "ABCDEFGHIJKLMNOPQRSTUVWXYZ"
+from shared import ALPHABET, CONVERTER, PIN_WHEELS, ring_letters
+
 WIRINGS = {
     "I": ("EKMFLGDQVZNTOWYHXUSPAIBRCJ", "Q"), "II": ("AJDKSIRUXBLHWTMCQGZNPYFVOE", "E"),
     "III": ("BDFHJLCPRTXVZNYEIWGAKMUSQO", "V"), "IV": ("ESOVPZJAYQUIRHXLNFTGKDCMWB", "J"),
@@ -13,7 +14,6 @@ REFLECTORS = {
     "A": "EJMZALYXVBWFCRQUONTSPIKHGD", "B": "YRUHQSLDPXNGOKMIEBFZCWVJAT", "C": "FVPJIAOYEDRZXWGCTKUQSBNMHL",
     "b": "ENKQAUYWJICOPBLMDXZVFTHRGS", "c": "RDOBJNTKVEHMLFCWZAXGYIPSUQ",
 }
-PIN_WHEELS = [ALPHABET, ALPHABET.replace("W", ""), ALPHABET[:22] + "X", ALPHABET[:21], ALPHABET[:19], ALPHABET[:17]]
 ACTING = [15, 14, 13, 12, 11, 10]
 
 
@@ -70,13 +70,12 @@ class Converter:
 
 def on_key(day):
     """The machine that stands on the key of a day of a sheet, given as TOML's values."""
-    if day["model"] == "M-209":
+    if day["model"] == CONVERTER:
         return Converter(day["pins"], day["rows"])
-    rings = [ring if isinstance(ring, str) else ALPHABET[ring - 1] for ring in day["rings"]]
-    return Enigma(day["reflector"], day["wheels"], rings, day["plugs"])
+    return Enigma(day["reflector"], day["wheels"], ring_letters(day), day["plugs"])
 
 
-def run(machine, shown, text):
+def encipher(machine, shown, text):
     """What a machine makes of a text, from these letters in its windows."""
     machine.turn_to(shown)
     return "".join(map(machine.press, text))

@@ -1,37 +1,15 @@
 # What `tests/refusals` and `tests/page-refusals` share, which read this file: how to try a program on worked examples and on
 # hostile files, again with each of its calls refused in turn (shim.c), and the small machines and days. Before, they set
 # `top`, the folder of the repository, and `program`, a built program; and they end by `end`.
-passed=0 failed=0 name=$(basename "$program")
-
-end() {
-    echo "$passed passed, $failed failed"
-    [ "$failed" -eq 0 ]
-    exit
-}
-
-# What the tests can't do without.
-lack() {
-    echo "$0: $1"
-    failed=1
-    end
-}
+. "$top/tests/shared.sh"
+name=$(basename "$program")
 
 case $program in /*) ;; *) program=$PWD/$program ;; esac
 [ -x "$program" ] || lack "the program isn't built: $program"
-work=$(mktemp -d) || lack 'no folder for the files of the tests'
-trap 'rm -rf "$work"' EXIT
-trap 'exit 1' HUP INT TERM
 cc -O1 -shared -fPIC -o "$work/shim.so" "$top/tests/shim.c" -ldl || lack 'shim.c was not compiled'
 cp "$top"/examples/* "$work" && cd "$work" || lack 'no examples'
 : >nothing
 : >in
-
-# pass, fail WORDS..: counts an example, and names the one that failed.
-pass() { passed=$((passed + 1)); }
-fail() {
-    failed=$((failed + 1))
-    echo "failed: $*"
-}
 
 # try STATUS OUT ERR WORDS..: the command gives this status and writes the file OUT; what it writes to standard error is the
 # text ERR. It reads the file `in`.
@@ -96,9 +74,6 @@ items() {
     printf '"%s"' "$2"
 }
 
-# judge_status STATUS WHAT: counts a comparison that gave this status, and names one that failed.
-judge_status() { if [ "$1" -eq 0 ]; then pass; else fail "$2"; fi; }
-
 # letters NUMBER, spaces NUMBER: so many letters A, so many spaces.
 letters() { head -c "$1" /dev/zero | tr '\0' A; }
 spaces() { head -c "$1" /dev/zero | tr '\0' ' '; }
@@ -162,12 +137,38 @@ all_pins() {
         echo "$letters" | fold -w 1 | sed "s/.*/PIN $wheel & ON/"
     done
 }
+# all_letters, all_lugs: the settings of the letters and of the lugs on such a day.
+all_letters() { for wheel in $(seq 6); do echo "TURN $wheel B"; done; }
+all_lugs() { for bar in $(seq 27); do printf '%s\n' "LUG $bar R 4" "LUG $bar L 3"; done; }
+all_else 13 >s13
+
+# Cables that change, wheels that have to be turned back, and a bar whose right lug has to make room first.
+{ cat m1; echo 'cables = ["AB", "CD"]'; } >m8
+day 8 | with plugs '["BC", "DE"]' >s8
+with rings '"BAAAA"' <m1 | with letters '"BAAAA"' >m12
+with bars "[\"1-3\", $(items 26 0L-0R)]" <p1 >p10
+pin_day 10 | with rows "[\"3-6\", $(items 26 0-0)]" >s10
+day 11 >s11
+day 12 >s12
+# A message of one part: its order, and its form.
+day 17 >s17-bare
+{ cat s17-bare; echo 'groups = ["ZUG"]'; } >s17
+printf '%s\n' 'PART AAA AAA QX UGZ' TEXT AAAAA >order
+printf '%s\n' 'PART 1/1 10 AAA BDZ' 'QXUGZ BDZGO' >form
+
+# Files that are refused.
+with slots '["I", "I", "III"]' <m1 >twice
+with version 3 <m1 >m1-version-3
+printf 'x =' >no-toml
+echo 'x = 1' >other-keys
+day 32 >day-32
+cat s11 s11 >day-twice
 
 ### Hostile files
 
-# judge STATUS TEXT WORDS..: whether the command that wrote `said` and `told`, and ended with this status, gave this answer in
+# judge_said STATUS TEXT WORDS..: whether the command that wrote `said` and `told`, and ended with this status, gave this answer in
 # one line; `fine` where it wasn't refused.
-judge() {
+judge_said() {
     got=$1 due=$2 told='' more=''
     shift 2
     { IFS= read -r told && IFS= read -r more; } <told
@@ -184,7 +185,7 @@ said() {
     answer=$1
     shift
     "$program" "$@" <in >said 2>told
-    judge $? "$answer" "$@"
+    judge_said $? "$answer" "$@"
 }
 
 # next_missing LINE: `missing` is what is said of a file that ends before this line.
