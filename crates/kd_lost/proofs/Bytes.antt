@@ -8,7 +8,7 @@ use Rattle.std.proofs.lemmas.List.{take_more}
 use Rattle.std.proofs.lemmas.List.Sums.{sum_by-cons}
 use Rattle.std.proofs.lemmas.List.Elements.{filter_map-append}
 use Rattle.kd_lost.specs.Lost.{received_letter, received_letters}
-use Rattle.kd_lost.specs.DamagedPart.{filled_byte}
+use Rattle.kd_lost.specs.DamagedPart.{body_letter, body_letters, filled_byte}
 
 still_kept : {X : Type 0} (n : ℕ) (xs ys : List X) → take n (take n xs ++ ys) ≡ take n (xs ++ ys)
 still_kept n xs ys = grind (arith, cases_lt, take-append-le, length-take, take-take, take_all)
@@ -64,6 +64,12 @@ pub letters_more : (body : List ℕ) (index d : ℕ) (kept : List (Option ℕ)) 
     ≡ take 525 (received_letters (take (index + 1) body))
 letters_more body index d kept inside was =
     more_found received_letter 525 body index (get_or body index d) kept inside (grind (arith, get_or_default)) was
+
+pub body_more : (body : List ℕ) (index d : ℕ) (kept : List (Option ℕ)) → index < length body
+    → kept ≡ body_letters (take index body)
+    → take 525 (kept ++ option_to_list (body_letter (get_or body index d))) ≡ body_letters (take (index + 1) body)
+body_more body index d kept inside was =
+    more_found body_letter 525 body index (get_or body index d) kept inside (grind (arith, get_or_default)) was
 
 pub letters_counted : (body : List ℕ)
     → count_by (λ byte. is_some (received_letter byte)) body ≡ length (received_letters body)

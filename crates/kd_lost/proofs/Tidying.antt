@@ -3,8 +3,8 @@ use Rattle.std.proofs.Common.{◌≡◌, ◌≢◌, ℕ, ◌≤◌, ◌==◌, �
 use Rattle.std.proofs.Common.{Bool, true, false, if◌then◌else◌, Some, None, unwrap_or}
 use Rattle.std.proofs.lemmas.Slice.Eq.{bytes_eq-Decides}
 use Rattle.std.specs.Str.{bytes_eq}
-use Rattle.kd_lost.specs.HeadingLine.{is_heading_line}
-use Rattle.kd_lost.specs.Tidy.{later_heading, tidied, without_mark}
+use Rattle.kd_lost.specs.HeadingLine.{is_heading_line, is_part_line}
+use Rattle.kd_lost.specs.Tidy.{later_heading, tidied, was_heading, without_mark}
 
 pub mark_stripped : (form : List ℕ) → take 3 form ≡ 239 ∷ 187 ∷ 191 ∷ [] → without_mark form ≡ drop 3 form
 mark_stripped form is = grind (arith, bytes_eq-Decides (take 3 form) (239 ∷ 187 ∷ 191 ∷ []))
@@ -31,7 +31,8 @@ later_length : (bytes other : List ℕ) → length bytes ≤ length other
 later_length [] other few = omega arith
 later_length (byte ∷ bytes) other few =
     let short : length bytes ≤ length other = omega (arith, few) in
-    later_from bytes other (byte == 10 && is_heading_line bytes) (byte == 47) short (later_length bytes other short)
+    later_from bytes other (byte == 10 && is_heading_line bytes) (was_heading byte bytes) short
+    (later_length bytes other short)
 
 from_length : (bytes : List ℕ) (begins : Bool)
     → length (if begins then bytes else unwrap_or (later_heading bytes) bytes) ≤ length bytes
@@ -42,6 +43,6 @@ pub tidied_length : (form : List ℕ) → length (tidied form) ≤ length form
 tidied_length form =
     omega (
       arith,
-      from_length (without_mark form) (is_heading_line (without_mark form)),
+      from_length (without_mark form) (is_part_line (without_mark form)),
       without_length form (bytes_eq (take 3 form) (239 ∷ 187 ∷ 191 ∷ [])),
     )

@@ -17,7 +17,7 @@ use Rattle.kd_form.specs.Sending.{space_letter}
 use Rattle.kd_form.proofs.Headings.{BeginsHeading-bytes, at_cut, begins_more, begins_there, first_there, heading_size}
 use Rattle.kd_form.proofs.Headings.{no_cut}
 use Rattle.kd_lost.specs.declared.{part.DamagedPart.{DamagedPart}}
-use Rattle.kd_lost.specs.HeadingLine.{has_digit_line, is_heading_line}
+use Rattle.kd_lost.specs.HeadingLine.{has_digit_line, is_heading_line, is_part_line}
 use Rattle.kd_lost.specs.DamagedForm.{AsItStands, IsMeant, IsReadOf, Respaced, cut_at_heading_lines}
 use Rattle.kd_lost.specs.DamagedForm.{ends_part, parts_cut, shown_byte}
 use Rattle.kd_lost.specs.DamagedPart.{IsDamagedHeading, IsDamagedTextAnswer, first_line}
@@ -202,8 +202,12 @@ begun_form s form text (parts, (letters, read, is), joined) =
 no_mark : (more : List ℕ) → without_mark (codes "PART " ++ more) ≡ codes "PART " ++ more
 no_mark more = refl
 
+first_true : (one other : Bool) → (one && other) ≡ true → one ≡ true
+first_true true other is = refl
+first_true false other is = is
+
 from_first : (bytes : List ℕ) → is_heading_line bytes ≡ true → from_heading bytes ≡ bytes
-from_first bytes begins = rw begins refl
+from_first bytes begins = rw (first_true (is_part_line bytes) (has_digit_line bytes) begins) refl
 
 pub tidy_forms : FormsReadAreTidy
 tidy_forms s form text is =

@@ -1,7 +1,7 @@
 -- What is read of a part in which letters were lost: its numbers, and its text or the reason why there is none.
 -- Test: tests/messages-as-worked
-use Rattle.std.specs.Prelude.{◌≡◌, ℕ, ◌==◌, ◌||◌, Bool, IsTrue, IsFalse, if◌then◌else◌, List, [], ◌∷◌, length, map, All}
-use Rattle.std.specs.Prelude.{Option, MatchOption}
+use Rattle.std.specs.Prelude.{◌≡◌, ℕ, ◌==◌, ◌||◌, Bool, IsTrue, IsFalse, if◌then◌else◌, List, [], ◌∷◌, length, map, take, All}
+use Rattle.std.specs.Prelude.{filter_map, Option, None, Some, MatchOption}
 use Rattle.kd_tables.specs.Text.{is_text_byte}
 use Rattle.kd_state.specs.AnswerRules.{AnswerRule, ◌>>=◌, Finds, Demands}
 use Rattle.kd_state.specs.LineWords.{line_of}
@@ -13,7 +13,7 @@ use Rattle.kd_lost.specs.declared.damage.PartDamage.{PartDamage}
 use Rattle.kd_lost.specs.declared.damage.PartDamage.TheVariants.{HeadingDamaged, HeadingKeyLost, BadByte, CountWrong}
 use Rattle.kd_lost.specs.declared.damaged_text.DamagedText.{DamagedText}
 use Rattle.kd_lost.specs.declared.part.PartNumbers.{PartNumbers}
-use Rattle.kd_lost.specs.Lost.{IsCompletion, meant_byte, covered, is_lost, received_letters}
+use Rattle.kd_lost.specs.Lost.{IsCompletion, meant_byte, covered, is_lost, received_letter, received_letters}
 use Rattle.kd_lost.specs.WholePart.{IsPartText}
 use Rattle.kd_lost.specs.DamagedText.{IsDamagedLettersAnswer, text_part}
 
@@ -41,6 +41,16 @@ pub record IsDamagedHeading (s : Day) (line : List ℕ) (h : Heading) : Type 0 w
 -- whether the byte may be in a body: a letter, a lost letter, a space, CR or LF
 abbrev pub is_body_byte : ℕ → Bool
 is_body_byte byte = is_lost byte || is_text_byte (meant_byte byte)
+
+-- ---- The letters by which parts are compared.
+
+-- what a byte of a body is compared as: a letter, a lost letter, or nothing; a sign that may not be in a body is a lost letter
+abbrev pub body_letter : ℕ → Option (Option ℕ)
+body_letter byte = if is_body_byte byte then received_letter byte else Some None
+
+-- the first letters of a body, at most 525
+abbrev pub body_letters : List ℕ → List (Option ℕ)
+body_letters body = take 525 (filter_map body_letter body)
 
 -- ---- What is read.
 

@@ -55,10 +55,13 @@ has_digit_line [] = false
 has_digit_line (byte ∷ bytes) =
     if byte == 10 then false else (nat_le 47 byte && nat_le byte 57) || has_digit_line bytes
 
--- whether the first line of `bytes` is taken for a heading; blanks may stand before it
+-- whether the first line of `bytes` begins like `PART`; blanks may stand before it
+abbrev pub is_part_line : List ℕ → Bool
+is_part_line bytes = begins_with_part (after_blanks bytes) || begins_with_three (after_blanks bytes)
+
+-- whether the first line of `bytes` is taken for a heading
 abbrev pub is_heading_line : List ℕ → Bool
-is_heading_line bytes =
-    (begins_with_part (after_blanks bytes) || begins_with_three (after_blanks bytes)) && has_digit_line bytes
+is_heading_line bytes = is_part_line bytes && has_digit_line bytes
 
 -- ---- An order in place of a form.
 

@@ -38,17 +38,29 @@ same_keys (text_keys.Pin one) (text_keys.Pin other) =
 same_keys (text_keys.Rotor one) (text_keys.Pin other) = false
 same_keys (text_keys.Pin one) (text_keys.Rotor other) = false
 
--- whether two parts may be the same part, sent twice. Nothing is known of a part that isn't read.
+-- whether two texts may be of the same part, sent twice. Nothing is known of a text that isn't read.
 abbrev pub texts_agree : Result DamagedText PartDamage → Result DamagedText PartDamage → Bool
 texts_agree (Ok one) (Ok other) =
     letters_agree one.received.items other.received.items && same_keys one.keys other.keys
 texts_agree (Ok one) (Err damage) = true
 texts_agree (Err damage) other = true
 
+-- ---- Any two parts, be they read or not.
+
+-- whether two bodies agree at each place at which both have a letter
+abbrev pub bodies_agree : List (Option ℕ) → List (Option ℕ) → Bool
+bodies_agree (letter ∷ one) (again ∷ other) = letter_agrees letter again && bodies_agree one other
+bodies_agree [] other = true
+bodies_agree (letter ∷ one) [] = true
+
+-- whether two parts may be the same part, sent twice: their bodies agree and, if both are read, their texts
+abbrev pub may_repeat : DamagedPart → DamagedPart → Bool
+may_repeat one other = bodies_agree one.body.items other.body.items && texts_agree one.text other.text
+
 -- ---- The parts of a form.
 
--- Whether two headings can be of one message. Both say how many parts the message has. If they give one number, the texts
--- agree.
+-- Whether two headings can be of one message. Both say how many parts the message has. If they give one number, the parts
+-- may be the same.
 abbrev pub numbers_agree : PartNumbers → PartNumbers → Bool → Bool
 numbers_agree one other agree =
     one.parts == other.parts && (not (one.part == other.part) || agree)
@@ -61,7 +73,7 @@ headings_agree None other agree = true
 
 -- whether two parts can be of one message
 abbrev pub parts_agree : DamagedPart → DamagedPart → Bool
-parts_agree one other = headings_agree one.numbers other.numbers (texts_agree one.text other.text)
+parts_agree one other = headings_agree one.numbers other.numbers (may_repeat one other)
 
 -- whether the part can be of one message with each of the others
 abbrev pub agrees_with_each : DamagedPart → List DamagedPart → Bool

@@ -1,12 +1,12 @@
 -- A form without noise: what copying a form or typing around it leaves there, and no operator sent. A byte order mark
--- is left out, and so are the lines before the first heading, unless a slash stands there: then a line may have been a
--- heading. In a heading, blanks are left out that only part its words further, or stand around them. Bodies may have any
+-- is left out, and so are the lines before the first heading, unless one of them may have been a heading: it begins like
+-- `PART`, or has a slash. In a heading, blanks are left out that only part its words further, or stand around them. Bodies may have any
 -- spaces and line ends.
 -- Test: tests/cases/curator-messages.toml
 use Rattle.std.specs.Prelude.{ℕ, ◌==◌, ◌&&◌, ◌||◌, Bool, true, if◌then◌else◌, List, [], ◌∷◌, ◌++◌, take, drop}
 use Rattle.std.specs.Prelude.{Option, None, Some, unwrap_or}
 use Rattle.std.specs.Str.{bytes_eq}
-use Rattle.kd_lost.specs.HeadingLine.{after_blanks, is_blank, is_heading_line}
+use Rattle.kd_lost.specs.HeadingLine.{after_blanks, is_blank, is_heading_line, is_part_line}
 use Rattle.kd_lost.specs.DamagedPart.{first_line}
 
 -- ---- The form.
@@ -15,15 +15,20 @@ use Rattle.kd_lost.specs.DamagedPart.{first_line}
 abbrev pub without_mark : List ℕ → List ℕ
 without_mark form = if bytes_eq (take 3 form) (239 ∷ 187 ∷ 191 ∷ []) then drop 3 form else form
 
--- `bytes`, from the first later line on that is taken for a heading, if no slash stands before it
+-- whether a heading may have stood here that is none now: at a slash, and before a line that begins like `PART`
+abbrev pub was_heading : ℕ → List ℕ → Bool
+was_heading byte bytes = byte == 47 || byte == 10 && is_part_line bytes
+
+-- `bytes`, from the first later line on that is taken for a heading, if no other may have been one before it
 abbrev pub later_heading : List ℕ → Option (List ℕ)
 later_heading [] = None
 later_heading (byte ∷ bytes) =
-    if byte == 10 && is_heading_line bytes then Some bytes else if byte == 47 then None else later_heading bytes
+    if byte == 10 && is_heading_line bytes then Some bytes
+    else if was_heading byte bytes then None else later_heading bytes
 
--- `bytes`, from the first heading on; all of them, if no line is taken for a heading, or a slash stands before it
+-- `bytes`, from the first heading on; all of them, if no line is taken for a heading, or another may have been one before it
 abbrev pub from_heading : List ℕ → List ℕ
-from_heading bytes = if is_heading_line bytes then bytes else unwrap_or (later_heading bytes) bytes
+from_heading bytes = if is_part_line bytes then bytes else unwrap_or (later_heading bytes) bytes
 
 -- the form, without a byte order mark, and without the lines before its first heading
 abbrev pub tidied : List ℕ → List ℕ

@@ -2,7 +2,7 @@
 ghost use Rattle.std.specs.Prelude.{◌≡◌, ◌≤◌, length, nat_le};
 ghost use Rattle.kd_lost.specs.HeadingLine.{after_blanks, begins_with_part, begins_with_three, fitting_signs};
 ghost use Rattle.kd_lost.specs.HeadingLine.{has_digit_line, has_three, is_blank, is_heading_line, is_letter, right_signs};
-ghost use Rattle.kd_lost.specs.HeadingLine.{ends_line, has_text_line, is_order, is_text_line};
+ghost use Rattle.kd_lost.specs.HeadingLine.{ends_line, has_text_line, is_order, is_part_line, is_text_line};
 
 use crate::received::{is_lost, meant_byte};
 
@@ -12,8 +12,15 @@ use crate::received::{is_lost, meant_byte};
 pub(crate) fn is_heading_line(bytes: &[u8]) -> bool
     ensures { result ≡ is_heading_line bytes.now }
 {
+    is_part_line(bytes) && has_digit_line(bytes)
+}
+
+/// Whether the first line of `bytes` begins like `PART`; blanks may stand before it.
+pub(crate) fn is_part_line(bytes: &[u8]) -> bool
+    ensures { result ≡ is_part_line bytes.now }
+{
     let line = after_blanks(bytes);
-    (begins_with_part(line) || begins_with_three(line)) && has_digit_line(bytes)
+    begins_with_part(line) || begins_with_three(line)
 }
 
 /// Whether `byte` is a space or a tab.

@@ -2,7 +2,7 @@
 ghost use Rattle.std.specs.Prelude.{◌≡◌};
 ghost use Rattle.kd_lost.specs.OneMessage.{agrees_with_each, are_of_one_message, headings_agree, letter_agrees};
 ghost use Rattle.kd_lost.specs.OneMessage.{letters_agree, numbers_agree, parts_agree, same_keys, same_letters};
-ghost use Rattle.kd_lost.specs.OneMessage.{texts_agree};
+ghost use Rattle.kd_lost.specs.OneMessage.{bodies_agree, may_repeat, texts_agree};
 
 use crate::damage::PartDamage;
 use crate::damaged_text::{DamagedText, TextKeys};
@@ -33,21 +33,38 @@ fn parts_agree(one: &DamagedPart, other: &DamagedPart) -> bool
     ensures { result ≡ parts_agree one.now other.now }
 {
     match (&one.numbers, &other.numbers) {
-        (Some(numbers), Some(others)) => {
-            numbers_agree(numbers, others, texts_agree(&one.text, &other.text))
-        }
+        (Some(numbers), Some(others)) => { numbers_agree(numbers, others, may_repeat(one, other)) }
         _ => true,
     }
 }
 
-/// Whether two headings can be of one message. `agree`: whether their texts agree.
+/// Whether two parts may be the same part, sent twice.
+fn may_repeat(one: &DamagedPart, other: &DamagedPart) -> bool
+    ensures { result ≡ may_repeat one.now other.now }
+{
+    bodies_agree(one.body.as_slice(), other.body.as_slice()) && texts_agree(&one.text, &other.text)
+}
+
+/// Whether two bodies agree at each place at which both have a letter.
+fn bodies_agree(one: &[Option<Letter>], other: &[Option<Letter>]) -> bool
+    ensures { result ≡ bodies_agree one.now other.now }
+{
+    if let [letter, one @ ..] = one
+        && let [again, other @ ..] = other
+    {
+        return letter_agrees(letter, again) && bodies_agree(one, other);
+    }
+    true
+}
+
+/// Whether two headings can be of one message. `agree`: whether the parts may be the same.
 fn numbers_agree(one: &PartNumbers, other: &PartNumbers, agree: bool) -> bool
     ensures { result ≡ numbers_agree one.now other.now agree }
 {
     one.parts == other.parts && (one.part != other.part || agree)
 }
 
-/// Whether two parts may be the same part, sent twice.
+/// Whether two texts may be of the same part, sent twice.
 fn texts_agree(
     one: &Result<DamagedText, PartDamage>,
     other: &Result<DamagedText, PartDamage>,

@@ -4,7 +4,8 @@ ghost use Rattle.kd_state.specs.LineWords.{IsWithout};
 ghost use Rattle.kd_form.specs.FormParts.{IsHeading};
 ghost use Rattle.kd_lost.specs.DamagedPart.{AreNumbersRead, IsDamagedBodyAnswer, IsDamagedLinesAnswer};
 ghost use Rattle.kd_lost.specs.DamagedPart.{IsHeadedPartAnswer};
-ghost use Rattle.kd_lost.specs.DamagedPart.{IsDamagedTextAnswer, IsPartShown, body_of, first_line, numbers_of};
+ghost use Rattle.kd_lost.specs.DamagedPart.{IsDamagedTextAnswer, IsPartShown, body_letters, body_of, first_line};
+ghost use Rattle.kd_lost.specs.DamagedPart.{numbers_of};
 ghost use Rattle.kd_lost.specs.HeadingLine.{is_order};
 ghost use Rattle.kd_lost.specs.Lost.{meant_byte, received_letters};
 ghost use Rattle.kd_lost.specs.ShortGroup.{IsFirstShortGroup};
@@ -16,15 +17,18 @@ use crate::damage::PartDamage;
 use crate::damaged_text::DamagedText;
 use crate::heading_line::is_order;
 use crate::received::{
-    are_body_bytes, filled_line, has_lost_byte, is_spelled, letter_count, received_letters,
+    are_body_bytes, body_letters, filled_line, has_lost_byte, is_spelled, letter_count,
+    received_letters,
 };
 use crate::short_group::first_short_group;
 use crate::short_line::{ShortLine, first_short_line};
 use crate::wrong_sign::{WrongSign, first_wrong_sign};
+use arrayvec::ArrayVec;
 use kd_form::day_machine::slots_of;
 use kd_form::heading::Heading;
 use kd_form::receiving::heading_reader::heading_of_ended_line;
 use kd_state::{SheetDay, split_once};
+use kd_tables::Letter;
 
 /// What can be read of a part of a form in which letters were lost.
 #[derive(Drop)]
@@ -34,6 +38,8 @@ pub struct DamagedPart {
     pub numbers: Option<PartNumbers>,
     /// How many letters of the body came, with the lost ones.
     pub came: usize,
+    /// The first letters of the body, at most 525. For each sign that may not be in a body, there is a lost letter.
+    pub body: ArrayVec<Option<Letter>, 525>,
     /// The text, or why it can't be read.
     pub text: Result<DamagedText, PartDamage>,
     /// The first wrong sign of the body, if it has one.
@@ -72,6 +78,7 @@ pub struct PartNumbers {
 pub fn read_damaged_part(day: &SheetDay, part: &[u8]) -> DamagedPart
     ensures numbers { AreNumbersRead day.now (first_line part.now) result.numbers }
     ensures came { result.came ≡ length (received_letters (body_of part.now)) }
+    ensures body { result.body.items ≡ body_letters (body_of part.now) }
     ensures text { IsDamagedTextAnswer day.now part.now result.text }
     ensures shown { IfOk result.text (IsPartShown day.now part.now) }
     ensures wrong_sign { IsFirstWrongSign (body_of part.now) result.wrong_sign }
@@ -93,6 +100,7 @@ pub fn read_damaged_part(day: &SheetDay, part: &[u8]) -> DamagedPart
 fn read_split_part(day: &SheetDay, part: &[u8]) -> DamagedPart
     ensures numbers { AreNumbersRead day.now (first_line part.now) result.numbers }
     ensures came { result.came ≡ length (received_letters (body_of part.now)) }
+    ensures body { result.body.items ≡ body_letters (body_of part.now) }
     ensures text { IsDamagedTextAnswer day.now part.now result.text }
     ensures shown { IfOk result.text (IsPartShown day.now part.now) }
     ensures wrong_sign { IsFirstWrongSign (body_of part.now) result.wrong_sign }
@@ -113,6 +121,7 @@ fn read_lines(day: &SheetDay, line: &[u8], body: &[u8]) -> DamagedPart
     requires { IsWithout 10 line.now }
     ensures numbers { AreNumbersRead day.now line.now result.numbers }
     ensures came { result.came ≡ length (received_letters body.now) }
+    ensures body { result.body.items ≡ body_letters body.now }
     ensures text { IsDamagedLinesAnswer day.now line.now body.now result.text }
     ensures wrong_sign { IsFirstWrongSign body.now result.wrong_sign }
     ensures by_count { result.by_count ≡ None }
@@ -122,6 +131,7 @@ fn read_lines(day: &SheetDay, line: &[u8], body: &[u8]) -> DamagedPart
     ensures line { result.line ≡ 1 }
 {
     let came = letter_count(body);
+    let letters = body_letters(body);
     let wrong_sign = first_wrong_sign(body);
     let short_line = first_short_line(body);
     let short_group = first_short_group(body);
@@ -129,6 +139,7 @@ fn read_lines(day: &SheetDay, line: &[u8], body: &[u8]) -> DamagedPart
         return DamagedPart {
             numbers: None,
             came,
+            body: letters,
             text: Err(PartDamage::HeadingDamaged),
             wrong_sign,
             by_count: None,
@@ -143,6 +154,7 @@ fn read_lines(day: &SheetDay, line: &[u8], body: &[u8]) -> DamagedPart
     DamagedPart {
         numbers: Some(numbers_of(&heading)),
         came,
+        body: letters,
         text: read_body_after(day, &heading, line, body),
         wrong_sign,
         by_count: None,

@@ -4,7 +4,7 @@ ghost use Rattle.std.specs.List.{count_by};
 ghost use Rattle.std.specs.Option.{option_to_list};
 ghost use Rattle.std.specs.Bool.{OnTrue, OnFalse};
 ghost use Rattle.kd_lost.specs.Lost.{is_lost, meant_byte, received_letter, received_letters};
-ghost use Rattle.kd_lost.specs.DamagedPart.{filled_byte, is_body_byte};
+ghost use Rattle.kd_lost.specs.DamagedPart.{body_letter, body_letters, filled_byte, is_body_byte};
 
 use arrayvec::ArrayVec;
 use kd_form::bounded_list::push_if_room;
@@ -98,6 +98,29 @@ pub(crate) fn received_letters(body: &[u8]) -> ArrayVec<Option<Letter>, 525>
         keep_letter(&mut letters, received_letter(*byte));
     }
     letters
+}
+
+/// The first letters of a body, at most 525, with a lost one for each sign that may not be there.
+#[tactic(auto, using(crate::proofs::Bytes::body_more, crate::proofs::Bytes::kept_already))]
+pub(crate) fn body_letters(body: &[u8]) -> ArrayVec<Option<Letter>, 525>
+    ensures { result.items ≡ body_letters body.now }
+{
+    let mut letters = ArrayVec::new();
+    for byte in body {
+        keep_letter(&mut letters, body_letter(*byte));
+    }
+    letters
+}
+
+/// What a byte of a body gives: a letter, a lost letter, or nothing. A sign that may not be there gives a lost letter.
+fn body_letter(byte: u8) -> Option<Option<Letter>>
+    ensures { result ≡ body_letter byte }
+{
+    if is_body_byte(byte) {
+        received_letter(byte)
+    } else {
+        Some(None)
+    }
 }
 
 /// How many letters a body has, with the lost ones.

@@ -2,18 +2,18 @@
 ghost use Rattle.std.specs.Prelude.{◌≡◌, ◌++◌, None, Some, MatchOption, MatchResult};
 ghost use Rattle.kd_lost.specs.DamagedPart.{first_line};
 ghost use Rattle.kd_lost.specs.Tidy.{as_space, ends_word, from_line_end, is_gap, later_heading, respaced};
-ghost use Rattle.kd_lost.specs.Tidy.{single_spaced, spaced_byte, tidied, without_mark};
+ghost use Rattle.kd_lost.specs.Tidy.{single_spaced, spaced_byte, tidied, was_heading, without_mark};
 
 use crate::form::{DamagedFormFault, ends_part};
-use crate::heading_line::{after_blanks, is_blank, is_heading_line};
+use crate::heading_line::{after_blanks, is_blank, is_part_line};
 use std::alloc::Global;
 
-/// `form` without a byte order mark, and without the lines before its first heading, if no slash stands there.
+/// `form` without a byte order mark, and without the lines before its first heading, if none of them may have been one.
 pub(crate) fn tidied(form: &[u8]) -> &[u8]
     ensures { result.now ≡ tidied form.now }
 {
     let bytes = without_mark(form);
-    if is_heading_line(bytes) {
+    if is_part_line(bytes) {
         return bytes;
     }
     match later_heading(bytes) {
@@ -38,9 +38,9 @@ fn without_mark(form: &[u8]) -> &[u8]
     }
 }
 
-/// `bytes` from the first later line on that is taken for a heading; `None` if a slash stands before it.
+/// `bytes` from the first later line on that is taken for a heading; `None` if another may have been one before it.
 ///
-/// A line with a slash may have been a heading, whose part isn't to be lost in silence.
+/// The part under a heading that is damaged so far isn't to be lost in silence.
 fn later_heading(bytes: &[u8]) -> Option<&[u8]>
     ensures { MatchOption result
         (later_heading bytes.now ≡ None)
@@ -51,11 +51,18 @@ fn later_heading(bytes: &[u8]) -> Option<&[u8]>
         if ends_part(*byte, rest) {
             return Some(rest);
         }
-        if *byte == b'/' {
+        if was_heading(*byte, rest) {
             return None;
         }
     }
     None
+}
+
+/// Whether a heading may have stood here that is none now: at a slash, and before a line that begins like `PART`.
+fn was_heading(byte: u8, rest: &[u8]) -> bool
+    ensures { result ≡ was_heading byte rest.now }
+{
+    byte == b'/' || byte == b'\n' && is_part_line(rest)
 }
 
 /// `part` with single spaces between the words of its first line.

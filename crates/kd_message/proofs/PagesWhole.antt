@@ -23,7 +23,7 @@ use Rattle.kd_message.specs.declared.receiving.Section.TheVariants as sections
 use Rattle.kd_message.specs.Laws.{IsOn, NothingReadIsHidden, RepetitionsHaveTheLetters, WholeMessagesAreOnThePage}
 use Rattle.kd_message.specs.Laws.{WholeMessagesHaveOneTotal, clear_text, letters_of_part}
 use Rattle.kd_lost.specs.OneMessage.{agrees_with_each, are_of_one_message, headings_agree, numbers_agree, parts_agree}
-use Rattle.kd_lost.specs.OneMessage.{letters_agree, same_keys, texts_agree}
+use Rattle.kd_lost.specs.OneMessage.{bodies_agree, letters_agree, may_repeat, same_keys, texts_agree}
 use Rattle.kd_message.specs.ReceivePage.{as_they_came, by_number, name_at, number_in, number_or, part_at}
 use Rattle.kd_message.specs.ReceivePage.{part_in, section_text, sheet_to_receive, shown_in, text_or_damage}
 unfoldable use Rattle.kd_message.specs.ReceivePage.{receive_text}
@@ -164,7 +164,7 @@ total_here : (one part : DamagedPart) (numbers : PartNumbers) (found : Option Pa
     → parts_or later one.numbers ≡ numbers.parts
 total_here one part numbers None later is there agree rest = ap (parts_or later) is ∙ rest
 total_here one part numbers (Some own) later is there agree rest =
-    let both = texts_agree one.text part.text in
+    let both = may_repeat one part in
     let headings : headings_agree (Some own) (Some numbers) both ≡ true =
     ap (λ n. headings_agree n (Some numbers) both) (sym is) ∙ ap (λ n. headings_agree one.numbers n both) (sym there)
     ∙ agree in
@@ -191,19 +191,20 @@ pub one_total : WholeMessagesHaveOneTotal
 one_total parts one other numbers others whole there also is again =
     sym (total_is parts one numbers whole.one_message there is) ∙ total_is parts other others whole.one_message also again
 
-same_number_agree : (one other : PartNumbers) (letters keys : Bool) → one.part ≡ other.part
-    → numbers_agree one other (letters && keys) ≡ true → letters ≡ true
-same_number_agree one other letters keys same is = grind (arith, nat_tests, cases_Bool, same, is)
+same_number_agree : (one other : PartNumbers) (bodies letters keys : Bool) → one.part ≡ other.part
+    → numbers_agree one other (bodies && (letters && keys)) ≡ true → letters ≡ true
+same_number_agree one other bodies letters keys same is = grind (arith, nat_tests, cases_Bool, same, is)
 
 pub repetition_letters : RepetitionsHaveTheLetters
 repetition_letters one other others numbers again shown later whole there is its same text more =
     let both = both_true (agrees_with_each one others) (are_of_one_message others) whole.one_message in
     let letters = letters_agree shown.received.items later.received.items in
     let keys = same_keys shown.keys later.keys in
-    let agree : headings_agree (Some numbers) (Some again) (texts_agree (Ok shown) (Ok later)) ≡ true =
-    (λ i. headings_agree (sym is i) (sym its i) (texts_agree (sym text i) (sym more i)))
+    let bodies = bodies_agree one.body.items other.body.items in
+    let agree : headings_agree (Some numbers) (Some again) (bodies && texts_agree (Ok shown) (Ok later)) ≡ true =
+    (λ i. headings_agree (sym is i) (sym its i) (bodies && texts_agree (sym text i) (sym more i)))
     ∙ agree_with_it one other others both.0 there in
-    same_number_agree numbers again letters keys same agree
+    same_number_agree numbers again bodies letters keys same agree
 
 -- -------- the part that is shown tells no less
 

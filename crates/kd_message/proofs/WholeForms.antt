@@ -24,7 +24,7 @@ use Rattle.kd_lost.proofs.Counting.{numbers_given}
 use Rattle.kd_lost.proofs.WholeForms.{forms_shown, same_parts}
 use Rattle.kd_lost.proofs.WholeParts.{numbers_there, shown_whole, whole_part}
 use Rattle.kd_message.specs.Laws.{FormsReadAreWhole, letters_of_part, message_letters}
-use Rattle.kd_lost.specs.OneMessage.{agrees_with_each, are_of_one_message, numbers_agree, headings_agree, texts_agree}
+use Rattle.kd_lost.specs.OneMessage.{agrees_with_each, are_of_one_message, numbers_agree, headings_agree, may_repeat}
 use Rattle.kd_lost.specs.ShownParts.{IsNumberWhole, IsReadWhole, MayBeOfTheDay, better, is_number, parts_or}
 use Rattle.kd_lost.specs.ShownParts.{shown_under, total_of}
 use Rattle.kd_lost.proofs.ShownParts.{range_first}
@@ -59,7 +59,7 @@ agrees_with_later : (total number : ℕ) (part : DamagedPart) (numbers : PartNum
     → agrees_with_each part parts ≡ true
 agrees_with_later total number part numbers [] there counted before are = refl
 agrees_with_later total number part numbers (other ∷ others) there counted before (its, is, numbered, total_is, rest) =
-    let agree = texts_agree part.text other.text in
+    let agree = may_repeat part other in
     let one : headings_agree part.numbers other.numbers agree ≡ true =
     ap (λ n. headings_agree n other.numbers agree) there ∙ ap (λ n. headings_agree (Some numbers) n agree) is
     ∙ numbers_apart numbers its agree (counted ∙ sym total_is) (omega (arith, before, numbered)) in

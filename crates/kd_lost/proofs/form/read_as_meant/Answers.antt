@@ -18,6 +18,7 @@ returns c =
         given = read.given;
         given_there = read.given_there;
         came = read.came;
+        body = read.body;
         text = read.text;
         shown = read.shown;
         by_count = read.by_count;

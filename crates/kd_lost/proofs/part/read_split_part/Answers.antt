@@ -1,6 +1,6 @@
 use Rattle.std.proofs.Common.{◌∙◌, ap, length, subst, sym}
 use Rattle.kd_lost.specs.WrongSign.{IsFirstWrongSign}
-use Rattle.kd_lost.specs.DamagedPart.{body_of, first_line}
+use Rattle.kd_lost.specs.DamagedPart.{body_letters, body_of, first_line}
 use Rattle.kd_lost.specs.Lost.{received_letters}
 use Rattle.kd_lost.specs.ShortGroup.{IsFirstShortGroup}
 use Rattle.kd_lost.specs.ShortLine.{short_line}
@@ -20,6 +20,7 @@ returns-in-Some c =
       numbers = told.0;
       came = c.read_lines.ensures.came
           ∙ ap (λ b. length (received_letters b)) (sym (ap body_of first.joined ∙ there.1));
+      body = c.read_lines.ensures.body ∙ ap body_letters (sym (ap body_of first.joined ∙ there.1));
       text = told.1;
       shown = told.2;
       wrong_sign = subst (λ b. IsFirstWrongSign b c.read_lines.result.wrong_sign)
@@ -41,6 +42,7 @@ returns-in-None c =
     record {
       numbers = told.0;
       came = c.read_lines-in-None.ensures.came ∙ ap (λ b. length (received_letters b)) (sym there.1);
+      body = c.read_lines-in-None.ensures.body ∙ ap body_letters (sym there.1);
       text = told.1;
       shown = told.2;
       wrong_sign = subst (λ b. IsFirstWrongSign b c.read_lines-in-None.result.wrong_sign) (sym there.1)
