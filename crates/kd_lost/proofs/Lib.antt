@@ -15,3 +15,4 @@ pub mod ShortGroups
 pub mod Counting
 pub mod WholeForms
 pub mod ShownParts
+pub mod OneMessage

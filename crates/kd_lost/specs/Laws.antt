@@ -1,6 +1,7 @@
--- Laws of damaged parts and of the ciphers under them.
-use Rattle.std.specs.Prelude.{◌≡◌, ℕ, false, List, [], ◌∷◌, ◌++◌, All, map, slice_get, Option, Some, None}
+-- Laws of damaged parts and of the ciphers under them, and of forms of one message.
+use Rattle.std.specs.Prelude.{◌≡◌, ℕ, false, List, [], ◌∷◌, ◌++◌, All, IsTrue, true, map, slice_get, Option, Some, None}
 use Rattle.std.specs.Prelude.{Result, Ok}
+use Rattle.std.specs.List.{Contains}
 use Rattle.kd_state.specs.SheetDay.{Day}
 use Rattle.kd_state.specs.EngineKey.{EngineKey, cipher}
 use Rattle.kd_form.specs.FormParts.{parts_of}
@@ -14,6 +15,7 @@ use Rattle.kd_lost.specs.declared.part.{DamagedPart.{DamagedPart}, PartNumbers.{
 use Rattle.kd_lost.specs.DamagedForm.{AreReadOf, damaged_parts_of, form_parts, shown_byte}
 use Rattle.kd_lost.specs.DamagedForm.{shown_letters}
 use Rattle.kd_lost.specs.DamagedPart.{AreNumbersRead, IsDamagedTextAnswer, first_line}
+use Rattle.kd_lost.specs.OneMessage.{are_of_one_message, bodies_agree}
 use Rattle.kd_lost.specs.Tidy.{tidied}
 
 -- If two texts have the same letter at a place, they are deciphered to the same letter there, whatever their other
@@ -68,3 +70,12 @@ FormsReadAreShownWhole =
     (s : Day) (form text : List ℕ) (reads : List DamagedPart) → IsTextOf s form text
     → AreReadOf s (damaged_parts_of form) reads
     → All IsReadWell reads × (text ≡ map (shown_byte (space_letter s)) (shown_letters reads) ++ 10 ∷ [])
+
+-- In a form of one message, the bodies of any two parts with one number agree at each place at which both have a letter,
+-- whether they are read or not.
+abbrev pub RepetitionsAgree : Type 0
+RepetitionsAgree =
+    (before after : List DamagedPart) (one other : DamagedPart) (numbers again : PartNumbers)
+    → are_of_one_message (before ++ one ∷ after) ≡ true → Contains after other → one.numbers ≡ Some numbers
+    → other.numbers ≡ Some again → numbers.part ≡ again.part
+    → IsTrue (bodies_agree one.body.items other.body.items)

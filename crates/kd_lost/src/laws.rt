@@ -1,6 +1,6 @@
-//! Laws of damaged parts, and of the ciphers under them.
+//! Laws of damaged parts, of the ciphers under them, and of forms of one message.
 ghost use Rattle.kd_lost.specs.Laws.{CiphersAgreeWhereTextsDo, PartsReadAreShownWhole, PartsReadHaveNumbers};
-ghost use Rattle.kd_lost.specs.Laws.{FormsReadAreShownWhole, FormsReadAreTidy, FormsReadHaveTheirParts};
+ghost use Rattle.kd_lost.specs.Laws.{FormsReadAreShownWhole, FormsReadAreTidy, FormsReadHaveTheirParts, RepetitionsAgree};
 
 /// Equal letters at one place of two texts become equal letters, whatever the other letters are.
 #[tactic(auto, using(crate::proofs::Ciphers::ciphers_agree))]
@@ -21,4 +21,10 @@ pub fn forms_read_are_shown_whole()
     ensures tidy { FormsReadAreTidy }
     ensures parts { FormsReadHaveTheirParts }
     ensures shown { FormsReadAreShownWhole }
+{}
+
+/// No part of a form of one message is another message under the same number.
+#[tactic(auto, using(crate::proofs::OneMessage::repetitions_agree))]
+pub fn repetitions_agree()
+    ensures { RepetitionsAgree }
 {}

@@ -23,6 +23,7 @@ use Rattle.kd_message.specs.declared.receiving.Section.TheVariants as sections
 use Rattle.kd_message.specs.Laws.{IsOn, NothingReadIsHidden, RepetitionsHaveTheLetters, WholeMessagesAreOnThePage}
 use Rattle.kd_message.specs.Laws.{WholeMessagesHaveOneTotal, clear_text, letters_of_part}
 use Rattle.kd_lost.specs.OneMessage.{agrees_with_each, are_of_one_message, headings_agree, numbers_agree, parts_agree}
+use Rattle.kd_lost.proofs.OneMessage.{agree_with_it, both_true, contains_none, first_or_later}
 use Rattle.kd_lost.specs.OneMessage.{bodies_agree, letters_agree, may_repeat, same_keys, texts_agree}
 use Rattle.kd_message.specs.ReceivePage.{as_they_came, by_number, name_at, number_in, number_or, part_at}
 use Rattle.kd_message.specs.ReceivePage.{part_in, section_text, sheet_to_receive, shown_in, text_or_damage}
@@ -84,15 +85,7 @@ page_has : (l : Language) (s : Day) (parts : List DamagedPart) (piece : List ℕ
 unfolding receive_text
 page_has l s parts piece is = on_left _ _ piece (on_left _ _ piece (on_left _ _ piece (on_right _ _ piece is)))
 
--- -------- parts of a list
-
-first_or_later : {X : Type 0} (one : X) (others : List X) (x : X) → Contains (one ∷ others) x
-    → (one ≡ x) ⊎ Contains others x
-first_or_later one others x (zero, inside, is) = inl is
-first_or_later one others x (suc place, inside, is) = inr (place, omega (arith, inside), is)
-
-contains_none : {X : Type 0} (x : X) → Contains [] x → ⊥
-contains_none x (place, inside, is) = absurd (omega (arith, inside))
+-- -------- parts that are read
 
 module _ (s : Day) where
   read_of_cases : (part : List ℕ) (parts : List (List ℕ)) (one : DamagedPart) (reads : List DamagedPart)
@@ -137,24 +130,6 @@ module _ (s : Day) where
       (numbers_given s is.meant read shown text is.as_meant)
 
 -- -------- how many parts the message has
-
-both_true : (one other : Bool) → (one && other) ≡ true → (one ≡ true) × (other ≡ true)
-both_true true other is = (refl, is)
-both_true false other is = absurd (false≢true is)
-
-agree_with_it_cases : (one next part : DamagedPart) (parts : List DamagedPart) → parts_agree one next ≡ true
-    → (next ≡ part) ⊎ Contains parts part → (Contains parts part → parts_agree one part ≡ true)
-    → parts_agree one part ≡ true
-agree_with_it_cases one next part parts agree (inl is) rest = subst (λ p. parts_agree one p ≡ true) is agree
-agree_with_it_cases one next part parts agree (inr later) rest = rest later
-
-agree_with_it : (one part : DamagedPart) (parts : List DamagedPart) → agrees_with_each one parts ≡ true
-    → Contains parts part → parts_agree one part ≡ true
-agree_with_it one part [] agree there = absurd (contains_none part there)
-agree_with_it one part (next ∷ parts) agree there =
-    let both = both_true (parts_agree one next) (agrees_with_each one parts) agree in
-    agree_with_it_cases one next part parts both.0 (first_or_later next parts part there)
-    (λ later. agree_with_it one part parts both.1 later)
 
 same_total : (one other : PartNumbers) (agree : Bool) → numbers_agree one other agree ≡ true → one.parts ≡ other.parts
 same_total one other agree is = grind (arith, nat_tests, cases_Bool)
