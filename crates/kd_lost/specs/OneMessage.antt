@@ -1,6 +1,6 @@
 -- Whether the parts of a received form are of one message.
 use Rattle.std.specs.Prelude.{ℕ, ◌==◌, ◌&&◌, ◌||◌, not, Bool, true, false, List, [], ◌∷◌, Option, Some, None}
-use Rattle.std.specs.Prelude.{Result, Ok, Err}
+use Rattle.std.specs.Prelude.{Result, Ok, Err, is_err, nat_le}
 use Rattle.kd_lost.specs.declared.damage.PartDamage.{PartDamage}
 use Rattle.kd_lost.specs.declared.damaged_text.{DamagedText.{DamagedText}, TextKeys.{TextKeys}}
 use Rattle.kd_lost.specs.declared.damaged_text.TextKeys.TheVariants as text_keys
@@ -53,9 +53,16 @@ bodies_agree (letter ∷ one) (again ∷ other) = letter_agrees letter again && 
 bodies_agree [] other = true
 bodies_agree (letter ∷ one) [] = true
 
--- whether two parts may be the same part, sent twice: their bodies agree and, if both are read, their texts
+-- whether `one` has no more letters than the other part, if this one is read
+abbrev pub ends_within : DamagedPart → DamagedPart → Bool
+ends_within one other = is_err other.text || nat_le one.came other.came
+
+-- whether two parts may be the same part, sent twice: their bodies agree and, if both are read, their texts; and none has
+-- letters behind the end of the other, if this is read
 abbrev pub may_repeat : DamagedPart → DamagedPart → Bool
-may_repeat one other = bodies_agree one.body.items other.body.items && texts_agree one.text other.text
+may_repeat one other =
+    bodies_agree one.body.items other.body.items
+    && (texts_agree one.text other.text && (ends_within one other && ends_within other one))
 
 -- ---- The parts of a form.
 

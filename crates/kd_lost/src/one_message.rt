@@ -2,7 +2,7 @@
 ghost use Rattle.std.specs.Prelude.{◌≡◌};
 ghost use Rattle.kd_lost.specs.OneMessage.{agrees_with_each, are_of_one_message, headings_agree, letter_agrees};
 ghost use Rattle.kd_lost.specs.OneMessage.{letters_agree, numbers_agree, parts_agree, same_keys, same_letters};
-ghost use Rattle.kd_lost.specs.OneMessage.{bodies_agree, may_repeat, texts_agree};
+ghost use Rattle.kd_lost.specs.OneMessage.{bodies_agree, ends_within, may_repeat, texts_agree};
 
 use crate::damage::PartDamage;
 use crate::damaged_text::{DamagedText, TextKeys};
@@ -42,7 +42,17 @@ fn parts_agree(one: &DamagedPart, other: &DamagedPart) -> bool
 fn may_repeat(one: &DamagedPart, other: &DamagedPart) -> bool
     ensures { result ≡ may_repeat one.now other.now }
 {
-    bodies_agree(one.body.as_slice(), other.body.as_slice()) && texts_agree(&one.text, &other.text)
+    bodies_agree(one.body.as_slice(), other.body.as_slice())
+        && texts_agree(&one.text, &other.text)
+        && ends_within(one, other)
+        && ends_within(other, one)
+}
+
+/// Whether `one` has no more letters than the other part, if this one is read.
+fn ends_within(one: &DamagedPart, other: &DamagedPart) -> bool
+    ensures { result ≡ ends_within one.now other.now }
+{
+    other.text.is_err() || one.came <= other.came
 }
 
 /// Whether two bodies agree at each place at which both have a letter.

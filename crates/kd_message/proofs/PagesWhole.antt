@@ -24,7 +24,7 @@ use Rattle.kd_message.specs.Laws.{IsOn, NothingReadIsHidden, RepetitionsHaveTheL
 use Rattle.kd_message.specs.Laws.{WholeMessagesHaveOneTotal, clear_text, letters_of_part}
 use Rattle.kd_lost.specs.OneMessage.{agrees_with_each, are_of_one_message, headings_agree, numbers_agree, parts_agree}
 use Rattle.kd_lost.proofs.OneMessage.{agree_with_it, both_true, contains_none, first_or_later}
-use Rattle.kd_lost.specs.OneMessage.{bodies_agree, letters_agree, may_repeat, same_keys, texts_agree}
+use Rattle.kd_lost.specs.OneMessage.{bodies_agree, ends_within, letters_agree, may_repeat, same_keys, texts_agree}
 use Rattle.kd_message.specs.ReceivePage.{as_they_came, by_number, name_at, number_in, number_or, part_at}
 use Rattle.kd_message.specs.ReceivePage.{part_in, section_text, sheet_to_receive, shown_in, text_or_damage}
 unfoldable use Rattle.kd_message.specs.ReceivePage.{receive_text}
@@ -166,9 +166,9 @@ pub one_total : WholeMessagesHaveOneTotal
 one_total parts one other numbers others whole there also is again =
     sym (total_is parts one numbers whole.one_message there is) ∙ total_is parts other others whole.one_message also again
 
-same_number_agree : (one other : PartNumbers) (bodies letters keys : Bool) → one.part ≡ other.part
-    → numbers_agree one other (bodies && (letters && keys)) ≡ true → letters ≡ true
-same_number_agree one other bodies letters keys same is = grind (arith, nat_tests, cases_Bool, same, is)
+same_number_agree : (one other : PartNumbers) (bodies letters keys ends : Bool) → one.part ≡ other.part
+    → numbers_agree one other (bodies && ((letters && keys) && ends)) ≡ true → letters ≡ true
+same_number_agree one other bodies letters keys ends same is = grind (arith, nat_tests, cases_Bool, same, is)
 
 pub repetition_letters : RepetitionsHaveTheLetters
 repetition_letters one other others numbers again shown later whole there is its same text more =
@@ -176,10 +176,11 @@ repetition_letters one other others numbers again shown later whole there is its
     let letters = letters_agree shown.received.items later.received.items in
     let keys = same_keys shown.keys later.keys in
     let bodies = bodies_agree one.body.items other.body.items in
-    let agree : headings_agree (Some numbers) (Some again) (bodies && texts_agree (Ok shown) (Ok later)) ≡ true =
-    (λ i. headings_agree (sym is i) (sym its i) (bodies && texts_agree (sym text i) (sym more i)))
+    let ends = ends_within one other && ends_within other one in
+    let agree : headings_agree (Some numbers) (Some again) (bodies && (texts_agree (Ok shown) (Ok later) && ends)) ≡ true =
+    (λ i. headings_agree (sym is i) (sym its i) (bodies && (texts_agree (sym text i) (sym more i) && ends)))
     ∙ agree_with_it one other others both.0 there in
-    same_number_agree numbers again bodies letters keys same agree
+    same_number_agree numbers again bodies letters keys ends same agree
 
 -- -------- the part that is shown tells no less
 
