@@ -8,7 +8,8 @@ use Rattle.kd_state.specs.SheetDay.{Day}
 use Rattle.kd_form.specs.declared.heading.Heading.{Heading}
 use Rattle.kd_lost.specs.declared.part.{DamagedPart.{DamagedPart}, PartNumbers.{PartNumbers}}
 use Rattle.kd_lost.specs.DamagedPart.{AreNumbersRead, IsDamagedHeading}
-use Rattle.kd_lost.specs.DamagedForm.{AreReadOf, IsReadAt, IsReadOf, PlacedPart, cut_at_heading_lines, damaged_parts_of}
+use Rattle.kd_lost.specs.DamagedForm.{AreReadOf, IsReadAt, IsReadOf, PlacedPart, completed_parts, cut_at_heading_lines}
+use Rattle.kd_lost.specs.DamagedForm.{damaged_parts_of}
 use Rattle.kd_lost.specs.DamagedForm.{ends_part, form_parts, parts_cut, placed_from}
 use Rattle.kd_lost.specs.Lines.{heading_line, line_breaks}
 
@@ -65,6 +66,11 @@ cut_nowhere form i past before =
 
 -- -------- reading the parts
 
+pub completed_length : (copies : List DamagedPart) (index : ℕ) (parts : List PlacedPart)
+    → length (completed_parts copies index parts) ≡ length parts
+completed_length copies index [] = refl
+completed_length copies index (part ∷ parts) = ap suc (completed_length copies (index + 1) parts)
+
 pub read_more : (s : Day) (parts : List PlacedPart) (reads : List DamagedPart) (part : PlacedPart) (read : DamagedPart)
     → AreReadOf s parts reads → IsReadAt s part read → AreReadOf s (parts ++ part ∷ []) (reads ++ read ∷ [])
 read_more s [] [] part read are is = (is, tt)
@@ -114,12 +120,14 @@ left_on now (Some more) all done line breaks size rest part is few first others 
   omega (arith, few, joined, less),
 )
 
-pub too_many : (s : Day) (all done : List PlacedPart) (reads : List DamagedPart) (line : ℕ) (rest : List ℕ)
-    → AreReadOf s done reads → all ≡ done ++ placed_from line (parts_cut rest) → length reads ≡ 255 → 255 < length all
-too_many s all done reads line rest are is many =
+pub too_many : (s : Day) (copies : List DamagedPart) (all done : List PlacedPart) (reads : List DamagedPart) (line : ℕ)
+    (rest : List ℕ) → AreReadOf s (completed_parts copies 0 done) reads → all ≡ done ++ placed_from line (parts_cut rest)
+    → length reads ≡ 255 → 255 < length all
+too_many s copies all done reads line rest are is many =
     omega (
       arith,
-      as_many_read s done reads are,
+      as_many_read s (completed_parts copies 0 done) reads are,
+      completed_length copies 0 done,
       ap length is,
       length-append done (placed_from line (parts_cut rest)),
       many,

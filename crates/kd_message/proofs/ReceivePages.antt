@@ -17,9 +17,10 @@ use Rattle.kd_lost.specs.declared.damaged_text.TextKeys.{TextKeys}
 use Rattle.kd_lost.specs.declared.part.DamagedPart.{DamagedPart}
 use Rattle.kd_lost.specs.declared.part.PartNumbers.{PartNumbers}
 use Rattle.kd_lost.specs.ByCount.{GivesByCount, IsFoundIn, counted_part, text_of}
-use Rattle.kd_lost.specs.DamagedForm.{AreReadOf, IsReadAs, PlacedPart}
+use Rattle.kd_lost.specs.DamagedForm.{AreFormParts, AreReadOf, IsReadAs, PlacedPart}
 use Rattle.kd_lost.specs.DamagedPart.{IsDamagedTextAnswer}
 use Rattle.kd_lost.specs.DamagedText.{AreTextKeys}
+use Rattle.kd_lost.proofs.CompletedParts.{read_somehow}
 use Rattle.kd_lost.proofs.PartShown.{shown_there}
 use Rattle.kd_pictures.specs.declared.language.Language.{Language}
 use Rattle.kd_message.specs.ReceivedWork.{AreShowable}
@@ -40,7 +41,7 @@ pub better_holds : (P : DamagedPart → Type 0) (one : DamagedPart) (later : Opt
     → ((other : DamagedPart) → later ≡ Some other → P other) → better one later ≡ Some part → P part
 better_holds P one None part holds rest is = let e : one ≡ part = cc in rw (← e) holds
 better_holds P one (Some later) part holds rest is =
-    chosen_holds P (is_worse one.text later.text one.by_count later.by_count) later one part (rest later refl) holds is
+    chosen_holds P (is_worse one later) later one part (rest later refl) holds is
 
 numbered_holds : (P : DamagedPart → Type 0) (is_it : Bool) (one : DamagedPart) (later : Option DamagedPart)
     (part : DamagedPart) → P one → ((other : DamagedPart) → later ≡ Some other → P other)
@@ -98,7 +99,7 @@ part_showable s part read is = record {
   of_count = by_count_showable _ s part read.came is.given read.numbers read.by_count is.by_count;
 }
 
-pub are_workable : (s : Day) (parts : List PlacedPart) (reads : List DamagedPart) → AreReadOf s parts reads
+are_workable : (s : Day) (parts : List PlacedPart) (reads : List DamagedPart) → AreReadOf s parts reads
     → AreWorkable s reads
 are_workable s [] [] are = All-nil (HasShowableKeys s)
 are_workable s [] (read ∷ reads) are = absurd are
@@ -106,6 +107,11 @@ are_workable s (part ∷ parts) [] are = absurd are
 are_workable s (part ∷ parts) (read ∷ reads) are =
     All-cons (HasShowableKeys s) read reads (part_showable s are.0.0.meant read are.0.0.as_meant)
     (are_workable s parts reads are.1)
+
+pub are_workable_parts : (s : Day) (form : List ℕ) (parts : List DamagedPart) → AreFormParts s form parts
+    → AreWorkable s parts
+are_workable_parts s form parts is =
+    let (bytes, are) = read_somehow s form parts is in are_workable s bytes parts are
 
 -- ---- The page.
 

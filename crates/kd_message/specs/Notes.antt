@@ -13,7 +13,7 @@ use Rattle.kd_part_sheet.specs.declared.part_sheet.PartName.{PartName}
 use Rattle.kd_part_sheet.specs.Rows.{pieces}
 use Rattle.kd_message.specs.declared.texts.TheConstants as texts
 use Rattle.kd_message.specs.LoneParts.{lone_asked, lone_reason, lone_words}
-use Rattle.kd_lost.specs.OneMessage.{are_of_one_message}
+use Rattle.kd_lost.specs.ShownParts.{is_one_message}
 use Rattle.kd_message.specs.TextSheet.{asked_words, count_asked, counted_reason, first_text_group, groups_told, has_lost}
 use Rattle.kd_message.specs.TextSheet.{is_wrong_day, lost_groups, reason_text}
 
@@ -78,4 +78,4 @@ lone_note l after part =
 
 -- that the parts aren't of one message, if they aren't
 abbrev pub several_note : Language → List DamagedPart → List ℕ
-several_note l parts = if are_of_one_message parts then [] else text_in l texts.NOTE_SEVERAL
+several_note l parts = if is_one_message parts then [] else text_in l texts.NOTE_SEVERAL

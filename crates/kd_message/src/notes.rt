@@ -13,7 +13,7 @@ use crate::texts::{
     NOTE_OTHER_DAY, NOTE_PART, NOTE_SEVERAL,
 };
 use crate::unread::{draw_asked, draw_count_asked, draw_reason};
-use kd_lost::{DamagedPart, DamagedText, GroupTest, PartDamage, are_of_one_message};
+use kd_lost::{DamagedPart, DamagedText, GroupTest, PartDamage, is_one_message};
 use kd_part_sheet::part_sheet::PartName;
 use kd_pictures::template::{Value, fill_in};
 use kd_pictures::{Language, draw, draw_in};
@@ -23,7 +23,7 @@ use kd_tables::{Letter, Sink};
 pub(crate) fn draw_several_note<W: Sink>(sink: &mut W, language: Language, parts: &[DamagedPart])
     ensures { Draws W.taken W.has_failed sink.old sink.new (several_note language parts.now) }
 {
-    if are_of_one_message(parts) {
+    if is_one_message(parts) {
         draw(sink, "");
     } else {
         draw_in(sink, language, NOTE_SEVERAL);

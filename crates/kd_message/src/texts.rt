@@ -122,8 +122,8 @@ pub const OF_PARTS: &str = "/";
 pub const CAME: Text = ("<p>This part came ", "<p>Dieser Teil kam ");
 
 pub const CAME_END: Text = (
-    " times. The copy with the fewest lost letters is shown.</p>\n",
-    "-mal. Gezeigt ist die Fassung, in der die wenigsten Buchstaben fehlen.</p>\n",
+    " times. A letter that one copy lost is taken from another.</p>\n",
+    "-mal. Ein Buchstabe, der in einer Fassung fehlt, ist aus einer anderen genommen.</p>\n",
 );
 
 /// What to ask for again: the part; then what of it.
