@@ -1,7 +1,7 @@
 -- How a damaged form is cut into parts, and read part by part.
 use Rattle.std.proofs.Common.{◌≡◌, ◌∙◌, ℕ, suc, ◌+◌, ◌<◌, ◌≤◌, List, [], ◌∷◌, ◌++◌, length}
-use Rattle.std.proofs.Common.{drop, take, refl, sym, ap, arith, true, false, get_or, append_assoc}
-use Rattle.std.proofs.Common.{Option, Some, None, MatchOption, is_some, length-append}
+use Rattle.std.proofs.Common.{drop, take, refl, sym, ap, subst, arith, true, false, get_or, append_assoc}
+use Rattle.std.proofs.Common.{Option, Some, None, MatchOption, is_some, length-append, option_map, unwrap_or}
 use Rattle.std.specs.Prelude.{IfSome}
 use Rattle.std.proofs.lemmas.List.{append-nil, drop_all, drop_more, take_all, take_more}
 use Rattle.kd_state.specs.SheetDay.{Day}
@@ -95,6 +95,16 @@ pub no_heading_read : (s : Day) (line : List ℕ) (numbers : Option PartNumbers)
     → is_some numbers ≡ false → (h : Heading) → ¬ (IsDamagedHeading s line h)
 no_heading_read s line None told none = told
 no_heading_read s line (Some given) told none = absurd (cc)
+
+-- less is left after one more part
+pub less_left : {B : Type 0} (now : B → List ℕ) (left next : Option B) (rest : B) → left ≡ Some rest
+    → IfSome next (λ more. length (now more) < length (now rest))
+    → unwrap_or (option_map (λ r. length (now r) + 1) next) 0 < unwrap_or (option_map (λ r. length (now r) + 1) left) 0
+less_left now left None rest is less =
+    subst (λ l. 0 < unwrap_or (option_map (λ r. length (now r) + 1) l) 0) (sym is) (omega arith)
+less_left now left (Some more) rest is less =
+    subst (λ l. length (now more) + 1 < unwrap_or (option_map (λ r. length (now r) + 1) l) 0) (sym is)
+    (omega (arith, less))
 
 -- what is left after one more part
 pub left_on : {B : Type 0} (now : B → List ℕ) (next : Option B) (all done : List PlacedPart) (line breaks size : ℕ)

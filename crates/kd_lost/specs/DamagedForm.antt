@@ -16,7 +16,7 @@ use Rattle.kd_lost.specs.declared.part.{DamagedPart.{DamagedPart}, PartNumbers.{
 use Rattle.kd_lost.specs.ByCount.{IsByCount}
 use Rattle.kd_lost.specs.DamagedPart.{AreNumbersRead, IsDamagedHeading, IsDamagedTextAnswer, IsPartShown, body_letters, body_of}
 use Rattle.kd_lost.specs.DamagedPart.{first_line}
-use Rattle.kd_lost.specs.HeadingLine.{is_heading_line, is_order}
+use Rattle.kd_lost.specs.HeadingLine.{heading_signs, is_heading_line, is_order}
 use Rattle.kd_lost.specs.Lines.{heading_line, line_breaks}
 use Rattle.kd_lost.specs.Lost.{meant_byte, received_letters}
 use Rattle.kd_lost.specs.Repetitions.{completed_at, completed_or, copies_in}
@@ -74,6 +74,7 @@ pub data IsMeant (s : Day) (part meant : List ℕ) : Type 0 where
 pub record IsReadAs (s : Day) (part : List ℕ) (read : DamagedPart) : Type 0 where
   pub given : Option PartNumbers
   pub given_there : AreNumbersRead s (first_line part) given
+  pub heading : read.heading.bytes ≡ heading_signs (first_line part)
   pub came : read.came ≡ length (received_letters (body_of part))
   pub body : read.body.items ≡ body_letters (body_of part)
   pub text : IsDamagedTextAnswer s part read.text

@@ -418,7 +418,7 @@ text_on_cases l s name part shown (Err damage) (Some text) by is =
     let piece = read_text l (sheet_to_receive (day_model s)) s name shown in
     let same : text ≡ shown = cc in
     subst (λ c. IsOn (counted_or_damage l s name part damage c) piece) (sym (by ∙ ap (λ t. Some t) same))
-    (on_right _ _ piece (on_right _ _ piece (on_right _ _ piece (on_right _ _ piece (on_left _ _ piece (on_itself piece))))))
+    (on_left _ _ piece (on_right _ _ piece (on_itself piece)))
 
 text_on_part : (l : Language) (s : Day) (name : PartName) (times : ℕ) (part : DamagedPart) (shown : DamagedText)
     → shown_text part ≡ Some shown

@@ -2,6 +2,7 @@
 -- Test: tests/cases/curator-messages.toml
 use Rattle.std.specs.Prelude.{decimal, ℕ, false, if◌then◌else◌, List, [], ◌∷◌, ◌++◌}
 use Rattle.std.specs.Prelude.{Option, Some, None, Result, Ok, Err}
+use Rattle.kd_tables.specs.declared.model.Model.{Model}
 use Rattle.kd_lost.specs.declared.damage.PartDamage.{PartDamage}
 use Rattle.kd_lost.specs.declared.damaged_text.DamagedText.{DamagedText}
 use Rattle.kd_lost.specs.declared.damaged_text.GroupTest.{GroupTest}
@@ -72,9 +73,9 @@ abbrev pub lone_ask_note : Language → DamagedPart → List ℕ
 lone_ask_note l part = if part.is_order then [] else lone_asked_note l part.came
 
 -- a part without a number, which stands after the part with the number `after`
-unfoldable pub lone_note : Language → ℕ → DamagedPart → List ℕ
-lone_note l after part =
-    lone_words l after ++ texts.COLON.now ++ lone_reason l part ++ lone_ask_note l part ++ texts.LINE_END.now
+unfoldable pub lone_note : Language → Model → ℕ → DamagedPart → List ℕ
+lone_note l model after part =
+    lone_words l after ++ texts.COLON.now ++ lone_reason l model part ++ lone_ask_note l part ++ texts.LINE_END.now
 
 -- that the parts aren't of one message, if they aren't
 abbrev pub several_note : Language → List DamagedPart → List ℕ

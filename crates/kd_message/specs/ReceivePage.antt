@@ -94,7 +94,7 @@ missing_in sections.Texts l name = text_part_head l name ++ missing_text l name 
 abbrev pub lone_in : Section → Language → Day → ℕ → DamagedPart → List ℕ
 lone_in sections.Listed l s after part = listed_lone l after
 lone_in sections.Worked l s after part = []
-lone_in sections.Noted l s after part = lone_note l after part
+lone_in sections.Noted l s after part = lone_note l (day_model s) after part
 lone_in sections.Texts l s after part = lone_text l s after part
 
 -- ---- The parts of one message, by their numbers.

@@ -336,7 +336,7 @@ fn draw_lone<W: Sink>(
         Section::Listed => draw_listed_lone(sink, language, after),
         Section::Worked => draw(sink, ""),
         Section::Texts => draw_lone_text(sink, language, day, after, part),
-        Section::Noted => draw_lone_note(sink, language, after, part),
+        Section::Noted => draw_lone_note(sink, language, day.model(), after, part),
     }
 }
 

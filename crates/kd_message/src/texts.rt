@@ -178,6 +178,20 @@ pub const HEADING_DAMAGED: Text = (
     ": Der Spruchkopf ist verstümmelt.",
 );
 
+/// A damaged heading: before the line as it came; before an example of a heading; after it. An example for each number of
+/// wheels, and for the Converter M-209.
+pub const HEADING_CAME: Text = (" It came as “", " Er kam als „");
+
+pub const HEADING_LIKE: Text = ("”, and should be like ", "“ und sollte sein wie ");
+
+pub const HEADING_LIKE_END: Text = (".", ".");
+
+pub const THREE_LETTER_HEADING: &str = "PART 1/2 250 KLM HDT";
+
+pub const FOUR_LETTER_HEADING: &str = "PART 1/2 250 KLMN HDTR";
+
+pub const HEADING_WITHOUT_KEYS: &str = "PART 1/2 520";
+
 pub const IS_ORDER: Text = (
     "This is an order, not a form: it is for curator send.",
     "Das ist ein Auftrag, kein Spruch: Er ist für curator send.",

@@ -2,7 +2,7 @@ use Rattle.std.proofs.Common.{◌≡◌, ◌≤◌, ◌+◌, ◌∙◌, ◌++◌
 use Rattle.std.proofs.Common.{MatchOption}
 use Rattle.kd_lost.specs.DamagedForm.{AreReadOf, IsReadOf, TooMany, completed_parts, damaged_parts_of, parts_cut, placed_from}
 use Rattle.kd_lost.specs.Repetitions.{completed_at}
-use Rattle.kd_lost.proofs.Forms.{as_many_read, completed_length, left_on, read_more, too_many}
+use Rattle.kd_lost.proofs.Forms.{as_many_read, completed_length, left_on, less_left, read_more, too_many}
 use Rattle.kd_lost.proofs.CompletedParts.{completed_more}
 use Rattle.kd_lost.proofs.form.read_parts.Goals as goal
 
@@ -56,3 +56,7 @@ loop-left-preserved c =
           is.0 is.1 c.split_part.ensures.part c.split_part.ensures.others c.split_part.ensures.joined
           c.line_breaks-line.ensures.breaks c.line_breaks-line.ensures.few,
     )
+
+pub loop-left-smaller : goal.loop-left-smaller
+loop-left-smaller c =
+    less_left (λ r. r.now) c.loop-left.left c.split_part.result.1 c.in-Some.rest c.in-Some.is c.split_part.ensures.shorter
