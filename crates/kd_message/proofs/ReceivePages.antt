@@ -1,10 +1,8 @@
 -- The page for receiving a form: its parts, one after another.
-use Rattle.std.proofs.Common.{◌≡◌, ◌∙◌, ℕ, ◌+◌, ◌-◌, ◌<◌, ◌||◌, ◌↔◌, Bool, true, false, List, [], ◌∷◌, ◌++◌}
-use Rattle.std.proofs.Common.{All, IsTrue, if◌then◌else◌, arith, refl, sym, Option, Some, None, Ok, Err}
+use Rattle.std.proofs.Common.{◌≡◌, ◌∙◌, ℕ, ◌||◌, Bool, true, false, List, [], ◌∷◌, ◌++◌}
+use Rattle.std.proofs.Common.{All, if◌then◌else◌, arith, refl, sym, Option, Some, None, Ok, Err}
 use Rattle.std.proofs.Common.{Result, append_assoc}
-use Rattle.std.proofs.lemmas.Bool.{false≢true}
 use Rattle.std.proofs.lemmas.List.Elements.{All-cons, All-head, All-nil, All-tail}
-use Rattle.std.specs.List.{range_with_len}
 use Rattle.std.specs.Prelude.{IfOk, IfSome}
 use Rattle.std.proofs.Common.{ap, subst}
 use Rattle.kd_state.specs.SheetDay.{Day, Pin, Rotor}
@@ -28,7 +26,6 @@ unfoldable use Rattle.kd_message.specs.ReceivePage.{receive_text}
 use Rattle.kd_message.specs.ReceivePage.{AreWorkable, HasShowableKeys}
 use Rattle.kd_lost.specs.ShownParts.{better, is_number, is_worse, shown_under}
 use Rattle.kd_message.proofs.SendPages.{begins}
-use Rattle.kd_lost.proofs.ShownParts.{range_first}
 
 -- ---- What holds for each part holds for the part that is shown.
 
