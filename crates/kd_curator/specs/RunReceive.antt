@@ -8,7 +8,7 @@ use Rattle.kd_state.specs.SheetDay.{Day}
 use Rattle.kd_sheet.specs.Sheet.{day_of}
 use Rattle.kd_form.specs.OnTheKey.{IsKeyFault, IsReadyOnKey}
 use Rattle.kd_form.specs.declared.fault.FormFault.{FormFault}
-use Rattle.kd_lost.specs.DamagedForm.{AreReadOf, IsFormFault, damaged_parts_of}
+use Rattle.kd_lost.specs.DamagedForm.{AreFormParts, IsFormFault, damaged_parts_of}
 use Rattle.kd_lost.specs.declared.form.DamagedFormFault.{DamagedFormFault}
 use Rattle.kd_lost.specs.declared.part.DamagedPart.{DamagedPart}
 use Rattle.kd_pictures.specs.declared.language.Language.{Language}
@@ -21,7 +21,7 @@ use Rattle.kd_curator.specs.declared.fault.Refused.{Refused}
 -- The machine is ready and on the day's key; `parts` is what is read of the form.
 pub record IsFormRead (m : Parts) (s : Day) (form : List ℕ) (parts : List DamagedPart) : Type 0 where
   pub ready : IsReadyOnKey m s
-  pub read : AreReadOf s (damaged_parts_of form) parts
+  pub read : AreFormParts s form parts
   pub few : length (damaged_parts_of form) ≤ 255
 
 -- The answer once the page of these parts is written: success exactly if they are one whole message of the day.
@@ -53,6 +53,6 @@ pub data WritesReceivePage (l : Language) (month : List (Option Day)) (m : Parts
 pub data TellsOfForm (l : Language) (month : List (Option Day)) (m : Parts) (number : ℕ) (form : List ℕ)
     (Told : List ℕ → Type 0) (answer : Result (Unit {0}) Refused) : Type 0 where
   OfParts : (s : Day) → day_of month number ≡ Some s → IsReadyOnKey m s → (parts : List DamagedPart)
-      → AreReadOf s (damaged_parts_of form) parts → Told (receive_notes l s parts)
+      → AreFormParts s form parts → Told (receive_notes l s parts)
       → TellsOfForm l month m number form Told answer
   OfNothing : IsErr answer → has_written answer ≡ false → TellsOfForm l month m number form Told answer

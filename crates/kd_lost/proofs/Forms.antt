@@ -1,14 +1,15 @@
 -- How a damaged form is cut into parts, and read part by part.
 use Rattle.std.proofs.Common.{◌≡◌, ◌∙◌, ℕ, suc, ◌+◌, ◌<◌, ◌≤◌, List, [], ◌∷◌, ◌++◌, length}
-use Rattle.std.proofs.Common.{drop, take, refl, sym, ap, arith, true, false, get_or, append_assoc}
-use Rattle.std.proofs.Common.{Option, Some, None, MatchOption, is_some, length-append}
+use Rattle.std.proofs.Common.{drop, take, refl, sym, ap, subst, arith, true, false, get_or, append_assoc}
+use Rattle.std.proofs.Common.{Option, Some, None, MatchOption, is_some, length-append, option_map, unwrap_or}
 use Rattle.std.specs.Prelude.{IfSome}
 use Rattle.std.proofs.lemmas.List.{append-nil, drop_all, drop_more, take_all, take_more}
 use Rattle.kd_state.specs.SheetDay.{Day}
 use Rattle.kd_form.specs.declared.heading.Heading.{Heading}
 use Rattle.kd_lost.specs.declared.part.{DamagedPart.{DamagedPart}, PartNumbers.{PartNumbers}}
 use Rattle.kd_lost.specs.DamagedPart.{AreNumbersRead, IsDamagedHeading}
-use Rattle.kd_lost.specs.DamagedForm.{AreReadOf, IsReadAt, IsReadOf, PlacedPart, cut_at_heading_lines, damaged_parts_of}
+use Rattle.kd_lost.specs.DamagedForm.{AreReadOf, IsReadAt, IsReadOf, PlacedPart, completed_parts, cut_at_heading_lines}
+use Rattle.kd_lost.specs.DamagedForm.{damaged_parts_of}
 use Rattle.kd_lost.specs.DamagedForm.{ends_part, form_parts, parts_cut, placed_from}
 use Rattle.kd_lost.specs.Lines.{heading_line, line_breaks}
 
@@ -65,6 +66,11 @@ cut_nowhere form i past before =
 
 -- -------- reading the parts
 
+pub completed_length : (copies : List DamagedPart) (index : ℕ) (parts : List PlacedPart)
+    → length (completed_parts copies index parts) ≡ length parts
+completed_length copies index [] = refl
+completed_length copies index (part ∷ parts) = ap suc (completed_length copies (index + 1) parts)
+
 pub read_more : (s : Day) (parts : List PlacedPart) (reads : List DamagedPart) (part : PlacedPart) (read : DamagedPart)
     → AreReadOf s parts reads → IsReadAt s part read → AreReadOf s (parts ++ part ∷ []) (reads ++ read ∷ [])
 read_more s [] [] part read are is = (is, tt)
@@ -90,6 +96,16 @@ pub no_heading_read : (s : Day) (line : List ℕ) (numbers : Option PartNumbers)
 no_heading_read s line None told none = told
 no_heading_read s line (Some given) told none = absurd (cc)
 
+-- less is left after one more part
+pub less_left : {B : Type 0} (now : B → List ℕ) (left next : Option B) (rest : B) → left ≡ Some rest
+    → IfSome next (λ more. length (now more) < length (now rest))
+    → unwrap_or (option_map (λ r. length (now r) + 1) next) 0 < unwrap_or (option_map (λ r. length (now r) + 1) left) 0
+less_left now left None rest is less =
+    subst (λ l. 0 < unwrap_or (option_map (λ r. length (now r) + 1) l) 0) (sym is) (omega arith)
+less_left now left (Some more) rest is less =
+    subst (λ l. length (now more) + 1 < unwrap_or (option_map (λ r. length (now r) + 1) l) 0) (sym is)
+    (omega (arith, less))
+
 -- what is left after one more part
 pub left_on : {B : Type 0} (now : B → List ℕ) (next : Option B) (all done : List PlacedPart) (line breaks size : ℕ)
     (rest part : List ℕ) → all ≡ done ++ placed_from line (parts_cut rest) → line + length rest ≤ size
@@ -114,12 +130,14 @@ left_on now (Some more) all done line breaks size rest part is few first others 
   omega (arith, few, joined, less),
 )
 
-pub too_many : (s : Day) (all done : List PlacedPart) (reads : List DamagedPart) (line : ℕ) (rest : List ℕ)
-    → AreReadOf s done reads → all ≡ done ++ placed_from line (parts_cut rest) → length reads ≡ 255 → 255 < length all
-too_many s all done reads line rest are is many =
+pub too_many : (s : Day) (copies : List DamagedPart) (all done : List PlacedPart) (reads : List DamagedPart) (line : ℕ)
+    (rest : List ℕ) → AreReadOf s (completed_parts copies 0 done) reads → all ≡ done ++ placed_from line (parts_cut rest)
+    → length reads ≡ 255 → 255 < length all
+too_many s copies all done reads line rest are is many =
     omega (
       arith,
-      as_many_read s done reads are,
+      as_many_read s (completed_parts copies 0 done) reads are,
+      completed_length copies 0 done,
       ap length is,
       length-append done (placed_from line (parts_cut rest)),
       many,

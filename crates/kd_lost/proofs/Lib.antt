@@ -9,6 +9,7 @@ pub mod PartShown
 pub mod KnownLetters
 pub mod WholeParts
 pub mod Forms
+pub mod CompletedParts
 pub mod Tidying
 pub mod ShortLines
 pub mod ShortGroups

@@ -1,5 +1,5 @@
 -- Parts of one message: each agrees with each later one.
-use Rattle.std.proofs.Common.{◌≡◌, ◌∙◌, ◌⊎◌, inl, inr, ℕ, zero, suc, ◌&&◌, Bool, true, false, List, [], ◌∷◌, ◌++◌}
+use Rattle.std.proofs.Common.{◌≡◌, ◌∙◌, ◌⊎◌, inl, inr, zero, suc, ◌&&◌, Bool, true, false, List, [], ◌∷◌, ◌++◌}
 use Rattle.std.proofs.Common.{arith, refl, subst, sym, Some}
 use Rattle.std.proofs.lemmas.Bool.{Decides.nat_tests, cases_Bool, false≢true}
 use Rattle.std.specs.List.{Contains}

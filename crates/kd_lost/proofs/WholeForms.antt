@@ -1,10 +1,10 @@
 -- A form that `receive` reads is cut into its parts, and shown whole.
-use Rattle.std.proofs.Common.{All, ◌≡◌, ◌≢◌, ◌∙◌, ◌⊎◌, inl, inr, ℕ, ◌≤◌, ◌==◌, ◌&&◌, ◌||◌, nat_le, IsTrue}
+use Rattle.std.proofs.Common.{All, ◌≡◌, ◌≢◌, ◌∙◌, ◌⊎◌, inl, inr, ℕ, ◌≤◌, ◌==◌, ◌&&◌, ◌||◌, nat_le, IsTrue, IsFalse}
 use Rattle.std.proofs.Common.{List, [], ◌∷◌, ◌++◌, drop, length, map, take, refl, sym, ap, subst, arith, Bool, true, false}
-use Rattle.std.proofs.Common.{Some, Ok, codes, get_or, if◌then◌else◌}
+use Rattle.std.proofs.Common.{Some, Ok, codes, get_or, slice_get, if◌then◌else◌}
 use Rattle.std.proofs.lemmas.Bool.{Decides.nat_tests, cases_Bool, cases_eq, false≢true}
 use Rattle.std.proofs.lemmas.List.{take-append-drop}
-use Rattle.std.proofs.lemmas.List.Elements.{All-cons, All-head, All-nil, All-tail}
+use Rattle.std.proofs.lemmas.List.Elements.{All-append, All-cons, All-head, All-nil, All-tail, All-weaker}
 use Rattle.kd_tables.specs.Text.{is_text_byte}
 use Rattle.kd_state.specs.LineWords.{IsWithout}
 use Rattle.kd_state.specs.SheetDay.{Day}
@@ -17,7 +17,9 @@ use Rattle.kd_form.specs.Sending.{space_letter}
 use Rattle.kd_form.proofs.Headings.{BeginsHeading-bytes, at_cut, begins_more, begins_there, first_there, heading_size}
 use Rattle.kd_form.proofs.Headings.{no_cut}
 use Rattle.kd_lost.specs.declared.{part.DamagedPart.{DamagedPart}}
-use Rattle.kd_lost.specs.HeadingLine.{has_digit_line, is_heading_line, is_part_line}
+use Rattle.kd_lost.specs.HeadingLine.{after_blanks, after_word, has_digit_line, has_lost_number, is_blank, is_heading_line}
+use Rattle.kd_lost.specs.HeadingLine.{is_lost_sign, is_part_line}
+use Rattle.kd_lost.specs.Lost.{is_lost}
 use Rattle.kd_lost.specs.DamagedForm.{AsItStands, IsMeant, IsReadOf, Respaced, cut_at_heading_lines}
 use Rattle.kd_lost.specs.DamagedForm.{ends_part, parts_cut, shown_byte}
 use Rattle.kd_lost.specs.DamagedPart.{IsDamagedHeading, IsDamagedTextAnswer, first_line}
@@ -115,8 +117,9 @@ begins_with_digit bytes begun =
     heading_digit bytes (heading_size bytes begun) told.0 told.1 told.2
 
 -- a line that begins a heading for `receive` is taken for one
-heading_begun : (more : List ℕ) → is_heading_line (codes "PART " ++ more) ≡ has_digit_line (codes "PART " ++ more)
-heading_begun more = refl
+heading_begun : (more : List ℕ) → has_digit_line (codes "PART " ++ more) ≡ true
+    → is_heading_line (codes "PART " ++ more) ≡ true
+heading_begun more digit = ap (λ b. b || has_lost_number (codes "PART " ++ more)) digit
 
 begun_text : (bytes : List ℕ) → BeginsHeading bytes → bytes ≡ codes "PART " ++ drop 5 bytes
 begun_text bytes begun =
@@ -125,8 +128,8 @@ begun_text bytes begun =
 begins_line : (bytes : List ℕ) → BeginsHeading bytes → is_heading_line bytes ≡ true
 begins_line bytes begun =
     let is = begun_text bytes begun in
-    ap is_heading_line is ∙ heading_begun (drop 5 bytes) ∙ sym (ap has_digit_line is)
-    ∙ begins_with_digit bytes begun
+    ap is_heading_line is
+    ∙ heading_begun (drop 5 bytes) (sym (ap has_digit_line is) ∙ begins_with_digit bytes begun)
 
 same_line_from : (byte : ℕ) (bytes : List ℕ)
     → ((byte ≡ 10) × BeginsHeading bytes) ⊎ ((byte ≡ 10) → ¬ (BeginsHeading bytes))
@@ -144,40 +147,123 @@ same_line : (bytes : List ℕ) → has_digit_line (cut_at_headings bytes).0 ≡ 
 same_line [] = refl
 same_line (byte ∷ bytes) = same_line_from byte bytes (cut_or_not byte bytes) (same_line bytes)
 
-no_line_from : (begun rest : Bool) → rest ≡ false → (begun && rest) ≡ false
-no_line_from true rest none = none
-no_line_from false rest none = refl
+-- -------- bytes of which none is lost
 
--- a line without a digit isn't taken for a heading
-pub no_line : (bytes : List ℕ) → has_digit_line bytes ≡ false → is_heading_line bytes ≡ false
-no_line bytes none = no_line_from _ (has_digit_line bytes) none
+abbrev AreKept : List ℕ → Type 0
+AreKept bytes = All (λ byte. IsFalse (is_lost byte)) bytes
+
+kept_rest : (byte : ℕ) (bytes : List ℕ) → AreKept (byte ∷ bytes) → AreKept bytes
+kept_rest byte bytes kept = All-tail (λ b. IsFalse (is_lost b)) byte bytes kept
+
+kept_after_from : (blank : Bool) (byte : ℕ) (bytes rest : List ℕ) → AreKept (byte ∷ bytes) → AreKept rest
+    → AreKept (if blank then rest else byte ∷ bytes)
+kept_after_from true byte bytes rest kept more = more
+kept_after_from false byte bytes rest kept more = kept
+
+kept_after_blanks : (bytes : List ℕ) → AreKept bytes → AreKept (after_blanks bytes)
+kept_after_blanks [] kept = kept
+kept_after_blanks (byte ∷ bytes) kept =
+    kept_after_from (is_blank byte) byte bytes (after_blanks bytes) kept
+    (kept_after_blanks bytes (kept_rest byte bytes kept))
+
+kept_word_from : (ends : Bool) (byte : ℕ) (bytes rest : List ℕ) → AreKept (byte ∷ bytes) → AreKept rest
+    → AreKept (if ends then byte ∷ bytes else rest)
+kept_word_from true byte bytes rest kept more = kept
+kept_word_from false byte bytes rest kept more = more
+
+kept_after_word : (bytes : List ℕ) → AreKept bytes → AreKept (after_word bytes)
+kept_after_word [] kept = kept
+kept_after_word (byte ∷ bytes) kept =
+    kept_word_from (is_blank byte || byte == 10) byte bytes (after_word bytes) kept
+    (kept_after_word bytes (kept_rest byte bytes kept))
+
+kept_first : (bytes : List ℕ) → AreKept bytes → is_lost_sign (slice_get bytes 0) ≡ false
+kept_first [] kept = refl
+kept_first (byte ∷ bytes) kept = All-head (λ b. IsFalse (is_lost b)) byte bytes kept
+
+no_lost_number : (bytes : List ℕ) → AreKept bytes → has_lost_number bytes ≡ false
+no_lost_number bytes kept =
+    kept_first (after_blanks (after_word (after_blanks bytes)))
+    (kept_after_blanks (after_word (after_blanks bytes))
+    (kept_after_word (after_blanks bytes) (kept_after_blanks bytes kept)))
+
+form_kept_from : (byte : ℕ) (bytes : List ℕ)
+    → ((byte ≡ 10) × BeginsHeading bytes) ⊎ ((byte ≡ 10) → ¬ (BeginsHeading bytes))
+    → All AreKept (parts_of (byte ∷ bytes)) → (All AreKept (parts_of bytes) → AreKept bytes) → AreKept (byte ∷ bytes)
+form_kept_from byte bytes (inl (is, begun)) kept rest =
+    let cut = ap (λ b. cut_at_headings (b ∷ bytes)) is ∙ at_cut bytes begun in
+    let parts = subst (λ (c : List ℕ × List (List ℕ)). All AreKept (c.0 ∷ c.1)) cut kept in
+    subst (λ b. AreKept (b ∷ bytes)) (sym is)
+    (All-cons (λ b. IsFalse (is_lost b)) 10 bytes refl (rest (All-tail AreKept (10 ∷ []) (parts_of bytes) parts)))
+form_kept_from byte bytes (inr not) kept rest =
+    let parts = subst (λ (c : List ℕ × List (List ℕ)). All AreKept (c.0 ∷ c.1)) (no_cut byte bytes not) kept in
+    let first = (cut_at_headings bytes).0 in
+    let others = (cut_at_headings bytes).1 in
+    let one = All-head AreKept (byte ∷ first) others parts in
+    All-cons (λ b. IsFalse (is_lost b)) byte bytes (All-head (λ b. IsFalse (is_lost b)) byte first one)
+    (rest (All-cons AreKept first others (kept_rest byte first one) (All-tail AreKept (byte ∷ first) others parts)))
+
+-- if no byte of its parts is lost, none of the form is
+form_kept : (form : List ℕ) → All AreKept (parts_of form) → AreKept form
+form_kept [] kept = All-nil (λ b. IsFalse (is_lost b))
+form_kept (byte ∷ bytes) kept = form_kept_from byte bytes (cut_or_not byte bytes) kept (form_kept bytes)
+
+kept_text : (byte : ℕ) → IsTrue (is_text_byte byte) → IsFalse (is_lost byte)
+kept_text byte allowed = grind (arith, nat_tests, cases_Bool, allowed)
+
+-- no byte of the parts that `receive` reads is lost
+pub parts_kept : (s : Day) (p : PartStart) (parts : List (List ℕ)) (letters : List ℕ)
+    → ReadsPartsTo s (IsAnswerAt s (Ok tt)) p parts letters → All (All (λ b. IsFalse (is_lost b))) parts
+parts_kept s p [] letters read = All-nil AreKept
+parts_kept s p (part ∷ parts) letters (inl (fault, none)) = let off = fault.2 in absurd (cc)
+parts_kept s p (part ∷ parts) letters (inr (read, more, is, rest, joined)) =
+    let w = whole_part s p part read is in
+    let body = All-weaker (λ b. IsTrue (is_text_byte b)) (λ b. IsFalse (is_lost b)) (λ b. kept_text b) w.body w.allowed in
+    All-cons AreKept part parts
+    (subst AreKept (sym w.first.joined)
+    (All-append (λ b. IsFalse (is_lost b)) w.line (10 ∷ w.body) w.kept
+    (All-cons (λ b. IsFalse (is_lost b)) 10 w.body refl body)))
+    (parts_kept s (next_part_start p read.parts part) parts more rest)
+
+no_line_from : (begun digit lost : Bool) → digit ≡ false → lost ≡ false → (begun && (digit || lost)) ≡ false
+no_line_from true digit lost none kept = ap (λ b. b || lost) none ∙ kept
+no_line_from false digit lost none kept = refl
+
+-- a line without a digit, of which nothing is lost, isn't taken for a heading
+no_line : (bytes : List ℕ) → has_digit_line bytes ≡ false → AreKept bytes → is_heading_line bytes ≡ false
+no_line bytes none kept =
+    no_line_from (is_part_line bytes) (has_digit_line bytes) (has_lost_number bytes) none (no_lost_number bytes kept)
 
 not_ended_from : (byte : ℕ) (begun : Bool) → (byte ≡ 10 → begun ≡ false) → (byte == 10 && begun) ≡ false
 not_ended_from byte begun off = grind (arith, nat_tests, cases_eq byte 10, off)
 
-not_ended : (byte : ℕ) (bytes : List ℕ) → (byte ≡ 10 → has_digit_line bytes ≡ false) → ends_part byte bytes ≡ false
-not_ended byte bytes off = not_ended_from byte (is_heading_line bytes) (λ is. no_line bytes (off is))
+not_ended : (byte : ℕ) (bytes : List ℕ) → (byte ≡ 10 → has_digit_line bytes ≡ false) → AreKept bytes
+    → ends_part byte bytes ≡ false
+not_ended byte bytes off kept = not_ended_from byte (is_heading_line bytes) (λ is. no_line bytes (off is) kept)
 
 same_cut_from : (byte : ℕ) (bytes : List ℕ)
     → ((byte ≡ 10) × BeginsHeading bytes) ⊎ ((byte ≡ 10) → ¬ (BeginsHeading bytes)) → AreQuiet (parts_of (byte ∷ bytes))
-    → (AreQuiet (parts_of bytes) → cut_at_heading_lines bytes ≡ cut_at_headings bytes)
+    → AreKept (byte ∷ bytes) → (AreQuiet (parts_of bytes) → cut_at_heading_lines bytes ≡ cut_at_headings bytes)
     → cut_at_heading_lines (byte ∷ bytes) ≡ cut_at_headings (byte ∷ bytes)
-same_cut_from byte bytes (inl (is, begun)) quiet same =
+same_cut_from byte bytes (inl (is, begun)) quiet kept same =
     let cut = ap (λ b. cut_at_headings (b ∷ bytes)) is ∙ at_cut bytes begun in
     let ends : ends_part 10 bytes ≡ true = begins_line bytes begun in
     let rest = subst (λ (c : List ℕ × List (List ℕ)). AreQuiet (c.0 ∷ c.1)) cut quiet in
     ap (λ b. cut_at_heading_lines (b ∷ bytes)) is ∙ an_end 10 bytes ends
     ∙ ap (λ (c : List ℕ × List (List ℕ)). (10 ∷ [], c.0 ∷ c.1)) (same rest.1) ∙ sym cut
-same_cut_from byte bytes (inr not) quiet same =
+same_cut_from byte bytes (inr not) quiet kept same =
     let cut = no_cut byte bytes not in
     let rest = subst (λ (c : List ℕ × List (List ℕ)). AreQuiet (c.0 ∷ c.1)) cut quiet in
     let off : byte ≡ 10 → has_digit_line bytes ≡ false = λ is. sym (same_line bytes) ∙ rest.0.0 is in
-    no_end byte bytes (not_ended byte bytes off)
+    no_end byte bytes (not_ended byte bytes off (kept_rest byte bytes kept))
     ∙ ap (λ (c : List ℕ × List (List ℕ)). (byte ∷ c.0, c.1)) (same (rest.0.1, rest.1)) ∙ sym cut
 
-same_cut : (form : List ℕ) → AreQuiet (parts_of form) → cut_at_heading_lines form ≡ cut_at_headings form
-same_cut [] quiet = refl
-same_cut (byte ∷ bytes) quiet = same_cut_from byte bytes (cut_or_not byte bytes) quiet (same_cut bytes)
+same_cut : (form : List ℕ) → AreQuiet (parts_of form) → AreKept form
+    → cut_at_heading_lines form ≡ cut_at_headings form
+same_cut [] quiet kept = refl
+same_cut (byte ∷ bytes) quiet kept =
+    same_cut_from byte bytes (cut_or_not byte bytes) quiet kept
+    (λ rest. same_cut bytes rest (kept_rest byte bytes kept))
 
 -- -------- nothing before the first heading
 
@@ -207,7 +293,8 @@ first_true true other is = refl
 first_true false other is = is
 
 from_first : (bytes : List ℕ) → is_heading_line bytes ≡ true → from_heading bytes ≡ bytes
-from_first bytes begins = rw (first_true (is_part_line bytes) (has_digit_line bytes) begins) refl
+from_first bytes begins =
+    rw (first_true (is_part_line bytes) (has_digit_line bytes || has_lost_number bytes) begins) refl
 
 pub tidy_forms : FormsReadAreTidy
 tidy_forms s form text is =
@@ -221,7 +308,8 @@ same_parts s form text is =
     let (parts, (letters, read, made), joined) = is in
     ap parts_cut (tidy_forms s form text is)
     ∙ ap (λ (c : List ℕ × List (List ℕ)). c.0 ∷ c.1)
-    (same_cut form (quiet_parts s first_part_start (parts_of form) letters read))
+    (same_cut form (quiet_parts s first_part_start (parts_of form) letters read)
+    (form_kept form (parts_kept s first_part_start (parts_of form) letters read)))
 
 -- -------- the texts
 

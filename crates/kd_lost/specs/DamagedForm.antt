@@ -16,9 +16,10 @@ use Rattle.kd_lost.specs.declared.part.{DamagedPart.{DamagedPart}, PartNumbers.{
 use Rattle.kd_lost.specs.ByCount.{IsByCount}
 use Rattle.kd_lost.specs.DamagedPart.{AreNumbersRead, IsDamagedHeading, IsDamagedTextAnswer, IsPartShown, body_letters, body_of}
 use Rattle.kd_lost.specs.DamagedPart.{first_line}
-use Rattle.kd_lost.specs.HeadingLine.{is_heading_line, is_order}
+use Rattle.kd_lost.specs.HeadingLine.{heading_signs, is_heading_line, is_order}
 use Rattle.kd_lost.specs.Lines.{heading_line, line_breaks}
 use Rattle.kd_lost.specs.Lost.{meant_byte, received_letters}
+use Rattle.kd_lost.specs.Repetitions.{completed_at, completed_or, copies_in}
 use Rattle.kd_lost.specs.ShortGroup.{IsFirstShortGroup}
 use Rattle.kd_lost.specs.ShortLine.{short_line}
 use Rattle.kd_lost.specs.Tidy.{respaced, tidied}
@@ -73,6 +74,7 @@ pub data IsMeant (s : Day) (part meant : List ℕ) : Type 0 where
 pub record IsReadAs (s : Day) (part : List ℕ) (read : DamagedPart) : Type 0 where
   pub given : Option PartNumbers
   pub given_there : AreNumbersRead s (first_line part) given
+  pub heading : read.heading.bytes ≡ heading_signs (first_line part)
   pub came : read.came ≡ length (received_letters (body_of part))
   pub body : read.body.items ≡ body_letters (body_of part)
   pub text : IsDamagedTextAnswer s part read.text
@@ -101,6 +103,29 @@ AreReadOf s [] [] = Unit {0}
 AreReadOf s (part ∷ parts) (read ∷ reads) = IsReadAt s part read × AreReadOf s parts reads
 AreReadOf s [] (read ∷ reads) = ⊥
 AreReadOf s (part ∷ parts) [] = ⊥
+
+-- ---- Parts that came several times.
+
+-- the parts, of which the first has the place `index` in the form, with the letters that their copies have
+abbrev pub completed_parts : List DamagedPart → ℕ → List PlacedPart → List PlacedPart
+completed_parts copies index [] = []
+completed_parts copies index (part ∷ parts) =
+    record { bytes = completed_at copies index part.bytes; line = part.line } ∷ completed_parts copies (index + 1) parts
+
+-- Each part of the form is read with the letters that its copies have.
+abbrev pub AreReadWith : Day → List DamagedPart → List ℕ → List DamagedPart → Type 0
+AreReadWith s copies form reads = AreReadOf s (completed_parts copies 0 (damaged_parts_of form)) reads
+
+-- `parts` are the parts of the form. Each is read alone; and if they are of one message, each is read again, with the
+-- letters that its copies have. If a part would lose a letter by that, all stay as they were read alone.
+pub record AreFormParts (s : Day) (form : List ℕ) (parts : List DamagedPart) : Type 0 where
+  pub alone : List DamagedPart
+  pub read : AreReadOf s (damaged_parts_of form) alone
+  pub again : List DamagedPart
+  pub read_again : AreReadWith s (copies_in alone) form again
+  pub chosen : parts ≡ completed_or alone again
+
+-- ---- The letters of the texts.
 
 -- the letters of a text that are shown; none, if the text isn't read
 abbrev pub letters_in : Result DamagedText PartDamage → List (Option ℕ)

@@ -1,8 +1,9 @@
--- Which lines of a damaged form are taken for headings: those that begin like `PART`, and have a digit or a slash. So a
--- wrong sign in a line of a body begins no part, and a heading begins one even if some of its signs are lost or wrong.
+-- Which lines of a damaged form are taken for headings: those that begin like `PART`, and have a digit or a slash, or a second
+-- word that begins with a lost sign. So a wrong sign in a line of a body begins no part, and a heading begins one even if some
+-- of its signs are lost or wrong.
 -- Test: tests/cases/curator-messages.toml
 use Rattle.std.specs.Prelude.{codes, ℕ, ◌+◌, ◌==◌, ◌&&◌, ◌||◌, nat_le, Bool, false, true, if◌then◌else◌, List, [], ◌∷◌}
-use Rattle.std.specs.Prelude.{Option, None, Some, not, slice_get}
+use Rattle.std.specs.Prelude.{Option, None, Some, map, not, slice_get, take}
 use Rattle.kd_tables.specs.Text.{is_capital}
 use Rattle.kd_lost.specs.Lost.{meant_byte, is_lost}
 
@@ -59,9 +60,38 @@ has_digit_line (byte ∷ bytes) =
 abbrev pub is_part_line : List ℕ → Bool
 is_part_line bytes = begins_with_part (after_blanks bytes) || begins_with_three (after_blanks bytes)
 
+-- `bytes`, from the end of their first word on: the first blank, or LF
+abbrev pub after_word : List ℕ → List ℕ
+after_word [] = []
+after_word (byte ∷ bytes) = if is_blank byte || byte == 10 then byte ∷ bytes else after_word bytes
+
+-- whether a lost sign stands at this place
+abbrev pub is_lost_sign : Option ℕ → Bool
+is_lost_sign None = false
+is_lost_sign (Some byte) = is_lost byte
+
+-- whether the second word of the first line begins with a lost sign, in place of the part's number
+abbrev pub has_lost_number : List ℕ → Bool
+has_lost_number bytes = is_lost_sign (slice_get (after_blanks (after_word (after_blanks bytes))) 0)
+
 -- whether the first line of `bytes` is taken for a heading
 abbrev pub is_heading_line : List ℕ → Bool
-is_heading_line bytes = is_part_line bytes && has_digit_line bytes
+is_heading_line bytes = is_part_line bytes && (has_digit_line bytes || has_lost_number bytes)
+
+-- ---- A heading as it came.
+
+-- whether the byte may stand in a heading: a capital letter, a digit, a lost sign, `/` or a space
+abbrev pub is_heading_byte : ℕ → Bool
+is_heading_byte byte =
+    is_capital byte || (nat_le 47 byte && nat_le byte 57) || (is_lost byte || byte == 32)
+
+-- the sign that is meant, or `?` for one that may not stand in a heading
+abbrev pub heading_sign : ℕ → ℕ
+heading_sign byte = if is_heading_byte (meant_byte byte) then meant_byte byte else 63
+
+-- the first signs of a heading line, at most 64
+abbrev pub heading_signs : List ℕ → List ℕ
+heading_signs line = map heading_sign (take 64 line)
 
 -- ---- An order in place of a form.
 

@@ -10,7 +10,9 @@ pub mod ShortLine
 pub mod ShortGroup
 pub mod ByCount
 pub mod Lines
-pub mod DamagedForm
 pub mod OneMessage
+pub mod Texts
+pub mod Repetitions
+pub mod DamagedForm
 pub mod ShownParts
 pub mod Laws

@@ -1,13 +1,13 @@
 -- Which parts of a received form are shown under which numbers, and whether the form is one whole message.
-use Rattle.std.specs.Prelude.{◌≡◌, ◌≢◌, ℕ, ◌<◌, ◌==◌, if◌then◌else◌, max, List, [], ◌∷◌, All, Option, None, Some}
-use Rattle.std.specs.Prelude.{MatchOption, Result, Ok, Err, IfOk, IsTrue, is_none, is_ok, is_some, length, nat_lt, ◌&&◌, ◌||◌}
+use Rattle.std.specs.Prelude.{◌≡◌, ◌≢◌, ℕ, ◌<◌, ◌==◌, if◌then◌else◌, List, [], ◌∷◌, All, Option, None, Some}
+use Rattle.std.specs.Prelude.{MatchOption, Ok, IfSome, IsTrue, is_err, is_ok, is_some, nat_lt, ◌&&◌, ◌||◌}
 use Rattle.std.specs.Prelude.{Bool, true, false}
 use Rattle.std.specs.List.{count_by, range_with_len}
-use Rattle.kd_lost.specs.declared.damage.PartDamage.{PartDamage}
 use Rattle.kd_lost.specs.declared.damaged_text.DamagedText.{DamagedText}
 use Rattle.kd_lost.specs.declared.damaged_text.GroupTest.TheVariants.{Wrong}
 use Rattle.kd_lost.specs.declared.part.{DamagedPart.{DamagedPart}, PartNumbers.{PartNumbers}}
 use Rattle.kd_lost.specs.OneMessage.{are_of_one_message}
+use Rattle.kd_lost.specs.Texts.{lost_in, shown_text, text_within}
 
 -- ---- Numbers. Only a heading gives them: a part with a damaged heading has no number.
 
@@ -47,36 +47,51 @@ times_of parts number = count_by (λ part. is_number number part.numbers) parts
 
 -- ---- Repetitions.
 
--- how many letters of a text are lost
-abbrev pub lost_in : DamagedText → ℕ
-lost_in shown = count_by (λ letter. is_none letter) shown.letters.items
+-- Whether the other text tells more: there is one where the first isn't, or fewer of its letters are lost; or as many, and
+-- its count is right, but that of the first isn't.
+abbrev pub is_text_worse : Bool → Option DamagedText → Option DamagedText → Bool
+is_text_worse counted (Some one) (Some other) =
+    nat_lt (lost_in other) (lost_in one) || (counted && lost_in other == lost_in one)
+is_text_worse counted None (Some other) = true
+is_text_worse counted one None = false
 
--- whether the other text by count tells more: there is one where the first isn't, or fewer of its letters are lost
-abbrev pub is_worse_by_count : Option DamagedText → Option DamagedText → Bool
-is_worse_by_count (Some one) (Some other) = nat_lt (lost_in other) (lost_in one)
-is_worse_by_count None (Some other) = true
-is_worse_by_count one None = false
-
--- Whether the other part tells more: it is read where the first isn't, or fewer letters of its text are lost. Of two parts
--- that aren't read, `counted` and `recounted` are the texts by count.
-abbrev pub is_worse : Result DamagedText PartDamage → Result DamagedText PartDamage → Option DamagedText
-    → Option DamagedText → Bool
-is_worse (Ok one) (Ok other) counted recounted = nat_lt (lost_in other) (lost_in one)
-is_worse (Err damage) (Ok other) counted recounted = true
-is_worse (Ok one) (Err damage) counted recounted = false
-is_worse (Err damage) (Err other) counted recounted = is_worse_by_count counted recounted
+-- whether the other part tells more
+abbrev pub is_worse : DamagedPart → DamagedPart → Bool
+is_worse one other = is_text_worse (is_err one.text && is_ok other.text) (shown_text one) (shown_text other)
 
 -- the part or, if it tells more, the later one
 abbrev pub better : DamagedPart → Option DamagedPart → Option DamagedPart
 better part None = Some part
 better part (Some later) =
-    if is_worse part.text later.text part.by_count later.by_count then Some later else Some part
+    if is_worse part later then Some later else Some part
 
 -- the part that is shown under this number: of the parts with the number, the first that none is better than
 abbrev pub shown_under : List DamagedPart → ℕ → Option DamagedPart
 shown_under [] number = None
 shown_under (part ∷ parts) number =
     if is_number number part.numbers then better part (shown_under parts number) else shown_under parts number
+
+-- the text of the part, if there is one
+abbrev pub text_in : Option DamagedPart → Option DamagedText
+text_in None = None
+text_in (Some part) = shown_text part
+
+-- whether the part that is shown under these numbers has all letters of the text
+abbrev pub is_covered_by : List DamagedPart → Option DamagedText → Option PartNumbers → Bool
+is_covered_by parts text None = true
+is_covered_by parts text (Some numbers) = text_within text (text_in (shown_under parts numbers.part))
+
+abbrev pub is_covered : List DamagedPart → DamagedPart → Bool
+is_covered parts part = is_covered_by parts (shown_text part) part.numbers
+
+-- whether the parts of `all` that are shown have all letters of the parts
+abbrev pub are_covered : List DamagedPart → List DamagedPart → Bool
+are_covered all [] = true
+are_covered all (part ∷ parts) = is_covered all part && are_covered all parts
+
+-- whether the parts are shown as one message: any two can be of one message, and none has a letter that isn't shown
+abbrev pub is_one_message : List DamagedPart → Bool
+is_one_message parts = are_of_one_message parts && are_covered parts parts
 
 -- ---- Whether the form is one whole message.
 
@@ -96,12 +111,12 @@ IsNumberWhole parts number = MatchOption (shown_under parts number) ⊥ IsReadWh
 
 -- The part isn't of another day or network, as far as its group or its list letters tell.
 abbrev pub MayBeOfTheDay : DamagedPart → Type 0
-MayBeOfTheDay part = IfOk part.text (λ shown. shown.group ≢ Wrong)
+MayBeOfTheDay part = IfSome (shown_text part) (λ shown. shown.group ≢ Wrong)
 
--- The form is one whole message: any two parts can be of one message; each has a number; none is of another day or
+-- The form is one whole message: the parts are shown as one message; each has a number; none is of another day or
 -- network; and under each number from 1 to the number of parts, there is a text without a lost letter.
 pub record IsWhole (parts : List DamagedPart) : Type 0 where
-  pub one_message : IsTrue (are_of_one_message parts)
+  pub one_message : IsTrue (is_one_message parts)
   pub numbered : All (λ part. part.numbers ≢ None) parts
   pub of_the_day : All MayBeOfTheDay parts
   pub some : 0 < total_of parts

@@ -1,16 +1,21 @@
 //! Reads a form in which letters were lost, part by part.
-ghost use Rattle.std.specs.Prelude.{◌≡◌, ◌≢◌, ◌↔◌, ◌+◌, IsTrue, ◌<◌, ◌≤◌, length, IfOk, IfSome, MatchOption, MatchResult, [], false};
+ghost use Rattle.std.specs.Prelude.{◌≡◌, ◌≢◌, ◌↔◌, ◌+◌, IsTrue, ◌<◌, ◌≤◌, length, IfOk, IfSome, MatchOption, MatchResult, [], false, option_copied, slice_get};
 ghost use Rattle.std.specs.Bool.{OnFalse, OnTrue};
 ghost use Rattle.kd_form.specs.declared.heading.Heading.{Heading};
 ghost use Rattle.kd_lost.specs.DamagedPart.{IsDamagedHeading, first_line};
-ghost use Rattle.kd_lost.specs.DamagedForm.{AreReadOf, IsFormFault, IsReadAs, IsReadOf, cut_at_heading_lines};
+ghost use Rattle.kd_lost.specs.DamagedForm.{AreFormParts, AreReadWith, IsFormFault, IsReadAs, IsReadOf};
+ghost use Rattle.kd_lost.specs.DamagedForm.{cut_at_heading_lines};
+ghost use Rattle.kd_lost.specs.Repetitions.{completed_at};
 ghost use Rattle.kd_lost.specs.DamagedForm.{damaged_parts_of, parts_cut};
 ghost use Rattle.kd_lost.specs.DamagedForm.{ends_part};
 
 use crate::by_count::{find_by_count, is_count_doubted, numbers_by_count};
 use crate::heading_line::is_heading_line;
 use crate::lines::{heading_line, line_breaks};
+use crate::one_message::are_of_one_message;
 use crate::part::{DamagedPart, read_damaged_part};
+use crate::repetitions::{are_kept, completed_part};
+use crate::texts::shown_text;
 use crate::tidy::{respaced, tidied};
 use kd_state::SheetDay;
 use std::alloc::Global;
@@ -27,7 +32,7 @@ pub enum DamagedFormFault {
     TooManyParts,
 }
 
-/// Reads each part of `form` by itself, without the letters that were lost.
+/// Reads each part of `form`, without the letters that were lost, and with those that a copy of the part has.
 ///
 /// Each line that is taken for a heading begins a part: it begins like `PART`, and has a digit. Lines before the first
 /// heading are passed over. For a form that `receive` reads, these are its parts.
@@ -37,7 +42,31 @@ pub fn read_damaged_form(
     form: &[u8],
 ) -> Result<Vec<DamagedPart>, DamagedFormFault>
     ensures read { MatchResult result
-        (λ parts. AreReadOf day.now (damaged_parts_of form.now) parts.items)
+        (λ parts. AreFormParts day.now form.now parts.items)
+        (IsFormFault (damaged_parts_of form.now)) }
+    ensures few { IfOk result (λ parts. length parts.items ≤ 255) }
+{
+    let alone = read_parts(alloc, day, form, &[])?;
+    if !are_of_one_message(alone.as_slice()) {
+        return Ok(alone);
+    }
+    let again = read_parts(alloc, day, form, alone.as_slice())?;
+    if are_kept(alone.as_slice(), again.as_slice()) {
+        Ok(again)
+    } else {
+        Ok(alone)
+    }
+}
+
+/// Reads each part of `form`, with the letters that its copies have. `copies` are its parts, each read alone, or none.
+fn read_parts(
+    alloc: Global,
+    day: &SheetDay,
+    form: &[u8],
+    copies: &[DamagedPart],
+) -> Result<Vec<DamagedPart>, DamagedFormFault>
+    ensures read { MatchResult result
+        (λ parts. AreReadWith day.now copies.now form.now parts.items)
         (IsFormFault (damaged_parts_of form.now)) }
     ensures few { IfOk result (λ parts. length parts.items ≤ 255) }
 {
@@ -49,7 +78,7 @@ pub fn read_damaged_form(
             return Err(DamagedFormFault::TooManyParts);
         }
         let (part, next) = split_part(rest);
-        let Ok(read) = read_placed(alloc, day, part, line) else {
+        let Ok(read) = read_one(alloc, day, copies, parts.len(), part, line) else {
             return Err(DamagedFormFault::NoMemory);
         };
         let Ok(()) = parts.push(read) else {
@@ -59,6 +88,35 @@ pub fn read_damaged_form(
         left = next;
     }
     Ok(parts)
+}
+
+/// Reads the part at the place `index` of its form, where it begins on line `line`, with the letters that its copies have.
+fn read_one(
+    alloc: Global,
+    day: &SheetDay,
+    copies: &[DamagedPart],
+    index: usize,
+    part: &[u8],
+    line: usize,
+) -> Result<DamagedPart, DamagedFormFault>
+    ensures { MatchResult result
+        (λ read. IsReadOf day.now (completed_at copies.now index part.now) read × (read.line ≡ line))
+        (λ fault. fault ≡ DamagedFormFault.NoMemory) }
+{
+    let Some(alone) = part_at(copies, index) else {
+        return read_placed(alloc, day, part, line);
+    };
+    let Some(shown) = shown_text(alone) else {
+        return read_placed(alloc, day, part, line);
+    };
+    let bytes = completed_part(alloc, copies, alone, shown, part)?;
+    read_placed(alloc, day, bytes.as_slice(), line)
+}
+
+fn part_at(parts: &[DamagedPart], index: usize) -> Option<&DamagedPart>
+    ensures { option_copied result ≡ slice_get parts.now index }
+{
+    parts.get(index)
 }
 
 /// Reads `part`, which begins on line `line` of its form.

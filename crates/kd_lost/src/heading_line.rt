@@ -1,18 +1,44 @@
 //! Which lines of a damaged form are taken for headings.
-ghost use Rattle.std.specs.Prelude.{◌≡◌, ◌≤◌, length, nat_le};
-ghost use Rattle.kd_lost.specs.HeadingLine.{after_blanks, begins_with_part, begins_with_three, fitting_signs};
-ghost use Rattle.kd_lost.specs.HeadingLine.{has_digit_line, has_three, is_blank, is_heading_line, is_letter, right_signs};
+ghost use Rattle.std.specs.Prelude.{◌≡◌, ◌<◌, ◌≤◌, length, nat_le};
+ghost use Rattle.kd_lost.specs.HeadingLine.{after_blanks, after_word, begins_with_part, begins_with_three};
+ghost use Rattle.kd_lost.specs.HeadingLine.{fitting_signs, has_digit_line, has_lost_number, has_three, is_blank};
+ghost use Rattle.kd_lost.specs.HeadingLine.{heading_sign, heading_signs, is_heading_byte, is_heading_line, is_letter};
+ghost use Rattle.kd_lost.specs.HeadingLine.{right_signs};
 ghost use Rattle.kd_lost.specs.HeadingLine.{ends_line, has_text_line, is_order, is_part_line, is_text_line};
 
 use crate::received::{is_lost, meant_byte};
+use arrayvec::ArrayString;
 
 /// Whether the first line of `bytes` is taken for a heading.
 ///
-/// Only headings have digits. So it is one if it begins like `PART`, and has a digit.
+/// Only headings have digits. So it is one if it begins like `PART`, and has a digit, or has lost its number.
 pub(crate) fn is_heading_line(bytes: &[u8]) -> bool
     ensures { result ≡ is_heading_line bytes.now }
 {
-    is_part_line(bytes) && has_digit_line(bytes)
+    is_part_line(bytes) && (has_digit_line(bytes) || has_lost_number(bytes))
+}
+
+/// Whether the second word of the first line begins with a lost sign, in place of the part's number.
+fn has_lost_number(bytes: &[u8]) -> bool
+    ensures { result ≡ has_lost_number bytes.now }
+{
+    match after_blanks(after_word(after_blanks(bytes))) {
+        [byte, ..] => is_lost(*byte),
+        [] => false,
+    }
+}
+
+/// `bytes` from the end of their first word on: the first blank, or LF.
+fn after_word(bytes: &[u8]) -> &[u8]
+    ensures { result.now ≡ after_word bytes.now }
+{
+    let mut left = bytes;
+    while let [byte, rest @ ..] = left
+        && !(is_blank(*byte) || *byte == b'\n')
+    {
+        left = rest;
+    }
+    left
 }
 
 /// Whether the first line of `bytes` begins like `PART`; blanks may stand before it.
@@ -134,6 +160,36 @@ fn has_digit_line(bytes: &[u8]) -> bool
         }
     }
     false
+}
+
+/// How many signs of a heading line are kept.
+const MOST_SIGNS: usize = 64;
+
+/// The first signs of a heading line as it came, at most 64, with `?` for each that may not stand in a heading.
+pub(crate) fn heading_signs(line: &[u8]) -> ArrayString<64>
+    ensures { result.bytes ≡ heading_signs line.now }
+{
+    let (front, _) = line.split_at(MOST_SIGNS.min(line.len()));
+    let mut signs = ArrayString::new();
+    for byte in front {
+        signs.push(char::from(heading_sign(*byte)));
+    }
+    signs
+}
+
+/// The sign that is meant, or `?` for one that may not stand in a heading.
+fn heading_sign(byte: u8) -> u8
+    ensures sign { result ≡ heading_sign byte }
+    ensures ascii { result < 128 }
+{
+    let byte = meant_byte(byte);
+    if is_heading_byte(byte) { byte } else { b'?' }
+}
+
+fn is_heading_byte(byte: u8) -> bool
+    ensures { result ≡ is_heading_byte byte }
+{
+    byte.is_ascii_uppercase() || (byte >= b'/' && byte <= b'9') || is_lost(byte) || byte == b' '
 }
 
 /// Whether `bytes` are an order: they begin with a line of keys, which has no digit, and have the line `TEXT`.

@@ -17,9 +17,11 @@ mod lines;
 mod one_message;
 mod part;
 mod received;
+mod repetitions;
 mod short_group;
 mod short_line;
 mod shown_parts;
+mod texts;
 mod tidy;
 mod warnings;
 mod wrong_sign;
@@ -31,5 +33,8 @@ pub use form::{DamagedFormFault, read_damaged_form};
 pub use one_message::are_of_one_message;
 pub use part::{DamagedPart, PartNumbers, read_damaged_part};
 pub use short_line::ShortLine;
-pub use shown_parts::{are_rising, is_any_read, is_whole, shown_under, times_of, total_of};
+pub use shown_parts::{
+    are_rising, is_any_read, is_one_message, is_whole, shown_under, times_of, total_of,
+};
+pub use texts::shown_text;
 pub use wrong_sign::WrongSign;

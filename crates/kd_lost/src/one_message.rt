@@ -113,7 +113,7 @@ fn letter_agrees(one: &Option<Letter>, other: &Option<Letter>) -> bool
 }
 
 /// Whether the keys are the same.
-fn same_keys(one: &TextKeys, other: &TextKeys) -> bool
+pub(crate) fn same_keys(one: &TextKeys, other: &TextKeys) -> bool
     ensures { result ≡ same_keys one.now other.now }
 {
     match (one, other) {

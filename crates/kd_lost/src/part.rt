@@ -6,7 +6,7 @@ ghost use Rattle.kd_lost.specs.DamagedPart.{AreNumbersRead, IsDamagedBodyAnswer,
 ghost use Rattle.kd_lost.specs.DamagedPart.{IsHeadedPartAnswer};
 ghost use Rattle.kd_lost.specs.DamagedPart.{IsDamagedTextAnswer, IsPartShown, body_letters, body_of, first_line};
 ghost use Rattle.kd_lost.specs.DamagedPart.{numbers_of};
-ghost use Rattle.kd_lost.specs.HeadingLine.{is_order};
+ghost use Rattle.kd_lost.specs.HeadingLine.{heading_signs, is_order};
 ghost use Rattle.kd_lost.specs.Lost.{meant_byte, received_letters};
 ghost use Rattle.kd_lost.specs.ShortGroup.{IsFirstShortGroup};
 ghost use Rattle.kd_lost.specs.ShortLine.{short_line};
@@ -15,7 +15,7 @@ ghost use Rattle.kd_lost.specs.WrongSign.{IsFirstWrongSign};
 use crate::body::{decipher_pin, decipher_rotor};
 use crate::damage::PartDamage;
 use crate::damaged_text::DamagedText;
-use crate::heading_line::is_order;
+use crate::heading_line::{heading_signs, is_order};
 use crate::received::{
     are_body_bytes, body_letters, filled_line, has_lost_byte, is_spelled, letter_count,
     received_letters,
@@ -23,7 +23,7 @@ use crate::received::{
 use crate::short_group::first_short_group;
 use crate::short_line::{ShortLine, first_short_line};
 use crate::wrong_sign::{WrongSign, first_wrong_sign};
-use arrayvec::ArrayVec;
+use arrayvec::{ArrayString, ArrayVec};
 use kd_form::day_machine::slots_of;
 use kd_form::heading::Heading;
 use kd_form::receiving::heading_reader::heading_of_ended_line;
@@ -36,6 +36,8 @@ pub struct DamagedPart {
     /// The numbers in the heading; `None` if the heading is damaged. If only its count is damaged, and the part is read
     /// by the letters that came, their number stands for the count.
     pub numbers: Option<PartNumbers>,
+    /// The first signs of the heading line as it came, at most 64, with `?` for each that may not stand in a heading.
+    pub heading: ArrayString<64>,
     /// How many letters of the body came, with the lost ones.
     pub came: usize,
     /// The first letters of the body, at most 525. For each sign that may not be in a body, there is a lost letter.
@@ -77,6 +79,7 @@ pub struct PartNumbers {
 /// lost. Whoever knows a lost letter of the keys may put it into the form, and read the form again.
 pub fn read_damaged_part(day: &SheetDay, part: &[u8]) -> DamagedPart
     ensures numbers { AreNumbersRead day.now (first_line part.now) result.numbers }
+    ensures heading { result.heading.bytes ≡ heading_signs (first_line part.now) }
     ensures came { result.came ≡ length (received_letters (body_of part.now)) }
     ensures body { result.body.items ≡ body_letters (body_of part.now) }
     ensures text { IsDamagedTextAnswer day.now part.now result.text }
@@ -99,6 +102,7 @@ pub fn read_damaged_part(day: &SheetDay, part: &[u8]) -> DamagedPart
 /// Reads a part, but for how it is spelled, and whether it is an order.
 fn read_split_part(day: &SheetDay, part: &[u8]) -> DamagedPart
     ensures numbers { AreNumbersRead day.now (first_line part.now) result.numbers }
+    ensures heading { result.heading.bytes ≡ heading_signs (first_line part.now) }
     ensures came { result.came ≡ length (received_letters (body_of part.now)) }
     ensures body { result.body.items ≡ body_letters (body_of part.now) }
     ensures text { IsDamagedTextAnswer day.now part.now result.text }
@@ -120,6 +124,7 @@ fn read_split_part(day: &SheetDay, part: &[u8]) -> DamagedPart
 fn read_lines(day: &SheetDay, line: &[u8], body: &[u8]) -> DamagedPart
     requires { IsWithout 10 line.now }
     ensures numbers { AreNumbersRead day.now line.now result.numbers }
+    ensures heading { result.heading.bytes ≡ heading_signs line.now }
     ensures came { result.came ≡ length (received_letters body.now) }
     ensures body { result.body.items ≡ body_letters body.now }
     ensures text { IsDamagedLinesAnswer day.now line.now body.now result.text }
@@ -130,6 +135,7 @@ fn read_lines(day: &SheetDay, line: &[u8], body: &[u8]) -> DamagedPart
     ensures as_it_stands { result.respaced ≡ false }
     ensures line { result.line ≡ 1 }
 {
+    let came_heading = heading_signs(line);
     let came = letter_count(body);
     let letters = body_letters(body);
     let wrong_sign = first_wrong_sign(body);
@@ -138,6 +144,7 @@ fn read_lines(day: &SheetDay, line: &[u8], body: &[u8]) -> DamagedPart
     let Some(heading) = heading_of_ended_line(day, filled_line(line).as_slice()) else {
         return DamagedPart {
             numbers: None,
+            heading: came_heading,
             came,
             body: letters,
             text: Err(PartDamage::HeadingDamaged),
@@ -153,6 +160,7 @@ fn read_lines(day: &SheetDay, line: &[u8], body: &[u8]) -> DamagedPart
     };
     DamagedPart {
         numbers: Some(numbers_of(&heading)),
+        heading: came_heading,
         came,
         body: letters,
         text: read_body_after(day, &heading, line, body),

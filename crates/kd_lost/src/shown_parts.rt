@@ -1,13 +1,14 @@
 //! Which parts of a received form are shown under which numbers, and whether the form is one whole message.
-ghost use Rattle.std.specs.Prelude.{◌≡◌, ◌≢◌, ◌↔◌, ◌≤◌, ◌+◌, All, IsTrue, MatchOption, None, Some, is_none, length};
+ghost use Rattle.std.specs.Prelude.{◌≡◌, ◌≢◌, ◌↔◌, ◌≤◌, ◌+◌, All, IsTrue, MatchOption, None, Some, length};
 ghost use Rattle.std.specs.List.{range_with_len};
-ghost use Rattle.kd_lost.specs.ShownParts.{IsNumberWhole, IsReadWhole, IsWhole, MayBeOfTheDay, are_rising};
-ghost use Rattle.kd_lost.specs.ShownParts.{is_any_read, is_number, is_worse, is_worse_by_count, lost_in, numbers_of};
-ghost use Rattle.kd_lost.specs.ShownParts.{shown_under, times_of, total_of};
+ghost use Rattle.kd_lost.specs.ShownParts.{IsNumberWhole, IsReadWhole, IsWhole, MayBeOfTheDay, are_covered};
+ghost use Rattle.kd_lost.specs.ShownParts.{are_rising, is_any_read, is_covered, is_number, is_one_message, is_worse};
+ghost use Rattle.kd_lost.specs.ShownParts.{numbers_of, shown_under, times_of, total_of};
 
-use crate::damaged_text::{DamagedText, GroupTest};
+use crate::damaged_text::GroupTest;
 use crate::one_message::are_of_one_message;
 use crate::part::{DamagedPart, PartNumbers};
+use crate::texts::{is_text_within, lost_in, shown_text};
 use kd_tables::Letter;
 
 /// How many parts the message has by the first heading that isn't damaged; 0, if all are.
@@ -75,45 +76,49 @@ pub fn shown_under(parts: &[DamagedPart], number: u16) -> Option<&DamagedPart>
     }
 }
 
-/// Whether the other part tells more: it is read where the first isn't, or fewer letters of its text are lost.
+/// Whether the other part tells more: it has a text where the first has none, or fewer lost letters; or as many, and its
+/// count is right.
 fn is_worse(one: &DamagedPart, other: &DamagedPart) -> bool
-    ensures { result ≡ is_worse one.now.text other.now.text one.now.by_count other.now.by_count }
+    ensures { result ≡ is_worse one.now other.now }
 {
-    match (&one.text, &other.text) {
-        (Ok(one), Ok(other)) => lost_in(other) < lost_in(one),
-        (Err(_), Ok(_)) => true,
-        (Ok(_), Err(_)) => false,
-        (Err(_), Err(_)) => is_worse_by_count(&one.by_count, &other.by_count),
-    }
-}
-
-/// Whether the other text by count tells more: there is one where the first isn't, or fewer of its letters are lost.
-fn is_worse_by_count(one: &Option<DamagedText>, other: &Option<DamagedText>) -> bool
-    ensures { result ≡ is_worse_by_count one.now other.now }
-{
-    match (one, other) {
-        (Some(one), Some(other)) => lost_in(other) < lost_in(one),
+    match (shown_text(one), shown_text(other)) {
+        (Some(text), Some(later)) => {
+            let (lost, later_lost) = (lost_in(text), lost_in(later));
+            later_lost < lost || later_lost == lost && one.text.is_err() && other.text.is_ok()
+        }
         (None, Some(_)) => true,
         (_, None) => false,
     }
 }
 
-/// How many letters of a text are lost.
-fn lost_in(shown: &DamagedText) -> usize
-    ensures { result ≡ lost_in shown.now }
+/// Whether the parts are shown as one message: any two can be of one, and none has a letter that isn't shown.
+pub fn is_one_message(parts: &[DamagedPart]) -> bool
+    ensures { result ≡ is_one_message parts.now }
 {
-    shown
-        .letters
-        .as_slice()
-        .iter()
-        .filter(|letter| is_lost(letter))
-        .count()
+    are_of_one_message(parts) && are_covered(parts, parts)
 }
 
-fn is_lost(letter: &Option<Letter>) -> bool
-    ensures { result ≡ is_none letter.now }
+/// Whether the parts that are shown have all letters of `parts`. `all`: all parts of the form.
+fn are_covered(all: &[DamagedPart], parts: &[DamagedPart]) -> bool
+    ensures { result ≡ are_covered all.now parts.now }
 {
-    letter.is_none()
+    match parts {
+        [part, rest @ ..] => is_covered(all, part) && are_covered(all, rest),
+        [] => true,
+    }
+}
+
+/// Whether the part that is shown under the number of `part` has all letters of `part`.
+fn is_covered(all: &[DamagedPart], part: &DamagedPart) -> bool
+    ensures { result ≡ is_covered all.now part.now }
+{
+    match &part.numbers {
+        Some(numbers) => match shown_under(all, u16::from(numbers.part)) {
+            Some(shown) => is_text_within(part, shown),
+            None => shown_text(part).is_none(),
+        },
+        None => true,
+    }
 }
 
 /// Whether one of the parts is read, be it by count.
@@ -131,7 +136,7 @@ pub fn is_whole(parts: &[DamagedPart]) -> bool
     ensures { IsTrue result ↔ IsWhole parts.now }
 {
     let total = total_of(parts);
-    are_of_one_message(parts)
+    is_one_message(parts)
         && are_numbered(parts)
         && may_be_of_the_day(parts)
         && total > 0
@@ -161,12 +166,12 @@ fn may_be_of_the_day(parts: &[DamagedPart]) -> bool
 fn may_be(part: &DamagedPart) -> bool
     ensures { IsTrue result ↔ MayBeOfTheDay part.now }
 {
-    match &part.text {
-        Ok(shown) => match shown.group {
+    match shown_text(part) {
+        Some(shown) => match shown.group {
             GroupTest::Wrong => false,
             GroupTest::Right | GroupTest::NotTested => true,
         },
-        Err(_) => true,
+        None => true,
     }
 }
 

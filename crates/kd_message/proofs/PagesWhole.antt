@@ -1,9 +1,10 @@
 -- No part that is read is hidden on the page, and a whole message is whole on it.
-use Rattle.std.proofs.Common.{◌≡◌, ◌≢◌, ◌∙◌, ◌⊎◌, inl, inr, ℕ, zero, suc, ◌+◌, ◌-◌, ◌<◌, ◌≤◌, ◌&&◌, nat_lt}
+use Rattle.std.proofs.Common.{◌≡◌, ◌≢◌, ◌∙◌, ◌⊎◌, inl, inr, ℕ, zero, suc, ◌+◌, ◌-◌, ◌<◌, ◌≤◌, ◌&&◌, is_none, nat_le, slice_get}
 use Rattle.std.proofs.Common.{Bool, true, false, List, [], ◌∷◌, ◌++◌, All, IsTrue, arith, refl, sym, ap, subst, map}
 use Rattle.std.proofs.Common.{Option, Some, None, Result, Ok, Err, if◌then◌else◌, MatchOption, flat_map, append_assoc, append-nil}
 use Rattle.std.proofs.lemmas.Bool.{Decides.nat_tests, cases_Bool, false≢true}
 use Rattle.std.proofs.lemmas.List.Elements.{All-contains_itself, All-head, All-tail}
+use Rattle.std.proofs.lemmas.Option.{slice_get_within}
 use Rattle.std.specs.List.{Contains, range_with_len}
 use Rattle.kd_state.specs.SheetDay.{Day, day_model}
 use Rattle.kd_state.proofs.OneAnswer.{ThenNext-Ok}
@@ -13,25 +14,28 @@ use Rattle.kd_form.specs.Sending.{space_letter}
 use Rattle.kd_lost.specs.declared.damage.PartDamage.{PartDamage}
 use Rattle.kd_lost.specs.declared.damaged_text.DamagedText.{DamagedText}
 use Rattle.kd_lost.specs.declared.part.{DamagedPart.{DamagedPart}, PartNumbers.{PartNumbers}}
-use Rattle.kd_lost.specs.DamagedForm.{IsReadOf, form_parts, letters_in, shown_byte}
+use Rattle.kd_lost.specs.ByCount.{GivesByCount, IsFoundIn, counted_part, numbers_by_count, text_of}
+use Rattle.kd_lost.specs.DamagedForm.{AreReadOf, IsReadAs, IsReadOf, PlacedPart, letters_in, shown_byte}
 use Rattle.kd_lost.proofs.Counting.{numbers_given}
-use Rattle.kd_lost.proofs.Forms.{AreAllReadOf, all_read}
+use Rattle.kd_lost.proofs.CompletedParts.{read_somehow}
 use Rattle.kd_lost.specs.DamagedPart.{AreNumbersRead, IsDamagedHeading, IsDamagedTextAnswer, first_line}
 use Rattle.kd_pictures.specs.declared.language.Language.{Language}
 use Rattle.kd_part_sheet.specs.declared.part_sheet.PartName.{PartName}
 use Rattle.kd_message.specs.declared.receiving.Section.TheVariants as sections
-use Rattle.kd_message.specs.Laws.{IsOn, NothingReadIsHidden, RepetitionsHaveTheLetters, WholeMessagesAreOnThePage}
+use Rattle.kd_message.specs.Laws.{HasLettersOf, IsOn, NothingReadIsHidden, RepetitionsHaveTheLetters, WholeMessagesAreOnThePage}
 use Rattle.kd_message.specs.Laws.{WholeMessagesHaveOneTotal, clear_text, letters_of_part}
 use Rattle.kd_lost.specs.OneMessage.{agrees_with_each, are_of_one_message, headings_agree, numbers_agree, parts_agree}
 use Rattle.kd_lost.proofs.OneMessage.{agree_with_it, both_true, contains_none, first_or_later}
 use Rattle.kd_lost.specs.OneMessage.{bodies_agree, ends_within, letters_agree, may_repeat, same_keys, texts_agree}
-use Rattle.kd_message.specs.ReceivePage.{as_they_came, by_number, name_at, number_in, number_or, part_at}
+use Rattle.kd_lost.specs.Repetitions.{are_kept, is_kept, is_same_part}
+use Rattle.kd_message.specs.ReceivePage.{as_they_came, by_number, counted_or_damage, name_at, number_in, number_or, part_at}
 use Rattle.kd_message.specs.ReceivePage.{part_in, section_text, sheet_to_receive, shown_in, text_or_damage}
 unfoldable use Rattle.kd_message.specs.ReceivePage.{receive_text}
 use Rattle.kd_message.specs.SendPage.{part_name}
-use Rattle.kd_lost.specs.ShownParts.{IsNumberWhole, IsReadWhole, better, is_number, is_worse, lost_in}
-use Rattle.kd_lost.specs.ShownParts.{parts_or, shown_under, times_of, total_of}
-unfoldable use Rattle.kd_message.specs.TextSheet.{read_text}
+use Rattle.kd_lost.specs.ShownParts.{IsNumberWhole, IsReadWhole, are_covered, better, is_covered, is_covered_by, is_number}
+use Rattle.kd_lost.specs.ShownParts.{is_one_message, parts_or, shown_under, text_in, times_of, total_of}
+use Rattle.kd_lost.specs.Texts.{letter_within, letters_within, lost_in, shown_text, text_or, text_within}
+unfoldable use Rattle.kd_message.specs.TextSheet.{counted_text, read_text}
 use Rattle.kd_message.specs.declared.texts.TheConstants.{TEXT_END}
 use Rattle.kd_message.specs.TextSheet.{ask_for_lost, came_text, text_begin, text_part_head, warnings_of}
 use Rattle.kd_part_sheet.specs.declared.markup.TheConstants.{SECTION_END}
@@ -88,13 +92,13 @@ page_has l s parts piece is = on_left _ _ piece (on_left _ _ piece (on_left _ _ 
 -- -------- parts that are read
 
 module _ (s : Day) where
-  read_of_cases : (part : List ℕ) (parts : List (List ℕ)) (one : DamagedPart) (reads : List DamagedPart)
-      (read : DamagedPart) → AreAllReadOf s (part ∷ parts) (one ∷ reads) → (one ≡ read) ⊎ Contains reads read
+  read_of_cases : (part : PlacedPart) (parts : List PlacedPart) (one : DamagedPart) (reads : List DamagedPart)
+      (read : DamagedPart) → AreReadOf s (part ∷ parts) (one ∷ reads) → (one ≡ read) ⊎ Contains reads read
       → (Contains reads read → (part : List ℕ) × IsReadOf s part read) → (part : List ℕ) × IsReadOf s part read
-  read_of_cases part parts one reads read are (inl is) rest = (part, subst (IsReadOf s part) is are.0)
+  read_of_cases part parts one reads read are (inl is) rest = (part.bytes, subst (IsReadOf s part.bytes) is are.0.0)
   read_of_cases part parts one reads read are (inr later) rest = rest later
 
-  read_of : (parts : List (List ℕ)) (reads : List DamagedPart) (read : DamagedPart) → AreAllReadOf s parts reads
+  read_of : (parts : List PlacedPart) (reads : List DamagedPart) (read : DamagedPart) → AreReadOf s parts reads
       → Contains reads read → (part : List ℕ) × IsReadOf s part read
   read_of [] [] read are there = absurd (contains_none read there)
   read_of [] (one ∷ reads) read are there = absurd are
@@ -120,14 +124,57 @@ module _ (s : Day) where
     ),
   )
 
-  -- a part that is read has a number
-  number_there : (part : List ℕ) (read : DamagedPart) (shown : DamagedText) → IsReadOf s part read
+  -- a part that is read as it counts has a number
+  counted_number : (part : List ℕ) (read : DamagedPart) (shown : DamagedText) → IsReadAs s part read
       → read.text ≡ Ok shown
       → (numbers : PartNumbers) × (read.numbers ≡ Some numbers) × (1 ≤ numbers.part) × (numbers.part ≤ numbers.parts)
-  number_there part read shown is text =
-      let one = ThenNext-Ok (subst (λ t. IsDamagedTextAnswer s is.meant t) text is.as_meant.text) in
-      read_numbers (first_line is.meant) read.numbers one.found one.says
-      (numbers_given s is.meant read shown text is.as_meant)
+  counted_number part read shown is text =
+      let one = ThenNext-Ok (subst (λ t. IsDamagedTextAnswer s part t) text is.text) in
+      read_numbers (first_line part) read.numbers one.found one.says (numbers_given s part read shown text is)
+
+  -- so has a part that is read by the letters that came
+  found_number : (part : List ℕ) (counted : Option PartNumbers) (found : Option DamagedText) (shown : DamagedText)
+      (answer : Result DamagedText PartDamage) → (is : IsFoundIn s part counted found) → is.answer ≡ answer
+      → found ≡ Some shown
+      → (numbers : PartNumbers) × (counted ≡ Some numbers) × (1 ≤ numbers.part) × (numbers.part ≤ numbers.parts)
+  found_number part counted found shown (Ok text) is told there =
+      let one = ThenNext-Ok (subst (λ t. IsDamagedTextAnswer s part t) told is.text) in
+      read_numbers (first_line part) counted one.found one.says is.given
+  found_number part counted found shown (Err damage) is told there =
+      let none : found ≡ None = is.is_its ∙ ap text_of told in absurd (cc)
+
+  given_number : (line : List ℕ) (given counted numbers : Option PartNumbers) (found : Option DamagedText)
+      (shown : DamagedText) → AreNumbersRead s line given → found ≡ Some shown
+      → numbers ≡ numbers_by_count given counted found
+      → (numbers : PartNumbers) × (counted ≡ Some numbers) × (1 ≤ numbers.part) × (numbers.part ≤ numbers.parts)
+      → (own : PartNumbers) × (numbers ≡ Some own) × (1 ≤ own.part) × (own.part ≤ own.parts)
+  given_number line (Some own) counted numbers found shown (h, headed, same) there is by =
+      let (own, given, first, last) = read_numbers line (Some own) h headed (h, headed, same) in
+      (own, is ∙ given, first, last)
+  given_number line None counted numbers found shown none there is (own, given, first, last) =
+      (own, is ∙ ap (numbers_by_count None counted) there ∙ given, first, last)
+
+  by_count_number : (doubted : Bool) (part : List ℕ) (came : ℕ) (given numbers : Option PartNumbers)
+      (found : Option DamagedText) (shown : DamagedText) → AreNumbersRead s (first_line part) given
+      → GivesByCount doubted s part came given numbers found → found ≡ Some shown
+      → (own : PartNumbers) × (numbers ≡ Some own) × (1 ≤ own.part) × (own.part ≤ own.parts)
+  by_count_number false part came given numbers found shown read is there = let none = is.0 in absurd (cc)
+  by_count_number true part came given numbers found shown read (counted, is, same) there =
+      given_number (first_line part) given counted numbers found shown read there same
+      (found_number (counted_part came part) counted found shown is.answer is refl there)
+
+  number_cases_of : (part : List ℕ) (read : DamagedPart) (shown : DamagedText) (text : Result DamagedText PartDamage)
+      → IsReadAs s part read → read.text ≡ text → text_or text read.by_count ≡ Some shown
+      → (numbers : PartNumbers) × (read.numbers ≡ Some numbers) × (1 ≤ numbers.part) × (numbers.part ≤ numbers.parts)
+  number_cases_of part read shown (Ok text) is told there = counted_number part read text is told
+  number_cases_of part read shown (Err damage) is told there =
+      by_count_number _ part read.came is.given read.numbers read.by_count shown is.given_there is.by_count there
+
+  -- a part that has a text has a number
+  number_there : (part : List ℕ) (read : DamagedPart) (shown : DamagedText) → IsReadOf s part read
+      → shown_text read ≡ Some shown
+      → (numbers : PartNumbers) × (read.numbers ≡ Some numbers) × (1 ≤ numbers.part) × (numbers.part ≤ numbers.parts)
+  number_there part read shown is there = number_cases_of is.meant read shown read.text is.as_meant refl there
 
 -- -------- how many parts the message has
 
@@ -164,7 +211,8 @@ total_is (one ∷ parts) part numbers agree there is =
 
 pub one_total : WholeMessagesHaveOneTotal
 one_total parts one other numbers others whole there also is again =
-    sym (total_is parts one numbers whole.one_message there is) ∙ total_is parts other others whole.one_message also again
+    let agree = (both_true (are_of_one_message parts) (are_covered parts parts) whole.one_message).0 in
+    sym (total_is parts one numbers agree there is) ∙ total_is parts other others agree also again
 
 same_number_agree : (one other : PartNumbers) (bodies letters keys ends : Bool) → one.part ≡ other.part
     → numbers_agree one other (bodies && ((letters && keys) && ends)) ≡ true → letters ≡ true
@@ -172,93 +220,170 @@ same_number_agree one other bodies letters keys ends same is = grind (arith, nat
 
 pub repetition_letters : RepetitionsHaveTheLetters
 repetition_letters one other others numbers again shown later whole there is its same text more =
-    let both = both_true (agrees_with_each one others) (are_of_one_message others) whole.one_message in
+    let all = one ∷ others in
+    let agree = both_true (are_of_one_message all) (are_covered all all) whole.one_message in
+    let both = both_true (agrees_with_each one others) (are_of_one_message others) agree.0 in
     let letters = letters_agree shown.received.items later.received.items in
     let keys = same_keys shown.keys later.keys in
     let bodies = bodies_agree one.body.items other.body.items in
     let ends = ends_within one other && ends_within other one in
-    let agree : headings_agree (Some numbers) (Some again) (bodies && (texts_agree (Ok shown) (Ok later) && ends)) ≡ true =
+    let told : headings_agree (Some numbers) (Some again) (bodies && (texts_agree (Ok shown) (Ok later) && ends)) ≡ true =
     (λ i. headings_agree (sym is i) (sym its i) (bodies && (texts_agree (sym text i) (sym more i) && ends)))
     ∙ agree_with_it one other others both.0 there in
-    same_number_agree numbers again bodies letters keys ends same agree
+    same_number_agree numbers again bodies letters keys ends same told
 
--- -------- the part that is shown tells no less
+-- -------- the part that is shown has all letters
 
--- a part is found that is read, and has no more lost letters than `shown`
+head_is : (x : Option ℕ) (one : List (Option ℕ)) (letter : ℕ) → slice_get (x ∷ one) 0 ≡ Some (Some letter)
+    → x ≡ Some letter
+head_is x one letter is = cc
+
+none_within : (x : Option ℕ) (letter : ℕ) (rest : Bool) → x ≡ Some letter → (is_none x && rest) ≡ true → ⊥
+none_within x letter rest is within =
+    false≢true (sym (ap (λ (o : Option ℕ). is_none o && rest) is) ∙ within)
+
+same_within : (y : Option ℕ) (letter : ℕ) → letter_within (Some letter) y ≡ true → y ≡ Some letter
+same_within None letter within = absurd (false≢true within)
+same_within (Some again) letter within =
+    let same : letter ≡ again = grind (arith, nat_tests, within) in λ i. Some (sym same i)
+
+within_places : (one other : List (Option ℕ)) → letters_within one other ≡ true → (place letter : ℕ)
+    → slice_get one place ≡ Some (Some letter) → slice_get other place ≡ Some (Some letter)
+within_places [] other within place letter is = absurd (omega (arith, slice_get_within [] place (Some letter) is))
+within_places (x ∷ one) [] within zero letter is =
+    absurd (none_within x letter (letters_within one []) (head_is x one letter is) within)
+within_places (x ∷ one) [] within (suc place) letter is =
+    within_places one [] (both_true (is_none x) (letters_within one []) within).1 place letter is
+within_places (x ∷ one) (y ∷ other) within zero letter is =
+    let both = both_true (letter_within x y) (letters_within one other) within in
+    let head = head_is x one letter is in
+    ap (λ o. Some o) (same_within y letter (ap (λ o. letter_within o y) (sym head) ∙ both.0))
+within_places (x ∷ one) (y ∷ other) within (suc place) letter is =
+    within_places one other (both_true (letter_within x y) (letters_within one other) within).1 place letter is
+
+-- a text is found that has all letters of `shown`, and no more lost ones
+record IsWithin (found : Option DamagedText) (shown : DamagedText) : Type 0 where
+  pub text : DamagedText
+  pub is : found ≡ Some text
+  pub has : HasLettersOf text shown
+  pub no_more : lost_in text ≤ lost_in shown
+
+within_found : (shown : DamagedText) (found : Option DamagedText) → text_within (Some shown) found ≡ true
+    → IsWithin found shown
+within_found shown None off = absurd (false≢true off)
+within_found shown (Some text) within =
+    let both = both_true (letters_within shown.letters.items text.letters.items) (nat_le (lost_in text) (lost_in shown))
+    within in
+    record {
+      text = text;
+      is = refl;
+      has = within_places shown.letters.items text.letters.items both.0;
+      no_more = grind (arith, nat_tests, both.1);
+    }
+
+itself_within : (part : DamagedPart) (shown : DamagedText) → shown_text part ≡ Some shown
+    → IsWithin (shown_text part) shown
+itself_within part shown is =
+    record { text = shown; is = is; has = λ place letter there. there; no_more = omega arith }
+
+within_further : (found : Option DamagedText) (middle shown : DamagedText) → HasLettersOf middle shown
+    → lost_in middle ≤ lost_in shown → IsWithin found middle → IsWithin found shown
+within_further found middle shown has fewer further = record {
+  text = further.text;
+  is = further.is;
+  has = λ place letter there. further.has place letter (has place letter there);
+  no_more = omega (arith, fewer, further.no_more);
+}
+
+-- a part of which `part` was read alone: it has the same number, and all letters
+record IsKeptIn (parts : List DamagedPart) (part : DamagedPart) (shown : DamagedText) : Type 0 where
+  pub kept : DamagedPart
+  pub there : Contains parts kept
+  pub same : is_same_part part.numbers kept.numbers ≡ true
+  pub within : IsWithin (shown_text kept) shown
+
+kept_later : (one : DamagedPart) (parts : List DamagedPart) (part : DamagedPart) (shown : DamagedText)
+    → IsKeptIn parts part shown → IsKeptIn (one ∷ parts) part shown
+kept_later one parts part shown is = record {
+  kept = is.kept;
+  there = (suc is.there.0, omega (arith, is.there.1), is.there.2);
+  same = is.same;
+  within = is.within;
+}
+
+kept_cases : (one again part : DamagedPart) (alone parts : List DamagedPart) (shown : DamagedText)
+    → is_kept one again ≡ true → (one ≡ part) ⊎ Contains alone part → shown_text part ≡ Some shown
+    → (Contains alone part → IsKeptIn parts part shown) → IsKeptIn (again ∷ parts) part shown
+kept_cases one again part alone parts shown kept (inl is) text rest =
+    let both = both_true (is_same_part one.numbers again.numbers) (text_within (shown_text one) (shown_text again)) kept in
+    let its = ap shown_text is ∙ text in
+    record {
+      kept = again;
+      there = (0, omega arith, refl);
+      same = ap (λ (p : DamagedPart). is_same_part p.numbers again.numbers) (sym is) ∙ both.0;
+      within = within_found shown (shown_text again) (ap (λ t. text_within t (shown_text again)) (sym its) ∙ both.1);
+    }
+kept_cases one again part alone parts shown kept (inr later) text rest =
+    kept_later again parts part shown (rest later)
+
+kept_there : (alone parts : List DamagedPart) (part : DamagedPart) (shown : DamagedText) → are_kept alone parts ≡ true
+    → Contains alone part → shown_text part ≡ Some shown → IsKeptIn parts part shown
+kept_there [] parts part shown kept there is = absurd (contains_none part there)
+kept_there (one ∷ alone) [] part shown kept there is = absurd (false≢true kept)
+kept_there (one ∷ alone) (again ∷ parts) part shown kept there is =
+    let both = both_true (is_kept one again) (are_kept alone parts) kept in
+    kept_cases one again part alone parts shown both.0 (first_or_later one alone part there) is
+    (λ later. kept_there alone parts part shown both.1 later is)
+
+same_as_itself : (numbers : Option PartNumbers) → is_same_part numbers numbers ≡ true
+same_as_itself None = refl
+same_as_itself (Some numbers) = grind (arith, nat_tests)
+
+kept_or_alone : (alone again : List DamagedPart) (part : DamagedPart) (shown : DamagedText) (kept : Bool)
+    → are_kept alone again ≡ kept → Contains alone part → shown_text part ≡ Some shown
+    → IsKeptIn (if kept then again else alone) part shown
+kept_or_alone alone again part shown true kept there is = kept_there alone again part shown kept there is
+kept_or_alone alone again part shown false kept there is = record {
+  kept = part;
+  there = there;
+  same = same_as_itself part.numbers;
+  within = itself_within part shown is;
+}
+
+covered_cases : (all : List DamagedPart) (one part : DamagedPart) (parts : List DamagedPart) → is_covered all one ≡ true
+    → (one ≡ part) ⊎ Contains parts part → (Contains parts part → is_covered all part ≡ true)
+    → is_covered all part ≡ true
+covered_cases all one part parts covered (inl is) rest = subst (λ p. is_covered all p ≡ true) is covered
+covered_cases all one part parts covered (inr later) rest = rest later
+
+covered_there : (all parts : List DamagedPart) (part : DamagedPart) → are_covered all parts ≡ true → Contains parts part
+    → is_covered all part ≡ true
+covered_there all [] part covered there = absurd (contains_none part there)
+covered_there all (one ∷ parts) part covered there =
+    let both = both_true (is_covered all one) (are_covered all parts) covered in
+    covered_cases all one part parts both.0 (first_or_later one parts part there)
+    (λ later. covered_there all parts part both.1 later)
+
+-- the part that is found has a text with all letters
 record IsTold (found : Option DamagedPart) (shown : DamagedText) : Type 0 where
   pub best : DamagedPart
-  pub text : DamagedText
   pub is : found ≡ Some best
-  pub read : best.text ≡ Ok text
-  pub no_fewer : lost_in text ≤ lost_in shown
+  pub within : IsWithin (shown_text best) shown
 
-chosen : (one other : DamagedPart) (worse : Bool) → is_worse one.text other.text one.by_count other.by_count ≡ worse
-    → better one (Some other) ≡ (if worse then Some other else Some one)
-chosen one other worse is = ap (λ b. if b then Some other else Some one) is
+told_by : (found : Option DamagedPart) (shown : DamagedText) → IsWithin (text_in found) shown → IsTold found shown
+told_by None shown within = let off = within.is in absurd (cc)
+told_by (Some best) shown within = record { best = best; is = refl; within = within }
 
-no_worse : (one other : DamagedPart) (own text shown : DamagedText) (worse : Bool) → one.text ≡ Ok own
-    → other.text ≡ Ok text → nat_lt (lost_in text) (lost_in own) ≡ worse
-    → (lost_in own ≤ lost_in shown) ⊎ (lost_in text ≤ lost_in shown)
-    → IsTold (better one (Some other)) shown
-no_worse one other own text shown true is read worse fewer =
-    let less : lost_in text < lost_in own = grind (arith, nat_tests, worse) in
-    let told : is_worse one.text other.text one.by_count other.by_count ≡ true =
-    ap (λ t. is_worse t other.text one.by_count other.by_count) is ∙ ap (λ t. is_worse (Ok own) t one.by_count other.by_count) read ∙ worse in
-    record { best = other; text = text; is = chosen one other true told; read = read; no_fewer = grind (arith, less, fewer) }
-no_worse one other own text shown false is read worse fewer =
-    let less : lost_in own ≤ lost_in text = grind (arith, nat_tests, worse) in
-    let told : is_worse one.text other.text one.by_count other.by_count ≡ false =
-    ap (λ t. is_worse t other.text one.by_count other.by_count) is ∙ ap (λ t. is_worse (Ok own) t one.by_count other.by_count) read ∙ worse in
-    record { best = one; text = own; is = chosen one other false told; read = is; no_fewer = grind (arith, less, fewer) }
-
-told_first_or : (one other : DamagedPart) (shown : DamagedText) (answer : Result DamagedText PartDamage)
-    → one.text ≡ Ok shown → other.text ≡ answer → IsTold (better one (Some other)) shown
-told_first_or one other shown (Ok text) is read =
-    no_worse one other shown text shown (nat_lt (lost_in text) (lost_in shown)) is read refl (inl (omega arith))
-told_first_or one other shown (Err damage) is read =
-    let told : is_worse one.text other.text one.by_count other.by_count ≡ false =
-    ap (λ t. is_worse t other.text one.by_count other.by_count) is ∙ ap (λ t. is_worse (Ok shown) t one.by_count other.by_count) read in
-    record { best = one; text = shown; is = chosen one other false told; read = is; no_fewer = omega arith }
-
-told_first : (one : DamagedPart) (shown : DamagedText) (later : Option DamagedPart) → one.text ≡ Ok shown
-    → IsTold (better one later) shown
-told_first one shown None is = record { best = one; text = shown; is = refl; read = is; no_fewer = omega arith }
-told_first one shown (Some other) is = told_first_or one other shown other.text is refl
-
-told_after : (one other : DamagedPart) (text shown : DamagedText) (answer : Result DamagedText PartDamage)
-    → one.text ≡ answer → other.text ≡ Ok text → lost_in text ≤ lost_in shown → IsTold (better one (Some other)) shown
-told_after one other text shown (Ok own) is read fewer =
-    no_worse one other own text shown (nat_lt (lost_in text) (lost_in own)) is read refl (inr fewer)
-told_after one other text shown (Err damage) is read fewer =
-    let told : is_worse one.text other.text one.by_count other.by_count ≡ true =
-    ap (λ t. is_worse t other.text one.by_count other.by_count) is ∙ ap (λ t. is_worse (Err damage) t one.by_count other.by_count) read in
-    record { best = other; text = text; is = chosen one other true told; read = read; no_fewer = fewer }
-
-told_with : (one : DamagedPart) (later : Option DamagedPart) (shown : DamagedText) (is_it : Bool)
-    → IsTold later shown → IsTold (if is_it then better one later else later) shown
-told_with one later shown true told =
-    subst (λ o. IsTold (better one o) shown) (sym told.is)
-    (told_after one told.best told.text shown one.text refl told.read told.no_fewer)
-told_with one later shown false told = told
-
-best_told_cases : (number : ℕ) (one : DamagedPart) (parts : List DamagedPart) (part : DamagedPart) (shown : DamagedText)
-    → (one ≡ part) ⊎ Contains parts part → is_number number part.numbers ≡ true → part.text ≡ Ok shown
-    → (Contains parts part → IsTold (shown_under parts number) shown) → IsTold (shown_under (one ∷ parts) number) shown
-best_told_cases number one parts part shown (inl same) is text rest =
-    let its : is_number number one.numbers ≡ true =
-    ap (λ (p : DamagedPart). is_number number p.numbers) same ∙ is in
-    let later = shown_under parts number in
-    subst (λ b. IsTold (if b then better one later else later) shown) (sym its)
-    (told_first one shown later (ap (λ (p : DamagedPart). p.text) same ∙ text))
-best_told_cases number one parts part shown (inr there) is text rest =
-    told_with one (shown_under parts number) shown (is_number number one.numbers) (rest there)
-
-best_told : (number : ℕ) (parts : List DamagedPart) (part : DamagedPart) (shown : DamagedText) → Contains parts part
-    → is_number number part.numbers ≡ true → part.text ≡ Ok shown → IsTold (shown_under parts number) shown
-best_told number [] part shown there is text = absurd (contains_none part there)
-best_told number (one ∷ parts) part shown there is text =
-    best_told_cases number one parts part shown (first_or_later one parts part there) is text
-    (λ later. best_told number parts part shown later is text)
+best_told : (parts : List DamagedPart) (part : DamagedPart) (numbers : PartNumbers) (shown : DamagedText)
+    → are_covered parts parts ≡ true → Contains parts part → part.numbers ≡ Some numbers
+    → shown_text part ≡ Some shown → IsTold (shown_under parts numbers.part) shown
+best_told parts part numbers shown covered there number is =
+    let found = text_in (shown_under parts numbers.part) in
+    let its : text_within (Some shown) found ≡ true =
+    ap (λ t. text_within t found) (sym is)
+    ∙ ap (is_covered_by parts (shown_text part)) (sym number)
+    ∙ covered_there parts parts part covered there in
+    told_by (shown_under parts numbers.part) shown (within_found shown found its)
 
 -- the part that is shown under a number has this number
 number_cases : (number : ℕ) (is_it : Bool) (one : DamagedPart) (later : Option DamagedPart) (part : DamagedPart)
@@ -278,13 +403,28 @@ shown_numbered number (one ∷ parts) part is =
 
 -- -------- the texts on the page
 
+text_on_cases : (l : Language) (s : Day) (name : PartName) (part : DamagedPart) (shown : DamagedText)
+    (text : Result DamagedText PartDamage) (counted : Option DamagedText) → part.by_count ≡ counted
+    → text_or text counted ≡ Some shown
+    → IsOn (text_or_damage l s name part text) (read_text l (sheet_to_receive (day_model s)) s name shown)
+unfolding counted_text
+text_on_cases l s name part shown (Ok text) counted by is =
+    let same : text ≡ shown = cc in
+    subst (λ t. IsOn (read_text l (sheet_to_receive (day_model s)) s name text)
+    (read_text l (sheet_to_receive (day_model s)) s name t)) same
+    (on_itself (read_text l (sheet_to_receive (day_model s)) s name text))
+text_on_cases l s name part shown (Err damage) None by is = absurd (cc)
+text_on_cases l s name part shown (Err damage) (Some text) by is =
+    let piece = read_text l (sheet_to_receive (day_model s)) s name shown in
+    let same : text ≡ shown = cc in
+    subst (λ c. IsOn (counted_or_damage l s name part damage c) piece) (sym (by ∙ ap (λ t. Some t) same))
+    (on_left _ _ piece (on_right _ _ piece (on_itself piece)))
+
 text_on_part : (l : Language) (s : Day) (name : PartName) (times : ℕ) (part : DamagedPart) (shown : DamagedText)
-    → part.text ≡ Ok shown
+    → shown_text part ≡ Some shown
     → IsOn (part_in sections.Texts l s name times part) (read_text l (sheet_to_receive (day_model s)) s name shown)
 text_on_part l s name times part shown is =
-    on_left _ _ _ (on_right _ _ _
-    (subst (λ t. IsOn (text_or_damage l s name part t) (read_text l (sheet_to_receive (day_model s)) s name shown)) (sym is)
-    (on_itself (read_text l (sheet_to_receive (day_model s)) s name shown))))
+    on_left _ _ _ (on_right _ _ _ (text_on_cases l s name part shown part.text part.by_count refl is))
 
 came_there_cases : (l : Language) (s : Day) (place before : ℕ) (one : DamagedPart) (parts : List DamagedPart)
     (part : DamagedPart) (numbers : PartNumbers) → (one ≡ part) ⊎ Contains parts part → part.numbers ≡ Some numbers
@@ -317,7 +457,7 @@ on_part whole middle piece (before, after, is) inner =
     subst (λ w. IsOn w piece) (sym is) (on_left (before ++ middle) after piece (on_right before middle piece inner))
 
 number_on_page : (l : Language) (s : Day) (parts : List DamagedPart) (number : ℕ) (part : DamagedPart)
-    → are_of_one_message parts ≡ true → 1 ≤ number → number ≤ total_of parts → shown_under parts number ≡ Some part
+    → is_one_message parts ≡ true → 1 ≤ number → number ≤ total_of parts → shown_under parts number ≡ Some part
     → IsOn (receive_text l s parts)
     (part_in sections.Texts l s (part_name s number (total_of parts)) (times_of parts number) part)
 number_on_page l s parts number part agree first last is =
@@ -341,56 +481,69 @@ its_number numbers = grind (arith, nat_tests)
 abbrev IsNotHidden : Language → Day → List DamagedPart → DamagedPart → DamagedText → Type 0
 IsNotHidden l s parts part shown =
     (name : PartName) × (best : DamagedPart) × (text : DamagedText) × IsTrue (is_number name.part part.numbers)
-    × IsTrue (is_number name.part best.numbers) × Contains parts best × (best.text ≡ Ok text)
-    × (lost_in text ≤ lost_in shown)
+    × IsTrue (is_number name.part best.numbers) × Contains parts best × (shown_text best ≡ Some text)
+    × HasLettersOf text shown × (lost_in text ≤ lost_in shown)
     × IsOn (receive_text l s parts) (read_text l (sheet_to_receive (day_model s)) s name text)
 
-hidden_by_none : (l : Language) (s : Day) (parts : List DamagedPart) (part : DamagedPart) (shown : DamagedText)
-    (numbers : PartNumbers) (agree : Bool) → are_of_one_message parts ≡ agree → Contains parts part
-    → part.text ≡ Ok shown → part.numbers ≡ Some numbers → 1 ≤ numbers.part → numbers.part ≤ numbers.parts
-    → IsNotHidden l s parts part shown
-hidden_by_none l s parts part shown numbers true agree there is number first last =
-    let its = ap (is_number numbers.part) number ∙ its_number numbers in
-    let told = best_told numbers.part parts part shown there its is in
-    let total = total_is parts part numbers agree there number in
+same_number : (one : Option PartNumbers) (numbers : PartNumbers) → is_same_part one (Some numbers) ≡ true
+    → is_number numbers.part one ≡ true
+same_number None numbers is = absurd (false≢true is)
+same_number (Some own) numbers is = grind (arith, nat_tests, cases_Bool, is)
+
+hidden_by_none : (l : Language) (s : Day) (parts : List DamagedPart) (part kept : DamagedPart) (shown : DamagedText)
+    (numbers : PartNumbers) (one : Bool) → is_one_message parts ≡ one → is_number numbers.part part.numbers ≡ true
+    → Contains parts kept → IsWithin (shown_text kept) shown → kept.numbers ≡ Some numbers → 1 ≤ numbers.part
+    → numbers.part ≤ numbers.parts → IsNotHidden l s parts part shown
+hidden_by_none l s parts part kept shown numbers true one its there within number first last =
+    let both = both_true (are_of_one_message parts) (are_covered parts parts) one in
+    let told = best_told parts kept numbers within.text both.1 there number within.is in
+    let all = within_further (shown_text told.best) within.text shown within.has within.no_more told.within in
+    let total = total_is parts kept numbers both.0 there number in
     let name = part_name s numbers.part (total_of parts) in (
       name,
       told.best,
-      told.text,
+      all.text,
       its,
       shown_numbered numbers.part parts told.best told.is,
       shown_holds (Contains parts) numbers.part parts told.best (All-contains_itself parts) told.is,
-      told.read,
-      told.no_fewer,
+      all.is,
+      all.has,
+      all.no_more,
       on_part _ _ _
-          (number_on_page l s parts numbers.part told.best agree first (omega (arith, last, total)) told.is)
-          (text_on_part l s name (times_of parts numbers.part) told.best told.text told.read),
+          (number_on_page l s parts numbers.part told.best one first (omega (arith, last, total)) told.is)
+          (text_on_part l s name (times_of parts numbers.part) told.best all.text all.is),
     )
-hidden_by_none l s parts part shown numbers false agree there is number first last =
-    let its = ap (is_number numbers.part) number ∙ its_number numbers in
-    let (at, on) = came_there l s 1 0 parts part numbers there number in
+hidden_by_none l s parts part kept shown numbers false one its there within number first last =
+    let (at, on) = came_there l s 1 0 parts kept numbers there number in
     let name = name_at s at numbers in
-    let piece = read_text l (sheet_to_receive (day_model s)) s name shown in
+    let piece = read_text l (sheet_to_receive (day_model s)) s name within.text in
     let all : IsOn (as_they_came sections.Texts l s 1 0 parts) piece =
-    on_part _ _ _ on (text_on_part l s name 1 part shown is) in (
+    on_part _ _ _ on (text_on_part l s name 1 kept within.text within.is) in (
       name,
-      part,
-      shown,
+      kept,
+      within.text,
       its,
-      its,
+      ap (is_number numbers.part) number ∙ its_number numbers,
       there,
-      is,
-      omega arith,
+      within.is,
+      within.has,
+      within.no_more,
       page_has l s parts piece
           (subst (λ b. IsOn (if b then by_number sections.Texts l s parts else as_they_came sections.Texts l s 1 0 parts) piece)
-          (sym agree) all),
+          (sym one) all),
     )
 
 pub nothing_hidden : NothingReadIsHidden
-nothing_hidden l s form parts part shown read there is =
-    let (bytes, one) = read_of s (form_parts form) parts part (all_read s form parts read) there in
-    let (numbers, number, first, last) = number_there s bytes part shown one is in
-    hidden_by_none l s parts part shown numbers (are_of_one_message parts) refl there is number first last
+nothing_hidden l s form parts read part shown there is =
+    let kept = subst (λ all. IsKeptIn all part shown) (sym read.chosen)
+    (kept_or_alone read.alone read.again part shown (are_kept read.alone read.again) refl there is) in
+    let (bytes, all) = read_somehow s form parts read in
+    let (placed, one) = read_of s bytes parts kept.kept all kept.there in
+    let (numbers, number, first, last) = number_there s placed kept.kept kept.within.text one kept.within.is in
+    let its = same_number part.numbers numbers
+    (ap (is_same_part part.numbers) (sym number) ∙ kept.same) in
+    hidden_by_none l s parts part kept.kept shown numbers (is_one_message parts) refl its kept.there kept.within number
+    first last
 
 -- -------- a whole message
 

@@ -4,9 +4,9 @@ use Rattle.std.proofs.Common.{◌∷◌, ◌++◌, All, Any, IsTrue, IsFalse, ar
 use Rattle.std.proofs.Common.{Option, Some, None, Ok, option_map}
 use Rattle.std.proofs.lemmas.Bool.{Decides.nat_tests, cases_eq, false≢true}
 use Rattle.std.proofs.lemmas.List.{drop-drop, drop-take, take-append-drop, take-take}
-use Rattle.std.proofs.lemmas.List.Elements.{All-contains_itself, All-cons, All-head, All-nil, All-tail}
+use Rattle.std.proofs.lemmas.List.Elements.{All-contains_itself, All-cons, All-head, All-nil, All-tail, All-weaker}
 use Rattle.std.specs.List.{Contains, cons_option, range_with_len, slice_range}
-use Rattle.std.specs.Prelude.{IfOk}
+use Rattle.std.specs.Prelude.{IfOk, IfSome}
 use Rattle.kd_tables.specs.Text.{is_text_byte}
 use Rattle.kd_state.specs.AnswerRules.{GoesOn}
 use Rattle.kd_state.specs.LineWords.{IsFirstPart, IsWithout, line_of}
@@ -41,7 +41,11 @@ use Rattle.kd_lost.proofs.KnownLetters.{not_any_lost, same_known, take_known}
 use Rattle.kd_lost.proofs.Parts.{lines_there}
 use Rattle.kd_lost.proofs.PartShown.{least_count, shown_there}
 use Rattle.kd_message.specs.Laws.{IsClear, WholeMessagesAreRead, letters_of_part}
-use Rattle.kd_lost.specs.ShownParts.{IsNumberWhole, IsWhole, MayBeOfTheDay, is_number, shown_under, total_of}
+use Rattle.kd_lost.specs.OneMessage.{are_of_one_message}
+use Rattle.kd_lost.specs.ShownParts.{IsNumberWhole, IsWhole, MayBeOfTheDay, are_covered, is_number, shown_under, total_of}
+use Rattle.kd_lost.specs.Texts.{text_or}
+use Rattle.kd_lost.proofs.CompletedParts.{read_as_it_stands}
+use Rattle.kd_lost.proofs.OneMessage.{both_true}
 use Rattle.kd_message.proofs.PagesWhole.{at_range, shown_known, shown_numbered, total_is, whole_under}
 use Rattle.kd_message.proofs.ReceivePages.{shown_holds}
 use Rattle.kd_lost.proofs.ShownParts.{range_first}
@@ -378,8 +382,10 @@ module _ (s : Day) (bytes : List (List ℕ)) (reads : List DamagedPart) (whole :
       let (part, there, (of, stands), clear, day) = shown_holds (IsHeld s bytes) number reads one all found in
       let (numbers, given, numbered) = its_numbers number one.numbers (shown_numbered number reads one found) in
       let inside = shown_holds (Contains reads) number reads one (All-contains_itself reads) found in
-      let counted : total_of reads ≡ numbers.parts = total_is reads one numbers whole.one_message inside given in
-      let right : shown.group ≢ Wrong = subst (λ t. IfOk t (λ (text : DamagedText). text.group ≢ Wrong)) is day in
+      let agree = (both_true (are_of_one_message reads) (are_covered reads reads) whole.one_message).0 in
+      let counted : total_of reads ≡ numbers.parts = total_is reads one numbers agree inside given in
+      let right : shown.group ≢ Wrong =
+      subst (λ t. IfSome (text_or t one.by_count) (λ (text : DamagedText). text.group ≢ Wrong)) is day in
       let back = part_read s p part one numbers shown of stands clear given is right numbered
       (subst (IsExpectedCount p.expected) counted expected) in
       let made : ℕ → ReadPart = λ n. record { parts = n; letters = back.text } in
@@ -439,9 +445,15 @@ read_again : (s : Day) (bytes : List (List ℕ)) (reads : List DamagedPart) (tot
 read_again s bytes reads zero is whole all = absurd (omega (arith, is, whole.some))
 read_again s bytes reads (suc count) is whole all = all_read s bytes reads whole all count is
 
+kept_of_clear : (parts : List (List ℕ)) → All IsClear parts → All (All (λ b. IsFalse (is_lost b))) parts
+kept_of_clear parts clear =
+    All-weaker IsClear (All (λ b. IsFalse (is_lost b)))
+    (λ part. All-weaker IsClearByte (λ b. IsFalse (is_lost b)) (λ b firm. firm.0) part) parts clear
+
 pub whole_read : WholeMessagesAreRead
-whole_read s form reads are clear stand whole =
+whole_read s form reads completed clear stand whole =
     let bytes = form_parts form in
+    let are = read_as_it_stands s form reads (kept_of_clear bytes clear) completed in
     let all = held s bytes bytes reads (λ part there. there) (all_read_of s form reads are) clear stand whole.of_the_day in
     let back = read_again s bytes reads (total_of reads) refl whole all in (
       back.ordered,

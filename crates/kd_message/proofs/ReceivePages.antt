@@ -1,10 +1,8 @@
 -- The page for receiving a form: its parts, one after another.
-use Rattle.std.proofs.Common.{◌≡◌, ◌∙◌, ℕ, ◌+◌, ◌-◌, ◌<◌, ◌||◌, ◌↔◌, Bool, true, false, List, [], ◌∷◌, ◌++◌}
-use Rattle.std.proofs.Common.{All, IsTrue, if◌then◌else◌, arith, refl, sym, Option, Some, None, Ok, Err}
+use Rattle.std.proofs.Common.{◌≡◌, ◌∙◌, ℕ, ◌||◌, Bool, true, false, List, [], ◌∷◌, ◌++◌}
+use Rattle.std.proofs.Common.{All, if◌then◌else◌, arith, refl, sym, Option, Some, None, Ok, Err}
 use Rattle.std.proofs.Common.{Result, append_assoc}
-use Rattle.std.proofs.lemmas.Bool.{false≢true}
 use Rattle.std.proofs.lemmas.List.Elements.{All-cons, All-head, All-nil, All-tail}
-use Rattle.std.specs.List.{range_with_len}
 use Rattle.std.specs.Prelude.{IfOk, IfSome}
 use Rattle.std.proofs.Common.{ap, subst}
 use Rattle.kd_state.specs.SheetDay.{Day, Pin, Rotor}
@@ -17,9 +15,10 @@ use Rattle.kd_lost.specs.declared.damaged_text.TextKeys.{TextKeys}
 use Rattle.kd_lost.specs.declared.part.DamagedPart.{DamagedPart}
 use Rattle.kd_lost.specs.declared.part.PartNumbers.{PartNumbers}
 use Rattle.kd_lost.specs.ByCount.{GivesByCount, IsFoundIn, counted_part, text_of}
-use Rattle.kd_lost.specs.DamagedForm.{AreReadOf, IsReadAs, PlacedPart}
+use Rattle.kd_lost.specs.DamagedForm.{AreFormParts, AreReadOf, IsReadAs, PlacedPart}
 use Rattle.kd_lost.specs.DamagedPart.{IsDamagedTextAnswer}
 use Rattle.kd_lost.specs.DamagedText.{AreTextKeys}
+use Rattle.kd_lost.proofs.CompletedParts.{read_somehow}
 use Rattle.kd_lost.proofs.PartShown.{shown_there}
 use Rattle.kd_pictures.specs.declared.language.Language.{Language}
 use Rattle.kd_message.specs.ReceivedWork.{AreShowable}
@@ -27,7 +26,6 @@ unfoldable use Rattle.kd_message.specs.ReceivePage.{receive_text}
 use Rattle.kd_message.specs.ReceivePage.{AreWorkable, HasShowableKeys}
 use Rattle.kd_lost.specs.ShownParts.{better, is_number, is_worse, shown_under}
 use Rattle.kd_message.proofs.SendPages.{begins}
-use Rattle.kd_lost.proofs.ShownParts.{range_first}
 
 -- ---- What holds for each part holds for the part that is shown.
 
@@ -40,7 +38,7 @@ pub better_holds : (P : DamagedPart → Type 0) (one : DamagedPart) (later : Opt
     → ((other : DamagedPart) → later ≡ Some other → P other) → better one later ≡ Some part → P part
 better_holds P one None part holds rest is = let e : one ≡ part = cc in rw (← e) holds
 better_holds P one (Some later) part holds rest is =
-    chosen_holds P (is_worse one.text later.text one.by_count later.by_count) later one part (rest later refl) holds is
+    chosen_holds P (is_worse one later) later one part (rest later refl) holds is
 
 numbered_holds : (P : DamagedPart → Type 0) (is_it : Bool) (one : DamagedPart) (later : Option DamagedPart)
     (part : DamagedPart) → P one → ((other : DamagedPart) → later ≡ Some other → P other)
@@ -98,7 +96,7 @@ part_showable s part read is = record {
   of_count = by_count_showable _ s part read.came is.given read.numbers read.by_count is.by_count;
 }
 
-pub are_workable : (s : Day) (parts : List PlacedPart) (reads : List DamagedPart) → AreReadOf s parts reads
+are_workable : (s : Day) (parts : List PlacedPart) (reads : List DamagedPart) → AreReadOf s parts reads
     → AreWorkable s reads
 are_workable s [] [] are = All-nil (HasShowableKeys s)
 are_workable s [] (read ∷ reads) are = absurd are
@@ -106,6 +104,11 @@ are_workable s (part ∷ parts) [] are = absurd are
 are_workable s (part ∷ parts) (read ∷ reads) are =
     All-cons (HasShowableKeys s) read reads (part_showable s are.0.0.meant read are.0.0.as_meant)
     (are_workable s parts reads are.1)
+
+pub are_workable_parts : (s : Day) (form : List ℕ) (parts : List DamagedPart) → AreFormParts s form parts
+    → AreWorkable s parts
+are_workable_parts s form parts is =
+    let (bytes, are) = read_somehow s form parts is in are_workable s bytes parts are
 
 -- ---- The page.
 

@@ -1,13 +1,15 @@
 -- A form that `desk receive` reads is one whole message.
-use Rattle.std.proofs.Common.{◌≡◌, ◌≢◌, ◌∙◌, inl, inr, ℕ, zero, suc, ◌+◌, ◌-◌, ◌<◌, ◌≤◌, ◌&&◌}
+use Rattle.std.proofs.Common.{◌≡◌, ◌≢◌, ◌∙◌, inl, inr, ℕ, zero, suc, ◌+◌, ◌-◌, ◌<◌, ◌≤◌, ◌&&◌, nat_le, IsFalse, IsTrue}
 use Rattle.std.proofs.Common.{Bool, true, false, List, [], ◌∷◌, ◌++◌, All, arith, refl, sym, ap, subst, map, Option, Some}
 use Rattle.std.proofs.Common.{None, Ok, if◌then◌else◌, MatchOption, flat_map}
 use Rattle.std.proofs.lemmas.Bool.{Decides.nat_tests, cases_Bool}
-use Rattle.std.proofs.lemmas.List.Elements.{All-cons, All-head, All-nil, All-tail}
+use Rattle.std.proofs.lemmas.List.Elements.{All-append, All-cons, All-head, All-nil, All-tail, All-weaker}
 use Rattle.std.specs.List.{range_with_len}
-use Rattle.std.specs.Prelude.{IfOk}
+use Rattle.std.specs.Prelude.{IfSome}
+use Rattle.kd_tables.specs.Text.{is_text_byte}
 use Rattle.kd_state.specs.SheetDay.{Day}
 use Rattle.kd_state.proofs.OneAnswer.{ThenNext-Ok, Yields-Ok}
+use Rattle.kd_form.specs.FormParts.{parts_of}
 use Rattle.kd_form.specs.FormText.{IsAnswerAt, ReadsPartsTo, first_part_start, next_part_start}
 use Rattle.kd_form.specs.PartReading.{HasDueNumbers, IsExpectedCount, IsPartAnswer, PartStart, ReadPart}
 use Rattle.kd_form.specs.Sending.{space_letter}
@@ -19,14 +21,17 @@ use Rattle.kd_lost.specs.DamagedForm.{AsItStands, IsMeant, IsReadOf, Respaced, l
 use Rattle.kd_lost.specs.DamagedForm.{shown_byte, shown_letters}
 use Rattle.kd_lost.specs.DamagedPart.{AreNumbersRead, IsDamagedHeading, IsDamagedTextAnswer, first_line}
 use Rattle.kd_lost.proofs.Parts.{lines_there}
+use Rattle.kd_lost.specs.Lost.{is_lost}
+use Rattle.kd_lost.proofs.CompletedParts.{read_as_it_stands}
 use Rattle.kd_lost.proofs.Forms.{AreAllReadOf, all_read}
 use Rattle.kd_lost.proofs.Counting.{numbers_given}
 use Rattle.kd_lost.proofs.WholeForms.{forms_shown, same_parts}
 use Rattle.kd_lost.proofs.WholeParts.{numbers_there, shown_whole, whole_part}
 use Rattle.kd_message.specs.Laws.{FormsReadAreWhole, letters_of_part, message_letters}
 use Rattle.kd_lost.specs.OneMessage.{agrees_with_each, are_of_one_message, numbers_agree, headings_agree, may_repeat}
-use Rattle.kd_lost.specs.ShownParts.{IsNumberWhole, IsReadWhole, MayBeOfTheDay, better, is_number, parts_or}
-use Rattle.kd_lost.specs.ShownParts.{shown_under, total_of}
+use Rattle.kd_lost.specs.ShownParts.{IsNumberWhole, IsReadWhole, MayBeOfTheDay, are_covered, better, is_covered, is_covered_by}
+use Rattle.kd_lost.specs.ShownParts.{is_number, is_one_message, parts_or, shown_under, text_in, total_of}
+use Rattle.kd_lost.specs.Texts.{letter_within, letters_within, lost_in, shown_text, text_or, text_within}
 use Rattle.kd_lost.proofs.ShownParts.{range_first}
 
 -- -------- parts in the order of their numbers
@@ -180,7 +185,62 @@ in_order_letters total number count (part ∷ parts) sum are =
     (shown_later total number m part parts (λ same. absurd (omega (arith, same, least))) are))
     ∙ in_order_letters total (number + 1) (count - 1) parts (omega (arith, sum, some)) are.4)
 
+-- -------- each part has all letters of its own text
+
+letter_in_itself : (letter : Option ℕ) → letter_within letter letter ≡ true
+letter_in_itself None = refl
+letter_in_itself (Some letter) = grind (arith, nat_tests)
+
+letters_in_themselves : (letters : List (Option ℕ)) → letters_within letters letters ≡ true
+letters_in_themselves [] = refl
+letters_in_themselves (letter ∷ letters) =
+    ap (λ b. b && letters_within letters letters) (letter_in_itself letter) ∙ letters_in_themselves letters
+
+within_itself : (text : Option DamagedText) → text_within text text ≡ true
+within_itself None = refl
+within_itself (Some text) =
+    ap (λ b. b && nat_le (lost_in text) (lost_in text)) (letters_in_themselves text.letters.items)
+    ∙ grind (arith, nat_tests)
+
+in_order_covered : (total number : ℕ) (all parts : List DamagedPart) → AreInOrder total number parts
+    → ((m : ℕ) → number ≤ m → shown_under all m ≡ shown_under parts m) → are_covered all parts ≡ true
+in_order_covered total number all [] are same = refl
+in_order_covered total number all (part ∷ parts) are same =
+    let (numbers, there, numbered, counted, rest) = are in
+    let found : shown_under all numbers.part ≡ Some part =
+    ap (shown_under all) numbered ∙ same number (omega arith) ∙ shown_first total number part parts are in
+    let here : is_covered all part ≡ true =
+    ap (is_covered_by all (shown_text part)) there ∙ ap (λ o. text_within (shown_text part) (text_in o)) found
+    ∙ within_itself (shown_text part) in
+    ap (λ b. b && are_covered all parts) here
+    ∙ in_order_covered total (number + 1) all parts rest
+    (λ m least. same m (omega (arith, least))
+    ∙ shown_later total number m part parts (λ is. absurd (omega (arith, is, least))) are)
+
+in_order_one : (total number : ℕ) (parts : List DamagedPart) → AreInOrder total number parts
+    → is_one_message parts ≡ true
+in_order_one total number parts are =
+    ap (λ b. b && are_covered parts parts) (in_order_agree total number parts are)
+    ∙ in_order_covered total number parts parts are (λ m least. refl)
+
 -- -------- a form that `desk receive` reads
+
+kept_text : (byte : ℕ) → IsTrue (is_text_byte byte) → IsFalse (is_lost byte)
+kept_text byte allowed = grind (arith, nat_tests, cases_Bool, allowed)
+
+-- no byte of the parts is lost
+parts_kept : (s : Day) (p : PartStart) (parts : List (List ℕ)) (letters : List ℕ)
+    → ReadsPartsTo s (IsAnswerAt s (Ok tt)) p parts letters → All (All (λ b. IsFalse (is_lost b))) parts
+parts_kept s p [] letters read = All-nil (All (λ b. IsFalse (is_lost b)))
+parts_kept s p (part ∷ parts) letters (inl (fault, none)) = let off = fault.2 in absurd (cc)
+parts_kept s p (part ∷ parts) letters (inr (read, more, is, rest, joined)) =
+    let w = whole_part s p part read is in
+    let body = All-weaker (λ b. IsTrue (is_text_byte b)) (λ b. IsFalse (is_lost b)) (λ b. kept_text b) w.body w.allowed in
+    All-cons (All (λ b. IsFalse (is_lost b))) part parts
+    (subst (All (λ b. IsFalse (is_lost b))) (sym w.first.joined)
+    (All-append (λ b. IsFalse (is_lost b)) w.line (10 ∷ w.body) w.kept
+    (All-cons (λ b. IsFalse (is_lost b)) 10 w.body refl body)))
+    (parts_kept s (next_part_start p read.parts part) parts more rest)
 
 expected_parts : (s : Day) (p : PartStart) (part : List ℕ) (read : ReadPart) → IsPartAnswer s p part (Ok read)
     → IsExpectedCount p.expected read.parts
@@ -202,7 +262,8 @@ letters_known (letter ∷ letters) =
 
 right_day : (part : DamagedPart) (shown : DamagedText) → part.text ≡ Ok shown → shown.group ≡ Right → MayBeOfTheDay part
 right_day part shown is right =
-    subst (λ t. IfOk t (λ (text : DamagedText). text.group ≢ Wrong)) (sym is) (λ wrong. absurd (cc))
+    subst (λ t. IfSome (text_or t part.by_count) (λ (text : DamagedText). text.group ≢ Wrong)) (sym is)
+    (λ wrong. absurd (cc))
 
 meant_whole : (s : Day) (part meant : List ℕ) (h : Heading) → IsDamagedHeading s (first_line part) h
     → IsMeant s part meant → meant ≡ part
@@ -298,8 +359,11 @@ module _ (s : Day) where
       )
 
 pub forms_whole : FormsReadAreWhole
-forms_whole s form text reads is are =
+forms_whole s form text reads is completed =
     let (parts, (letters, read, made), joined) = is in
+    let kept = subst (All (All (λ b. IsFalse (is_lost b)))) (sym (same_parts s form text is))
+    (parts_kept s first_part_start (parts_of form) letters read) in
+    let are = read_as_it_stands s form reads kept completed in
     let there = subst (λ l. AreAllReadOf s l reads) (same_parts s form text is) (all_read s form reads are) in
     let (total, some, counted, all) = first_in_order s _ _ letters reads read there in
     let shown = forms_shown s form text reads is are in
@@ -307,7 +371,7 @@ forms_whole s form text reads is are =
     ap (λ n. flat_map (λ m. letters_of_part (shown_under reads m)) (range_with_len 1 n)) counted
     ∙ in_order_letters total 1 total reads (omega arith) all.in_order in (
       record {
-        one_message = in_order_agree total 1 reads all.in_order;
+        one_message = in_order_one total 1 reads all.in_order;
         numbered = in_order_numbered total 1 reads all.in_order;
         of_the_day = all.of_the_day;
         some = omega (arith, some, counted);

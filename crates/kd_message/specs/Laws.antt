@@ -1,5 +1,5 @@
 -- Laws of the rows of a page, and of what the page for receiving says of a whole message.
-use Rattle.std.specs.Prelude.{◌≡◌, ℕ, ◌≤◌, List, [], ◌∷◌, ◌++◌, All, Contains, IsFalse, IsTrue, filter, flat_map, length, map, Option, Some, None, Ok}
+use Rattle.std.specs.Prelude.{◌≡◌, ℕ, ◌≤◌, List, [], ◌∷◌, ◌++◌, All, Contains, IsFalse, IsTrue, filter, flat_map, length, map, slice_get, Option, Some, None, Ok}
 use Rattle.std.specs.List.{range_with_len}
 use Rattle.kd_state.specs.SheetDay.{Day, day_model}
 use Rattle.kd_form.specs.PartMaking.{cipher_from}
@@ -7,7 +7,7 @@ use Rattle.kd_form.specs.FormText.{IsAnswerAt, IsTextOf, ReadsPartsTo, first_par
 use Rattle.kd_form.specs.Sending.{space_letter}
 use Rattle.kd_lost.specs.declared.damaged_text.DamagedText.{DamagedText}
 use Rattle.kd_lost.specs.declared.part.{DamagedPart.{DamagedPart}, PartNumbers.{PartNumbers}}
-use Rattle.kd_lost.specs.DamagedForm.{AreReadOf, damaged_parts_of, form_parts, letters_in, shown_byte}
+use Rattle.kd_lost.specs.DamagedForm.{AreFormParts, form_parts, letters_in, shown_byte}
 use Rattle.kd_lost.specs.DamagedPart.{IsDamagedTextAnswer}
 use Rattle.kd_lost.specs.Lost.{Completes, covered, is_lost, meant_byte}
 use Rattle.kd_part_sheet.specs.declared.cells.Cell.{Cell}
@@ -22,7 +22,8 @@ use Rattle.kd_message.specs.ReceivePage.{receive_text, sheet_to_receive}
 use Rattle.kd_lost.specs.OneMessage.{letters_agree}
 use Rattle.kd_message.specs.ReceivedWork.{received_work}
 use Rattle.kd_message.specs.SendPage.{part_name}
-use Rattle.kd_lost.specs.ShownParts.{IsWhole, is_number, lost_in, shown_under, times_of, total_of}
+use Rattle.kd_lost.specs.ShownParts.{IsWhole, is_number, shown_under, times_of, total_of}
+use Rattle.kd_lost.specs.Texts.{lost_in, shown_text}
 use Rattle.kd_message.specs.TextSheet.{came_text, read_text, text_begin, text_part_head}
 
 -- The lamps of a row are the machine's cipher of the letters that are pressed in this row, from the letters that the
@@ -70,23 +71,29 @@ message_letters parts =
 -- A form that `desk receive` reads is one whole message, and its texts are together the text that `desk receive` gives.
 abbrev pub FormsReadAreWhole : Type 0
 FormsReadAreWhole =
-    (s : Day) (form text : List ℕ) (parts : List DamagedPart) → IsTextOf s form text
-    → AreReadOf s (damaged_parts_of form) parts
+    (s : Day) (form text : List ℕ) (parts : List DamagedPart) → IsTextOf s form text → AreFormParts s form parts
     → IsWhole parts × (text ≡ map (shown_byte (space_letter s)) (message_letters parts) ++ 10 ∷ [])
 
 -- `piece` stands somewhere in `page`.
 abbrev pub IsOn : List ℕ → List ℕ → Type 0
 IsOn page piece = (before : List ℕ) × (after : List ℕ) × (page ≡ before ++ piece ++ after)
 
--- If a part of a form is read, the page has, under the part's number, its text, or the text of another part of the form with
--- this number, in which no more letters are lost.
+-- `text` has each letter of the other text that isn't lost, at the same place.
+abbrev pub HasLettersOf : DamagedText → DamagedText → Type 0
+HasLettersOf text other =
+    (place letter : ℕ) → slice_get other.letters.items place ≡ Some (Some letter)
+    → slice_get text.letters.items place ≡ Some (Some letter)
+
+-- If a part of a form has a text, be it by count, the page has, under the part's number, a text of a part of the form with
+-- this number: it has each letter of the part's own text, and no more lost letters. `alone` are the parts as each is read
+-- by itself.
 abbrev pub NothingReadIsHidden : Type 0
 NothingReadIsHidden =
-    (l : Language) (s : Day) (form : List ℕ) (parts : List DamagedPart) (part : DamagedPart) (shown : DamagedText)
-    → AreReadOf s (damaged_parts_of form) parts → Contains parts part → part.text ≡ Ok shown
+    (l : Language) (s : Day) (form : List ℕ) (parts : List DamagedPart) (read : AreFormParts s form parts)
+    (part : DamagedPart) (shown : DamagedText) → Contains read.alone part → shown_text part ≡ Some shown
     → (name : PartName) × (best : DamagedPart) × (text : DamagedText) × IsTrue (is_number name.part part.numbers)
-    × IsTrue (is_number name.part best.numbers) × Contains parts best × (best.text ≡ Ok text)
-    × (lost_in text ≤ lost_in shown)
+    × IsTrue (is_number name.part best.numbers) × Contains parts best × (shown_text best ≡ Some text)
+    × HasLettersOf text shown × (lost_in text ≤ lost_in shown)
     × IsOn (receive_text l s parts) (read_text l (sheet_to_receive (day_model s)) s name text)
 
 -- the text of a part in clear, under its head
@@ -129,7 +136,7 @@ IsClear part = All (λ byte. IsFalse (is_lost byte) × (meant_byte byte ≡ byte
 -- that `desk receive` gives of the form, but for the order in which parts came, and for parts that came more than once.
 abbrev pub WholeMessagesAreRead : Type 0
 WholeMessagesAreRead =
-    (s : Day) (form : List ℕ) (parts : List DamagedPart) → AreReadOf s (damaged_parts_of form) parts
+    (s : Day) (form : List ℕ) (parts : List DamagedPart) → AreFormParts s form parts
     → All IsClear (form_parts form) → All (λ part. IsFalse part.respaced) parts → IsWhole parts
     → (ordered : List (List ℕ)) × (letters : List ℕ) × All (Contains (form_parts form)) ordered
     × (length ordered ≡ total_of parts) × ReadsPartsTo s (IsAnswerAt s (Ok tt)) first_part_start ordered letters

@@ -1,6 +1,8 @@
 -- What the page has for a part whose heading is damaged, and for an order in place of a form. It has no number, and isn't
 -- read.
 use Rattle.std.specs.Prelude.{decimal, ℕ, ◌==◌, if◌then◌else◌, List, [], ◌∷◌, ◌++◌}
+use Rattle.kd_tables.specs.declared.model.Model.{Model}
+use Rattle.kd_tables.specs.declared.model.Model.TheVariants as models
 use Rattle.kd_lost.specs.declared.part.DamagedPart.{DamagedPart}
 use Rattle.kd_state.specs.SheetDay.{Day, day_model, day_number}
 use Rattle.kd_pictures.specs.declared.language.Language.{Language}
@@ -32,15 +34,28 @@ lone_box l came = text_in l texts.LONE_ASK ++ lone_asked l came ++ texts.ASK_END
 abbrev pub lone_ask : Language → DamagedPart → List ℕ
 lone_ask l part = if part.is_order then [] else lone_box l part.came
 
+-- a heading of the model, as an example
+abbrev pub heading_example : Model → List ℕ
+heading_example models.EnigmaI = texts.THREE_LETTER_HEADING.now
+heading_example models.M3 = texts.THREE_LETTER_HEADING.now
+heading_example models.M4 = texts.FOUR_LETTER_HEADING.now
+heading_example models.M209 = texts.HEADING_WITHOUT_KEYS.now
+
+-- that the heading is damaged, as what it came, and what it should be like
+unfoldable pub damaged_heading : Language → Model → DamagedPart → List ℕ
+damaged_heading l model part =
+    heading_fault l part.line (text_in l texts.HEADING_DAMAGED) ++ text_in l texts.HEADING_CAME ++ part.heading.bytes
+    ++ text_in l texts.HEADING_LIKE ++ heading_example model ++ text_in l texts.HEADING_LIKE_END
+
 -- why the part isn't read: it is an order, or its heading is damaged
-abbrev pub lone_reason : Language → DamagedPart → List ℕ
-lone_reason l part =
-    if part.is_order then text_in l texts.IS_ORDER
-    else heading_fault l part.line (text_in l texts.HEADING_DAMAGED)
+abbrev pub lone_reason : Language → Model → DamagedPart → List ℕ
+lone_reason l model part =
+    if part.is_order then text_in l texts.IS_ORDER else damaged_heading l model part
 
 -- the part among the texts
 unfoldable pub lone_text : Language → Day → ℕ → DamagedPart → List ℕ
 lone_text l s after part =
     texts.LONE_HEAD.now ++ lone_words l after
     ++ filled (text_in l texts.LONE_HEAD_END) (model_name (day_model s) ∷ decimal (day_number s) ∷ [])
-    ++ text_in l texts.UNREAD ++ lone_reason l part ++ texts.REASON_END.now ++ lone_ask l part ++ SECTION_END.now
+    ++ text_in l texts.UNREAD ++ lone_reason l (day_model s) part ++ texts.REASON_END.now ++ lone_ask l part
+    ++ SECTION_END.now

@@ -2,6 +2,7 @@
 -- Test: tests/cases/curator-messages.toml
 use Rattle.std.specs.Prelude.{decimal, ℕ, false, if◌then◌else◌, List, [], ◌∷◌, ◌++◌}
 use Rattle.std.specs.Prelude.{Option, Some, None, Result, Ok, Err}
+use Rattle.kd_tables.specs.declared.model.Model.{Model}
 use Rattle.kd_lost.specs.declared.damage.PartDamage.{PartDamage}
 use Rattle.kd_lost.specs.declared.damaged_text.DamagedText.{DamagedText}
 use Rattle.kd_lost.specs.declared.damaged_text.GroupTest.{GroupTest}
@@ -13,7 +14,7 @@ use Rattle.kd_part_sheet.specs.declared.part_sheet.PartName.{PartName}
 use Rattle.kd_part_sheet.specs.Rows.{pieces}
 use Rattle.kd_message.specs.declared.texts.TheConstants as texts
 use Rattle.kd_message.specs.LoneParts.{lone_asked, lone_reason, lone_words}
-use Rattle.kd_lost.specs.OneMessage.{are_of_one_message}
+use Rattle.kd_lost.specs.ShownParts.{is_one_message}
 use Rattle.kd_message.specs.TextSheet.{asked_words, count_asked, counted_reason, first_text_group, groups_told, has_lost}
 use Rattle.kd_message.specs.TextSheet.{is_wrong_day, lost_groups, reason_text}
 
@@ -72,10 +73,10 @@ abbrev pub lone_ask_note : Language → DamagedPart → List ℕ
 lone_ask_note l part = if part.is_order then [] else lone_asked_note l part.came
 
 -- a part without a number, which stands after the part with the number `after`
-unfoldable pub lone_note : Language → ℕ → DamagedPart → List ℕ
-lone_note l after part =
-    lone_words l after ++ texts.COLON.now ++ lone_reason l part ++ lone_ask_note l part ++ texts.LINE_END.now
+unfoldable pub lone_note : Language → Model → ℕ → DamagedPart → List ℕ
+lone_note l model after part =
+    lone_words l after ++ texts.COLON.now ++ lone_reason l model part ++ lone_ask_note l part ++ texts.LINE_END.now
 
 -- that the parts aren't of one message, if they aren't
 abbrev pub several_note : Language → List DamagedPart → List ℕ
-several_note l parts = if are_of_one_message parts then [] else text_in l texts.NOTE_SEVERAL
+several_note l parts = if is_one_message parts then [] else text_in l texts.NOTE_SEVERAL

@@ -13,7 +13,7 @@ use Rattle.kd_lost.specs.declared.damaged_text.DamagedText.{DamagedText}
 use Rattle.kd_lost.specs.declared.form.DamagedFormFault.{DamagedFormFault}
 use Rattle.kd_lost.specs.declared.form.DamagedFormFault.TheVariants as form_faults
 use Rattle.kd_lost.specs.declared.part.{DamagedPart.{DamagedPart}, PartNumbers.{PartNumbers}}
-use Rattle.kd_lost.specs.DamagedForm.{AreReadOf, IsFormFault, damaged_parts_of}
+use Rattle.kd_lost.specs.DamagedForm.{AreFormParts, IsFormFault, damaged_parts_of}
 use Rattle.kd_pictures.specs.declared.texts.TheConstants.{FOOT}
 use Rattle.kd_pictures.specs.declared.language.Language.{Language}
 use Rattle.kd_pictures.specs.Language.{text_in}
@@ -32,9 +32,8 @@ use Rattle.kd_message.specs.declared.receiving.Section.TheVariants as sections
 use Rattle.kd_message.specs.ReceivedWork.{AreShowable, received_work}
 use Rattle.kd_message.specs.LoneParts.{listed_lone, lone_text}
 use Rattle.kd_message.specs.Notes.{lone_note, missing_note, part_note, several_note}
-use Rattle.kd_lost.specs.OneMessage.{are_of_one_message}
 use Rattle.kd_message.specs.SendPage.{list_head, listed_sheet, part_name, title_text}
-use Rattle.kd_lost.specs.ShownParts.{IsWhole, is_any_read, shown_under, times_of, total_of}
+use Rattle.kd_lost.specs.ShownParts.{IsWhole, is_any_read, is_one_message, shown_under, times_of, total_of}
 use Rattle.kd_message.specs.TextSheet.{came_text, counted_text, damage_text, missing_text, order_text, passed_text, read_text}
 use Rattle.kd_message.specs.TextSheet.{text_part_head}
 use Rattle.kd_message.specs.TextSheet.{text_sheet_head, warnings_of}
@@ -95,7 +94,7 @@ missing_in sections.Texts l name = text_part_head l name ++ missing_text l name 
 abbrev pub lone_in : Section → Language → Day → ℕ → DamagedPart → List ℕ
 lone_in sections.Listed l s after part = listed_lone l after
 lone_in sections.Worked l s after part = []
-lone_in sections.Noted l s after part = lone_note l after part
+lone_in sections.Noted l s after part = lone_note l (day_model s) after part
 lone_in sections.Texts l s after part = lone_text l s after part
 
 -- ---- The parts of one message, by their numbers.
@@ -150,7 +149,7 @@ as_they_came section l s place before (part ∷ parts) =
 -- a section: the parts by their numbers or, if they aren't of one message, as they came
 abbrev pub section_text : Section → Language → Day → List DamagedPart → List ℕ
 section_text section l s parts =
-    if are_of_one_message parts then by_number section l s parts else as_they_came section l s 1 0 parts
+    if is_one_message parts then by_number section l s parts else as_they_came section l s 1 0 parts
 
 -- ---- The page.
 
@@ -188,7 +187,7 @@ is_device_fault _ = false
 -- one whole message; or only a prefix of the page was written, since the sink failed. `FormNotRead`: nothing was written.
 pub data IsReceivePageAnswer (l : Language) (s : Day) (form : List ℕ) (sink : Port)
     (answer : Result Bool ReceivePageFault) : Type 0 where
-  ReceivedPageWritten : (parts : List DamagedPart) → AreReadOf s (damaged_parts_of form) parts
+  ReceivedPageWritten : (parts : List DamagedPart) → AreFormParts s form parts
       → length (damaged_parts_of form) ≤ 255 → Writes sink.had sink.has (receive_text l s parts) answer
       → MatchResult answer (λ whole. IsTrue whole ↔ IsWhole parts) (λ fault. fault ≡ faults.Device)
       → sink.has_failed ≡ (sink.had_failed || is_err answer)
@@ -200,7 +199,7 @@ pub data IsReceivePageAnswer (l : Language) (s : Day) (form : List ℕ) (sink : 
 -- is told.
 pub data IsFormNoted (l : Language) (s : Day) (form : List ℕ) (Told : List ℕ → Type 0)
     (answer : Result Bool ReceivePageFault) : Type 0 where
-  Noted : (parts : List DamagedPart) → AreReadOf s (damaged_parts_of form) parts → Told (receive_notes l s parts)
+  Noted : (parts : List DamagedPart) → AreFormParts s form parts → Told (receive_notes l s parts)
       → IsFormNoted l s form Told answer
   NotNoted : (fault : DamagedFormFault) → answer ≡ Err (page_fault fault) → IsFormNoted l s form Told answer
 

@@ -2,12 +2,14 @@
 //! read.
 ghost use Rattle.std.specs.Prelude.{◌≡◌};
 ghost use Rattle.kd_pictures.specs.Drawing.{Draws};
-ghost use Rattle.kd_message.specs.LoneParts.{listed_lone, lone_ask, lone_asked, lone_box, lone_reason};
-ghost use Rattle.kd_message.specs.LoneParts.{lone_text, lone_words};
+ghost use Rattle.kd_message.specs.LoneParts.{damaged_heading, heading_example, listed_lone, lone_ask, lone_asked};
+ghost use Rattle.kd_message.specs.LoneParts.{lone_box, lone_reason, lone_text, lone_words};
 
 use crate::texts::{
-    ALL_OF_IT, ASK_END, HEADING_DAMAGED, IS_ORDER, ITS_HEADING, LISTED_LONE, LISTED_LONE_END,
-    LONE_AFTER, LONE_ASK, LONE_FIRST, LONE_HEAD, LONE_HEAD_END, REASON_END, UNREAD,
+    ALL_OF_IT, ASK_END, FOUR_LETTER_HEADING, HEADING_CAME, HEADING_DAMAGED, HEADING_LIKE,
+    HEADING_LIKE_END, HEADING_WITHOUT_KEYS, IS_ORDER, ITS_HEADING, LISTED_LONE, LISTED_LONE_END,
+    LONE_AFTER, LONE_ASK, LONE_FIRST, LONE_HEAD, LONE_HEAD_END, REASON_END, THREE_LETTER_HEADING,
+    UNREAD,
 };
 use crate::unread::draw_heading_fault;
 use kd_lost::DamagedPart;
@@ -15,7 +17,7 @@ use kd_part_sheet::markup::SECTION_END;
 use kd_pictures::template::{Value, fill_in};
 use kd_pictures::{Language, draw, draw_in};
 use kd_state::SheetDay;
-use kd_tables::Sink;
+use kd_tables::{Model, Sink};
 
 /// Writes where a part without a number stands: after the part with the number `after`; 0 if there is no such part.
 pub(crate) fn draw_lone_words<W: Sink>(sink: &mut W, language: Language, after: u8)
@@ -65,20 +67,50 @@ pub(crate) fn draw_lone_text<W: Sink>(
         ],
     );
     draw_in(sink, language, UNREAD);
-    draw_lone_reason(sink, language, part);
+    draw_lone_reason(sink, language, day.model(), part);
     draw(sink, REASON_END);
     draw_lone_ask(sink, language, part);
     draw(sink, SECTION_END);
 }
 
 /// Writes why a part without a number isn't read: it is an order, or its heading is damaged.
-pub(crate) fn draw_lone_reason<W: Sink>(sink: &mut W, language: Language, part: &DamagedPart)
-    ensures { Draws W.taken W.has_failed sink.old sink.new (lone_reason language part.now) }
+pub(crate) fn draw_lone_reason<W: Sink>(
+    sink: &mut W,
+    language: Language,
+    model: Model,
+    part: &DamagedPart,
+)
+    ensures { Draws W.taken W.has_failed sink.old sink.new
+        (lone_reason language model part.now) }
 {
     if part.is_order {
         draw_in(sink, language, IS_ORDER);
     } else {
-        draw_heading_fault(sink, language, part.line, language.text(HEADING_DAMAGED));
+        draw_damaged_heading(sink, language, model, part);
+    }
+}
+
+/// Writes that a heading is damaged, as what it came, and what it should be like.
+fn draw_damaged_heading<W: Sink>(sink: &mut W, language: Language, model: Model, part: &DamagedPart)
+    ensures { Draws W.taken W.has_failed sink.old sink.new
+        (damaged_heading language model part.now) }
+{
+    draw_heading_fault(sink, language, part.line, language.text(HEADING_DAMAGED));
+    draw_in(sink, language, HEADING_CAME);
+    draw(sink, part.heading.as_str());
+    draw_in(sink, language, HEADING_LIKE);
+    draw(sink, heading_example(model));
+    draw_in(sink, language, HEADING_LIKE_END);
+}
+
+/// A heading of the model, as an example.
+fn heading_example(model: Model) -> &'static str
+    ensures { result.now ≡ heading_example model }
+{
+    match model {
+        Model::EnigmaI | Model::M3 => THREE_LETTER_HEADING,
+        Model::M4 => FOUR_LETTER_HEADING,
+        Model::M209 => HEADING_WITHOUT_KEYS,
     }
 }
 

@@ -13,17 +13,17 @@ use crate::texts::{
     NOTE_OTHER_DAY, NOTE_PART, NOTE_SEVERAL,
 };
 use crate::unread::{draw_asked, draw_count_asked, draw_reason};
-use kd_lost::{DamagedPart, DamagedText, GroupTest, PartDamage, are_of_one_message};
+use kd_lost::{DamagedPart, DamagedText, GroupTest, PartDamage, is_one_message};
 use kd_part_sheet::part_sheet::PartName;
 use kd_pictures::template::{Value, fill_in};
 use kd_pictures::{Language, draw, draw_in};
-use kd_tables::{Letter, Sink};
+use kd_tables::{Letter, Model, Sink};
 
 /// Tells that the parts aren't of one message, if they aren't.
 pub(crate) fn draw_several_note<W: Sink>(sink: &mut W, language: Language, parts: &[DamagedPart])
     ensures { Draws W.taken W.has_failed sink.old sink.new (several_note language parts.now) }
 {
-    if are_of_one_message(parts) {
+    if is_one_message(parts) {
         draw(sink, "");
     } else {
         draw_in(sink, language, NOTE_SEVERAL);
@@ -177,14 +177,15 @@ pub(crate) fn draw_missing_note<W: Sink>(sink: &mut W, language: Language, name:
 pub(crate) fn draw_lone_note<W: Sink>(
     sink: &mut W,
     language: Language,
+    model: Model,
     after: u8,
     part: &DamagedPart,
 )
-    ensures { Draws W.taken W.has_failed sink.old sink.new (lone_note language after part.now) }
+    ensures { Draws W.taken W.has_failed sink.old sink.new (lone_note language model after part.now) }
 {
     draw_lone_words(sink, language, after);
     draw(sink, COLON);
-    draw_lone_reason(sink, language, part);
+    draw_lone_reason(sink, language, model, part);
     draw_lone_ask_note(sink, language, part);
     draw(sink, LINE_END);
 }

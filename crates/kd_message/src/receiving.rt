@@ -25,8 +25,8 @@ use crate::text_sheet::{
 use crate::texts::{ARTICLE_END, LIST_END_WITH_TEXT, LISTED_UNREAD, TITLE_TO_RECEIVE};
 use crate::unread::{draw_damage, draw_missing};
 use kd_lost::{
-    DamagedFormFault, DamagedPart, DamagedText, PartNumbers, are_of_one_message, is_any_read,
-    is_whole, read_damaged_form, shown_under, times_of, total_of,
+    DamagedFormFault, DamagedPart, DamagedText, PartNumbers, is_any_read, is_one_message, is_whole,
+    read_damaged_form, shown_under, times_of, total_of,
 };
 use kd_part_sheet::markup::SECTION_END;
 use kd_part_sheet::part_sheet::{PartName, draw_if, draw_part_sheet, note};
@@ -162,7 +162,7 @@ fn draw_section<W: Sink>(
     ensures { Draws W.taken W.has_failed sink.old sink.new
         (section_text section language day.now parts.now) }
 {
-    if are_of_one_message(parts) {
+    if is_one_message(parts) {
         draw_by_number(sink, section, language, day, parts);
     } else {
         draw_as_they_came(sink, section, language, day, 1, 0, parts);
@@ -336,7 +336,7 @@ fn draw_lone<W: Sink>(
         Section::Listed => draw_listed_lone(sink, language, after),
         Section::Worked => draw(sink, ""),
         Section::Texts => draw_lone_text(sink, language, day, after, part),
-        Section::Noted => draw_lone_note(sink, language, after, part),
+        Section::Noted => draw_lone_note(sink, language, day.model(), after, part),
     }
 }
 

@@ -19,7 +19,7 @@ use crate::texts::{
 use itoa::Buffer;
 use kd_form::text_bytes::space_letter;
 use kd_lost::{
-    DamagedPart, DamagedText, GroupTest, LostCopies, PartNumbers, are_of_one_message, are_rising,
+    DamagedPart, DamagedText, GroupTest, LostCopies, PartNumbers, are_rising, is_one_message,
 };
 use kd_part_sheet::markup::{COMMA, LOST_LETTER, SPACE};
 use kd_part_sheet::part_sheet::{PartName, Warnings, draw_warnings};
@@ -80,7 +80,7 @@ fn is_any_smoothed(parts: &[DamagedPart]) -> bool
 pub(crate) fn draw_order<W: Sink>(sink: &mut W, language: Language, parts: &[DamagedPart])
     ensures { Draws W.taken W.has_failed sink.old sink.new (order_text language parts.now) }
 {
-    if !are_of_one_message(parts) {
+    if !is_one_message(parts) {
         draw_several_words(sink, language, parts);
     } else if are_rising(0, parts) {
         draw(sink, "");

@@ -122,8 +122,8 @@ pub const OF_PARTS: &str = "/";
 pub const CAME: Text = ("<p>This part came ", "<p>Dieser Teil kam ");
 
 pub const CAME_END: Text = (
-    " times. The copy with the fewest lost letters is shown.</p>\n",
-    "-mal. Gezeigt ist die Fassung, in der die wenigsten Buchstaben fehlen.</p>\n",
+    " times. A letter that one copy lost is taken from another.</p>\n",
+    "-mal. Ein Buchstabe, der in einer Fassung fehlt, ist aus einer anderen genommen.</p>\n",
 );
 
 /// What to ask for again: the part; then what of it.
@@ -177,6 +177,20 @@ pub const HEADING_DAMAGED: Text = (
     ": the heading is damaged.",
     ": Der Spruchkopf ist verstümmelt.",
 );
+
+/// A damaged heading: before the line as it came; before an example of a heading; after it. An example for each number of
+/// wheels, and for the Converter M-209.
+pub const HEADING_CAME: Text = (" It came as “", " Er kam als „");
+
+pub const HEADING_LIKE: Text = ("”, and should be like ", "“ und sollte sein wie ");
+
+pub const HEADING_LIKE_END: Text = (".", ".");
+
+pub const THREE_LETTER_HEADING: &str = "PART 1/2 250 KLM HDT";
+
+pub const FOUR_LETTER_HEADING: &str = "PART 1/2 250 KLMN HDTR";
+
+pub const HEADING_WITHOUT_KEYS: &str = "PART 1/2 520";
 
 pub const IS_ORDER: Text = (
     "This is an order, not a form: it is for curator send.",

@@ -17,6 +17,7 @@ returns c =
       as_meant = record {
         given = read.given;
         given_there = read.given_there;
+        heading = read.heading;
         came = read.came;
         body = read.body;
         text = read.text;

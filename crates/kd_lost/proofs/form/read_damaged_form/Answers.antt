@@ -1,46 +1,69 @@
-use Rattle.std.proofs.Common.{◌≡◌, ◌≤◌, ◌+◌, ◌∙◌, ◌++◌, ◌∷◌, [], refl, subst, sym, ap, arith, length, length-append}
-use Rattle.std.proofs.Common.{MatchOption}
-use Rattle.kd_lost.specs.DamagedForm.{AreReadOf, TooMany, damaged_parts_of, parts_cut, placed_from}
-use Rattle.kd_lost.proofs.Forms.{left_on, read_more, too_many}
+use Rattle.std.proofs.Common.{◌≡◌, ◌∙◌, [], Bool, false, true, if◌then◌else◌, sym, ap, subst}
+use Rattle.kd_lost.specs.DamagedForm.{AreReadOf, AreReadWith, damaged_parts_of}
+use Rattle.kd_lost.specs.OneMessage.{are_of_one_message}
+use Rattle.kd_lost.specs.Repetitions.{are_kept}
+use Rattle.kd_lost.proofs.CompletedParts.{chosen_alone, completed_by_none}
 use Rattle.kd_lost.proofs.form.read_damaged_form.Goals as goal
 
-pub returns-then-len-eq-MOST_PARTS : goal.returns-then-len-eq-MOST_PARTS
-returns-then-len-eq-MOST_PARTS c =
-    let (few, done, are, left) = c.loop-left.invariant in
-    let all = damaged_parts_of c.args.form.now in
-    let line = c.loop-left.line in
-    let size = length c.args.form.now + 1 in
-    let is = subst (λ l. MatchOption l (all ≡ done) (λ rest. (all ≡ done ++ placed_from line (parts_cut rest.now))
-    × (line + length rest.now ≤ size))) c.in-Some.is left in
+pub returns-then-not-are_of_one_message-clause-read :
+    goal.returns-then-not-are_of_one_message-clause-read
+returns-then-not-are_of_one_message-clause-read c =
+    let s = c.args.day.now in
+    let form = c.args.form.now in
+    let alone = c.in_ok-alone.alone.items in
+    let several : are_of_one_message alone ≡ false =
+    ap are_of_one_message (sym c.as_slice.ensures.value) ∙ sym c.are_of_one_message.ensures
+    ∙ c.if-not-are_of_one_message.true in
     record {
-      read = TooMany (too_many c.args.day.now all done c.loop-left.parts.items line c.in-Some.rest.now are is.0
-          (sym c.loop-left.parts.ok.0 ∙ sym c.len.ensures ∙ c.if-len-eq-MOST_PARTS.true)) refl;
-      few = tt;
+      alone = alone;
+      read = subst (λ l. AreReadOf s l alone) (completed_by_none 0 (damaged_parts_of form)) c.in_ok-alone.ensures.read;
+      again = alone;
+      read_again =
+          subst (λ (b : Bool). AreReadWith s (if b then alone else []) form alone) (sym several)
+          c.in_ok-alone.ensures.read;
+      chosen = chosen_alone alone;
     }
 
-pub loop-left-preserved : goal.loop-left-preserved
-loop-left-preserved c =
-    let (few, done, are, left) = c.loop-left.invariant in
-    let all = damaged_parts_of c.args.form.now in
-    let line = c.loop-left.line in
-    let size = length c.args.form.now + 1 in
-    let is = subst (λ l. MatchOption l (all ≡ done) (λ rest. (all ≡ done ++ placed_from line (parts_cut rest.now))
-    × (line + length rest.now ≤ size))) c.in-Some.is left in
-    let part = c.split_part.result.0.now in (
-      omega (
-        arith,
-        few,
-        sym c.loop-left.parts.ok.0 ∙ sym c.len.ensures,
-        c.if-len-eq-MOST_PARTS.false,
-        ap length c.in-Ok-push.ensures.items,
-        length-append c.loop-left.parts.items (c.in-Ok.read ∷ []),
-      ),
-      done ++ record { bytes = part; line = line } ∷ [],
-      subst (AreReadOf c.args.day.now (done ++ record { bytes = part; line = line } ∷ []))
-          (sym c.in-Ok-push.ensures.items)
-          (read_more c.args.day.now done c.loop-left.parts.items (record { bytes = part; line = line }) c.in-Ok.read are
-          c.in-Ok.ensures),
-      left_on (λ more. more.now) c.split_part.result.1 all done line c.line_breaks-line.result size c.in-Some.rest.now part
-          is.0 is.1 c.split_part.ensures.part c.split_part.ensures.others c.split_part.ensures.joined
-          c.line_breaks-line.ensures.breaks c.line_breaks-line.ensures.few,
-    )
+pub returns-then-are_kept-clause-read : goal.returns-then-are_kept-clause-read
+returns-then-are_kept-clause-read c =
+    let s = c.args.day.now in
+    let form = c.args.form.now in
+    let alone = c.in_ok-alone.alone.items in
+    let again = c.in_ok-again.again.items in
+    let one : are_of_one_message alone ≡ true =
+    ap are_of_one_message (sym c.as_slice.ensures.value) ∙ sym c.are_of_one_message.ensures
+    ∙ c.if-not-are_of_one_message.false in
+    let kept : are_kept alone again ≡ true =
+    (λ i. are_kept (sym c.as_slice-3.ensures.value i) (sym c.as_slice-4.ensures.value i)) ∙ sym c.are_kept.ensures
+    ∙ c.if-are_kept.true in
+    record {
+      alone = alone;
+      read = subst (λ l. AreReadOf s l alone) (completed_by_none 0 (damaged_parts_of form)) c.in_ok-alone.ensures.read;
+      again = again;
+      read_again =
+          subst (λ (b : Bool). AreReadWith s (if b then alone else []) form again) (sym one)
+          (subst (λ l. AreReadWith s l form again) c.as_slice-2.ensures.value c.in_ok-again.ensures.read);
+      chosen = sym (ap (λ (b : Bool). if b then again else alone) kept);
+    }
+
+pub returns-else-are_kept-clause-read : goal.returns-else-are_kept-clause-read
+returns-else-are_kept-clause-read c =
+    let s = c.args.day.now in
+    let form = c.args.form.now in
+    let alone = c.in_ok-alone.alone.items in
+    let again = c.in_ok-again.again.items in
+    let one : are_of_one_message alone ≡ true =
+    ap are_of_one_message (sym c.as_slice.ensures.value) ∙ sym c.are_of_one_message.ensures
+    ∙ c.if-not-are_of_one_message.false in
+    let kept : are_kept alone again ≡ false =
+    (λ i. are_kept (sym c.as_slice-3.ensures.value i) (sym c.as_slice-4.ensures.value i)) ∙ sym c.are_kept.ensures
+    ∙ c.if-are_kept.false in
+    record {
+      alone = alone;
+      read = subst (λ l. AreReadOf s l alone) (completed_by_none 0 (damaged_parts_of form)) c.in_ok-alone.ensures.read;
+      again = again;
+      read_again =
+          subst (λ (b : Bool). AreReadWith s (if b then alone else []) form again) (sym one)
+          (subst (λ l. AreReadWith s l form again) c.as_slice-2.ensures.value c.in_ok-again.ensures.read);
+      chosen = sym (ap (λ (b : Bool). if b then again else alone) kept);
+    }

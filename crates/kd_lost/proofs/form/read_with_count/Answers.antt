@@ -8,6 +8,7 @@ returns c =
       record {
         given = c.read_damaged_part-read.result.numbers;
         given_there = read.numbers;
+        heading = read.heading;
         came = read.came;
         body = read.body;
         text = read.text;
@@ -29,6 +30,7 @@ returns-then-not-is_count_doubted c =
       record {
         given = c.read_damaged_part-read.result.numbers;
         given_there = read.numbers;
+        heading = read.heading;
         came = read.came;
         body = read.body;
         text = read.text;

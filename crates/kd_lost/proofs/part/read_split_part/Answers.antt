@@ -1,6 +1,7 @@
 use Rattle.std.proofs.Common.{◌∙◌, ap, length, subst, sym}
 use Rattle.kd_lost.specs.WrongSign.{IsFirstWrongSign}
 use Rattle.kd_lost.specs.DamagedPart.{body_letters, body_of, first_line}
+use Rattle.kd_lost.specs.HeadingLine.{heading_signs}
 use Rattle.kd_lost.specs.Lost.{received_letters}
 use Rattle.kd_lost.specs.ShortGroup.{IsFirstShortGroup}
 use Rattle.kd_lost.specs.ShortLine.{short_line}
@@ -18,6 +19,7 @@ returns-in-Some c =
     c.read_lines.ensures.text in
     record {
       numbers = told.0;
+      heading = c.read_lines.ensures.heading ∙ ap heading_signs (sym (ap first_line first.joined ∙ there.0));
       came = c.read_lines.ensures.came
           ∙ ap (λ b. length (received_letters b)) (sym (ap body_of first.joined ∙ there.1));
       body = c.read_lines.ensures.body ∙ ap body_letters (sym (ap body_of first.joined ∙ there.1));
@@ -41,6 +43,7 @@ returns-in-None c =
     c.read_lines-in-None.ensures.numbers c.read_lines-in-None.ensures.text in
     record {
       numbers = told.0;
+      heading = c.read_lines-in-None.ensures.heading ∙ ap heading_signs (sym there.0);
       came = c.read_lines-in-None.ensures.came ∙ ap (λ b. length (received_letters b)) (sym there.1);
       body = c.read_lines-in-None.ensures.body ∙ ap body_letters (sym there.1);
       text = told.1;

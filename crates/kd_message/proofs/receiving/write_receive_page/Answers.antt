@@ -1,9 +1,9 @@
 use Rattle.std.proofs.Common.{◌≡◌, ◌∙◌, ◌≤◌, length, arith, refl, ap, sym, subst, true, Err, rules}
 use Rattle.kd_lost.specs.DamagedForm.{damaged_parts_of}
-use Rattle.kd_lost.proofs.Forms.{as_many_read}
+use Rattle.kd_lost.proofs.CompletedParts.{as_many_parts}
 use Rattle.kd_pictures.proofs.Drawings.{writes_part}
 use Rattle.kd_message.specs.ReceivePage.{AreWorkable, FormNotRead, NotNoted, Noted, ReceivedPageWritten}
-use Rattle.kd_message.proofs.ReceivePages.{are_workable, or_true, page_begins}
+use Rattle.kd_message.proofs.ReceivePages.{are_workable_parts, or_true, page_begins}
 use Rattle.kd_message.proofs.receiving.write_receive_page.Goals as goal
 
 pub returns-in-Err-clause-page : goal.returns-in-Err-clause-page
@@ -13,15 +13,14 @@ returns-in-Err-clause-page g c =
 pub draw_page-requires-clause-workable : goal.draw_page-requires-clause-workable
 draw_page-requires-clause-workable g c =
     subst (AreWorkable c.args.day.now) (sym c.as_slice.ensures.value)
-    (are_workable c.args.day.now (damaged_parts_of c.args.form.now) c.in-Ok.parts.items c.in-Ok.ensures.read)
+    (are_workable_parts c.args.day.now c.args.form.now c.in-Ok.parts.items c.in-Ok.ensures.read)
 
 pub returns-then-failed-clause-page : goal.returns-then-failed-clause-page
 returns-then-failed-clause-page g c =
     let few : length (damaged_parts_of c.args.form.now) ≤ 255 =
     omega (
       arith,
-      as_many_read c.args.day.now (damaged_parts_of c.args.form.now) c.in-Ok.parts.items
-          c.in-Ok.ensures.read,
+      as_many_parts c.args.day.now c.args.form.now c.in-Ok.parts.items c.in-Ok.ensures.read,
       c.in-Ok.ensures.few,
     ) in
     let drawn = rw c.as_slice.ensures.value at c.draw_page.ensures in
@@ -34,8 +33,7 @@ returns-clause-page g c =
     let few : length (damaged_parts_of c.args.form.now) ≤ 255 =
     omega (
       arith,
-      as_many_read c.args.day.now (damaged_parts_of c.args.form.now) c.in-Ok.parts.items
-          c.in-Ok.ensures.read,
+      as_many_parts c.args.day.now c.args.form.now c.in-Ok.parts.items c.in-Ok.ensures.read,
       c.in-Ok.ensures.few,
     ) in
     let drawn = rw c.as_slice.ensures.value at c.draw_page.ensures in
@@ -53,7 +51,7 @@ returns-then-failed-clause-failed g c =
 pub draw_notes-requires-clause-workable : goal.draw_notes-requires-clause-workable
 draw_notes-requires-clause-workable g c =
     subst (AreWorkable c.args.day.now) (sym c.as_slice-2.ensures.value)
-    (are_workable c.args.day.now (damaged_parts_of c.args.form.now) c.in-Ok.parts.items c.in-Ok.ensures.read)
+    (are_workable_parts c.args.day.now c.args.form.now c.in-Ok.parts.items c.in-Ok.ensures.read)
 
 pub returns-in-Err-clause-noted : goal.returns-in-Err-clause-noted
 returns-in-Err-clause-noted g c = NotNoted c.in-Err.fault (ap Err c.page_fault.ensures)

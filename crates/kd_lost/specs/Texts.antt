@@ -1,0 +1,39 @@
+-- The text that is shown of a part, and whether another text has all its letters.
+use Rattle.std.specs.Prelude.{ℕ, ◌==◌, ◌&&◌, nat_le, Bool, true, false, is_none, List, [], ◌∷◌, Option, Some, None}
+use Rattle.std.specs.Prelude.{Result, Ok, Err}
+use Rattle.std.specs.List.{count_by}
+use Rattle.kd_lost.specs.declared.damage.PartDamage.{PartDamage}
+use Rattle.kd_lost.specs.declared.damaged_text.DamagedText.{DamagedText}
+use Rattle.kd_lost.specs.declared.part.DamagedPart.{DamagedPart}
+
+-- the text or, if there is none, the text by count
+abbrev pub text_or : Result DamagedText PartDamage → Option DamagedText → Option DamagedText
+text_or (Ok shown) counted = Some shown
+text_or (Err damage) counted = counted
+
+-- the text that is shown of a part: its text or, if its count is wrong or damaged, its text by count
+abbrev pub shown_text : DamagedPart → Option DamagedText
+shown_text part = text_or part.text part.by_count
+
+-- how many letters of a text are lost
+abbrev pub lost_in : DamagedText → ℕ
+lost_in shown = count_by (λ letter. is_none letter) shown.letters.items
+
+-- whether the letter is lost, or the other one is the same
+abbrev pub letter_within : Option ℕ → Option ℕ → Bool
+letter_within None again = true
+letter_within (Some letter) (Some again) = letter == again
+letter_within (Some letter) None = false
+
+-- whether `other` has each letter of `one` that isn't lost, at the same place
+abbrev pub letters_within : List (Option ℕ) → List (Option ℕ) → Bool
+letters_within [] other = true
+letters_within (letter ∷ one) (again ∷ other) = letter_within letter again && letters_within one other
+letters_within (letter ∷ one) [] = is_none letter && letters_within one []
+
+-- whether the other text has each letter of the first, and no more lost letters; none is needed for no text
+abbrev pub text_within : Option DamagedText → Option DamagedText → Bool
+text_within None other = true
+text_within (Some one) (Some other) =
+    letters_within one.letters.items other.letters.items && nat_le (lost_in other) (lost_in one)
+text_within (Some one) None = false
