@@ -6,6 +6,7 @@ pub mod OneTable
 pub mod DayLines
 pub mod EmptyMonths
 pub mod Writings
+pub mod CountedRows
 pub mod Noting
 pub mod ReadRows
 pub mod ColumnsThere

@@ -2,7 +2,7 @@
 -- is no day has a line that begins with the row's place, and each cell that can't be read has one that begins with the
 -- cell's place. What follows the place is in words that no definition gives.
 -- Test: tests/cases/curator-sheet.toml
-use Rattle.std.specs.Prelude.{◌≡◌, ◌<◌, ◌+◌, ◌==◌, ◌&&◌, ◌||◌, codes, decimal, nat_lt, ℕ, Bool, true, false, List, [], ◌∷◌, ◌++◌, flat_map, length, map, take, Option, Some, None, IsTrue, if◌then◌else◌}
+use Rattle.std.specs.Prelude.{◌≡◌, ◌<◌, ◌+◌, ◌==◌, ◌&&◌, ◌||◌, codes, decimal, nat_lt, ℕ, Bool, true, false, List, [], ◌∷◌, ◌++◌, drop, flat_map, length, map, slice_get, take, Option, Some, None, IfSome, IsTrue, if◌then◌else◌}
 use Rattle.std.specs.Io.KnownBytes.{Appends}
 use Rattle.std.specs.List.{list_all, list_any, range_with_len}
 use Rattle.std.specs.Option.{option_map_or}
@@ -12,6 +12,7 @@ use Rattle.kd_table.specs.Columns.{cell_at, columns_of}
 use Rattle.kd_table.specs.Items.{is_blank}
 use Rattle.kd_table.specs.Options.{OptionTexts}
 use Rattle.kd_table.specs.Row.{IsNoDay, is_blank_row, places_of, row_values}
+use Rattle.kd_table.specs.RowNumbers.{row_numbers}
 use Rattle.kd_table.specs.Rows.{is_well_quoted}
 use Rattle.kd_table.specs.Table.{AreRows}
 use Rattle.kd_table.specs.declared.cell.Cell.{Cell}
@@ -128,17 +129,18 @@ pub record TellsRow (options : OptionTexts) (columns : Columns) (head : List (Li
   pub some : IsNoDay (row_values options columns row) → has_columns options columns row ≡ true
       → 0 < length of_cells + length words
 
--- The note on the rows under the first row `head`, in order. Blank rows are passed over.
-pub data TellsRows (options : OptionTexts) (columns : Columns) (head : List (List ℕ))
+-- The note on the rows under the first row `head`, in order, which have the numbers `numbers`. Blank rows are passed over.
+pub data TellsRows (options : OptionTexts) (columns : Columns) (head : List (List ℕ)) (numbers : List ℕ)
     : List (List (List ℕ)) → List ℕ → Type 0 where
-  NoneTold : TellsRows options columns head [] []
+  NoneTold : TellsRows options columns head numbers [] []
   BlankTold : (rows : List (List (List ℕ))) (note : List ℕ) (row : List (List ℕ))
-      → TellsRows options columns head rows note → is_blank_row columns row ≡ true
-      → TellsRows options columns head (rows ++ row ∷ []) note
+      → TellsRows options columns head numbers rows note → is_blank_row columns row ≡ true
+      → TellsRows options columns head numbers (rows ++ row ∷ []) note
   RowTold : (rows : List (List (List ℕ))) (note : List ℕ) (row : List (List ℕ)) (number : ℕ) (more : List ℕ)
-      → TellsRows options columns head rows note → is_blank_row columns row ≡ false
+      → TellsRows options columns head numbers rows note → is_blank_row columns row ≡ false
+      → IfSome (slice_get numbers (length rows)) (λ due. number ≡ due)
       → TellsRow options columns head number row more
-      → TellsRows options columns head (rows ++ row ∷ []) (note ++ more)
+      → TellsRows options columns head numbers (rows ++ row ∷ []) (note ++ more)
 
 abbrev pub quotes_note : List ℕ
 quotes_note = codes "a quote isn't closed, or something follows the closing quote of a cell\n"
@@ -152,7 +154,8 @@ pub data TellsTable (options : OptionTexts) (table : List ℕ) : List ℕ → Ty
   OfQuotes : is_well_quoted table ≡ false → TellsTable options table quotes_note
   OfNothing : AreRows table [] → TellsTable options table nothing_note
   OfRows : (head : List (List ℕ)) (rows : List (List (List ℕ))) (missing : List (List ℕ)) (note : List ℕ)
-      (words : List (List ℕ)) → AreRows table (head ∷ rows) → TellsRows options (columns_of head) head rows note
+      (words : List (List ℕ)) → AreRows table (head ∷ rows)
+      → TellsRows options (columns_of head) head (drop 1 (row_numbers table)) rows note
       → (list_all (is_blank_row (columns_of head)) rows ≡ true → 0 < length words)
       → TellsTable options table
       (unread_note head ++ (flat_map (line_at (codes "row 1: ")) missing ++ (note ++ flat_map (line_at []) words)))
@@ -182,5 +185,5 @@ pub record HasRowsNote (options : OptionTexts) (columns : Columns) (head : List 
   pub words : List (List ℕ)
   pub are : AreRows table (head ∷ rows)
   pub appended : new ≡ old ++ (text ++ flat_map (line_at []) words)
-  pub told : TellsRows options columns head rows text
+  pub told : TellsRows options columns head (drop 1 (row_numbers table)) rows text
   pub empty : list_all (is_blank_row columns) rows ≡ true → 0 < length words

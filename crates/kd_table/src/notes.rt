@@ -1,5 +1,5 @@
 //! Tells in words what is wrong with a table. Which rows and cells are told is proved; the words aren't, but tests try them.
-ghost use Rattle.std.specs.Prelude.{◌≡◌, ◌&&◌, ◌++◌, ◌∷◌, [], codes, flat_map, map, ℕ, List, IfOk};
+ghost use Rattle.std.specs.Prelude.{◌≡◌, ◌&&◌, ◌++◌, ◌∷◌, [], codes, flat_map, length, map, slice_get, ℕ, List, IfOk, IfSome};
 ghost use Rattle.csv.specs.Records.{fields_of};
 ghost use Rattle.kd_tables.specs.Ports.{port};
 ghost use Rattle.kd_table.specs.Notes.{line_at, unread_note, HasRowsNote, Tells, TellsRows, TellsTable, TellsText};
@@ -70,9 +70,10 @@ fn push_body_row(
     row: &ByteRecord,
 ) -> Result<(), SpreadsheetFault>
     ensures { IfOk result (λ _. (more : List ℕ) × (note.new.items ≡ note.old.items ++ more)
-        × ((rows : List (List (List ℕ))) (text : List ℕ)
-        → TellsRows head.now.options head.now.columns head.now.names rows text
-        → TellsRows head.now.options head.now.columns head.now.names
+        × ((numbers : List ℕ) (rows : List (List (List ℕ))) (text : List ℕ)
+        → IfSome (slice_get numbers (length rows)) (λ due. number ≡ due)
+        → TellsRows head.now.options head.now.columns head.now.names numbers rows text
+        → TellsRows head.now.options head.now.columns head.now.names numbers
         (rows ++ fields_of row.now ∷ []) (text ++ more))) }
 {
     if is_blank_row(head.columns(), row) {
@@ -104,7 +105,8 @@ fn push_rows(
     let mut found = Found::new();
     let mut blank = true;
     for row in rows {
-        push_body_row(note, &mut found, head, numbers.next_row(), row)?;
+        let number = numbers.next_row();
+        push_body_row(note, &mut found, head, number, row)?;
         blank = is_still_blank(blank, head, row);
     }
     push_due_words(note, b"", &Words::new(), blank, NO_DAY)

@@ -1,4 +1,8 @@
 //! Counts the rows of a table as a spreadsheet does: empty rows count, and a line end in a quoted cell doesn't.
+ghost use Rattle.std.specs.Prelude.{◌≡◌, MatchOption, false};
+ghost use Rattle.kd_table.specs.RowNumbers.{AreLineEnds, AtStart, IsCounted, IsNext, IsRowBefore, StartsRow};
+ghost use Rattle.kd_table.specs.RowNumbers.{ends_line, numbers_from, numbers_left};
+
 use crate::quotes::Quoting;
 
 /// What is left of a table, and the number of its first row.
@@ -11,7 +15,10 @@ pub struct RowNumbers<'a> {
 
 impl<'a> RowNumbers<'a> {
     /// The rows of `table`, which begins with row 1.
-    pub fn new(separator: u8, table: &'a [u8]) -> Self {
+    pub fn new(separator: u8, table: &'a [u8]) -> Self
+        ensures left { numbers_left result ≡ numbers_from separator (AtStart false) 1 table.now }
+        ensures counted { IsCounted result }
+    {
         RowNumbers {
             separator,
             rest: table,
@@ -20,22 +27,25 @@ impl<'a> RowNumbers<'a> {
     }
 
     /// The number of the next row that isn't empty.
-    pub fn next_row(&mut self) -> u64 {
-        let RowNumbers {
-            separator,
-            rest,
-            number,
-        } = self;
-        let (skipped, left) = skip_empty(rest);
-        let found = number.saturating_add(skipped);
-        *rest = skip_row(*separator, left);
-        *number = found.saturating_add(1);
+    pub fn next_row(&mut self) -> u64
+        requires { IsCounted self.old }
+        ensures next { IsNext (numbers_left self.old) result (numbers_left self.new) }
+        ensures counted { IsCounted self.new }
+    {
+        let (skipped, left) = skip_empty(self.rest);
+        let found = self.number.saturating_add(skipped);
+        self.rest = skip_row(self.separator, left);
+        self.number = found.saturating_add(1);
         found
     }
 }
 
 /// What follows a line end at the start of `rest`: CR, LF or both. `None` if there is no line end.
-fn after_line_end(rest: &[u8]) -> Option<&[u8]> {
+fn after_line_end(rest: &[u8]) -> Option<&[u8]>
+    ensures { MatchOption result
+        (StartsRow rest.now)
+        (λ left. AreLineEnds rest.now 1 left.now) }
+{
     match rest {
         [13, 10, left @ ..] => Some(left),
         [13 | 10, left @ ..] => Some(left),
@@ -43,29 +53,36 @@ fn after_line_end(rest: &[u8]) -> Option<&[u8]> {
     }
 }
 
+fn ends_line(byte: u8) -> bool
+    ensures { result ≡ ends_line byte }
+{
+    byte == 13 || byte == 10
+}
+
 /// Skips empty rows: how many there are, and what follows them.
-fn skip_empty(rest: &[u8]) -> (u64, &[u8]) {
+fn skip_empty(rest: &[u8]) -> (u64, &[u8])
+    ensures skipped { AreLineEnds rest.now result.0 result.1.now }
+    ensures starts { StartsRow result.1.now }
+{
     let mut left = rest;
     let mut skipped: u64 = 0;
-    for _ in 0..rest.len() {
-        match after_line_end(left) {
-            Some(after) => {
-                left = after;
-                skipped = skipped.saturating_add(1);
-            }
-            None => break,
-        }
+    while let Some(after) = after_line_end(left) {
+        left = after;
+        skipped += 1;
     }
     (skipped, left)
 }
 
 /// What follows the row at the start of `rest`, and the row's line end.
-fn skip_row(separator: u8, rest: &[u8]) -> &[u8] {
+fn skip_row(separator: u8, rest: &[u8]) -> &[u8]
+    requires { StartsRow rest.now }
+    ensures { IsRowBefore separator rest.now result.now }
+{
     let mut quoting = Quoting::CellStart;
     for (place, byte) in rest.iter().enumerate() {
-        let at_end = *byte == 13 || *byte == 10;
-        if at_end && quoting.may_end() {
-            return after_line_end(&rest[place..]).unwrap_or(&[]);
+        if ends_line(*byte) && quoting.may_end() {
+            let (_, left) = rest.split_at(place);
+            return after_line_end(left).unwrap_or(&[]);
         }
         quoting = quoting.after_byte(separator, *byte);
     }

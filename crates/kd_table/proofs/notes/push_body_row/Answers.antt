@@ -10,7 +10,7 @@ returns-then-is_blank_row c =
     let blank = rw c.columns.ensures at c.is_blank_row.ensures in (
       [],
       sym (append-nil c.args.note.now.items),
-      λ rows text told. rw (append-nil text) (BlankTold rows text (fields_of c.args.row.now) told
+      λ numbers rows text due told. rw (append-nil text) (BlankTold rows text (fields_of c.args.row.now) told
           (sym blank ∙ c.if-is_blank_row.true)),
     )
 
@@ -20,7 +20,7 @@ returns c =
     IfOk-weaker c.push_row.result _ _ (λ done pushed. (
       pushed.0,
       pushed.1,
-      λ rows text told. RowTold rows text (fields_of c.args.row.now) c.args.number pushed.0 told
-          (sym filled ∙ c.if-is_blank_row.false) pushed.2,
+      λ numbers rows text due told. RowTold rows text (fields_of c.args.row.now) c.args.number pushed.0 told
+          (sym filled ∙ c.if-is_blank_row.false) due pushed.2,
     ))
     c.push_row.ensures
