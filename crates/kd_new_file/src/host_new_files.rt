@@ -10,14 +10,7 @@ use std::fs::{self, File};
 /// The folders of the system that the program runs on. No contract says which files are in them.
 #[derive(Drop)]
 pub struct HostNewFiles<'h> {
-    rt: &'h HostRuntime,
-}
-
-impl<'h> HostNewFiles<'h> {
-    /// The folders of the host system, in which `rt` can make files.
-    pub fn new(rt: &'h HostRuntime) -> Self {
-        HostNewFiles { rt }
-    }
+    pub rt: &'h HostRuntime,
 }
 
 impl<'h> NewFiles for HostNewFiles<'h> {

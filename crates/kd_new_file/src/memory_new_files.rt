@@ -1,5 +1,5 @@
 //! New files in memory, for tests of programs.
-ghost use Rattle.std.specs.Prelude.{◌≡◌, ◌↔◌, None, Some, Err, OnErr, OnOk, IsSome};
+ghost use Rattle.std.specs.Prelude.{◌≡◌, ◌↔◌, Some, Err, OnErr, OnOk, IsSome};
 ghost use Rattle.kd_new_file.specs.NewFiles.{AddsFile, files_in};
 
 use crate::new_file_fault::NewFileFault;
@@ -8,24 +8,15 @@ use kd_tables::MemorySink;
 use std::alloc::Global;
 use std::collections::BTreeMap;
 
-/// Files in memory, each of at most `CAP` bytes.
+/// Files in memory. A new file can have at most `CAP` bytes.
 #[derive(Drop)]
 pub struct MemoryNewFiles<const CAP: usize> {
-    alloc: Global,
-    files: BTreeMap<String, Vec<u8>>,
+    pub alloc: Global,
+    /// The bytes of each file, by its name.
+    pub files: BTreeMap<String, Vec<u8>>,
 }
 
 impl<const CAP: usize> MemoryNewFiles<CAP> {
-    /// No files.
-    pub fn new(alloc: Global) -> Self
-        ensures { files_in result.files ≡ (λ _. None) }
-    {
-        MemoryNewFiles {
-            alloc,
-            files: BTreeMap::new(alloc),
-        }
-    }
-
     /// Adds a file called `name`, with these bytes. Returns `Taken` if there is a file with this name.
     fn add(&mut self, name: &str, bytes: &[u8]) -> Result<(), NewFileFault>
         ensures added { OnOk result

@@ -52,7 +52,7 @@ pub fn publish<N: NewFiles>(
         → AddsFile before (N.held files.new) name.now (N.Written.taken file)) }
     ensures refused { OnErr result ((before : Option FilesByName)
         → AddsFile before (N.held files.old) other.now (Some [])
-        → IfSome before (λ _. N.held files.new ≡ before)) }
+        → N.held files.new ≡ before) }
     ensures taken { IfSome (N.held files.old)
         (λ known. (result ≡ Err NewFileFault.Taken) ↔ IsSome (known name.now)) }
 {

@@ -14,6 +14,12 @@ pub enum NewFileFault {
 }
 
 impl From<io::Error> for NewFileFault {
+    ghost use Rattle.std.specs.Prelude.{◌≡◌};
+    ghost use Rattle.std.specs.IoError.{error_kind};
+    ghost use Rattle.kd_new_file.specs.NewFileFault.{fault_of_kind};
+
+    ghost from_gives = { λ error fault. fault ≡ fault_of_kind (error_kind error) };
+
     fn from(error: io::Error) -> NewFileFault {
         match error.kind() {
             io::ErrorKind::AlreadyExists => NewFileFault::Taken,

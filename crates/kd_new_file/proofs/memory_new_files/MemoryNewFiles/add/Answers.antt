@@ -1,4 +1,4 @@
-use Rattle.std.proofs.Common.{Some, ap, rules, ◌≡◌, None, arith}
+use Rattle.std.proofs.Common.{Some, ap, ◌≡◌, None, arith}
 use Rattle.kd_new_file.specs.NewFiles.{files_in}
 use Rattle.kd_new_file.proofs.ByName.{updated}
 use Rattle.kd_new_file.proofs.memory_new_files.MemoryNewFiles.add.Goals as goal
