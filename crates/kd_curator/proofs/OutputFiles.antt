@@ -1,6 +1,6 @@
 -- What becomes of the file that the option `-o` names.
-use Rattle.std.proofs.Common.{◌≡◌, ◌∙◌, ℕ, Bool, true, false, List, [], ◌∷◌, Option, None, Some, Result, Ok, Err, IsTrue, inl, inr}
-use Rattle.std.proofs.Common.{ap, refl, subst, sym, arith, option_map}
+use Rattle.std.proofs.Common.{◌≡◌, ◌∙◌, ℕ, Bool, true, false, List, [], Option, Result, Ok, Err, IsTrue, inl, inr}
+use Rattle.std.proofs.Common.{ap, refl, subst, sym, option_map}
 use Rattle.std.specs.Io.KnownBytes.{append_known}
 use Rattle.clap.specs.Words.{IsAmong, fault_of}
 use Rattle.clap.specs.declared.error.kind.ErrorKind.{ErrorKind}
@@ -13,9 +13,8 @@ use Rattle.kd_pictures.specs.declared.language.Language.{Language}
 use Rattle.kd_curator_command.specs.CommandLine.{IsNoCommandLine, curator_grammar}
 use Rattle.kd_curator.specs.Ending.{EndsAs, stop_after}
 use Rattle.kd_curator.specs.OutputFile.{Discarded, EndsFile, EndsWithFile, IsRunToFile, Published, Unwritten, unwritten_line}
-use Rattle.kd_curator.specs.Program.{AnswersAfter, Carried, CarriesOut, FileUnread, IsRun, IsTold, NoMemory, OtherWords, Shown}
+use Rattle.kd_curator.specs.Program.{AnswersAfter, Carried, CarriesOut, FileUnread, IsRun, NoMemory, OtherWords, Shown}
 use Rattle.kd_curator.specs.Program.{at_first, at_last, is_usage, is_whole}
-use Rattle.kd_curator.specs.declared.fault.Refused.{Refused}
 use Rattle.kd_curator.specs.declared.stop.Stop.{Stop}
 use Rattle.kd_curator.specs.declared.stop.Stop.TheVariants as stops
 use Rattle.kd_curator.proofs.Passing.{none_gathered}
