@@ -3,6 +3,7 @@
 
 use kd_curator::{Language, Stop, end_program, language_of, run_curator};
 use kd_host::{FileFault, HostFiles, WriterSink};
+use kd_new_file::HostNewFiles;
 use std::env::{self, VarError};
 use std::process::ExitCode;
 
@@ -11,12 +12,14 @@ fn main(rt: HostRuntime) -> ExitCode {
     let status = match words_and_language(&rt) {
         Ok((words, language)) => {
             let mut files = HostFiles::new(&rt);
+            let mut new_files = HostNewFiles { rt: &rt };
             let output = WriterSink::new(rt.stdout());
             let (status, _) = run_curator(
                 rt.alloc(),
                 language,
                 words.as_slice(),
                 &mut files,
+                &mut new_files,
                 output,
                 &mut errors,
             );

@@ -1,6 +1,7 @@
 pub mod Answers
 pub mod DayRefusals
 pub mod LookFiles
+pub mod OutputFiles
 pub mod Passing
 pub mod Runs
 pub mod ReceiveAnswers

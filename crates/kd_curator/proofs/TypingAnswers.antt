@@ -1,5 +1,5 @@
 -- The answer of the page on which a machine is typed on.
-use Rattle.std.proofs.Common.{◌≡◌, ◌||◌, ℕ, Bool, true, false, List, Option, Result, Ok, Err, IsErr, ap, refl, sym, ◌∙◌}
+use Rattle.std.proofs.Common.{◌≡◌, ◌||◌, ℕ, Bool, true, false, List, Option, IsErr, ap, refl, sym, ◌∙◌}
 use Rattle.kd_tables.specs.Ports.{port}
 use Rattle.kd_state.specs.TwoCiphers.{IsReady}
 use Rattle.kd_state.specs.declared.machine.parts.Parts.{Parts}

@@ -1,5 +1,6 @@
 pub mod Ending
 pub mod MachineAndSheet
+pub mod OutputFile
 pub mod Program
 pub mod Refusals
 pub mod RunList

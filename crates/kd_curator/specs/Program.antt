@@ -1,5 +1,5 @@
 -- The program: what the command line means, which files are read, and what is written.
--- Code: `run_words` parses the words, reads the files, and carries the command out.
+-- Code: `run_curator` parses the words; `run_command` reads the files, and carries the command out.
 -- Test: tests/cases/curator-pages.toml
 use Rattle.std.specs.Prelude.{◌≡◌, ◌⊎◌, ◌≤◌, ◌||◌, not, ℕ, Bool, true, false, List, [], ◌∷◌, length, Option, Some, None, IfSome}
 use Rattle.std.specs.Prelude.{Result, Ok, Err, IsTrue, unwrap_or}

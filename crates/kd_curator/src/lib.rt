@@ -7,6 +7,7 @@ mod buffered_sink;
 mod fault;
 mod looks;
 mod machine_and_sheet;
+mod output_file;
 mod program;
 pub mod run_list;
 pub mod run_page;
@@ -19,7 +20,7 @@ mod tables;
 
 pub use fault::{PageFault, Refused};
 pub use kd_curator_command::{
-    Command, Days, MessageKind, MessageTask, NamedCommand, NoCommand, Task, UpToThree,
+    Command, CommandLine, Days, MessageKind, MessageTask, NamedCommand, NoCommand, Task, UpToThree,
     days_of_word, language_of, language_of_code, parse_words,
 };
 pub use kd_page::Language;

@@ -1,16 +1,19 @@
 //! The program: reads the command line and the files, and carries the command out.
 ghost use Rattle.std.specs.Prelude.{◌≡◌, ◌||◌, ◌+◌, ◌<◌, ◌≤◌, [], ℕ, List, false, true, length, map, IfOk, IfSome, IsErr, IsTrue, is_ok};
-ghost use Rattle.std.specs.Prelude.{is_some, option_map};
+ghost use Rattle.std.specs.Prelude.{Option, Some, is_some, option_map};
 ghost use Rattle.std.specs.Io.KnownBytes.{Keeps, append_known};
 ghost use Rattle.kd_tables.specs.Answers.{AgreesOrNoMemory};
 ghost use Rattle.kd_tables.specs.Ports.{port};
 ghost use Rattle.kd_host.specs.Files.{AreAskedFor};
 ghost use Rattle.kd_host.specs.Writing.{WritesText};
-ghost use Rattle.kd_curator_command.specs.CommandLine.{unborrowed_command, with_texts};
+ghost use Rattle.kd_curator_command.specs.CommandLine.{HasNoCommand, IsCommandLineOf, unborrowed_command, with_texts};
+ghost use Rattle.kd_pictures.specs.declared.language.Language.{Language};
+ghost use Rattle.kd_new_file.specs.NewFiles.{AddsFile, FilesByName};
+ghost use Rattle.kd_curator.specs.OutputFile.{EndsFile, EndsWithFile, GoesToSink, IsMeantBySome, RunsTo};
 ghost use Rattle.kd_table.specs.Options.{texts_of};
 ghost use Rattle.kd_curator.specs.Ending.{stop_after};
 ghost use Rattle.kd_curator_command.specs.declared.command.Command.TheVariants.{Look, Message, OnMachine, Sheet, Table, TypingPage};
-ghost use Rattle.kd_curator.specs.Program.{AreAlike, CarriesOut, DoesCommand, DoesTask, HasEnded, IsRun};
+ghost use Rattle.kd_curator.specs.Program.{AreAlike, CarriesOut, DoesCommand, DoesTask, IsRun};
 ghost use Rattle.kd_curator.specs.Program.{port_with_untaken, known_command};
 ghost use Rattle.kd_curator.specs.Program.{HasMonth, HasNotes, HasTold, names_of, read_with_texts};
 ghost use Rattle.kd_curator.specs.Program.{IsAnswerAfterFlush, is_stopped_before_writing, is_stopped_by_device};
@@ -21,6 +24,7 @@ ghost use Rattle.kd_curator_command.specs.UpToThree.{list_of_option, list_of_thr
 use crate::buffered_sink::BufferedSink;
 use crate::fault::{PageFault, Refused};
 use crate::looks::look_at_files;
+use crate::output_file::end_unwritten;
 use crate::run_list::run_list;
 use crate::run_page::run_page;
 use crate::run_receive::run_receive;
@@ -30,10 +34,12 @@ use crate::sheets::{make_sheet, write_empty_sheet};
 use crate::stop::{Stop, end_program};
 use crate::tables::write_tables;
 use kd_curator_command::{
-    Command, MessageKind, MessageTask, NamedCommand, NoCommand, Task, UpToThree, parse_words,
+    Command, CommandLine, MessageKind, MessageTask, NamedCommand, NoCommand, Task, UpToThree,
+    parse_words,
 };
 use kd_host::{Content, FileFault, Files};
 use kd_key_table::TableForm;
+use kd_new_file::{NewFileFault, NewFiles, begin, publish};
 use kd_page::Language;
 use kd_table::TableOptions;
 use kd_tables::{Failed, Sink, put_all};
@@ -47,70 +53,156 @@ use std::convert::AsStr;
 /// refusal. With status 1 or 2, a text that says why is written to `errors`; the command `sheet` tells there a table's
 /// faults, and the columns that it doesn't read, too, and `receive` what is wrong with a form. Each file is read once, in
 /// the order of the command line. If a file can't be read, no later file is asked for, and nothing is written to `sink`.
-pub fn run_curator<'n, S: AsStr, F: Files<'n>, W: Sink + Drop, E: Sink>(
+///
+/// If the words name a file for the output, nothing is written to `sink`. All that the command writes goes to a new file
+/// in `new_files`, which has this name exactly if everything was written that the answer says.
+pub fn run_curator<'n, S: AsStr, F: Files<'n>, N: NewFiles, W: Sink + Drop, E: Sink>(
     alloc: Global,
     language: Language,
     words: &'n [S],
     files: &mut F,
+    new_files: &mut N,
     sink: W,
     errors: &mut E,
 ) -> (u8, W)
     requires { F.asked files.old ≡ [] }
-    ensures { HasEnded (λ told left. IsRun language (map S.text words.entry.now)
-        (F.known files.old) (F.asked files.new)
-        (port_with_untaken W.taken W.has_failed sink result.1 left) (result.1 ≡ sink) told left)
+    ensures { RunsTo language (map S.text words.entry.now) (F.known files.old) (F.asked files.new)
+        (N.held new_files.old) (N.held new_files.new)
+        (port_with_untaken W.taken W.has_failed sink result.1) (result.1 ≡ sink)
         (port E.taken E.has_failed errors.old errors.new) result.0 }
 {
-    let (answer, sink) = run_gathering(alloc, language, words, files, sink, errors);
-    (end_program(&answer, errors), sink)
+    match parse_words(alloc, words) {
+        Ok(CommandLine { command, output }) => match output {
+            Some(name) => {
+                let status = run_to_file(alloc, language, command, name, files, new_files, errors);
+                (status, sink)
+            }
+            None => {
+                let (answer, sink) = run_gathering(alloc, language, command, files, sink, errors);
+                (end_program(&answer, errors), sink)
+            }
+        },
+        Err(none) => {
+            let mut sink = sink;
+            let answer = answer_other_words(none, &mut sink);
+            (end_program(&answer, errors), sink)
+        }
+    }
 }
 
-/// Carries the command line out, and gathers what is written before it is passed on to `sink`.
-fn run_gathering<'n, S: AsStr, F: Files<'n>, W: Sink + Drop, E: Sink>(
+/// Carries `command` out, and writes its output to the new file `name`.
+fn run_to_file<'n, F: Files<'n>, N: NewFiles, E: Sink>(
     alloc: Global,
     language: Language,
-    words: &'n [S],
+    command: NamedCommand<'n>,
+    name: &str,
+    files: &mut F,
+    new_files: &mut N,
+    errors: &mut E,
+) -> u8
+    requires meant { IsMeantBySome (unborrowed_command command) }
+    requires asked { F.asked files.old ≡ [] }
+    ensures { (words : List (List ℕ)) → IsCommandLineOf words (unborrowed_command command.entry)
+        → EndsWithFile language words (F.known files.old) (F.asked files.new)
+        (N.held new_files.old) (N.held new_files.new) name.now
+        (port E.taken E.has_failed errors.old errors.new) result }
+{
+    let (other, file) = match begin(alloc, new_files, name) {
+        Ok(begun) => begun,
+        Err(fault) => return end_unwritten(name, fault, errors),
+    };
+    let (answer, file) = run_gathering(alloc, language, command, files, file, errors);
+    match end_file(&answer, new_files, file, other.as_str(), name) {
+        Ok(()) => end_program(&answer, errors),
+        Err(fault) => end_unwritten(name, fault, errors),
+    }
+}
+
+/// Publishes the new file `file` as `name`, if everything was written that `answer` says. Otherwise removes it.
+///
+/// The file was begun under the name `other`. Without a fault, it is published exactly if everything was written, and no
+/// write to it failed.
+fn end_file<N: NewFiles>(
+    answer: &Result<(), Stop>,
+    new_files: &mut N,
+    file: N::Written,
+    other: &str,
+    name: &str,
+) -> Result<(), NewFileFault>
+    ensures published { (before : Option FilesByName)
+        → AddsFile before (N.held new_files.old) other.now (Some [])
+        → EndsFile before (N.held new_files.new) name.now (N.Written.taken file) (N.Written.has_failed file)
+        (is_whole answer.now) result }
+{
+    if is_whole(answer) {
+        return publish(new_files, file, other, name);
+    }
+    new_files.remove(other);
+    if file.failed() {
+        Err(NewFileFault::Device)
+    } else {
+        Ok(())
+    }
+}
+
+/// Carries `command` out, and gathers what is written before it is passed on to `sink`.
+fn run_gathering<'n, F: Files<'n>, W: Sink + Drop, E: Sink>(
+    alloc: Global,
+    language: Language,
+    command: NamedCommand<'n>,
     files: &mut F,
     sink: W,
     errors: &mut E,
 ) -> (Result<(), Stop>, W)
-    requires { F.asked files.old ≡ [] }
-    ensures { (left : List ℕ) × IsRun language (map S.text words.entry.now)
-        (F.known files.old) (F.asked files.new)
+    requires meant { IsMeantBySome (unborrowed_command command) }
+    requires asked { F.asked files.old ≡ [] }
+    ensures { (words : List (List ℕ)) → IsCommandLineOf words (unborrowed_command command.entry)
+        → (left : List ℕ) × IsRun language words (F.known files.old) (F.asked files.new)
         (port_with_untaken W.taken W.has_failed sink result.1 left) (result.1 ≡ sink)
         (port E.taken E.has_failed errors.old errors.new) left result.0 }
 {
     let mut gathering = BufferedSink::new(sink);
-    let done = run_words(alloc, language, words, files, &mut gathering, errors);
+    let done = run_command(alloc, language, command, files, &mut gathering, errors);
     let answer = pass_rest_on(done, &mut gathering);
     (answer, gathering.into_sink())
 }
 
-/// Parses the command line, reads the files that it names, and carries the command out.
-fn run_words<'n, S: AsStr, F: Files<'n>, W: Sink, E: Sink>(
+/// Reads the files that `command` names, and carries it out.
+fn run_command<'n, F: Files<'n>, W: Sink, E: Sink>(
     alloc: Global,
     language: Language,
-    words: &'n [S],
+    command: NamedCommand<'n>,
     files: &mut F,
     sink: &mut W,
     errors: &mut E,
 ) -> Result<(), Stop>
-    requires { F.asked files.old ≡ [] }
-    ensures carried { CarriesOut language (map S.text words.entry.now)
-        (F.known files.old) (F.asked files.new) (port W.taken W.has_failed sink.old sink.new) [] result }
+    requires meant { IsMeantBySome (unborrowed_command command) }
+    requires asked { F.asked files.old ≡ [] }
+    ensures carried { (words : List (List ℕ)) → IsCommandLineOf words (unborrowed_command command.entry)
+        → CarriesOut language words (F.known files.old) (F.asked files.new)
+        (port W.taken W.has_failed sink.old sink.new) [] result }
     ensures untouched { IsTrue (is_stopped_before_writing result) → sink.new ≡ sink.old }
     ensures failed { W.has_failed sink.new ≡ (W.has_failed sink.old || is_stopped_by_device result) }
-    ensures noted { HasNotes (map S.text words.entry.now) (F.asked files.new)
-        (port E.taken E.has_failed errors.old errors.new) }
+    ensures noted { (words : List (List ℕ)) → IsCommandLineOf words (unborrowed_command command.entry)
+        → HasNotes words (F.asked files.new) (port E.taken E.has_failed errors.old errors.new) }
 {
-    match parse_words(alloc, words) {
-        Ok(command) => {
-            let command = read_files(alloc, command, files)?;
-            Stop::of_answer(carry_out(alloc, language, command, sink, errors))
-        }
-        Err(NoCommand::Asked(text)) => Stop::of_answer(show(text.as_str(), sink)),
-        Err(NoCommand::Usage(text)) => Err(Stop::Usage(text)),
-        Err(NoCommand::NoMemory) => Err(Stop::Unread(FileFault::NoMemory)),
+    let command = read_files(alloc, command, files)?;
+    Stop::of_answer(carry_out(alloc, language, command, sink, errors))
+}
+
+/// Answers words that aren't a command, for the reason `none`: shows help, if they ask for it.
+fn answer_other_words<W: Sink>(none: NoCommand, sink: &mut W) -> Result<(), Stop>
+    ensures carried { (l : Language) (words : List (List ℕ)) (known : Option (List ℕ → Option (List ℕ)))
+        → HasNoCommand words none
+        → CarriesOut l words known [] (port W.taken W.has_failed sink.old sink.new) [] result }
+    ensures why { (words : List (List ℕ)) → HasNoCommand words none → GoesToSink words result }
+    ensures untouched { IsTrue (is_stopped_before_writing result) → sink.new ≡ sink.old }
+    ensures failed { W.has_failed sink.new ≡ (W.has_failed sink.old || is_stopped_by_device result) }
+{
+    match none {
+        NoCommand::Asked(text) => Stop::of_answer(show(text.as_str(), sink)),
+        NoCommand::Usage(text) => Err(Stop::Usage(text)),
+        NoCommand::NoMemory => Err(Stop::Unread(FileFault::NoMemory)),
     }
 }
 

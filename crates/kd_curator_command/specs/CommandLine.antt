@@ -3,7 +3,7 @@
 -- Code: `grammar` builds the grammar by calls of the library `clap`.
 -- Test: tests/cases/curator-words.toml
 use Rattle.std.specs.Prelude.{codes, decimal, ◌≡◌, ◌≢◌, ℕ, Bool, true, false, List, [], ◌∷◌, ◌++◌, Option, Some, None}
-use Rattle.std.specs.Prelude.{◌&&◌, ◌==◌, IsSomeAnd, IsTrue, fold, length, map, option_map, unwrap_or}
+use Rattle.std.specs.Prelude.{◌&&◌, ◌==◌, IsSomeAnd, IsTrue, fold, length, map, option_and_then, option_map, unwrap_or}
 use Rattle.std.specs.Borrow.{Bor}
 use Rattle.clap.specs.declared.builder.command.Command.{Command as Grammar, out-Command}
 use Rattle.clap.specs.declared.error.kind.ErrorKind.{ErrorKind}
@@ -53,15 +53,24 @@ option_rule name = record (new_rule name) { long = Some name; value_names = 1 }
 abbrev pub language_option : Rule
 language_option = option_rule (codes "in")
 
+-- an option of one letter, with a value
+abbrev pub lettered : List ℕ → ℕ → Rule
+lettered name letter = record (new_rule name) { short = Some letter; value_names = 1 }
+
+-- the option `-o` (111), for the file that is written
+abbrev pub output_option : Rule
+output_option = lettered (codes "output") 111
+
 -- a command with one more argument
 abbrev pub with_rule : Shape → Rule → Shape
 with_rule shape rule = record shape { rules = shape.rules ++ rule ∷ [] }
 
 abbrev pub page_shape : Shape
-page_shape = with_rule (command_shape (codes "page") (new_rule (codes "DAYS"))) language_option
+page_shape =
+    with_rule (with_rule (command_shape (codes "page") (new_rule (codes "DAYS"))) language_option) output_option
 
 abbrev pub list_shape : Shape
-list_shape = command_shape (codes "list") (needed (codes "DAY"))
+list_shape = with_rule (command_shape (codes "list") (needed (codes "DAY"))) output_option
 
 -- an option without a value
 abbrev pub flag : List ℕ → Rule
@@ -72,12 +81,14 @@ abbrev pub csv_flag : Rule
 csv_flag = flag (codes "csv")
 
 abbrev pub table_shape : Shape
-table_shape = record (new_shape (codes "table")) { rules = csv_flag ∷ needed (codes "SHEET") ∷ language_option ∷ [] }
+table_shape = record (new_shape (codes "table")) {
+  rules = csv_flag ∷ needed (codes "SHEET") ∷ language_option ∷ output_option ∷ [];
+}
 
 abbrev pub sheet_shape : Shape
 sheet_shape = record (new_shape (codes "sheet")) {
   rules = option_rule (codes "model") ∷ option_rule (codes "reflector") ∷ option_rule (codes "window")
-      ∷ option_rule (codes "empty") ∷ needed (codes "TABLE") ∷ [];
+      ∷ option_rule (codes "empty") ∷ needed (codes "TABLE") ∷ output_option ∷ [];
 }
 
 abbrev pub look_shape : Shape
@@ -87,7 +98,7 @@ look_shape = record (new_shape (codes "look")) {
 
 abbrev pub message_shape : List ℕ → Rule → Shape
 message_shape name message =
-    with_rule (with_rule (command_shape name (needed (codes "DAY"))) message) language_option
+    with_rule (with_rule (with_rule (command_shape name (needed (codes "DAY"))) message) language_option) output_option
 
 abbrev pub send_shape : Shape
 send_shape = message_shape (codes "send") (needed (codes "ORDER"))
@@ -96,7 +107,9 @@ abbrev pub receive_shape : Shape
 receive_shape = message_shape (codes "receive") (needed (codes "FORM"))
 
 abbrev pub type_shape : Shape
-type_shape = record (new_shape (codes "type")) { rules = needed (codes "MACHINE") ∷ language_option ∷ [] }
+type_shape = record (new_shape (codes "type")) {
+  rules = needed (codes "MACHINE") ∷ language_option ∷ output_option ∷ [];
+}
 
 -- the program without its commands
 abbrev pub program_alone : App
@@ -281,6 +294,14 @@ pub record IsCommandLineOf (words : List (List ℕ)) (command : NamedCommand) : 
   pub taken : fault_of curator_grammar words ≡ []
   pub said : IsMeant (subcommand_of curator_grammar words) command
 
+-- the file that the option `-o` names, if it is used with a command
+abbrev pub output_said : Option (List ℕ × List Row) → Option (List ℕ)
+output_said said = option_and_then (λ x. first_of (codes "output") x.1) said
+
+-- the file that the command line `words` names for its output, if it names one
+abbrev pub output_of : List (List ℕ) → Option (List ℕ)
+output_of words = output_said (subcommand_of curator_grammar words)
+
 abbrev pub IsNoCommandLine : List (List ℕ) → Type 0
 IsNoCommandLine words = (command : NamedCommand) → ¬ (IsCommandLineOf words command)
 
@@ -316,6 +337,7 @@ abbrev pub rule_of_sort : List ℕ → Sort → Rule
 rule_of_sort name sorts.Needed = needed name
 rule_of_sort name sorts.Optional = new_rule name
 rule_of_sort name (sorts.Valued value) = option_rule name
+rule_of_sort name (sorts.Lettered letter value) = lettered name letter
 rule_of_sort name sorts.Flag = flag name
 
 abbrev pub rule_of_argument : Argument → Rule

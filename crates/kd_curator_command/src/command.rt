@@ -1,12 +1,12 @@
 //! The commands, and the parser of the command line.
-ghost use Rattle.std.specs.Prelude.{◌≡◌, ◌≢◌, ℕ, List, Option, None, codes, map, IfErr, IfOk, IfSome, IsErr};
+ghost use Rattle.std.specs.Prelude.{◌≡◌, ◌≢◌, ℕ, List, Option, None, codes, map, option_map, IfErr, IfOk, IfSome, IsErr};
 ghost use Rattle.clap.specs.Words.{app_of, found_of, kind_of, rows_of, subcommand_rows_of};
 ghost use Rattle.kd_curator_command.specs.CommandLine.{curator_grammar};
 ghost use Rattle.kd_table.specs.Options.{texts_of};
 ghost use Rattle.kd_curator_command.specs.CommandLine.{HasDay, HasDays, HasForm, HasLanguage, HasNoCommand, IsCommandLineOf};
 ghost use Rattle.kd_curator_command.specs.CommandLine.{IsCommandOf, IsFormNamed, IsMeant, IsMessageTask, IsMonthNamed, IsTaskOf};
 ghost use Rattle.kd_curator_command.specs.CommandLine.{IsToldAs, NamedCommand, are_blank, message_argument, message_name};
-ghost use Rattle.kd_curator_command.specs.CommandLine.{option_text, option_texts, unborrowed_command};
+ghost use Rattle.kd_curator_command.specs.CommandLine.{option_text, option_texts, output_of, output_said, unborrowed_command};
 ghost use Rattle.kd_curator_command.specs.declared.command.MessageTask.{MessageTask};
 
 use crate::days::{Days, days_of_word};
@@ -25,7 +25,7 @@ use std::convert::AsStr;
 
 /// The text of the error for `sheet --empty` with other words than a model and a number of days.
 const NO_MONTH: &str =
-    "--empty needs Enigma I, M3, M4 or M-209, then a number of days from 1 to 31, and no other option";
+    "--empty needs Enigma I, M3, M4 or M-209, then a number of days from 1 to 31, and no other option but -o";
 
 /// The hint for a model's name without quotes.
 const IN_QUOTES: &str = "Write \"Enigma I\" in quotes.\n";
@@ -136,6 +136,14 @@ pub enum MessageKind {
 /// A command with the names of its files, before any file is read.
 pub type NamedCommand<'a> = Command<&'a str, &'a str>;
 
+/// What a command line means.
+#[derive(Drop)]
+pub struct CommandLine<'a> {
+    pub command: NamedCommand<'a>,
+    /// The new file that is written; `None` means standard output.
+    pub output: Option<&'a str>,
+}
+
 /// Why a command line gives no command.
 #[derive(Drop)]
 pub enum NoCommand {
@@ -151,9 +159,11 @@ pub enum NoCommand {
 pub fn parse_words<'a, S: AsStr>(
     alloc: Global,
     words: &'a [S],
-) -> Result<NamedCommand<'a>, NoCommand>
+) -> Result<CommandLine<'a>, NoCommand>
     ensures said { IfOk result
-        (λ command. IsCommandLineOf (map S.text words.entry.now) (unborrowed_command command)) }
+        (λ line. IsCommandLineOf (map S.text words.entry.now) (unborrowed_command line.command)) }
+    ensures output { IfOk result (λ line.
+        option_map (λ name. name.now) line.output ≡ output_of (map S.text words.entry.now)) }
     ensures none { IfErr result (HasNoCommand (map S.text words.entry.now)) }
 {
     let mut grammar = grammar(alloc)?;
@@ -165,10 +175,12 @@ fn parse_by<'a, S: AsStr>(
     alloc: Global,
     grammar: &mut Grammar<'a>,
     words: &'a [S],
-) -> Result<NamedCommand<'a>, NoCommand>
+) -> Result<CommandLine<'a>, NoCommand>
     requires { app_of grammar.old ≡ curator_grammar }
     ensures said { IfOk result
-        (λ command. IsCommandLineOf (map S.text words.entry.now) (unborrowed_command command)) }
+        (λ line. IsCommandLineOf (map S.text words.entry.now) (unborrowed_command line.command)) }
+    ensures output { IfOk result (λ line.
+        option_map (λ name. name.now) line.output ≡ output_of (map S.text words.entry.now)) }
     ensures none { IfErr result (HasNoCommand (map S.text words.entry.now)) }
 {
     let matches = match grammar.try_get_matches_from_mut(words) {
@@ -176,9 +188,20 @@ fn parse_by<'a, S: AsStr>(
         Err(error) => return Err(no_command(alloc, &error, quotes_hint(words))),
     };
     match meant_command(&matches) {
-        Some(command) => Ok(command),
+        Some(command) => Ok(CommandLine {
+            command,
+            output: output_said(&matches),
+        }),
         None => Err(no_days(alloc, grammar, why_not(&matches))),
     }
+}
+
+/// The file that the option `-o` names, if it is used.
+fn output_said<'a>(matches: &ArgMatches<'a>) -> Option<&'a str>
+    ensures { option_map (λ name. name.now) result ≡ output_said (subcommand_rows_of matches.now) }
+{
+    let (_, words) = matches.subcommand()?;
+    words.get_str("output")
 }
 
 /// What is wrong with words that clap takes, but that mean no command.

@@ -1,7 +1,7 @@
 //! The grammar of the command line.
 ghost use Rattle.std.specs.Prelude.{◌≡◌, false, IfOk};
 ghost use Rattle.clap.specs.Words.{App, app_of, new_rule, rule_of};
-ghost use Rattle.kd_curator_command.specs.CommandLine.{IsMadeOf, curator_grammar, flag, needed, option_rule, program_alone};
+ghost use Rattle.kd_curator_command.specs.CommandLine.{IsMadeOf, curator_grammar, flag, lettered, needed, option_rule, program_alone};
 ghost use Rattle.kd_curator_command.specs.CommandLine.{rule_of_argument, shape_of, with_commands};
 
 use clap::{Arg, ArgAction, Command as Grammar};
@@ -19,6 +19,8 @@ pub(crate) enum Sort<'a> {
     Optional,
     /// It is an option with a value, which help calls by this name.
     Valued(&'a str),
+    /// It is an option of one letter, with a value, which help calls by this name.
+    Lettered(char, &'a str),
     /// It is an option without a value.
     Flag,
 }
@@ -65,6 +67,12 @@ const LANGUAGE: Argument<'static> = Argument {
     help: "The language of the words, de or en; without it, that of the environment's LANG",
 };
 
+const OUTPUT: Argument<'static> = Argument {
+    name: "output",
+    sort: Sort::Lettered('o', "FILE"),
+    help: "Writes the new file FILE, whole or not at all, and no standard output",
+};
+
 /// The commands, in the order in which help lists them.
 static COMMANDS: [CommandWords; 8] = [
     CommandWords {
@@ -79,12 +87,13 @@ static COMMANDS: [CommandWords; 8] = [
                 help: "The days, such as 2, 1-31 or 1,4,2; without it, all days for the machine's model",
             },
             LANGUAGE,
+            OUTPUT,
         ],
     },
     CommandWords {
         name: "list",
         about: "Writes the settings of a day's page, as a list that desk apply carries out",
-        arguments: &[MACHINE, SHEET, DAY],
+        arguments: &[MACHINE, SHEET, DAY, OUTPUT],
     },
     CommandWords {
         name: "send",
@@ -99,6 +108,7 @@ static COMMANDS: [CommandWords; 8] = [
                 help: "The order, as desk send takes it",
             },
             LANGUAGE,
+            OUTPUT,
         ],
     },
     CommandWords {
@@ -114,12 +124,13 @@ static COMMANDS: [CommandWords; 8] = [
                 help: "The form, with ? for each lost letter",
             },
             LANGUAGE,
+            OUTPUT,
         ],
     },
     CommandWords {
         name: "type",
         about: "Writes an HTML page on which the machine is typed on, in any browser",
-        arguments: &[MACHINE, LANGUAGE],
+        arguments: &[MACHINE, LANGUAGE, OUTPUT],
     },
     CommandWords {
         name: "table",
@@ -132,6 +143,7 @@ static COMMANDS: [CommandWords; 8] = [
             },
             SHEET,
             LANGUAGE,
+            OUTPUT,
         ],
     },
     CommandWords {
@@ -163,6 +175,7 @@ static COMMANDS: [CommandWords; 8] = [
                 sort: Sort::Needed,
                 help: "The table: CSV, or values separated by semicolons or tabs",
             },
+            OUTPUT,
         ],
     },
     CommandWords {
@@ -244,6 +257,9 @@ fn argument_of<'a>(alloc: Global, argument: &Argument<'a>) -> Arg<'a>
         Sort::Needed => needed(alloc, argument.name, argument.help),
         Sort::Optional => optional(alloc, argument.name, argument.help),
         Sort::Valued(value) => option(alloc, argument.name, value, argument.help),
+        Sort::Lettered(letter, value) => {
+            lettered(alloc, argument.name, letter, value, argument.help)
+        }
         Sort::Flag => flag(alloc, argument.name, argument.help),
     }
 }
@@ -271,6 +287,23 @@ fn option<'a>(alloc: Global, name: &'a str, value: &'a str, help: &'a str) -> Ar
 {
     Arg::new(alloc, name)
         .long(name)
+        .value_name(value)
+        .help(help)
+}
+
+/// An option of one letter, with a value, which help calls `value`.
+fn lettered<'a>(
+    alloc: Global,
+    name: &'a str,
+    letter: char,
+    value: &'a str,
+    help: &'a str,
+) -> Arg<'a>
+    ensures rule { rule_of result ≡ lettered name.entry.now letter }
+    ensures local { result.global ≡ false }
+{
+    Arg::new(alloc, name)
+        .short(letter)
         .value_name(value)
         .help(help)
 }

@@ -1,14 +1,39 @@
+use Rattle.std.proofs.Common.{[], ap, map, option_map, refl, sym, ◌∙◌, Bor, List, ℕ}
+use Rattle.kd_curator.specs.OutputFile.{ToFile, ToSink}
+use Rattle.kd_curator.specs.Program.{NoNotes}
+use Rattle.kd_curator.proofs.OutputFiles.{other_carried}
+use Rattle.kd_curator.proofs.Runs.{left_alone}
 use Rattle.kd_curator.proofs.program.run_curator.Goals as goal
 
-pub returns : goal.returns
-returns g c =
-    let run = c.run_gathering-answer.ensures in
-    let between = c.run_gathering-answer.new.errors in
-    record {
-      left = run.0;
-      answer = c.run_gathering-answer.result.0;
-      told = g.E.Sink.taken between;
-      failed = g.E.Sink.has_failed between;
-      is_so = run.1;
-      ends = c.end_program.ensures;
-    }
+pub returns-in-Some : goal.returns-in-Some
+returns-in-Some g c =
+    let words = map g.S.AsStr.text c.args.words.now in
+    let named = ap (option_map (λ (name : Bor (List ℕ)). name.now)) c.in-Some.is in
+    ToFile c.in-Some.name.now (sym c.in-Ok.ensures.output ∙ named) refl
+    (c.run_to_file-status.ensures words c.in-Ok.ensures.said)
+
+pub returns-in-Err : goal.returns-in-Err
+returns-in-Err g c =
+    let words = map g.S.AsStr.text c.args.words.now in
+    let other = c.answer_other_words-answer.ensures in
+    let taken = g.W.Sink.taken in
+    let has_failed = g.W.Sink.has_failed in
+    let new = c.answer_other_words-answer.new.sink in
+    ToSink (record {
+      left = [];
+      answer = c.answer_other_words-answer.result;
+      told = g.E.Sink.taken c.args.errors.now;
+      failed = g.E.Sink.has_failed c.args.errors.now;
+      is_so = (
+        other.why words c.in-Err.ensures.none,
+        record {
+          carried = other_carried c.args.language words (g.F.Files.known c.args.files.now) (g.F.Files.asked c.args.files.now)
+              (taken c.args.sink) (taken new) (has_failed c.args.sink) (has_failed new) c.answer_other_words-answer.result
+              c.requires (other.carried c.args.language words (g.F.Files.known c.args.files.now) c.in-Err.ensures.none);
+          untouched = other.untouched;
+          failed = other.failed;
+          noted = NoNotes (left_alone _ _);
+        },
+      );
+      ends = c.end_program-in-Err.ensures;
+    }) refl

@@ -1,4 +1,4 @@
-use Rattle.std.proofs.Common.{Err, refl, rules, sym, ◌∙◌}
+use Rattle.std.proofs.Common.{refl, rules, sym}
 use Rattle.kd_curator.specs.RunType.{NoPage}
 use Rattle.kd_curator.proofs.TypingAnswers.{failed_told, page_told, untouched_told}
 use Rattle.kd_curator.proofs.run_type.write_typing_page.Goals as goal

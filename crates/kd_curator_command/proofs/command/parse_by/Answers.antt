@@ -1,4 +1,5 @@
-use Rattle.kd_curator_command.proofs.Prelude.{map, Ok, Err, app_of, refl, subcommand_rows_of, unborrowed_command}
+use Rattle.kd_curator_command.proofs.Prelude.{◌∙◌, map, Ok, Err, ap, app_of, refl, subcommand_rows_of, unborrowed_command}
+use Rattle.kd_curator_command.specs.CommandLine.{output_said}
 use Rattle.kd_curator_command.proofs.CommandLines.{no_command_said, other_days, parse_enters, parse_fails_by, refused_words}
 use Rattle.kd_curator_command.proofs.CommandLines.{said_command}
 use Rattle.clap.specs.declared.error.kind.ErrorKind.TheVariants.{InvalidValue}
@@ -31,3 +32,9 @@ returns-clause-none g c =
     other_days words InvalidValue c.no_days.result taken
     (no_command_said words (subcommand_rows_of c.in-Ok.matches) entered (c.in-None.ensures.none refl)) refl
     c.no_days.ensures
+
+pub returns-in-Some-clause-output : goal.returns-in-Some-clause-output
+returns-in-Some-clause-output g c =
+    let words = map g.S.AsStr.text c.args.words.now in
+    c.output_said.ensures ∙ ap output_said
+    (parse_enters (app_of c.args.grammar.now) words c.in-Ok.matches c.requires c.in-Ok.ensures.ok.2)

@@ -1,0 +1,41 @@
+use Rattle.std.proofs.Common.{[], Some, subst, sym}
+use Rattle.kd_tables.specs.Ports.{port}
+use Rattle.kd_new_file.specs.NewFiles.{AddsFile}
+use Rattle.kd_curator.specs.OutputFile.{NotBegun}
+use Rattle.kd_curator.proofs.OutputFiles.{ends_badly, ends_well}
+use Rattle.kd_curator.proofs.program.run_to_file.Goals as goal
+
+pub returns-in-Err : goal.returns-in-Err
+returns-in-Err g c = λ words says.
+    NotBegun c.in-Err.fault c.in-Err.ensures.refused c.requires.asked c.end_unwritten.ensures
+
+pub returns-in-Ok-end_file : goal.returns-in-Ok-end_file
+returns-in-Ok-end_file g c = λ words says.
+    let run = c.run_gathering-answer.ensures words says in
+    let between = c.run_gathering-answer.new.errors in
+    let before = g.N.NewFiles.held c.args.new_files.now in
+    let begun = g.N.NewFiles.held c.begin.new.files in
+    let added : AddsFile before begun c.as_str.result.now (Some []) =
+    subst (λ name. AddsFile before begun name (Some [])) (sym c.as_str.ensures.value) c.in-Ok.ensures.added in
+    ends_well c.args.language words (g.F.Files.known c.args.files.now) (g.F.Files.asked c.run_gathering-answer.new.files)
+    before (g.N.NewFiles.held c.end_file.new.new_files) c.args.name.now
+    (port g.E.Sink.taken g.E.Sink.has_failed c.args.errors.now c.end_program.new.errors) c.end_program.result
+    (g.E.Sink.taken between) (g.E.Sink.has_failed between) c.run_gathering-answer.result.0 _ _ _ _
+    c.in-Ok.ensures.empty c.in-Ok.ensures.fresh _ (c.in-Ok-end_file.ensures.published before added) run.0 run.1
+    c.end_program.ensures
+
+pub returns : goal.returns
+returns g c = λ words says.
+    let run = c.run_gathering-answer.ensures words says in
+    let between = c.run_gathering-answer.new.errors in
+    let before = g.N.NewFiles.held c.args.new_files.now in
+    let begun = g.N.NewFiles.held c.begin.new.files in
+    let added : AddsFile before begun c.as_str.result.now (Some []) =
+    subst (λ name. AddsFile before begun name (Some [])) (sym c.as_str.ensures.value) c.in-Ok.ensures.added in
+    ends_badly c.args.language words (g.F.Files.known c.args.files.now) (g.F.Files.asked c.run_gathering-answer.new.files)
+    before (g.N.NewFiles.held c.end_file.new.new_files) c.args.name.now
+    (port g.E.Sink.taken g.E.Sink.has_failed c.args.errors.now c.end_unwritten-in-Err-end_file.new.errors)
+    c.end_unwritten-in-Err-end_file.result
+    (g.E.Sink.taken between) (g.E.Sink.has_failed between) c.run_gathering-answer.result.0 _ _ _ _
+    c.in-Ok.ensures.empty c.in-Ok.ensures.fresh _ c.in-Err-end_file.fault
+    (c.in-Err-end_file.ensures.published before added) run.0 run.1 c.end_unwritten-in-Err-end_file.ensures

@@ -1,0 +1,98 @@
+-- What becomes of the file that the option `-o` names: it is there exactly if all was written that the answer says.
+-- Code: the command writes to a new file under another name, which then gets its own name, or is removed.
+-- Test: tests/new-files
+use Rattle.std.specs.Prelude.{codes, ◌≡◌, ◌⊎◌, ℕ, Bool, true, false, List, [], ◌∷◌, ◌++◌, Option, Some, None, option_map}
+use Rattle.std.specs.Prelude.{Result, Ok, Err}
+use Rattle.kd_tables.specs.Ports.{Port}
+use Rattle.kd_tables.specs.Refusals.{refusal_name}
+use Rattle.kd_tables.specs.declared.refusal.Refusal.TheVariants as refusals
+use Rattle.kd_host.specs.Ending.{EndsWithLine}
+use Rattle.kd_host.specs.Files.{AskedName}
+use Rattle.kd_host.specs.declared.file_fault.FileFault.TheVariants as files
+use Rattle.kd_new_file.specs.NewFiles.{AddsFile, FilesByName}
+use Rattle.kd_new_file.specs.declared.new_file_fault.NewFileFault.{NewFileFault}
+use Rattle.kd_new_file.specs.declared.new_file_fault.NewFileFault.TheVariants as new_files
+use Rattle.kd_pictures.specs.declared.language.Language.{Language}
+use Rattle.kd_curator_command.specs.CommandLine.{IsCommandLineOf, IsNoCommandLine, NamedCommand, output_of}
+use Rattle.kd_curator.specs.Ending.{EndsAs}
+use Rattle.kd_curator.specs.Program.{HasEnded, IsRun, at_first, at_last, is_whole}
+use Rattle.kd_curator.specs.declared.stop.Stop.{Stop}
+use Rattle.kd_curator.specs.declared.stop.Stop.TheVariants as stops
+
+-- the beginning of the line that says why there is no new file; the file's name follows
+abbrev pub unwritten_words : NewFileFault → List ℕ
+unwritten_words new_files.Taken = codes "refused because there is already a file "
+unwritten_words new_files.Device = codes "refused " ++ (refusal_name refusals.Device ++ codes ": can't write ")
+unwritten_words new_files.NoMemory = codes "refused " ++ (refusal_name refusals.NoMemory ++ codes ": can't write ")
+
+-- the line on standard error that says why there is no new file `name`
+abbrev pub unwritten_line : List ℕ → NewFileFault → List ℕ
+unwritten_line name fault = unwritten_words fault ++ (name ++ 10 ∷ [])
+
+-- The command wrote to a new file, which was empty: `written` is this file before and after. The command's answer is
+-- `answer`, and `left` are the bytes that the file didn't take.
+pub record IsRunToFile (l : Language) (words : List (List ℕ)) (known : Option (List ℕ → Option (List ℕ)))
+    (asked : List AskedName) (before : Option FilesByName) (written errors : Port) (left : List ℕ)
+    (answer : Result (Unit {0}) Stop) : Type 0 where
+  pub empty : written.had ≡ option_map (λ files. []) before
+  pub fresh : written.had_failed ≡ false
+  pub run : IsRun l words known asked written (Unit {0}) errors left answer
+
+-- How the program ends whose command line names the file `name` for its output. `before` and `after` are the files
+-- before and after the call. `NotBegun`: no new file could be made, and no file was read. `Published`: all was written
+-- that the answer says, and the new file `name` has it. `Discarded`: the command was refused before all was written.
+-- `Unwritten`: a write failed, or the file couldn't get its name. In all cases but `Published`, the files are as before.
+pub data EndsWithFile (l : Language) (words : List (List ℕ)) (known : Option (List ℕ → Option (List ℕ)))
+    (asked : List AskedName) (before after : Option FilesByName) (name : List ℕ) (errors : Port) (status : ℕ)
+    : Type 0 where
+  NotBegun : (fault : NewFileFault) → after ≡ before → asked ≡ []
+      → EndsWithLine (unwritten_line name fault) 1 errors status
+      → EndsWithFile l words known asked before after name errors status
+  Published : (written : Port) (answer : Result (Unit {0}) Stop) (told : Option (List ℕ)) (failed : Bool)
+      → IsRunToFile l words known asked before written (at_first errors told failed) [] answer
+      → is_whole answer ≡ true → AddsFile before after name written.has
+      → EndsAs answer (at_last errors told failed) status
+      → EndsWithFile l words known asked before after name errors status
+  Discarded : (written : Port) (left : List ℕ) (answer : Result (Unit {0}) Stop) (told : Option (List ℕ)) (failed : Bool)
+      → IsRunToFile l words known asked before written (at_first errors told failed) left answer
+      → is_whole answer ≡ false → written.has_failed ≡ false → after ≡ before
+      → EndsAs answer (at_last errors told failed) status
+      → EndsWithFile l words known asked before after name errors status
+  Unwritten : (written : Port) (left : List ℕ) (answer : Result (Unit {0}) Stop) (told : Option (List ℕ)) (failed : Bool)
+      → IsRunToFile l words known asked before written (at_first errors told failed) left answer
+      → (is_whole answer ≡ true) ⊎ (written.has_failed ≡ true) → after ≡ before
+      → (fault : NewFileFault) → EndsWithLine (unwritten_line name fault) 1 (at_last errors told failed) status
+      → EndsWithFile l words known asked before after name errors status
+
+-- Why the output goes to the sink: the words name no file for it, or are no command line; or memory ran out.
+abbrev pub GoesToSink : List (List ℕ) → Result (Unit {0}) Stop → Type 0
+GoesToSink words answer =
+    (output_of words ≡ None) ⊎ (IsNoCommandLine words ⊎ (answer ≡ Err (stops.Unread files.NoMemory)))
+
+-- How the program ends. `ToSink`: the output went to the sink, and no file was made. `ToFile`: the words name the file
+-- `name` for the output, and the sink is untouched.
+pub data RunsTo (l : Language) (words : List (List ℕ)) (known : Option (List ℕ → Option (List ℕ)))
+    (asked : List AskedName) (before after : Option FilesByName) (sink : List ℕ → Port) (Untouched : Type 0)
+    (errors : Port) (status : ℕ) : Type 0 where
+  ToSink : HasEnded (λ told left answer. GoesToSink words answer
+      × IsRun l words known asked (sink left) Untouched told left answer) errors status → after ≡ before
+      → RunsTo l words known asked before after sink Untouched errors status
+  ToFile : (name : List ℕ) → output_of words ≡ Some name → Untouched
+      → EndsWithFile l words known asked before after name errors status
+      → RunsTo l words known asked before after sink Untouched errors status
+
+-- ---- What inner functions require and answer. No public contract cites these definitions.
+
+-- Some command line means the command.
+abbrev pub IsMeantBySome : NamedCommand → Type 0
+IsMeantBySome command = (words : List (List ℕ)) × IsCommandLineOf words command
+
+-- What becomes of the new file `name`, which has taken these bytes; `failed` says whether a write to it failed, and the
+-- Bool after it whether all was written. Without a fault, there is the new file exactly if all was written. Otherwise
+-- the files are as before.
+abbrev pub EndsFile : Option FilesByName → Option FilesByName → List ℕ → Option (List ℕ) → Bool → Bool
+    → Result (Unit {0}) NewFileFault → Type 0
+EndsFile before after name bytes failed true (Ok done) = AddsFile before after name bytes
+EndsFile before after name bytes failed true (Err fault) = after ≡ before
+EndsFile before after name bytes failed false (Ok done) = (after ≡ before) × (failed ≡ false)
+EndsFile before after name bytes failed false (Err fault) = (after ≡ before) × (failed ≡ true)

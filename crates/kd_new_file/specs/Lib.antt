@@ -1,0 +1,2 @@
+pub mod NewFileFault
+pub mod NewFiles

@@ -1,0 +1,12 @@
+-- Why there is no new file, by the kind of the system's error.
+-- Test: tests/new-files
+use Rattle.std.specs.declared.io.ErrorKind.{ErrorKind}
+use Rattle.std.specs.declared.io.ErrorKind.TheVariants.{AlreadyExists, OutOfMemory}
+use Rattle.kd_new_file.specs.declared.new_file_fault.NewFileFault.{NewFileFault}
+use Rattle.kd_new_file.specs.declared.new_file_fault.NewFileFault.TheVariants as faults
+
+-- a name that is taken, no memory, or a failed device
+abbrev pub fault_of_kind : ErrorKind → NewFileFault
+fault_of_kind AlreadyExists = faults.Taken
+fault_of_kind OutOfMemory = faults.NoMemory
+fault_of_kind _ = faults.Device

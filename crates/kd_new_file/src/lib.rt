@@ -1,0 +1,14 @@
+//! New files, which are there whole or not at all, and never in place of another file.
+#![tactic(auto)]
+
+mod host_new_files;
+mod memory_new_files;
+mod new_file;
+mod new_file_fault;
+mod new_files;
+
+pub use host_new_files::{HostNewFile, HostNewFiles};
+pub use memory_new_files::MemoryNewFiles;
+pub use new_file::{begin, publish};
+pub use new_file_fault::NewFileFault;
+pub use new_files::NewFiles;

@@ -1,0 +1,62 @@
+//! A new file is begun under another name, and gets its own once it is whole.
+ghost use Rattle.std.specs.Prelude.{◌≡◌, ◌↔◌, [], Option, Some, Err, IfOk, IfSome, IsSome, OnErr, OnOk, false, string_bytes};
+ghost use Rattle.std.specs.Option.{option_map};
+ghost use Rattle.kd_new_file.specs.NewFiles.{AddsFile, FilesByName};
+
+use crate::new_file_fault::NewFileFault;
+use crate::new_files::NewFiles;
+use std::alloc::Global;
+
+/// How many other names are tried.
+const NAMES: u8 = 100;
+
+/// Begins a new file, under another name in the folder of `name`. Returns this name, and the empty file.
+///
+/// The other name is `name`, then `.part` and a number: the first from 1 to 100 that no file has.
+pub fn begin<N: NewFiles>(
+    alloc: Global,
+    files: &mut N,
+    name: &str,
+) -> Result<(String, N::Written), NewFileFault>
+    ensures added { IfOk result (λ begun.
+        AddsFile (N.held files.old) (N.held files.new) (string_bytes begun.0) (Some [])) }
+    ensures empty { IfOk result
+        (λ begun. N.Written.taken begun.1 ≡ option_map (λ _. []) (N.held files.old)) }
+    ensures fresh { IfOk result (λ begun. N.Written.has_failed begun.1 ≡ false) }
+    ensures refused { OnErr result (N.held files.new ≡ N.held files.old) }
+{
+    for number in 0..NAMES {
+        let Ok(other) = format!(in alloc; "{name}.part{}", number + 1) else {
+            return Err(NewFileFault::NoMemory);
+        };
+        match files.create(other.as_str()) {
+            Ok(file) => return Ok((other, file)),
+            Err(NewFileFault::Taken) => {}
+            Err(fault) => return Err(fault),
+        }
+    }
+    Err(NewFileFault::Device)
+}
+
+/// Gives the whole new file `file`, which was begun under the name `other`, the name `name`, and no other.
+///
+/// Returns `Taken` if there is a file called `name`. After a fault there is no new file, under neither name.
+pub fn publish<N: NewFiles>(
+    files: &mut N,
+    file: N::Written,
+    other: &str,
+    name: &str,
+) -> Result<(), NewFileFault>
+    ensures published { OnOk result ((before : Option FilesByName)
+        → AddsFile before (N.held files.old) other.now (Some [])
+        → AddsFile before (N.held files.new) name.now (N.Written.taken file)) }
+    ensures refused { OnErr result ((before : Option FilesByName)
+        → AddsFile before (N.held files.old) other.now (Some [])
+        → N.held files.new ≡ before) }
+    ensures taken { IfSome (N.held files.old)
+        (λ known. (result ≡ Err NewFileFault.Taken) ↔ IsSome (known name.now)) }
+{
+    let done = files.link(file, other, name);
+    files.remove(other);
+    done
+}

@@ -1,0 +1,40 @@
+//! `NewFiles`: a trait for making files in folders.
+ghost use Rattle.std.specs.Prelude.{◌≡◌, ◌↔◌, [], false, List, ℕ, Option, None, Some, IfOk, IfSome, IsSome, Err, OnErr};
+ghost use Rattle.std.specs.Option.{option_map};
+ghost use Rattle.kd_new_file.specs.NewFiles.{AddsFile, FilesByName, with_content};
+
+use crate::new_file_fault::NewFileFault;
+use kd_tables::Sink;
+
+/// Folders in which files are made, named, and removed.
+pub trait NewFiles {
+    /// A file that is being written.
+    type Written: Sink + Drop;
+
+    /// The files, by their names. `None`: they aren't known, as the host's.
+    ///
+    /// A file that is being written has no bytes yet.
+    ghost held: { Self → Option FilesByName } = { λ _. None };
+
+    /// Makes an empty file called `name`. Returns `Taken` if there is a file with this name.
+    fn create(&mut self, name: &str) -> Result<Self::Written, NewFileFault>
+        ensures added { IfOk result (λ _. AddsFile (held self.old) (held self.new) name.now (Some [])) }
+        ensures empty { IfOk result
+            (λ file. Self.Written.taken file ≡ option_map (λ _. []) (held self.old)) }
+        ensures fresh { IfOk result (λ file. Self.Written.has_failed file ≡ false) }
+        ensures refused { OnErr result (held self.new ≡ held self.old) };
+
+    /// Stores all bytes that `file` has taken, and gives them the name `name`, too. The file was made as `other`.
+    ///
+    /// Returns `Taken` if there is a file called `name`.
+    fn link(&mut self, file: Self::Written, other: &str, name: &str) -> Result<(), NewFileFault>
+        ensures added { IfOk result (λ _.
+            AddsFile (held self.old) (held self.new) name.now (Self.Written.taken file)) }
+        ensures taken { IfSome (held self.old)
+            (λ files. (result ≡ Err NewFileFault.Taken) ↔ IsSome (files name.now)) }
+        ensures refused { OnErr result (held self.new ≡ held self.old) };
+
+    /// Removes the name `name`, if the folder lets it.
+    fn remove(&mut self, name: &str)
+        ensures { held self.new ≡ option_map (λ files. with_content files name.now None) (held self.old) };
+}
