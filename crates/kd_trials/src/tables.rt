@@ -1,7 +1,8 @@
 //! Tests of the tables and their texts, against the published ones.
 use crate::letters::{letter, letters};
 use kd_tables::{
-    Failed, Model, Reading, Reflector, Wheel, notched, place_on_wheel, reflecting, unwiring, wiring,
+    Failed, Model, Place, Reading, Reflector, Standing, Wheel, notched, place_on_wheel, reflecting,
+    unwiring, wiring,
 };
 use std::process::Abort;
 
@@ -102,6 +103,18 @@ fn pin_wheels_have_their_own_letters(rt: HostRuntime) {
     for (wheel, byte, place) in &PLACES_ON_WHEELS {
         assert_eq!(rt; place_on_wheel(*wheel, letter(&rt, *byte)), *place);
     }
+}
+
+/// The texts of the 28 standings, and how each reads, are tested on the program, by `tests/cases`.
+#[test]
+fn bars_have_28_standings(rt: HostRuntime) {
+    let mut standings = 0_u8;
+    for left in Place::all() {
+        for right in Place::all() {
+            standings = standings.saturating_add(u8::from(Standing::new(left, right).is_some()));
+        }
+    }
+    assert_eq!(rt; standings, 28);
 }
 
 /// All readings in order, each with its two numbers.

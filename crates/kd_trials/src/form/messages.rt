@@ -312,7 +312,7 @@ fn messages_are_made_at_once_and_as_streams(rt: HostRuntime) {
 ///
 /// `tests/refusals` runs the tests whose names end in `want_memory`, with each request for memory refused in turn.
 #[test]
-fn messages_want_memory(rt: HostRuntime) {
+fn orders_and_forms_want_memory(rt: HostRuntime) {
     for case in &MACHINES[..3] {
         let answer = are_made(&rt, rt.alloc(), case);
         assert!(rt; answer.is_ok() || answer == Err(NoMemory));
