@@ -24,7 +24,7 @@ type Case = (
     &'static str,
 );
 
-/// Machines with their days, each with messages. On the first three, memory runs out too.
+/// Machines with their days, each with messages. The first three are also tried where memory runs out.
 static MACHINES: [(Told, &[Case]); 8] = [
     (
         PLAIN,

@@ -39,15 +39,17 @@ fn days_tell_their_parts(rt: HostRuntime) {
     assert!(rt; converter.list() == Some(letters(&rt, b"QV")));
 }
 
-/// No other number than that of a day has a day, also among numbers that no day can have.
+/// Sheets, and the numbers of their days. Only these numbers have a day.
+static SHEETS: [(&str, &[u8]); 2] = [(texts::DAY_OF_1941, &[1]), ("day = []\n", &[])];
+
 #[test]
 fn sheets_have_their_days_alone(rt: HostRuntime) {
-    for (text, last) in [(texts::DAY_OF_1941, 1), ("day = []\n", 0)] {
+    for (text, days) in &SHEETS {
         let sheet = read_sheet(rt.alloc(), text.as_bytes()).ok();
         let sheet = sheet.expect(&rt, "a sheet");
         for number in 0..=255 {
             assert!(rt;
-                sheet.day(number).is_some() == (number == 1 && last == 1),
+                sheet.day(number).is_some() == days.contains(&number),
                 "{number}"
             );
         }
