@@ -119,7 +119,7 @@ fn each_get_fails(rt: &impl Abort, alloc: Global, case: &Case) {
                 &keyed,
                 &case.way,
                 message,
-                (piece, Some(gets)),
+                (&[piece], Some(gets)),
                 Some(FormFault::Device),
                 written.unwrap_or(b"?"),
             );

@@ -118,19 +118,10 @@ pub fn is_sent_and_received(rt: &impl Abort, alloc: Global, case: &Case) -> Resu
     assert!(rt; form.starts_with(case.first));
     assert!(rt; form.get(last..).unwrap_or(&[]).starts_with(case.last));
     assert!(rt; text.as_slice() == due.as_bytes());
-    for piece in case.pieces {
-        let (order, form) = (order.as_bytes(), form.as_slice());
-        is_streamed(rt, &keyed, &Way::Sent, order, (*piece, None), None, form);
-        is_streamed(
-            rt,
-            &keyed,
-            &Way::Received,
-            form,
-            (*piece, None),
-            None,
-            text.as_slice(),
-        );
-    }
+    let (order, form, text) = (order.as_bytes(), form.as_slice(), text.as_slice());
+    let pieces = (case.pieces, None);
+    is_streamed(rt, &keyed, &Way::Sent, order, pieces, None, form);
+    is_streamed(rt, &keyed, &Way::Received, form, pieces, None, text);
     Ok(())
 }
 

@@ -247,10 +247,13 @@ static MACHINES: [(Told, &[Case]); 8] = [
     ),
 ];
 
+/// The most bytes that a source gives at once: messages are streamed with each of these numbers.
+static PIECES: [usize; 3] = [1, 2, 7];
+
 /// The form for the Converter on which one pin moves all bars.
 const PIN_FORM: &str = "PART 1/1 25\nJJVAA AAAQV ZZZZZ JJVAA AAAQV\n";
 
-/// Checks what a message gives at once, and that streams in pieces of 1, 2 and 7 bytes give the same.
+/// Checks what a message gives at once, and that streams give the same.
 ///
 /// If memory runs out, the fault is `NoMemory`.
 fn is_made(
@@ -274,17 +277,8 @@ fn is_made(
             "{start}"
         );
     }
-    for piece in [1, 2, 7] {
-        is_streamed(
-            rt,
-            keyed,
-            way,
-            message.as_bytes(),
-            (piece, None),
-            fault,
-            written,
-        );
-    }
+    let pieces = (PIECES.as_slice(), None);
+    is_streamed(rt, keyed, way, message.as_bytes(), pieces, fault, written);
     Ok(())
 }
 

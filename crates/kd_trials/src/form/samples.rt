@@ -63,22 +63,25 @@ pub fn make(
 
 /// Sends or receives `message` as a stream, and checks the fault, if there is one, and the bytes that are written.
 ///
-/// The source gives at most `piece` bytes at once. If it has a number of `gets`, the next one fails.
+/// The source gives at most as many bytes at once as `pieces` says, one number after another. If it has a number of `gets`, the
+/// next one fails.
 pub fn is_streamed(
     rt: &impl Abort,
     (machine, day): &Keyed,
     way: &Way,
     message: &[u8],
-    (piece, gets): (usize, Option<usize>),
+    (pieces, gets): (&[usize], Option<usize>),
     fault: Option<FormFault>,
     written: &[u8],
 ) {
-    let mut source = MemorySource::new(message, piece.max(1), gets);
-    let mut sink = MemorySink::<65_536>::new(65_536);
-    let answer = match way {
-        Way::Sent => send_stream(machine, day, &mut source, &mut sink),
-        Way::Received => receive_stream(machine, day, &mut source, &mut sink),
-    };
-    assert_eq!(rt; answer.err(), fault);
-    assert!(rt; sink.taken() == written);
+    for piece in pieces {
+        let mut source = MemorySource::new(message, (*piece).max(1), gets);
+        let mut sink = MemorySink::<65_536>::new(65_536);
+        let answer = match way {
+            Way::Sent => send_stream(machine, day, &mut source, &mut sink),
+            Way::Received => receive_stream(machine, day, &mut source, &mut sink),
+        };
+        assert_eq!(rt; answer.err(), fault);
+        assert!(rt; sink.taken() == written);
+    }
 }
