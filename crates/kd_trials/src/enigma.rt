@@ -2,22 +2,20 @@
 use crate::letters::letters;
 use kd_enigma::{Enigma, EnigmaKey, Plugs};
 use kd_tables::{Letter, Reflector, Wheel};
-use std::test::Fail;
 
 #[test]
-fn the_rings_do_not_turn_the_notches(rt: HostRuntime) -> Result<(), Fail> {
+fn the_rings_do_not_turn_the_notches(rt: HostRuntime) {
     let mut enigma = Enigma::new(EnigmaKey {
         wheels: [Wheel::I, Wheel::II, Wheel::III],
         rings: letters(&rt, b"BBB"),
         window: letters(&rt, b"ADU"),
         reflector: Reflector::B,
-        plugs: Plugs::from_pairs(&[])?,
+        plugs: Plugs::from_pairs(&[]).ok().expect(&rt, "no pairs"),
     });
     for window in [*b"ADV", *b"AEW", *b"BFX", *b"BFY"] {
         enigma.press(Letter::A);
         assert!(rt; enigma.window() == letters(&rt, &window));
     }
-    Ok(())
 }
 
 #[test]

@@ -1,8 +1,5 @@
-//! Tests of messages that are sent and received at once, and of long ones.
+//! Tests of messages that are sent and received at once, and as streams.
 mod failing;
-mod limits;
 mod long_texts;
-mod memory;
 mod messages;
-pub mod samples;
-mod way;
+mod samples;

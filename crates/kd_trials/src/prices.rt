@@ -1,13 +1,13 @@
-//! Tests of the check of a card, and of prices by kind.
-use crate::machines::{CABLES, PLAIN, TWO_BARS, Told, keyed, machine, numbered_day};
+//! Tests of prices by kind.
+use crate::machines::{PLAIN, Told, keyed};
 use crate::named::TextName::{
-    self, AllMet, BarKinds, DayOfAllMet, DayOfUnlikeBars, EmptyKinds, Farthest, FarthestCard, M1,
-    NoLugs, NoSettings, OneBarKind, OneLug, PlainDay, Sheet, TwoCableKinds, TwoCables,
-    UnlikeBarKinds, UnlikeBars, UnlikeCableKinds,
+    self, AllMet, BarKinds, DayOfAllMet, DayOfUnlikeBars, DayWithoutPins, EmptyKinds, M1, NoLugs,
+    NoSettings, OneBarKind, OneLug, PlainDay, TwoCableKinds, TwoCables, UnlikeBarKinds, UnlikeBars,
+    UnlikeCableKinds, WithoutPins,
 };
 use crate::named::{File, changed};
-use kd_card::{CardFault, read_card, write_card};
-use kd_prices::{Doubt, by_kind, check};
+use kd_card::{read_card, write_card};
+use kd_prices::by_kind;
 use kd_tables::MemorySink;
 use std::alloc::Global;
 use std::process::Abort;
@@ -15,7 +15,9 @@ use std::process::Abort;
 /// A machine and a day, a card, and the text that `by_kind` gives the card, with one price for each kind.
 ///
 /// There is no such text if the prices are by kind already, or if two bars of one kind have different prices.
-static KINDS: [(Told, File, Option<TextName>); 8] = [
+type Case = (Told, File, Option<TextName>);
+
+static CASES: [Case; 8] = [
     (TWO_BARS, (OneLug, "", ""), Some(BarKinds)),
     (CABLES, (TwoCables, "", ""), Some(TwoCableKinds)),
     (TWO_BARS, (BarKinds, "", ""), None),
@@ -26,6 +28,26 @@ static KINDS: [(Told, File, Option<TextName>); 8] = [
     (ALIKE_BARS, (NoLugs, "", ""), Some(OneBarKind)),
     (UNLIKE_BARS, (NoLugs, "", ""), Some(UnlikeBarKinds)),
 ];
+
+/// An Enigma I with the cables AB and CD, on a day with the pairs BC and DE.
+const CABLES: Told = (
+    (M1, "version = 1", "version = 1\ncables = [\"AB\", \"CD\"]"),
+    (PlainDay, "plugs = []", "plugs = [\"BC\", \"DE\"]"),
+);
+
+/// A Converter on which two bars read as the day's two rows once one lug is moved.
+const TWO_BARS: Told = (
+    (
+        WithoutPins,
+        "bars = [\"0L-0R\", \"0L-0R\"",
+        "bars = [\"3-0R\", \"0L-3\"",
+    ),
+    (
+        DayWithoutPins,
+        "rows = [\"0-0\", \"0-0\"",
+        "rows = [\"0-3\", \"3-6\"",
+    ),
+);
 
 /// An Enigma I with thirteen cables, on its day.
 const FULL_CABLES: Told = (
@@ -48,9 +70,9 @@ const ALIKE_BARS: Told = ((AllMet, "", ""), (DayOfAllMet, "", ""));
 
 const UNLIKE_BARS: Told = ((UnlikeBars, "", ""), (DayOfUnlikeBars, "", ""));
 
-/// Checks the text that `by_kind` gives a card, with one price for each kind.
-fn becomes(rt: &impl Abort, alloc: Global, (told, text, due): &(Told, File, Option<TextName>)) {
-    let (machine, day) = keyed(rt, alloc, told);
+/// Checks the text that `by_kind` gives a card.
+fn becomes(rt: &impl Abort, alloc: Global, (told, text, due): &Case) {
+    let (machine, day) = keyed(alloc, told).expect(rt, "a machine and its day");
     let text = changed(alloc, text).ok().expect(rt, "memory");
     let (number, card) = read_card(text.as_bytes()).ok().expect(rt, "a card");
     let mut sink = MemorySink::<1024>::new(1024);
@@ -63,91 +85,7 @@ fn becomes(rt: &impl Abort, alloc: Global, (told, text, due): &(Told, File, Opti
 
 #[test]
 fn cards_become_cards_by_kind(rt: HostRuntime) {
-    for case in &KINDS {
+    for case in &CASES {
         becomes(&rt, rt.alloc(), case);
-    }
-}
-
-/// A card that fits two bars, and the fault of the card or the doubt about it.
-///
-/// If the counts don't add up to 27, `read_card` finds that a price is missing. If they do, but the machine has other kinds
-/// or other counts, the card is read, and `check` finds it.
-static MISSING: [(File, Option<CardFault>, Option<Doubt>); 4] = [
-    ((BarKinds, "", ""), None, None),
-    (
-        (BarKinds, "0L-0R 25", "0L-0R 24"),
-        Some(CardFault::PriceMissing),
-        None,
-    ),
-    (
-        (BarKinds, "BAR 0L-3 1 1", "BAR 0L-4 1 1"),
-        None,
-        Some(Doubt::PriceMissing),
-    ),
-    (
-        (
-            BarKinds,
-            "BAR 0L-3 1 1\nBAR 0L-0R 25 0",
-            "BAR 0L-3 25 0\nBAR 0L-0R 1 1",
-        ),
-        None,
-        Some(Doubt::PriceMissing),
-    ),
-];
-
-/// Checks which call finds that a price is missing.
-fn is_found(
-    rt: &impl Abort,
-    alloc: Global,
-    (text, fault, doubt): &(File, Option<CardFault>, Option<Doubt>),
-) {
-    let (machine, day) = keyed(rt, alloc, &TWO_BARS);
-    let text = changed(alloc, text).ok().expect(rt, "memory");
-    match read_card(text.as_bytes()) {
-        Ok((_, card)) => {
-            assert!(rt; fault.is_none());
-            assert!(rt; check(&machine, &day, &card).err() == *doubt, "{text}");
-        }
-        Err(answer) => assert!(rt; Some(answer) == *fault, "{text}"),
-    }
-}
-
-#[test]
-fn a_price_is_missing_on_the_card_or_for_the_machine(rt: HostRuntime) {
-    for case in &MISSING {
-        is_found(&rt, rt.alloc(), case);
-    }
-}
-
-/// A change of the card of 191 settings, and the doubt about the changed card.
-static LONGEST: [(&str, &str, Option<Doubt>); 4] = [
-    ("", "", None),
-    (
-        "BAR 1-2 27 2\nROW 3-4 27 0",
-        "BAR 1-2 27 0\nROW 3-4 27 2",
-        None,
-    ),
-    (
-        "BAR 1-2 27 2\nROW 3-4 27 0\nSUM 54",
-        "BAR 1-2 27 3\nROW 3-4 27 0\nSUM 81",
-        Some(Doubt::PriceTooHigh(1, 1)),
-    ),
-    (
-        "BAR 1-2 27 2\nROW 3-4 27 0\nSUM 54",
-        "BAR 1-2 27 1\nROW 3-4 27 0\nSUM 27",
-        Some(Doubt::SumDiffers),
-    ),
-];
-
-#[test]
-fn the_longest_card_is_checked(rt: HostRuntime) {
-    let machine = machine(&rt, rt.alloc(), &(Farthest, "", ""));
-    let day = numbered_day(&rt, rt.alloc(), &(Sheet, "", ""), 13);
-    for (old, new, due) in &LONGEST {
-        let text = changed(rt.alloc(), &(FarthestCard, old, new));
-        let text = text.ok().expect(&rt, "memory");
-        let (number, card) = read_card(text.as_bytes()).ok().expect(&rt, "a card");
-        assert_eq!(rt; (number, card.settings.len()), (13, 191));
-        assert!(rt; check(&machine, &day, &card).err() == *due, "{new}");
     }
 }

@@ -1,5 +1,4 @@
-//! Tests of machines: the costs of changing them, their getters, single settings, and engines.
+//! Tests of machines: single settings, engines, and the calls that return one part.
 mod carrying;
-mod costs;
 mod engine;
 mod getters;

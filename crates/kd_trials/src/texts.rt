@@ -19,15 +19,6 @@ letters = \"AAAAA\"
 cables = [\"\", \"\", \"\", \"\", \"\", \"\", \"\", \"\", \"\", \"\", \"\", \"\", \"\"]
 ";
 
-/// `M1` with an empty slot in the middle, so it isn't ready.
-pub const UNREADY: &str = "version = 1
-model = \"Enigma I\"
-reflector = \"B\"
-slots = [\"I\", \"\", \"III\"]
-rings = \"AAAAA\"
-letters = \"AAAAA\"
-";
-
 /// An Enigma I with ten cables, some of them plugged with the later letter first.
 pub const TEN_CABLES: &str = "version = 1
 model = \"Enigma I\"
@@ -75,15 +66,6 @@ letters = \"AJANAAAAVA\"
 cables = [\"AT\", \"BL\", \"DF\", \"GJ\", \"HM\", \"NW\", \"OP\", \"QY\", \"RZ\", \"VX\", \"\", \"\", \"\"]
 ";
 
-/// An M3 with the wheels and the reflector of `M1`.
-pub const M3: &str = "version = 1
-model = \"M3\"
-reflector = \"B\"
-slots = [\"I\", \"II\", \"III\"]
-rings = \"AAAAAAAA\"
-letters = \"AAAAAAAA\"
-";
-
 /// A Converter M-209 on which the first wheel moves all bars if its acting pin is effective.
 pub const ALL_MET: &str = "version = 1
 model = \"M-209\"
@@ -92,18 +74,6 @@ pins = [\"P\", \"\", \"\", \"\", \"\", \"\"]
 bars = [\"1-0L\", \"1-0L\", \"1-0L\", \"1-0L\", \"1-0L\", \"1-0L\", \"1-0L\", \"1-0L\", \"1-0L\",
     \"1-0L\", \"1-0L\", \"1-0L\", \"1-0L\", \"1-0L\", \"1-0L\", \"1-0L\", \"1-0L\", \"1-0L\",
     \"1-0L\", \"1-0L\", \"1-0L\", \"1-0L\", \"1-0L\", \"1-0L\", \"1-0L\", \"1-0L\", \"1-0L\",
-]
-";
-
-/// A Converter M-209 that differs from its day in each pin, each letter, and both lugs of each bar.
-pub const FARTHEST: &str = "version = 1
-model = \"M-209\"
-letters = \"BBBBBB\"
-pins = [\"\", \"\", \"\", \"\", \"\", \"\"]
-bars = [
-    \"1-2\", \"1-2\", \"1-2\", \"1-2\", \"1-2\", \"1-2\", \"1-2\", \"1-2\", \"1-2\",
-    \"1-2\", \"1-2\", \"1-2\", \"1-2\", \"1-2\", \"1-2\", \"1-2\", \"1-2\", \"1-2\",
-    \"1-2\", \"1-2\", \"1-2\", \"1-2\", \"1-2\", \"1-2\", \"1-2\", \"1-2\", \"1-2\",
 ]
 ";
 
@@ -201,36 +171,6 @@ ROWS -1 0 0 0 0 0 0 0 0 0 0 0 0 0 0 0 0 0 0 0 0 0 0 0 0 0 0
 SUM 1
 ";
 
-/// A card that moves one lug, and whose prices are 0.
-pub const NO_PRICES: &str = "CARD 1 DAY 9
-LUG 1 R 6
-SETTINGS 1
-BARS 0 0 0 0 0 0 0 0 0 0 0 0 0 0 0 0 0 0 0 0 0 0 0 0 0 0 0
-ROWS 0 0 0 0 0 0 0 0 0 0 0 0 0 0 0 0 0 0 0 0 0 0 0 0 0 0 0
-SUM 0
-";
-
-/// `NO_PRICES` with other prices, whose sum is 2. The first bar's price is higher than the costs allow.
-pub const HIGHER: &str = "CARD 1 DAY 9
-LUG 1 R 6
-SETTINGS 1
-BARS 2 1 0 0 0 0 0 0 0 0 0 0 0 0 0 0 0 0 0 0 0 0 0 0 0 0 0
-ROWS -1 0 0 0 0 0 0 0 0 0 0 0 0 0 0 0 0 0 0 0 0 0 0 0 0 0 0
-SUM 2
-";
-
-/// A card that leaves bar 1 as it is, and so takes two lines where one is enough.
-///
-/// The sum of its prices is 2, as if two lines were needed, but a price is too high.
-pub const TWO_LUGS: &str = "CARD 1 DAY 9
-LUG 2 R 6
-LUG 2 L 3
-SETTINGS 2
-BARS 2 0 0 0 0 0 0 0 0 0 0 0 0 0 0 0 0 0 0 0 0 0 0 0 0 0 0
-ROWS 0 0 0 0 0 0 0 0 0 0 0 0 0 0 0 0 0 0 0 0 0 0 0 0 0 0 0
-SUM 2
-";
-
 /// A card without settings.
 pub const NO_SETTINGS: &str = "CARD 1 DAY 11
 SETTINGS 0
@@ -266,20 +206,6 @@ ROW 0-0 25 0
 ROW 0-3 1 -1
 ROW 3-6 1 0
 SUM 1
-";
-
-/// `TWO_LUGS` with prices by kind.
-pub const TWO_LUGS_BY_KIND: &str = "CARD 2 DAY 9
-LUG 2 R 6
-LUG 2 L 3
-SETTINGS 2
-BAR 0L-3 1 0
-BAR 0L-0R 25 0
-BAR 3-0R 1 2
-ROW 0-0 25 0
-ROW 0-3 1 0
-ROW 3-6 1 0
-SUM 2
 ";
 
 /// A card without settings, with prices by kind.
@@ -451,239 +377,8 @@ PAIR YZ 1 0
 SUM 0
 ";
 
-/// The card of 191 settings from `FARTHEST` to its day: all pins, all letters, and both lugs of each bar.
-pub const FARTHEST_CARD: &str = "CARD 2 DAY 13
-PIN 1 A ON
-PIN 1 B ON
-PIN 1 C ON
-PIN 1 D ON
-PIN 1 E ON
-PIN 1 F ON
-PIN 1 G ON
-PIN 1 H ON
-PIN 1 I ON
-PIN 1 J ON
-PIN 1 K ON
-PIN 1 L ON
-PIN 1 M ON
-PIN 1 N ON
-PIN 1 O ON
-PIN 1 P ON
-PIN 1 Q ON
-PIN 1 R ON
-PIN 1 S ON
-PIN 1 T ON
-PIN 1 U ON
-PIN 1 V ON
-PIN 1 W ON
-PIN 1 X ON
-PIN 1 Y ON
-PIN 1 Z ON
-PIN 2 A ON
-PIN 2 B ON
-PIN 2 C ON
-PIN 2 D ON
-PIN 2 E ON
-PIN 2 F ON
-PIN 2 G ON
-PIN 2 H ON
-PIN 2 I ON
-PIN 2 J ON
-PIN 2 K ON
-PIN 2 L ON
-PIN 2 M ON
-PIN 2 N ON
-PIN 2 O ON
-PIN 2 P ON
-PIN 2 Q ON
-PIN 2 R ON
-PIN 2 S ON
-PIN 2 T ON
-PIN 2 U ON
-PIN 2 V ON
-PIN 2 X ON
-PIN 2 Y ON
-PIN 2 Z ON
-PIN 3 A ON
-PIN 3 B ON
-PIN 3 C ON
-PIN 3 D ON
-PIN 3 E ON
-PIN 3 F ON
-PIN 3 G ON
-PIN 3 H ON
-PIN 3 I ON
-PIN 3 J ON
-PIN 3 K ON
-PIN 3 L ON
-PIN 3 M ON
-PIN 3 N ON
-PIN 3 O ON
-PIN 3 P ON
-PIN 3 Q ON
-PIN 3 R ON
-PIN 3 S ON
-PIN 3 T ON
-PIN 3 U ON
-PIN 3 V ON
-PIN 3 X ON
-PIN 4 A ON
-PIN 4 B ON
-PIN 4 C ON
-PIN 4 D ON
-PIN 4 E ON
-PIN 4 F ON
-PIN 4 G ON
-PIN 4 H ON
-PIN 4 I ON
-PIN 4 J ON
-PIN 4 K ON
-PIN 4 L ON
-PIN 4 M ON
-PIN 4 N ON
-PIN 4 O ON
-PIN 4 P ON
-PIN 4 Q ON
-PIN 4 R ON
-PIN 4 S ON
-PIN 4 T ON
-PIN 4 U ON
-PIN 5 A ON
-PIN 5 B ON
-PIN 5 C ON
-PIN 5 D ON
-PIN 5 E ON
-PIN 5 F ON
-PIN 5 G ON
-PIN 5 H ON
-PIN 5 I ON
-PIN 5 J ON
-PIN 5 K ON
-PIN 5 L ON
-PIN 5 M ON
-PIN 5 N ON
-PIN 5 O ON
-PIN 5 P ON
-PIN 5 Q ON
-PIN 5 R ON
-PIN 5 S ON
-PIN 6 A ON
-PIN 6 B ON
-PIN 6 C ON
-PIN 6 D ON
-PIN 6 E ON
-PIN 6 F ON
-PIN 6 G ON
-PIN 6 H ON
-PIN 6 I ON
-PIN 6 J ON
-PIN 6 K ON
-PIN 6 L ON
-PIN 6 M ON
-PIN 6 N ON
-PIN 6 O ON
-PIN 6 P ON
-PIN 6 Q ON
-TURN 1 A
-TURN 2 A
-TURN 3 A
-TURN 4 A
-TURN 5 A
-TURN 6 A
-LUG 1 R 4
-LUG 1 L 3
-LUG 2 R 4
-LUG 2 L 3
-LUG 3 R 4
-LUG 3 L 3
-LUG 4 R 4
-LUG 4 L 3
-LUG 5 R 4
-LUG 5 L 3
-LUG 6 R 4
-LUG 6 L 3
-LUG 7 R 4
-LUG 7 L 3
-LUG 8 R 4
-LUG 8 L 3
-LUG 9 R 4
-LUG 9 L 3
-LUG 10 R 4
-LUG 10 L 3
-LUG 11 R 4
-LUG 11 L 3
-LUG 12 R 4
-LUG 12 L 3
-LUG 13 R 4
-LUG 13 L 3
-LUG 14 R 4
-LUG 14 L 3
-LUG 15 R 4
-LUG 15 L 3
-LUG 16 R 4
-LUG 16 L 3
-LUG 17 R 4
-LUG 17 L 3
-LUG 18 R 4
-LUG 18 L 3
-LUG 19 R 4
-LUG 19 L 3
-LUG 20 R 4
-LUG 20 L 3
-LUG 21 R 4
-LUG 21 L 3
-LUG 22 R 4
-LUG 22 L 3
-LUG 23 R 4
-LUG 23 L 3
-LUG 24 R 4
-LUG 24 L 3
-LUG 25 R 4
-LUG 25 L 3
-LUG 26 R 4
-LUG 26 L 3
-LUG 27 R 4
-LUG 27 L 3
-SETTINGS 191
-BAR 1-2 27 2
-ROW 3-4 27 0
-SUM 54
-";
-
-/// A sheet with days of all models.
+/// A sheet with days of an Enigma I and of a Converter M-209.
 pub const SHEET: &str = "[[day]]
-day = 3
-model = \"M3\"
-reflector = \"B\"
-wheels = [\"I\", \"II\", \"III\"]
-rings = \"AAA\"
-window = \"AAA\"
-plugs = []
-groups = [\"ZUG\"]
-
-[[day]]
-day = 1
-model = \"M4\"
-reflector = \"b\"
-wheels = [\"Beta\", \"I\", \"II\", \"III\"]
-rings = \"AAAA\"
-window = \"AAAA\"
-plugs = []
-groups = [\"ZUG\"]
-
-[[day]]
-day = 7
-model = \"M-209\"
-rows = [
-    \"0-1\", \"0-1\", \"0-1\", \"0-1\", \"0-1\", \"0-1\", \"0-1\", \"0-1\", \"0-1\",
-    \"0-1\", \"0-1\", \"0-1\", \"0-1\", \"0-1\", \"0-1\", \"0-1\", \"0-1\", \"0-1\",
-    \"0-1\", \"0-1\", \"0-1\", \"0-1\", \"0-1\", \"0-1\", \"0-1\", \"0-1\", \"0-1\",
-]
-pins = [\"P\", \"\", \"\", \"\", \"\", \"\"]
-window = \"AAAAAA\"
-list = \"QV\"
-
-[[day]]
 day = 8
 model = \"Enigma I\"
 reflector = \"B\"
@@ -691,30 +386,6 @@ wheels = [\"I\", \"II\", \"III\"]
 rings = \"AAA\"
 window = \"AAA\"
 plugs = [\"BC\", \"DE\"]
-
-[[day]]
-day = 9
-model = \"M-209\"
-rows = [
-    \"0-3\", \"3-6\", \"0-0\", \"0-0\", \"0-0\", \"0-0\", \"0-0\", \"0-0\", \"0-0\",
-    \"0-0\", \"0-0\", \"0-0\", \"0-0\", \"0-0\", \"0-0\", \"0-0\", \"0-0\", \"0-0\",
-    \"0-0\", \"0-0\", \"0-0\", \"0-0\", \"0-0\", \"0-0\", \"0-0\", \"0-0\", \"0-0\",
-]
-pins = [\"P\", \"O\", \"\", \"\", \"\", \"\"]
-window = \"AAAAAA\"
-list = \"QV\"
-
-[[day]]
-day = 10
-model = \"M-209\"
-rows = [
-    \"3-6\", \"0-0\", \"0-0\", \"0-0\", \"0-0\", \"0-0\", \"0-0\", \"0-0\", \"0-0\",
-    \"0-0\", \"0-0\", \"0-0\", \"0-0\", \"0-0\", \"0-0\", \"0-0\", \"0-0\", \"0-0\",
-    \"0-0\", \"0-0\", \"0-0\", \"0-0\", \"0-0\", \"0-0\", \"0-0\", \"0-0\", \"0-0\",
-]
-pins = [\"P\", \"O\", \"\", \"\", \"\", \"\"]
-window = \"AAAAAA\"
-list = \"QV\"
 
 [[day]]
 day = 11
@@ -735,35 +406,6 @@ window = \"AAA\"
 plugs = []
 
 [[day]]
-day = 13
-model = \"M-209\"
-rows = [
-    \"3-4\", \"3-4\", \"3-4\", \"3-4\", \"3-4\", \"3-4\", \"3-4\", \"3-4\", \"3-4\",
-    \"3-4\", \"3-4\", \"3-4\", \"3-4\", \"3-4\", \"3-4\", \"3-4\", \"3-4\", \"3-4\",
-    \"3-4\", \"3-4\", \"3-4\", \"3-4\", \"3-4\", \"3-4\", \"3-4\", \"3-4\", \"3-4\",
-]
-pins = [
-    \"ABCDEFGHIJKLMNOPQRSTUVWXYZ\",
-    \"ABCDEFGHIJKLMNOPQRSTUVXYZ\",
-    \"ABCDEFGHIJKLMNOPQRSTUVX\",
-    \"ABCDEFGHIJKLMNOPQRSTU\",
-    \"ABCDEFGHIJKLMNOPQRS\",
-    \"ABCDEFGHIJKLMNOPQ\",
-]
-window = \"AAAAAA\"
-list = \"QV\"
-
-[[day]]
-day = 14
-model = \"Enigma I\"
-reflector = \"B\"
-wheels = [\"II\", \"IV\", \"V\"]
-rings = [2, 21, 12]
-window = \"BLA\"
-plugs = [\"AV\", \"BS\", \"CG\", \"DL\", \"FU\", \"HZ\", \"IN\", \"KM\", \"OW\", \"RX\"]
-groups = [\"UGZ\"]
-
-[[day]]
 day = 15
 model = \"M-209\"
 rows = [
@@ -776,15 +418,6 @@ window = \"AAAAAA\"
 list = \"QV\"
 
 [[day]]
-day = 16
-model = \"Enigma I\"
-reflector = \"B\"
-wheels = [\"I\", \"II\", \"III\"]
-rings = \"AAA\"
-window = \"AAA\"
-plugs = [\"CF\"]
-
-[[day]]
 day = 17
 model = \"Enigma I\"
 reflector = \"B\"
@@ -793,19 +426,6 @@ rings = \"AAA\"
 window = \"AAA\"
 plugs = []
 groups = [\"ZUG\"]
-
-[[day]]
-day = 31
-model = \"M4\"
-reflector = \"c\"
-wheels = [\"Gamma\", \"I\", \"II\", \"III\"]
-rings = \"AAAA\"
-window = \"AAAA\"
-plugs = []
-";
-
-/// A sheet without days.
-pub const EMPTY_SHEET: &str = "day = []
 ";
 
 /// The form of a message that was sent on the eastern front in July 1941.

@@ -4,31 +4,21 @@ use kd_tables::{Failed, Sink, Source};
 use std::io::{self, ErrorKind, Read, Write};
 use std::process::Abort;
 
-/// A reader that is interrupted once, and then gives two bytes at a time.
+/// A reader whose first read fails, and which then gives two bytes at a time.
 #[derive(Drop)]
-struct Interrupted {
-    was: bool,
+struct Failing {
+    first: Option<ErrorKind>,
 }
 
-impl Read for Interrupted {
+impl Read for Failing {
     fn read(&mut self, buffer: &mut [u8]) -> io::Result<usize> {
-        if !self.was {
-            self.was = true;
-            return Err(io::Error::from(ErrorKind::Interrupted));
+        if let Some(kind) = self.first {
+            self.first = None;
+            return Err(io::Error::from(kind));
         }
         let count = buffer.len().min(2);
         buffer[..count].fill(b'A');
         Ok(count)
-    }
-}
-
-/// A reader whose reads fail for lack of memory.
-#[derive(Drop)]
-struct OutOfMemory;
-
-impl Read for OutOfMemory {
-    fn read(&mut self, _buffer: &mut [u8]) -> io::Result<usize> {
-        Err(io::Error::from(ErrorKind::OutOfMemory))
     }
 }
 
@@ -63,36 +53,39 @@ static GETS: [Get; 6] = [
     (1, Ok(b""), false),
 ];
 
-/// Gets from the reader that is interrupted.
-static GETS_OF_INTERRUPTED: [Get; 4] = [
+/// Gets from the reader whose first read fails.
+static GETS_OF_FAILING: [Get; 4] = [
     (4096, Err(Failed), true),
     (4096, Ok(b"AA"), true),
     (1, Ok(b"A"), true),
     (0, Ok(b""), true),
 ];
 
-/// Checks `gets`, one after another, on `source`.
-fn are_got<R: Read + Drop>(rt: &impl Abort, source: &mut ReaderSource<R>, gets: &[Get]) {
+/// Checks `gets`, one after another, on a source that reads from `reader`, and its fault after them.
+fn are_got<R: Read + Drop>(rt: &impl Abort, reader: R, gets: &[Get], fault: Option<FileFault>) {
+    let mut source = ReaderSource::new(reader);
     let mut buffer = [0; 4096];
     for (size, got, failed) in gets {
-        let size = (*size).min(4096);
-        let count = source.get(&mut buffer[..size]);
-        let bytes = count.map(|count| buffer.get(..count).unwrap_or(b"?"));
-        assert_eq!(rt; bytes, *got);
+        match (source.get(&mut buffer[..(*size).min(4096)]), got) {
+            (Ok(count), Ok(due)) => assert!(rt; buffer.get(..count) == Some(*due)),
+            (answer, due) => assert!(rt; answer.is_err() && due.is_err()),
+        }
         assert_eq!(rt; source.failed(), *failed);
     }
+    assert_eq!(rt; source.fault(), fault);
 }
 
 /// A read that is interrupted fails, and so does one that finds no memory.
 #[test]
 fn readers_give_what_they_have_or_fail(rt: HostRuntime) {
-    are_got(&rt, &mut ReaderSource::new(b"ENIGMA".as_slice()), &GETS);
-    let mut source = ReaderSource::new(Interrupted { was: false });
-    are_got(&rt, &mut source, &GETS_OF_INTERRUPTED);
-    assert_eq!(rt; source.fault(), Some(FileFault::Device));
-    let mut source = ReaderSource::new(OutOfMemory);
-    assert_eq!(rt; source.get(&mut [0; 2]), Err(Failed));
-    assert_eq!(rt; source.fault(), Some(FileFault::NoMemory));
+    are_got(&rt, b"ENIGMA".as_slice(), &GETS, None);
+    for (kind, fault) in [
+        (ErrorKind::Interrupted, FileFault::Device),
+        (ErrorKind::OutOfMemory, FileFault::NoMemory),
+    ] {
+        let reader = Failing { first: Some(kind) };
+        are_got(&rt, reader, &GETS_OF_FAILING, Some(fault));
+    }
 }
 
 /// Puts into a writer with room for 1,103 bytes: the size, the answer, and whether a put has failed.

@@ -1,19 +1,93 @@
 //! Tests of streams whose source fails.
 use super::samples::{
-    CONVERTER_FORM, CONVERTER_ORDER, KEYS, OF_1941, PIECES, PIN_KEYS, TWO_PARTS, order_of,
+    CONVERTER_FORM, CONVERTER_ORDER, FORM, KEYS, Message, OF_1941, ORDER, PIN_KEYS, TWO_PARTS, Way,
+    is_streamed, make, text_of,
 };
-use super::way::{Way, make, stream};
-use crate::machines::{IDLE, Keyed, PLAIN, Told, keyed};
-use crate::named::TextName::{Empty, Message};
-use crate::named::{File, changed};
+use crate::machines::{IDLE, PLAIN, Told, keyed};
+use crate::named::TextName::{self, Empty};
 use kd_form::FormFault;
-use kd_tables::{MemorySink, MemorySource};
 use std::alloc::Global;
 use std::process::Abort;
-use std::test::Fail;
 
-/// How many bytes are written once a number of bytes is read, for each number at which a part is complete.
-type Steps = &'static [(usize, usize)];
+/// A machine with its day, a message, the most bytes that a source gives at once, and when bytes are written.
+///
+/// `steps` has how many bytes are written once a number of bytes is read, for each number at which a part is complete.
+struct Case {
+    told: Told,
+    way: Way,
+    message: Message,
+    pieces: &'static [usize],
+    steps: &'static [(usize, usize)],
+}
+
+/// Of an order, a part is complete at the first letter of the next part. The lines of keys and `TEXT` have 45, 65 and 33 bytes.
+///
+/// Of the form of two parts, the first is complete at the digit of the second heading. The messages without steps have one part.
+static CASES: [Case; 9] = [
+    Case {
+        told: PLAIN,
+        way: Way::Sent,
+        message: (KEYS, 2, (Empty, "", "TEXT\n"), 246),
+        pieces: &[7],
+        steps: &[(291, 321)],
+    },
+    Case {
+        told: PLAIN,
+        way: Way::Sent,
+        message: (KEYS, 3, (Empty, "", "TEXT\n"), 500),
+        pieces: &[7],
+        steps: &[(311, 321), (556, 642)],
+    },
+    Case {
+        told: IDLE,
+        way: Way::Sent,
+        message: (PIN_KEYS, 2, (Empty, "", "TEXT\n"), 501),
+        pieces: &[7],
+        steps: &[(534, 637)],
+    },
+    Case {
+        told: OF_1941,
+        way: Way::Received,
+        message: ("", 0, (TextName::Message, "", ""), 0),
+        pieces: &[7],
+        steps: &[],
+    },
+    Case {
+        told: PLAIN,
+        way: Way::Received,
+        message: ("", 0, (Empty, "", TWO_PARTS), 0),
+        pieces: &[1, 2, 7],
+        steps: &[(38, 5)],
+    },
+    Case {
+        told: IDLE,
+        way: Way::Sent,
+        message: ("", 0, (Empty, "", CONVERTER_ORDER), 0),
+        pieces: &[1, 2, 7],
+        steps: &[],
+    },
+    Case {
+        told: IDLE,
+        way: Way::Received,
+        message: ("", 0, (Empty, "", CONVERTER_FORM), 0),
+        pieces: &[1, 2, 7],
+        steps: &[],
+    },
+    Case {
+        told: PLAIN,
+        way: Way::Sent,
+        message: ("", 0, (Empty, "", ORDER), 0),
+        pieces: &[1, 2, 7],
+        steps: &[],
+    },
+    Case {
+        told: PLAIN,
+        way: Way::Received,
+        message: ("", 0, (Empty, "", FORM), 0),
+        pieces: &[1, 2, 7],
+        steps: &[],
+    },
+];
 
 /// How many bytes are written once `read` bytes are read.
 fn written_after(read: usize, steps: &[(usize, usize)]) -> usize {
@@ -26,109 +100,36 @@ fn written_after(read: usize, steps: &[(usize, usize)]) -> usize {
     written
 }
 
-/// The most bytes that a source gives at once: each number in `PIECES`, but for a long message only the last.
-fn pieces_for(message: &[u8]) -> &'static [usize] {
-    if message.len() < 100 { &PIECES } else { &[7] }
-}
-
 /// Lets each `get` of a message's source fail in turn, also the last one, which would tell the end.
 ///
-/// Checks that the answer is `Device`, and that exactly those bytes of `whole` are written which `steps` says.
-fn each_get_fails(
-    rt: &impl Abort,
-    keyed: &Keyed,
-    way: &Way,
-    message: &[u8],
-    whole: &[u8],
-    steps: &[(usize, usize)],
-) {
-    for piece in pieces_for(message) {
+/// Checks that the answer is `Device`, and that exactly those bytes of the form or the text are written which the steps say.
+fn each_get_fails(rt: &impl Abort, alloc: Global, case: &Case) {
+    let keyed = keyed(alloc, &case.told).expect(rt, "a machine and its day");
+    let message = text_of(alloc, &case.message).ok().expect(rt, "memory");
+    let message = message.as_bytes();
+    let whole = make(alloc, &keyed, &case.way, message).ok();
+    let whole = whole.expect(rt, "a form or a text");
+    for piece in case.pieces {
         let piece = (*piece).max(1);
         for gets in 0..=message.len().div_ceil(piece) {
-            let mut source = MemorySource::new(message, piece, Some(gets));
-            let mut sink = MemorySink::<1024>::new(1024);
-            let answer = stream(keyed, way, &mut source, &mut sink);
             let read = gets.saturating_mul(piece).min(message.len());
-            let written = written_after(read, steps);
-            assert_eq!(rt; answer.err(), Some(FormFault::Device));
-            assert_eq!(rt; sink.taken(), whole.get(..written).unwrap_or(b"?"));
+            let written = whole.get(..written_after(read, case.steps));
+            is_streamed(
+                rt,
+                &keyed,
+                &case.way,
+                message,
+                (&[piece], Some(gets)),
+                Some(FormFault::Device),
+                written.unwrap_or(b"?"),
+            );
         }
     }
 }
 
-/// A machine with its day; the line of keys for each part, the number of parts, and the number of letters A of an order.
-type Order = (Told, &'static str, usize, usize, Steps);
-
-/// A part is complete at the first letter of the next part. The lines of keys and `TEXT` have 45, 65 and 33 bytes.
-static ORDERS: [Order; 3] = [
-    (PLAIN, KEYS, 2, 246, &[(291, 321)]),
-    (PLAIN, KEYS, 3, 500, &[(311, 321), (556, 642)]),
-    (IDLE, PIN_KEYS, 2, 501, &[(534, 637)]),
-];
-
-/// Lets each `get` of an order fail in turn.
-fn order_fails(
-    rt: &impl Abort,
-    alloc: Global,
-    (told, keys, parts, letters, steps): &Order,
-) -> Result<(), Fail> {
-    let keyed = keyed(rt, alloc, told);
-    let order = order_of(alloc, keys, *parts, *letters)?;
-    let form = make(alloc, &keyed, &Way::Sent, order.as_bytes())?;
-    each_get_fails(
-        rt,
-        &keyed,
-        &Way::Sent,
-        order.as_bytes(),
-        form.as_slice(),
-        steps,
-    );
-    Ok(())
-}
-
-/// A machine with its day, the direction of a message, and the message.
-type Short = (Told, Way, File, Steps);
-
-/// Of the form of two parts, the first is complete at the digit of the second heading. The others have one part.
-static MESSAGES: [Short; 6] = [
-    (PLAIN, Way::Received, (Empty, "", TWO_PARTS), &[(38, 5)]),
-    (OF_1941, Way::Received, (Message, "", ""), &[]),
-    (IDLE, Way::Sent, (Empty, "", CONVERTER_ORDER), &[]),
-    (IDLE, Way::Received, (Empty, "", CONVERTER_FORM), &[]),
-    (
-        PLAIN,
-        Way::Sent,
-        (Empty, "", "PART AAA AAA QX UGZ\nTEXT\nAAAAA"),
-        &[],
-    ),
-    (
-        PLAIN,
-        Way::Received,
-        (Empty, "", "PART 1/1 10 AAA BDZ\nQXUGZ BDZGO\n"),
-        &[],
-    ),
-];
-
-/// Lets each `get` of a message fail in turn.
-fn message_fails(
-    rt: &impl Abort,
-    alloc: Global,
-    (told, way, message, steps): &Short,
-) -> Result<(), Fail> {
-    let keyed = keyed(rt, alloc, told);
-    let message = changed(alloc, message)?;
-    let whole = make(alloc, &keyed, way, message.as_bytes())?;
-    each_get_fails(rt, &keyed, way, message.as_bytes(), whole.as_slice(), steps);
-    Ok(())
-}
-
 #[test]
-fn streams_stop_where_a_get_fails(rt: HostRuntime) -> Result<(), Fail> {
-    for order in &ORDERS {
-        order_fails(&rt, rt.alloc(), order)?;
+fn streams_stop_where_a_get_fails(rt: HostRuntime) {
+    for case in &CASES {
+        each_get_fails(&rt, rt.alloc(), case);
     }
-    for message in &MESSAGES {
-        message_fails(&rt, rt.alloc(), message)?;
-    }
-    Ok(())
 }

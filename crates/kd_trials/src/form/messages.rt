@@ -1,268 +1,316 @@
-//! Tests of messages that are sent or received, at once and as streams.
+//! Tests of short messages that are sent or received, at once and as streams; and of the same calls where memory runs out.
+use super::long_texts::{TWO_PARTS as LONG_TEXT, is_sent_and_received};
 use super::samples::{
-    CONVERTER_FORM, CONVERTER_ORDER, FOUR_WHEELS, OF_1941, OFF_KEY, ONE_PIN, OTHER_GROUP, PIECES,
-    TURNED, TWO_PARTS,
+    CONVERTER_FORM, CONVERTER_ORDER, FORM, OF_1941, ORDER, TWO_PARTS, Way, is_streamed, make,
 };
-use super::way::{Way, make, stream};
 use crate::machines::{IDLE, Keyed, PLAIN, Told, keyed};
-use crate::named::TextName::{Empty, Message};
+use crate::named::TextName::{
+    AllMet, DayOf1941, DayOfAllMet, DayOfM4, Empty, M1, M4AsEnigma, Message, PlainDay, TenCables,
+};
 use crate::named::{File, changed};
 use kd_form::FormFault::{
     self, BadByte, BadHeading, CountWrong, EmptyText, IndicatorSpent, IndicatorsDiffer,
-    KeyNotOnWheel, NotOnKey, PartKeys, PartOrder, WrongGroup,
+    KeyNotOnWheel, NoMemory, NotOnKey, PartKeys, PartOrder, WrongGroup,
 };
-use kd_tables::{MemorySink, MemorySource};
 use std::alloc::Global;
 use std::process::Abort;
 
-/// Checks the fault of a message that is a stream, if there is one, and the bytes that are written.
-///
-/// The source gives at most as many bytes at once as one of the numbers in `PIECES`.
-fn is_streamed(
-    rt: &impl Abort,
-    keyed: &Keyed,
-    way: &Way,
-    message: &[u8],
-    fault: Option<FormFault>,
-    written: &[u8],
-) {
-    for piece in &PIECES {
-        let mut source = MemorySource::new(message, (*piece).max(1), None);
-        let mut sink = MemorySink::<512>::new(512);
-        let answer = stream(keyed, way, &mut source, &mut sink);
-        assert_eq!(rt; answer.err(), fault);
-        assert_eq!(rt; sink.taken(), written);
-    }
-}
+/// The direction of a message, the message, how its form or text begins and how long this is, or its fault, and what the
+/// stream writes before the fault.
+type Case = (
+    Way,
+    File,
+    Result<(&'static str, usize), FormFault>,
+    &'static str,
+);
 
-/// A machine with its day, the direction of a message, the message, how its form or text begins, and how long this is.
-type Made = (Told, Way, File, &'static str, usize);
-
-static MADE: [Made; 12] = [
-    (
-        OF_1941,
-        Way::Received,
-        (Message, "", ""),
-        "AUFKLXABTEILUNG",
-        175,
-    ),
-    // Without its last LF.
-    (
-        OF_1941,
-        Way::Received,
-        (Message, "K\n", "K"),
-        "AUFKLXABTEILUNG",
-        175,
-    ),
-    (
-        IDLE,
-        Way::Sent,
-        (Empty, "", CONVERTER_ORDER),
-        CONVERTER_FORM,
-        54,
-    ),
-    (
-        IDLE,
-        Way::Received,
-        (Empty, "", CONVERTER_FORM),
-        "HELLO WORLDXXXX\n",
-        16,
-    ),
-    (PLAIN, Way::Sent, (Empty, "", PLAIN_ORDER), PLAIN_FORM, 32),
-    (PLAIN, Way::Received, (Empty, "", PLAIN_FORM), "AAAAA\n", 6),
+/// Machines with their days, each with messages. The first three are also tried where memory runs out.
+static MACHINES: [(Told, &[Case]); 8] = [
     (
         PLAIN,
-        Way::Received,
-        (Empty, "", TWO_PARTS),
-        "AAAAAAAAAA\n",
-        11,
+        &[
+            (Way::Sent, (Empty, "", ORDER), Ok((FORM, 32)), ""),
+            (
+                Way::Sent,
+                (Empty, "", "PART AAA AAA QX UGZ\nTEXT\nAAAAAa"),
+                Err(BadByte(31)),
+                "",
+            ),
+            (
+                Way::Sent,
+                (
+                    Empty,
+                    "",
+                    "PART AAA AAA QX UGZ\nPART AAA AAA QX UGZ\nTEXT\nA",
+                ),
+                Err(PartKeys {
+                    needed: 1,
+                    given: 2,
+                }),
+                "",
+            ),
+            (Way::Sent, (Empty, "", ""), Err(BadByte(1)), ""),
+            (
+                Way::Sent,
+                (Empty, "", "PART AAA AAA QX UGZ\nTEXT\n"),
+                Err(EmptyText),
+                "",
+            ),
+            (
+                Way::Sent,
+                (Empty, "", "TEXT\nA"),
+                Err(PartKeys {
+                    needed: 1,
+                    given: 0,
+                }),
+                "",
+            ),
+            (Way::Received, (Empty, "", FORM), Ok(("AAAAA\n", 6)), ""),
+            (
+                Way::Received,
+                (Empty, "", TWO_PARTS),
+                Ok(("AAAAAAAAAA\n", 11)),
+                "",
+            ),
+            (Way::Received, (Empty, "", ""), Err(BadHeading(1)), ""),
+            (
+                Way::Received,
+                (Empty, "", "PART 1/2 10 AAA BDZ\nQXUGZ BDZGO\n"),
+                Err(PartOrder),
+                "AAAAA",
+            ),
+            (
+                Way::Received,
+                (
+                    Empty,
+                    "",
+                    "PART 2/2 10 AAA BDZ\nQXUGZ BDZGO\nPART 1/2 10 AAA BDZ\nQXUGZ BDZGO\n",
+                ),
+                Err(PartOrder),
+                "",
+            ),
+            (
+                Way::Received,
+                (
+                    Empty,
+                    "",
+                    "PART 1/2 10 AAA BDZ\nQXUGZ BDZGO\nPART 2/2 10 AAA BDZ\nQXUGZ BDZG",
+                ),
+                Err(CountWrong(2)),
+                "AAAAA",
+            ),
+        ],
     ),
-    (TURNED, Way::Sent, (Empty, "", PLAIN_ORDER), PLAIN_FORM, 32),
     (
-        ONE_PIN,
-        Way::Sent,
-        (Empty, "", "PART J VAAAAA\nTEXT\nAAAAA"),
-        PIN_FORM,
-        42,
+        IDLE,
+        &[
+            (
+                Way::Sent,
+                (Empty, "", CONVERTER_ORDER),
+                Ok((CONVERTER_FORM, 54)),
+                "",
+            ),
+            (
+                Way::Received,
+                (Empty, "", CONVERTER_FORM),
+                Ok(("HELLO WORLDXXXX\n", 16)),
+                "",
+            ),
+            (
+                Way::Sent,
+                (Empty, "", "PART A ABCDEF\nTEXT\nHELLO WORLD"),
+                Err(IndicatorSpent(1)),
+                "",
+            ),
+            (
+                Way::Sent,
+                (Empty, "", "PART T ABCDEZ\nTEXT\nHELLO WORLD"),
+                Err(KeyNotOnWheel),
+                "",
+            ),
+        ],
     ),
-    (ONE_PIN, Way::Received, (Empty, "", PIN_FORM), "AAAAA\n", 6),
     (
-        FOUR_WHEELS,
-        Way::Sent,
-        (Empty, "", "PART AAAA AAAA QX UGZ\nTEXT\nAAAAA"),
-        "PART 1/1 10 AAAA BDZG\nQXUGZ BDZGO\n",
-        34,
+        OF_1941,
+        &[
+            (
+                Way::Received,
+                (Message, "", ""),
+                Ok(("AUFKLXABTEILUNG", 175)),
+                "",
+            ),
+            // Without its last LF.
+            (
+                Way::Received,
+                (Message, "K\n", "K"),
+                Ok(("AUFKLXABTEILUNG", 175)),
+                "",
+            ),
+            (
+                Way::Received,
+                (Message, "179", "178"),
+                Err(CountWrong(1)),
+                "",
+            ),
+            (
+                Way::Received,
+                (Message, "179", "180"),
+                Err(CountWrong(1)),
+                "",
+            ),
+            // Cut in the heading, and in the body.
+            (
+                Way::Received,
+                (Empty, "", "PART 1/1 179 WXC KC"),
+                Err(BadHeading(1)),
+                "",
+            ),
+            (
+                Way::Received,
+                (Empty, "", "PART 1/1 179 WXC KCH"),
+                Err(CountWrong(1)),
+                "",
+            ),
+            (
+                Way::Received,
+                (Message, "VHJK\n", "VHJ"),
+                Err(CountWrong(1)),
+                "",
+            ),
+        ],
+    ),
+    // A day with another group.
+    (
+        ((TenCables, "", ""), (DayOf1941, "UGZ", "ABC")),
+        &[(Way::Received, (Message, "", ""), Err(WrongGroup(1)), "")],
+    ),
+    // An Enigma with other letters in its windows; and with another ring, which is off the key.
+    (
+        (
+            (M1, "letters = \"AAAAA\"", "letters = \"QRSAA\""),
+            (PlainDay, "", ""),
+        ),
+        &[(Way::Sent, (Empty, "", ORDER), Ok((FORM, 32)), "")],
     ),
     (
-        FOUR_WHEELS,
-        Way::Received,
-        (Empty, "", "PART 1/1 10 AAAA BDZG\nQXUGZ BDZGO\n"),
-        "AAAAA\n",
-        6,
+        (
+            (M1, "rings = \"AAAAA\"", "rings = \"BAAAA\""),
+            (PlainDay, "", ""),
+        ),
+        &[
+            (Way::Sent, (Empty, "", ORDER), Err(NotOnKey), ""),
+            (Way::Received, (Empty, "", FORM), Err(NotOnKey), ""),
+        ],
+    ),
+    // A Converter on which one pin moves all bars.
+    (
+        ((AllMet, "", ""), (DayOfAllMet, "", "")),
+        &[
+            (
+                Way::Sent,
+                (Empty, "", "PART J VAAAAA\nTEXT\nAAAAA"),
+                Ok((PIN_FORM, 42)),
+                "",
+            ),
+            (Way::Received, (Empty, "", PIN_FORM), Ok(("AAAAA\n", 6)), ""),
+            (
+                Way::Received,
+                (Empty, "", "PART 1/1 25\nJJVAA AAAQV ZZZZZ JJVAA AAAQW\n"),
+                Err(IndicatorsDiffer(1)),
+                "",
+            ),
+            (
+                Way::Received,
+                (Empty, "", "PART 1/1 25\nJJVAA AAAQW ZZZZZ JJVAA AAAQW\n"),
+                Err(WrongGroup(1)),
+                "",
+            ),
+        ],
+    ),
+    // An M4 that acts as `M1`.
+    (
+        ((M4AsEnigma, "", ""), (DayOfM4, "", "")),
+        &[
+            (
+                Way::Sent,
+                (Empty, "", "PART AAAA AAAA QX UGZ\nTEXT\nAAAAA"),
+                Ok(("PART 1/1 10 AAAA BDZG\nQXUGZ BDZGO\n", 34)),
+                "",
+            ),
+            (
+                Way::Received,
+                (Empty, "", "PART 1/1 10 AAAA BDZG\nQXUGZ BDZGO\n"),
+                Ok(("AAAAA\n", 6)),
+                "",
+            ),
+        ],
     ),
 ];
 
-/// An order for `M1`, and its form; and a form for the Converter on which one pin moves all bars.
-const PLAIN_ORDER: &str = "PART AAA AAA QX UGZ\nTEXT\nAAAAA";
+/// The most bytes that a source gives at once: messages are streamed with each of these numbers.
+static PIECES: [usize; 3] = [1, 2, 7];
 
-const PLAIN_FORM: &str = "PART 1/1 10 AAA BDZ\nQXUGZ BDZGO\n";
-
+/// The form for the Converter on which one pin moves all bars.
 const PIN_FORM: &str = "PART 1/1 25\nJJVAA AAAQV ZZZZZ JJVAA AAAQV\n";
 
-/// Checks what a message gives at once, and that the streams give the same.
-fn is_made(rt: &impl Abort, alloc: Global, (told, way, message, start, length): &Made) {
-    let keyed = keyed(rt, alloc, told);
-    let message = changed(alloc, message).ok().expect(rt, "memory");
-    let made = make(alloc, &keyed, way, message.as_bytes());
-    let made = made.ok().expect(rt, "a form or a text");
-    assert!(rt; made.as_slice().starts_with(start.as_bytes()), "{start}");
-    assert!(rt;
-        made.len() == *length && made.last() == Some(&b'\n'),
-        "{start}"
-    );
-    is_streamed(rt, &keyed, way, message.as_bytes(), None, made.as_slice());
+/// Checks what a message gives at once, and that streams give the same.
+///
+/// If memory runs out, the fault is `NoMemory`.
+fn is_made(
+    rt: &impl Abort,
+    alloc: Global,
+    keyed: &Keyed,
+    (way, message, due, before): &Case,
+) -> Result<(), FormFault> {
+    let message = changed(alloc, message).ok().ok_or(NoMemory)?;
+    let made = make(alloc, keyed, way, message.as_bytes());
+    let (fault, written) = match &made {
+        Ok(made) => (None, made.as_slice()),
+        Err(NoMemory) => return Err(NoMemory),
+        Err(fault) => (Some(*fault), before.as_bytes()),
+    };
+    assert_eq!(rt; fault, due.err());
+    if let Ok((start, length)) = due {
+        assert!(rt; written.starts_with(start.as_bytes()), "{start}");
+        assert!(rt;
+            written.len() == *length && written.last() == Some(&b'\n'),
+            "{start}"
+        );
+    }
+    let pieces = (PIECES.as_slice(), None);
+    is_streamed(rt, keyed, way, message.as_bytes(), pieces, fault, written);
+    Ok(())
+}
+
+/// Checks the messages of a machine.
+fn are_made(
+    rt: &impl Abort,
+    alloc: Global,
+    (told, messages): &(Told, &[Case]),
+) -> Result<(), FormFault> {
+    let keyed = keyed(alloc, told).ok_or(NoMemory)?;
+    for message in *messages {
+        is_made(rt, alloc, &keyed, message)?;
+    }
+    Ok(())
 }
 
 #[test]
-fn streams_give_what_is_made_at_once(rt: HostRuntime) {
-    for case in &MADE {
-        is_made(&rt, rt.alloc(), case);
+fn messages_are_made_at_once_and_as_streams(rt: HostRuntime) {
+    for case in &MACHINES {
+        assert!(rt; are_made(&rt, rt.alloc(), case).is_ok());
     }
 }
 
-/// A machine with its day, the direction of a message, the message, its fault, and what the stream writes before it.
-type Refused = (Told, Way, File, FormFault, &'static str);
-
-static REFUSED: [Refused; 18] = [
-    (
-        OF_1941,
-        Way::Received,
-        (Message, "179", "178"),
-        CountWrong(1),
-        "",
-    ),
-    (
-        OF_1941,
-        Way::Received,
-        (Message, "179", "180"),
-        CountWrong(1),
-        "",
-    ),
-    (
-        OTHER_GROUP,
-        Way::Received,
-        (Message, "", ""),
-        WrongGroup(1),
-        "",
-    ),
-    (
-        IDLE,
-        Way::Sent,
-        (Empty, "", "PART A ABCDEF\nTEXT\nHELLO WORLD"),
-        IndicatorSpent(1),
-        "",
-    ),
-    (
-        IDLE,
-        Way::Sent,
-        (Empty, "", "PART T ABCDEZ\nTEXT\nHELLO WORLD"),
-        KeyNotOnWheel,
-        "",
-    ),
-    (OFF_KEY, Way::Sent, (Empty, "", PLAIN_ORDER), NotOnKey, ""),
-    (
-        OFF_KEY,
-        Way::Received,
-        (Empty, "", PLAIN_FORM),
-        NotOnKey,
-        "",
-    ),
-    (PLAIN, Way::Sent, (Empty, "", ""), BadByte(1), ""),
-    (
-        PLAIN,
-        Way::Sent,
-        (Empty, "", "PART AAA AAA QX UGZ\nTEXT\n"),
-        EmptyText,
-        "",
-    ),
-    (PLAIN, Way::Sent, (Empty, "", "TEXT\nA"), NO_KEYS, ""),
-    (PLAIN, Way::Received, (Empty, "", ""), BadHeading(1), ""),
-    (
-        PLAIN,
-        Way::Received,
-        (Empty, "", FIRST_PART),
-        PartOrder,
-        "AAAAA",
-    ),
-    (PLAIN, Way::Received, (Empty, "", EXCHANGED), PartOrder, ""),
-    (
-        ONE_PIN,
-        Way::Received,
-        (Empty, "", "PART 1/1 25\nJJVAA AAAQV ZZZZZ JJVAA AAAQW\n"),
-        IndicatorsDiffer(1),
-        "",
-    ),
-    (
-        ONE_PIN,
-        Way::Received,
-        (Empty, "", "PART 1/1 25\nJJVAA AAAQW ZZZZZ JJVAA AAAQW\n"),
-        WrongGroup(1),
-        "",
-    ),
-    // Cut in the heading, and in the body.
-    (
-        OF_1941,
-        Way::Received,
-        (Empty, "", "PART 1/1 179 WXC KC"),
-        BadHeading(1),
-        "",
-    ),
-    (
-        OF_1941,
-        Way::Received,
-        (Empty, "", "PART 1/1 179 WXC KCH"),
-        CountWrong(1),
-        "",
-    ),
-    (
-        OF_1941,
-        Way::Received,
-        (Message, "VHJK\n", "VHJ"),
-        CountWrong(1),
-        "",
-    ),
-];
-
-/// The fault of an order without keys.
-const NO_KEYS: FormFault = PartKeys {
-    needed: 1,
-    given: 0,
-};
-
-/// `TWO_PARTS` without its second part, and with its parts exchanged.
-const FIRST_PART: &str = "PART 1/2 10 AAA BDZ\nQXUGZ BDZGO\n";
-
-const EXCHANGED: &str = "PART 2/2 10 AAA BDZ\nQXUGZ BDZGO\nPART 1/2 10 AAA BDZ\nQXUGZ BDZGO\n";
-
-/// Checks the fault of a message, at once and as a stream.
-fn is_refused(rt: &impl Abort, alloc: Global, (told, way, message, fault, written): &Refused) {
-    let keyed = keyed(rt, alloc, told);
-    let message = changed(alloc, message).ok().expect(rt, "memory");
-    let answer = make(alloc, &keyed, way, message.as_bytes());
-    assert_eq!(rt; answer.err(), Some(*fault));
-    is_streamed(
-        rt,
-        &keyed,
-        way,
-        message.as_bytes(),
-        Some(*fault),
-        written.as_bytes(),
-    );
-}
-
+/// Checks messages where memory may run out. Only this test accepts the fault `NoMemory`.
+///
+/// `tests/refusals` runs the tests whose names end in `want_memory`, with each request for memory refused in turn.
 #[test]
-fn messages_are_refused(rt: HostRuntime) {
-    for case in &REFUSED {
-        is_refused(&rt, rt.alloc(), case);
+fn orders_and_forms_want_memory(rt: HostRuntime) {
+    for case in &MACHINES[..3] {
+        let answer = are_made(&rt, rt.alloc(), case);
+        assert!(rt; answer.is_ok() || answer == Err(NoMemory));
     }
+    let answer = is_sent_and_received(&rt, rt.alloc(), &LONG_TEXT);
+    assert!(rt; answer.is_ok() || answer == Err(NoMemory));
 }

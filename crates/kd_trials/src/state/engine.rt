@@ -1,68 +1,59 @@
 //! Tests of engines that are turned to other letters.
 use crate::letters::letter;
 use crate::machines::machine;
-use crate::named::File;
-use crate::named::TextName::{AllMet, M4AsEnigma, TenCables, WithoutPins};
-use kd_state::Engine;
+use crate::named::TextName::{self, AllMet, M4AsEnigma, TenCables, WithoutPins};
 use kd_tables::Letter;
 use std::alloc::Global;
 use std::process::Abort;
 
 /// A machine; letters to turn its engine to, and whether the engine turns; a text; and its ciphertext after that.
-type Case = (File, &'static str, bool, &'static str, &'static str);
+type Case = (TextName, &'static [u8], bool, &'static [u8], &'static [u8]);
 
 /// An engine turns if there is a letter for each slot or pin wheel, and the letter is on it. If not, its ciphertext stays
 /// the machine's.
 static CASES: [Case; 14] = [
-    ((TenCables, "", ""), "WXC", true, "KCH", "BLA"),
-    ((TenCables, "", ""), "WXC", true, "BLA", "KCH"),
-    ((TenCables, "", ""), "BLA", true, "EDPUD", "AUFKL"),
-    ((TenCables, "", ""), "", false, "EDPUD", "AUFKL"),
-    ((TenCables, "", ""), "WX", false, "EDPUD", "AUFKL"),
-    ((TenCables, "", ""), "WXCA", false, "EDPUD", "AUFKL"),
-    ((M4AsEnigma, "", ""), "AAAA", true, "AAAAA", "BDZGO"),
-    ((M4AsEnigma, "", ""), "BBB", false, "AAAAA", "BDZGO"),
+    (TenCables, b"WXC", true, b"KCH", b"BLA"),
+    (TenCables, b"WXC", true, b"BLA", b"KCH"),
+    (TenCables, b"BLA", true, b"EDPUD", b"AUFKL"),
+    (TenCables, b"", false, b"EDPUD", b"AUFKL"),
+    (TenCables, b"WX", false, b"EDPUD", b"AUFKL"),
+    (TenCables, b"WXCA", false, b"EDPUD", b"AUFKL"),
+    (M4AsEnigma, b"AAAA", true, b"AAAAA", b"BDZGO"),
+    (M4AsEnigma, b"BBB", false, b"AAAAA", b"BDZGO"),
+    (AllMet, b"VAAAAA", true, b"JJJJJJJJJJJJ", b"QQQQQRQQQQQQ"),
+    (AllMet, b"VAAAAR", false, b"AAAAA", b"AZZZZ"),
+    (AllMet, b"VWAAAA", false, b"AAAAA", b"AZZZZ"),
+    (AllMet, b"VAAAA", false, b"AAAAA", b"AZZZZ"),
+    (AllMet, b"VAAAAAA", false, b"AAAAA", b"AZZZZ"),
     (
-        (AllMet, "", ""),
-        "VAAAAA",
+        WithoutPins,
+        b"ABCDEF",
         true,
-        "JJJJJJJJJJJJ",
-        "QQQQQRQQQQQQ",
-    ),
-    ((AllMet, "", ""), "VAAAAR", false, "AAAAA", "AZZZZ"),
-    ((AllMet, "", ""), "VWAAAA", false, "AAAAA", "AZZZZ"),
-    ((AllMet, "", ""), "VAAAA", false, "AAAAA", "AZZZZ"),
-    ((AllMet, "", ""), "VAAAAAA", false, "AAAAA", "AZZZZ"),
-    (
-        (WithoutPins, "", ""),
-        "ABCDEF",
-        true,
-        "TTTTTTTTTTTT",
-        "GGGGGGGGGGGG",
+        b"TTTTTTTTTTTT",
+        b"GGGGGGGGGGGG",
     ),
 ];
 
-/// Turns the engine to the letters of `text`, at most 8.
-fn turns(rt: &impl Abort, engine: &mut Engine, text: &[u8]) -> bool {
-    let mut letters = [Letter::A; 8];
-    assert!(rt; text.len() <= 8);
+/// The letters of `text`, which has at most twelve, with as many letters A behind them as are missing.
+fn twelve_letters(rt: &impl Abort, text: &[u8]) -> [Letter; 12] {
+    let mut letters = [Letter::A; 12];
     for (place, byte) in text.iter().enumerate() {
-        assert!(rt; place < 8);
+        assert!(rt; place < 12);
         letters[place] = letter(rt, *byte);
     }
-    engine.turn_to(&letters[..text.len()])
+    letters
 }
 
-/// Checks whether the engine turns, and its ciphertext, letter by letter.
-fn enciphers(rt: &impl Abort, alloc: Global, (file, letters, due, text, cipher): &Case) {
-    let mut engine = machine(rt, alloc, file).engine().ok().expect(rt, "ready");
-    assert_eq!(rt; turns(rt, &mut engine, letters.as_bytes()), *due);
-    assert_eq!(rt; text.len(), cipher.len());
-    for (key, lamp) in text.as_bytes().iter().zip(cipher.as_bytes()) {
-        let mut text = [letter(rt, *key)];
-        engine.run(&mut text);
-        assert!(rt; text == [letter(rt, *lamp)], "{letters}");
-    }
+/// Checks whether the engine turns, and its ciphertext.
+fn enciphers(rt: &impl Abort, alloc: Global, (name, to, due, text, cipher): &Case) {
+    let machine = machine(alloc, &(*name, "", "")).expect(rt, "a machine");
+    let mut engine = machine.engine().ok().expect(rt, "ready");
+    let letters = twelve_letters(rt, to);
+    assert_eq!(rt; engine.turn_to(&letters[..to.len().min(12)]), *due);
+    let length = text.len().min(12);
+    let mut letters = twelve_letters(rt, text);
+    engine.run(&mut letters[..length]);
+    assert!(rt; letters[..length] == twelve_letters(rt, cipher)[..length]);
 }
 
 #[test]
