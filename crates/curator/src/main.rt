@@ -4,30 +4,41 @@
 use kd_curator::{Language, Stop, end_program, language_of, run_curator};
 use kd_host::{FileFault, HostFiles, WriterSink};
 use kd_new_file::HostNewFiles;
+use kd_tables::Sink;
 use std::env::{self, VarError};
 use std::process::ExitCode;
 
 fn main(rt: HostRuntime) -> ExitCode {
     let mut errors = WriterSink::new(rt.stderr());
     let status = match words_and_language(&rt) {
-        Ok((words, language)) => {
-            let mut files = HostFiles::new(&rt);
-            let mut new_files = HostNewFiles { rt: &rt };
-            let output = WriterSink::new(rt.stdout());
-            let (status, _) = run_curator(
-                rt.alloc(),
-                language,
-                words.as_slice(),
-                &mut files,
-                &mut new_files,
-                output,
-                &mut errors,
-            );
-            status
-        }
+        Ok((words, language)) => run_on_host(&rt, language, words.as_slice(), &mut errors),
         Err(stop) => end_program(&Err(stop), &mut errors),
     };
     ExitCode::from(status)
+}
+
+/// Runs the program on the host's files, folders and standard output, and returns the exit status.
+///
+/// Its own function, since the kit proves no call in which a lifetime that `main` infers stands for a type's.
+fn run_on_host<E: Sink>(
+    rt: &HostRuntime,
+    language: Language,
+    words: &[String],
+    errors: &mut E,
+) -> u8 {
+    let mut files = HostFiles::new(rt);
+    let mut new_files = HostNewFiles { rt };
+    let output = WriterSink::new(rt.stdout());
+    let (status, _) = run_curator(
+        rt.alloc(),
+        language,
+        words,
+        &mut files,
+        &mut new_files,
+        output,
+        errors,
+    );
+    status
 }
 
 /// The command line, and the language of pages.
