@@ -209,8 +209,8 @@ is_stopped_before_writing (Ok done) = false
 is_stopped_before_writing (Err (stops.Refused refused)) = not (comes_after_writing refused.fault)
 is_stopped_before_writing (Err stop) = true
 
--- What was written to standard error before the program's answer was known: something about a table, if the words mean
--- the command `sheet` and the table was read; something about a form, if they mean `receive` and the files were read.
+-- What was written to standard error before the program's answer was known: perhaps a text about a table, if the words
+-- mean the command `sheet` and the table was read; perhaps one about a form, if they mean `receive` and the files were read.
 -- Otherwise nothing.
 pub data HasNotes (words : List (List ℕ)) (asked : List AskedName) (errors : Port) : Type 0 where
   NoNotes : IsLeftAlone errors → HasNotes words asked errors

@@ -29,7 +29,7 @@ impl<W: Sink + Drop> BufferedSink<W> {
         }
     }
 
-    /// Returns the sink to which bytes are passed on; bytes that are only gathered are lost.
+    /// Returns the sink. Bytes that were gathered, but not passed on, are lost.
     pub(crate) fn into_sink(self) -> W
         ensures { result ≡ self.sink }
     {

@@ -41,7 +41,7 @@ abbrev pub letter_or : Option ℕ → Option ℕ → Option ℕ
 letter_or (Some letter) other = Some letter
 letter_or None other = other
 
--- the letter at this place that the first copy has which didn't lose it
+-- the letter at this place, of the first copy that didn't lose it
 abbrev pub known_letter : List DamagedPart → DamagedPart → DamagedText → ℕ → Option ℕ
 known_letter [] read shown place = None
 known_letter (copy ∷ copies) read shown place =
@@ -67,11 +67,12 @@ completed_with copies read None part = part
 completed_with copies read (Some shown) part =
     first_line part ++ completed_from copies read shown 0 (from_line_end part)
 
--- the part at the place `index` of the form, with the letters of its copies. `copies` are all parts as they were read.
+-- the part, of which `read` was read alone, with the letters of its copies. `copies` are all parts as they were read.
 abbrev pub completed_of : List DamagedPart → Option DamagedPart → List ℕ → List ℕ
 completed_of copies None part = part
 completed_of copies (Some read) part = completed_with copies read (shown_text read) part
 
+-- the same for the part at the place `index` of the form
 abbrev pub completed_at : List DamagedPart → ℕ → List ℕ → List ℕ
 completed_at copies index part = completed_of copies (slice_get copies index) part
 

@@ -34,8 +34,9 @@ pub enum DamagedFormFault {
 
 /// Reads each part of `form`, without the letters that were lost, and with those that a copy of the part has.
 ///
-/// Each line that is taken for a heading begins a part: it begins like `PART`, and has a digit. Lines before the first
-/// heading are passed over. For a form that `receive` reads, these are its parts.
+/// Each line that is taken for a heading begins a part: it begins like `PART`, and has a digit or a slash, or a lost sign
+/// in place of its number. Lines before the first heading are passed over, unless one of them may have been a heading. For
+/// a form that `receive` reads, these are its parts.
 pub fn read_damaged_form(
     alloc: Global,
     day: &SheetDay,

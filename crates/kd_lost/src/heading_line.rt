@@ -11,7 +11,7 @@ use arrayvec::ArrayString;
 
 /// Whether the first line of `bytes` is taken for a heading.
 ///
-/// Only headings have digits. So it is one if it begins like `PART`, and has a digit, or has lost its number.
+/// It is one if it begins like `PART`, and has a digit or a slash, which no body has, or has lost its number.
 pub(crate) fn is_heading_line(bytes: &[u8]) -> bool
     ensures { result ≡ is_heading_line bytes.now }
 {

@@ -75,8 +75,8 @@ pub struct PartNumbers {
 
 /// Reads a part of a form, without the letters that were lost.
 ///
-/// The day's machine is the one that the heading has to suit. The text is the one that `receive` gives if no letter is
-/// lost. Whoever knows a lost letter of the keys may put it into the form, and read the form again.
+/// `day` says which headings are valid. If no letter is lost, the text is the one that `receive` gives. If you know a lost
+/// letter of a key, put it into the form, and read the form again.
 pub fn read_damaged_part(day: &SheetDay, part: &[u8]) -> DamagedPart
     ensures numbers { AreNumbersRead day.now (first_line part.now) result.numbers }
     ensures heading { result.heading.bytes ≡ heading_signs (first_line part.now) }

@@ -13,7 +13,8 @@ use crate::tidy::line_and_rest;
 use kd_tables::Letter;
 use std::alloc::Global;
 
-/// The bytes of `part`, of which `read` was read with the text `shown`, with the letters of its copies for lost ones.
+/// The bytes of `part`, with the letters that its copies have in place of lost ones. `read` and `shown`: the part as it was
+/// read alone, and its text.
 pub(crate) fn completed_part(
     alloc: Global,
     copies: &[DamagedPart],
@@ -79,7 +80,7 @@ fn completed_byte(
     }
 }
 
-/// The letter at `place` that the first copy has which didn't lose it.
+/// The letter at `place`, of the first copy that didn't lose it.
 fn known_letter(
     copies: &[DamagedPart],
     read: &DamagedPart,

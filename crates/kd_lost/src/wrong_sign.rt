@@ -14,7 +14,7 @@ pub struct WrongSign {
     pub letter: usize,
     /// The place of the sign among the letters of the body, counted from 1.
     pub place: usize,
-    /// The sign.
+    /// The byte that may not be in a body.
     pub byte: u8,
 }
 

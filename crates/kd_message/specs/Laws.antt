@@ -131,9 +131,10 @@ RepetitionsHaveTheLetters =
 abbrev pub IsClear : List ℕ → Type 0
 IsClear part = All (λ byte. IsFalse (is_lost byte) × (meant_byte byte ≡ byte)) part
 
--- If a form is one whole message, and nothing in it was lost, then parts of the form, one for each number, stand in an
--- order in which `desk receive` reads them, one after another, to the letters that the page shows. So the text is the one
--- that `desk receive` gives of the form, but for the order in which parts came, and for parts that came more than once.
+-- If a form is one whole message, and nothing in it was lost, small, a tab or respaced, then parts of the form, one for each
+-- number, stand in an order in which `desk receive` reads them, one after another, to the letters that the page shows. So
+-- the text is the one that `desk receive` gives of the form, but for the order in which parts came, and for parts that came
+-- more than once.
 abbrev pub WholeMessagesAreRead : Type 0
 WholeMessagesAreRead =
     (s : Day) (form : List ℕ) (parts : List DamagedPart) → AreFormParts s form parts

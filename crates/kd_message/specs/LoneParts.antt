@@ -1,5 +1,5 @@
--- What the page has for a part whose heading is damaged, and for an order in place of a form. It has no number, and isn't
--- read.
+-- What the page has for a part whose heading is damaged, and for an order in place of a form. Such a part has no number, and
+-- isn't read.
 use Rattle.std.specs.Prelude.{decimal, ℕ, ◌==◌, if◌then◌else◌, List, [], ◌∷◌, ◌++◌}
 use Rattle.kd_tables.specs.declared.model.Model.{Model}
 use Rattle.kd_tables.specs.declared.model.Model.TheVariants as models

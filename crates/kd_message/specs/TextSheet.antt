@@ -51,7 +51,7 @@ order_words l numbers = text_in l texts.ORDER ++ numbers_after [] numbers ++ tex
 unfoldable pub heading_words : PartNumbers → List ℕ
 heading_words numbers = decimal numbers.part ++ texts.OF_PARTS.now ++ decimal numbers.parts
 
--- a heading that isn't damaged, after `first`; then `more`. For a damaged one, `others`.
+-- `first`, the heading's words and `more`, if the heading isn't damaged; otherwise `others`
 abbrev pub heading_then : List ℕ → Option PartNumbers → List ℕ → List ℕ → List ℕ
 heading_then first (Some numbers) more others = first ++ heading_words numbers ++ more
 heading_then first None more others = others

@@ -40,7 +40,8 @@ pub fn whole_messages_are_on_the_page()
     ensures { WholeMessagesAreOnThePage }
 {}
 
-/// What is shown as one whole message is what `desk receive` reads, once the parts stand in order.
+/// If a form is one whole message, and nothing in it was lost, small, a tab or respaced, `desk receive` reads its parts,
+/// once they stand in order.
 pub fn whole_messages_are_read()
     ensures { WholeMessagesAreRead }
 {}

@@ -1,5 +1,5 @@
-//! What the page has for a part whose heading is damaged, and for an order in place of a form. It has no number, and isn't
-//! read.
+//! What the page has for a part whose heading is damaged, and for an order in place of a form. Such a part has no number,
+//! and isn't read.
 ghost use Rattle.std.specs.Prelude.{◌≡◌};
 ghost use Rattle.kd_pictures.specs.Drawing.{Draws};
 ghost use Rattle.kd_message.specs.LoneParts.{damaged_heading, heading_example, listed_lone, lone_ask, lone_asked};

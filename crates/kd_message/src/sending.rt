@@ -144,7 +144,7 @@ fn draw_list<W: Sink>(sink: &mut W, language: Language, parts: u8)
     draw_in(sink, language, LIST_END_WITH_FORM);
 }
 
-/// The head of the list of the sheets, for this many parts.
+/// The head of the list of sheets, of a message with `parts` parts.
 pub(crate) fn list_head(language: Language, parts: u16) -> &'static str
     ensures { result.now ≡ list_head language parts }
 {

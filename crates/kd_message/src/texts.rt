@@ -107,7 +107,7 @@ pub const ORDER_END: Text = (".</p>\n", ".</p>\n");
 /// That the parts aren't of one message: what stands before the numbers in their headings, and after them.
 pub const SEVERAL: Text = (
     "<p class=reason><b>Not one message.</b> The headings give different numbers of parts, or parts with one number differ: ",
-    "<p class=reason><b>Nicht ein Spruch.</b> Die Spruchköpfe nennen verschiedene Zahlen von Teilen, oder Teile mit einer Nummer weichen voneinander ab: ",
+    "<p class=reason><b>Teile verschiedener Sprüche.</b> Die Spruchköpfe nennen verschiedene Zahlen von Teilen, oder Teile mit einer Nummer weichen voneinander ab: ",
 );
 
 pub const SEVERAL_END: Text = (
@@ -349,5 +349,5 @@ pub const NOTE_OTHER_DAY: Text = (
 /// That the parts aren't of one message.
 pub const NOTE_SEVERAL: Text = (
     "Not one message: the headings give different numbers of parts, or parts with one number differ.\n",
-    "Nicht ein Spruch: Die Spruchköpfe nennen verschiedene Zahlen von Teilen, oder Teile mit einer Nummer weichen voneinander ab.\n",
+    "Teile verschiedener Sprüche: Die Spruchköpfe nennen verschiedene Zahlen von Teilen, oder Teile mit einer Nummer weichen voneinander ab.\n",
 );

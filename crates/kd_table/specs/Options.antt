@@ -4,7 +4,7 @@ use Rattle.std.specs.Prelude.{List, ℕ}
 use Rattle.std.specs.Borrow.{Bor}
 use Rattle.kd_table.specs.declared.options.TableOptions.{TableOptions}
 
--- Texts that stand for cells which a row or the table lacks.
+-- The texts of the options, which replace blank or missing cells.
 abbrev pub OptionTexts : Type 0
 OptionTexts = TableOptions (List ℕ)
 

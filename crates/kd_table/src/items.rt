@@ -44,7 +44,7 @@ pub trait FromWord {
     /// Which gaps words keep, and which bytes are items by themselves.
     ghost bytes: { Bytes };
 
-    /// The value of a word.
+    /// The item that a word spells, if any.
     ghost parse: { List ℕ → Option Self };
 
     /// Whether `byte` is kept as it is.
