@@ -18,8 +18,6 @@ mod form;
 #[cfg(test)]
 mod letters;
 #[cfg(test)]
-mod look;
-#[cfg(test)]
 mod machines;
 #[cfg(test)]
 mod named;
@@ -35,8 +33,6 @@ mod source;
 mod state;
 #[cfg(test)]
 mod step;
-#[cfg(test)]
-mod table;
 #[cfg(test)]
 mod tables;
 #[cfg(test)]
