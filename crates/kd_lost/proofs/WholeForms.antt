@@ -17,7 +17,7 @@ use Rattle.kd_form.specs.Sending.{space_letter}
 use Rattle.kd_form.proofs.Headings.{BeginsHeading-bytes, at_cut, begins_more, begins_there, first_there, heading_size}
 use Rattle.kd_form.proofs.Headings.{no_cut}
 use Rattle.kd_lost.specs.declared.{part.DamagedPart.{DamagedPart}}
-use Rattle.kd_lost.specs.HeadingLine.{after_blanks, after_word, has_digit_line, has_lost_number, is_blank, is_heading_line}
+use Rattle.kd_lost.specs.HeadingLine.{after_blanks, after_word, has_digit_line, has_lost_number, has_short_word, is_blank, is_heading_line}
 use Rattle.kd_lost.specs.HeadingLine.{is_lost_sign, is_part_line}
 use Rattle.kd_lost.specs.Lost.{is_lost}
 use Rattle.kd_lost.specs.DamagedForm.{AsItStands, IsMeant, IsReadOf, Respaced, cut_at_heading_lines}
@@ -181,11 +181,16 @@ kept_first : (bytes : List ℕ) → AreKept bytes → is_lost_sign (slice_get by
 kept_first [] kept = refl
 kept_first (byte ∷ bytes) kept = All-head (λ b. IsFalse (is_lost b)) byte bytes kept
 
+not_both : (one other : Bool) → other ≡ false → (one && other) ≡ false
+not_both true other none = none
+not_both false other none = refl
+
 no_lost_number : (bytes : List ℕ) → AreKept bytes → has_lost_number bytes ≡ false
 no_lost_number bytes kept =
-    kept_first (after_blanks (after_word (after_blanks bytes)))
+    not_both (has_short_word (after_blanks bytes)) _
+    (kept_first (after_blanks (after_word (after_blanks bytes)))
     (kept_after_blanks (after_word (after_blanks bytes))
-    (kept_after_word (after_blanks bytes) (kept_after_blanks bytes kept)))
+    (kept_after_word (after_blanks bytes) (kept_after_blanks bytes kept))))
 
 form_kept_from : (byte : ℕ) (bytes : List ℕ)
     → ((byte ≡ 10) × BeginsHeading bytes) ⊎ ((byte ≡ 10) → ¬ (BeginsHeading bytes))

@@ -70,9 +70,19 @@ abbrev pub is_lost_sign : Option ℕ → Bool
 is_lost_sign None = false
 is_lost_sign (Some byte) = is_lost byte
 
+-- whether a blank stands at this place
+abbrev pub is_blank_at : Option ℕ → Bool
+is_blank_at None = false
+is_blank_at (Some byte) = is_blank byte
+
+-- whether the first word has three or four signs, as `PART` has, and no group of a body
+abbrev pub has_short_word : List ℕ → Bool
+has_short_word bytes = is_blank_at (slice_get bytes 3) || is_blank_at (slice_get bytes 4)
+
 -- whether the second word of the first line begins with a lost sign, in place of the part's number
 abbrev pub has_lost_number : List ℕ → Bool
-has_lost_number bytes = is_lost_sign (slice_get (after_blanks (after_word (after_blanks bytes))) 0)
+has_lost_number bytes =
+    has_short_word (after_blanks bytes) && is_lost_sign (slice_get (after_blanks (after_word (after_blanks bytes))) 0)
 
 -- whether the first line of `bytes` is taken for a heading
 abbrev pub is_heading_line : List ℕ → Bool

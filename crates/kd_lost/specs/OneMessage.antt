@@ -5,6 +5,8 @@ use Rattle.kd_lost.specs.declared.damage.PartDamage.{PartDamage}
 use Rattle.kd_lost.specs.declared.damaged_text.{DamagedText.{DamagedText}, TextKeys.{TextKeys}}
 use Rattle.kd_lost.specs.declared.damaged_text.TextKeys.TheVariants as text_keys
 use Rattle.kd_lost.specs.declared.part.{DamagedPart.{DamagedPart}, PartNumbers.{PartNumbers}}
+use Rattle.kd_lost.specs.ByCount.{later_words}
+use Rattle.kd_lost.specs.Lost.{is_lost}
 
 -- ---- Two parts that were read.
 
@@ -57,12 +59,30 @@ bodies_agree (letter ∷ one) [] = true
 abbrev pub ends_within : DamagedPart → DamagedPart → Bool
 ends_within one other = is_err other.text || nat_le one.came other.came
 
--- whether two parts may be the same part, sent twice: their bodies agree and, if both are read, their texts; and none has
--- letters behind the end of the other, if this is read
+-- the signs of a heading behind its count: on a rotor machine, the ground setting and the enciphered key
+abbrev pub key_signs : List ℕ → List ℕ
+key_signs heading = later_words (later_words (later_words heading))
+
+-- whether both signs may have been sent as one: they are equal, or one is lost
+abbrev pub sign_agrees : ℕ → ℕ → Bool
+sign_agrees sign again = sign == again || (is_lost sign || is_lost again)
+
+-- whether the signs agree at each place that both have
+abbrev pub signs_agree : List ℕ → List ℕ → Bool
+signs_agree (sign ∷ one) (again ∷ other) = sign_agrees sign again && signs_agree one other
+signs_agree [] other = true
+signs_agree (sign ∷ one) [] = true
+
+-- whether the headings of two parts may have the same keys
+abbrev pub keys_agree : DamagedPart → DamagedPart → Bool
+keys_agree one other = signs_agree (key_signs one.heading.bytes) (key_signs other.heading.bytes)
+
+-- whether two parts may be the same part, sent twice: their bodies agree and, if both are read, their texts; none has
+-- letters behind the end of the other, if this is read; and the keys of their headings agree
 abbrev pub may_repeat : DamagedPart → DamagedPart → Bool
 may_repeat one other =
     bodies_agree one.body.items other.body.items
-    && (texts_agree one.text other.text && (ends_within one other && ends_within other one))
+    && (texts_agree one.text other.text && (ends_within one other && (ends_within other one && keys_agree one other)))
 
 -- ---- The parts of a form.
 

@@ -1,6 +1,6 @@
 //! Reads a part whose count is wrong or damaged by the letters that came.
 ghost use Rattle.std.specs.Prelude.{◌≡◌, ◌++◌, drop, flat_map, MatchResult};
-ghost use Rattle.kd_lost.specs.ByCount.{IsFoundIn, counted_part, explains, first_word, from_space, heading_count};
+ghost use Rattle.kd_lost.specs.ByCount.{IsFoundIn, counted_part, explains, first_word, from_space, heading_count, later_words};
 ghost use Rattle.kd_lost.specs.ByCount.{is_count_doubted, numbers_by_count, part_line, telling_line};
 
 use crate::damage::PartDamage;
@@ -139,6 +139,14 @@ fn split_word(line: &[u8]) -> (&[u8], &[u8])
         }
     }
     line.split_at(line.len())
+}
+
+/// `line` from its second word on.
+pub(crate) fn later_words(line: &[u8]) -> &[u8]
+    ensures { result.now ≡ later_words line.now }
+{
+    let (_, rest) = split_word(line);
+    without_first(rest)
 }
 
 /// `bytes` without the first.

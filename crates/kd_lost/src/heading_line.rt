@@ -1,7 +1,8 @@
 //! Which lines of a damaged form are taken for headings.
-ghost use Rattle.std.specs.Prelude.{◌≡◌, ◌<◌, ◌≤◌, length, nat_le};
+ghost use Rattle.std.specs.Prelude.{◌≡◌, ◌<◌, ◌≤◌, length, nat_le, slice_get};
 ghost use Rattle.kd_lost.specs.HeadingLine.{after_blanks, after_word, begins_with_part, begins_with_three};
-ghost use Rattle.kd_lost.specs.HeadingLine.{fitting_signs, has_digit_line, has_lost_number, has_three, is_blank};
+ghost use Rattle.kd_lost.specs.HeadingLine.{fitting_signs, has_digit_line, has_lost_number, has_short_word, has_three};
+ghost use Rattle.kd_lost.specs.HeadingLine.{is_blank, is_blank_at, is_lost_sign};
 ghost use Rattle.kd_lost.specs.HeadingLine.{heading_sign, heading_signs, is_heading_byte, is_heading_line, is_letter};
 ghost use Rattle.kd_lost.specs.HeadingLine.{right_signs};
 ghost use Rattle.kd_lost.specs.HeadingLine.{ends_line, has_text_line, is_order, is_part_line, is_text_line};
@@ -22,7 +23,31 @@ pub(crate) fn is_heading_line(bytes: &[u8]) -> bool
 fn has_lost_number(bytes: &[u8]) -> bool
     ensures { result ≡ has_lost_number bytes.now }
 {
-    match after_blanks(after_word(after_blanks(bytes))) {
+    let line = after_blanks(bytes);
+    has_short_word(line) && begins_lost(after_blanks(after_word(line)))
+}
+
+/// Whether the first word has three or four signs, as `PART` has, and no group of a body.
+fn has_short_word(bytes: &[u8]) -> bool
+    ensures { result ≡ has_short_word bytes.now }
+{
+    is_blank_at(bytes.get(3).copied()) || is_blank_at(bytes.get(4).copied())
+}
+
+/// Whether a blank stands at this place.
+fn is_blank_at(byte: Option<u8>) -> bool
+    ensures { result ≡ is_blank_at byte }
+{
+    match byte {
+        Some(byte) => is_blank(byte),
+        None => false,
+    }
+}
+
+fn begins_lost(bytes: &[u8]) -> bool
+    ensures { result ≡ is_lost_sign (slice_get bytes.now 0) }
+{
+    match bytes {
         [byte, ..] => is_lost(*byte),
         [] => false,
     }

@@ -2,11 +2,14 @@
 ghost use Rattle.std.specs.Prelude.{◌≡◌};
 ghost use Rattle.kd_lost.specs.OneMessage.{agrees_with_each, are_of_one_message, headings_agree, letter_agrees};
 ghost use Rattle.kd_lost.specs.OneMessage.{letters_agree, numbers_agree, parts_agree, same_keys, same_letters};
-ghost use Rattle.kd_lost.specs.OneMessage.{bodies_agree, ends_within, may_repeat, texts_agree};
+ghost use Rattle.kd_lost.specs.OneMessage.{bodies_agree, ends_within, key_signs, keys_agree, may_repeat};
+ghost use Rattle.kd_lost.specs.OneMessage.{sign_agrees, signs_agree, texts_agree};
 
+use crate::by_count::later_words;
 use crate::damage::PartDamage;
 use crate::damaged_text::{DamagedText, TextKeys};
 use crate::part::{DamagedPart, PartNumbers};
+use crate::received::is_lost;
 use kd_tables::Letter;
 
 /// Whether any two of the parts can be of one message.
@@ -46,6 +49,41 @@ fn may_repeat(one: &DamagedPart, other: &DamagedPart) -> bool
         && texts_agree(&one.text, &other.text)
         && ends_within(one, other)
         && ends_within(other, one)
+        && keys_agree(one, other)
+}
+
+/// Whether the headings of two parts may have the same keys.
+fn keys_agree(one: &DamagedPart, other: &DamagedPart) -> bool
+    ensures { result ≡ keys_agree one.now other.now }
+{
+    let one = key_signs(one.heading.as_str().as_bytes());
+    signs_agree(one, key_signs(other.heading.as_str().as_bytes()))
+}
+
+/// The signs of a heading behind its count.
+fn key_signs(heading: &[u8]) -> &[u8]
+    ensures { result.now ≡ key_signs heading.now }
+{
+    later_words(later_words(later_words(heading)))
+}
+
+/// Whether the signs agree at each place that both have.
+fn signs_agree(one: &[u8], other: &[u8]) -> bool
+    ensures { result ≡ signs_agree one.now other.now }
+{
+    if let [sign, one @ ..] = one
+        && let [again, other @ ..] = other
+    {
+        return sign_agrees(*sign, *again) && signs_agree(one, other);
+    }
+    true
+}
+
+/// Whether both signs may have been sent as one: they are equal, or one is lost.
+fn sign_agrees(sign: u8, again: u8) -> bool
+    ensures { result ≡ sign_agrees sign again }
+{
+    sign == again || is_lost(sign) || is_lost(again)
 }
 
 /// Whether `one` has no more letters than the other part, if this one is read.

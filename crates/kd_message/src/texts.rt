@@ -106,8 +106,8 @@ pub const ORDER_END: Text = (".</p>\n", ".</p>\n");
 
 /// That the parts aren't of one message: what stands before the numbers in their headings, and after them.
 pub const SEVERAL: Text = (
-    "<p class=reason><b>Not one message.</b> The headings give different numbers of parts, or parts with one number differ: ",
-    "<p class=reason><b>Teile verschiedener Sprüche.</b> Die Spruchköpfe nennen verschiedene Zahlen von Teilen, oder Teile mit einer Nummer weichen voneinander ab: ",
+    "<p class=reason><b>Not one message.</b> The headings give different numbers of parts, or parts with one number differ or can’t be put together: ",
+    "<p class=reason><b>Teile verschiedener Sprüche.</b> Die Spruchköpfe nennen verschiedene Zahlen von Teilen, oder Teile mit einer Nummer weichen voneinander ab oder passen nicht zusammen: ",
 );
 
 pub const SEVERAL_END: Text = (
@@ -122,8 +122,8 @@ pub const OF_PARTS: &str = "/";
 pub const CAME: Text = ("<p>This part came ", "<p>Dieser Teil kam ");
 
 pub const CAME_END: Text = (
-    " times. A letter that one copy lost is taken from another.</p>\n",
-    "-mal. Ein Buchstabe, der in einer Fassung fehlt, ist aus einer anderen genommen.</p>\n",
+    " times. A letter that one copy lost is taken from another with the same keys and as many letters.</p>\n",
+    "-mal. Ein Buchstabe, der in einer Fassung fehlt, ist aus einer anderen mit gleichen Schlüsseln und gleich vielen Buchstaben genommen.</p>\n",
 );
 
 /// What to ask for again: the part; then what of it.
@@ -348,6 +348,6 @@ pub const NOTE_OTHER_DAY: Text = (
 
 /// That the parts aren't of one message.
 pub const NOTE_SEVERAL: Text = (
-    "Not one message: the headings give different numbers of parts, or parts with one number differ.\n",
-    "Teile verschiedener Sprüche: Die Spruchköpfe nennen verschiedene Zahlen von Teilen, oder Teile mit einer Nummer weichen voneinander ab.\n",
+    "Not one message: the headings give different numbers of parts, or parts with one number differ or can’t be put together.\n",
+    "Teile verschiedener Sprüche: Die Spruchköpfe nennen verschiedene Zahlen von Teilen, oder Teile mit einer Nummer weichen voneinander ab oder passen nicht zusammen.\n",
 );
