@@ -1,11 +1,10 @@
 -- Parts that came several times: a letter that one copy lost is the one that another has. Copies have one number, the same
--- keys, and as many letters. Only a copy gives letters of which as many came as its heading counts.
+-- keys, and as many letters.
 -- Test: tests/cases/curator-messages.toml
 use Rattle.std.specs.Prelude.{ℕ, ◌+◌, ◌==◌, ◌&&◌, Bool, true, false, if◌then◌else◌, is_some, slice_index_or}
 use Rattle.std.specs.Prelude.{List, [], ◌∷◌, ◌++◌, length, slice_get, Option, Some, None}
 use Rattle.kd_lost.specs.declared.damaged_text.DamagedText.{DamagedText}
 use Rattle.kd_lost.specs.declared.part.{DamagedPart.{DamagedPart}, PartNumbers.{PartNumbers}}
-use Rattle.kd_lost.specs.ByCount.{text_of}
 use Rattle.kd_lost.specs.DamagedPart.{first_line}
 use Rattle.kd_lost.specs.Lost.{is_lost, received_letter}
 use Rattle.kd_lost.specs.OneMessage.{are_of_one_message, same_keys}
@@ -32,10 +31,10 @@ letter_of_copy same shown place None = None
 letter_of_copy same shown place (Some text) =
     if same && has_keys_of shown text then slice_index_or text.received.items place None else None
 
--- the letter that came at this place of `other`, if this is a copy of `read`, whose text is `shown`, and is read as it counts
+-- the letter that came at this place of `other`, if this is a copy of `read`, whose text is `shown`
 abbrev pub copied_letter : DamagedPart → DamagedText → ℕ → DamagedPart → Option ℕ
 copied_letter read shown place other =
-    letter_of_copy (is_same_part read.numbers other.numbers) shown place (text_of other.text)
+    letter_of_copy (is_same_part read.numbers other.numbers) shown place (shown_text other)
 
 -- the letter or, if it is lost, the other one
 abbrev pub letter_or : Option ℕ → Option ℕ → Option ℕ

@@ -8,7 +8,7 @@ use crate::form::DamagedFormFault;
 use crate::one_message::same_keys;
 use crate::part::{DamagedPart, PartNumbers};
 use crate::received::{is_lost, is_received};
-use crate::texts::is_text_within;
+use crate::texts::{is_text_within, shown_text};
 use crate::tidy::line_and_rest;
 use kd_tables::Letter;
 use std::alloc::Global;
@@ -107,9 +107,7 @@ fn copied_letter(
 ) -> Option<Letter>
     ensures { result ≡ copied_letter read.now shown.now place other.now }
 {
-    let Ok(text) = &other.text else {
-        return None; // Where its letters were lost isn't known.
-    };
+    let text = shown_text(other)?;
     if is_same_part(&read.numbers, &other.numbers) && has_keys_of(shown, text) {
         return letter_at(text, place);
     }
