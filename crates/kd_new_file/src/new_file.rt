@@ -1,5 +1,5 @@
 //! A new file is begun under another name, and gets its own once it is whole.
-ghost use Rattle.std.specs.Prelude.{◌≡◌, ◌↔◌, [], Option, Some, Err, IfOk, IfSome, IsSome, OnErr, OnOk, false, string_bytes};
+ghost use Rattle.std.specs.Prelude.{◌≡◌, ◌≢◌, ◌↔◌, [], Option, Some, Err, IfErr, IfOk, IfSome, IsSome, OnErr, OnOk, false, string_bytes};
 ghost use Rattle.std.specs.Option.{option_map};
 ghost use Rattle.kd_new_file.specs.NewFiles.{AddsFile, FilesByName};
 
@@ -23,6 +23,7 @@ pub fn begin<N: NewFiles>(
     ensures empty { IfOk result
         (λ begun. N.Written.taken begun.1 ≡ option_map (λ _. []) (N.held files.old)) }
     ensures fresh { IfOk result (λ begun. N.Written.has_failed begun.1 ≡ false) }
+    ensures free { IfErr result (λ fault. fault ≢ NewFileFault.Taken) }
     ensures refused { OnErr result (N.held files.new ≡ N.held files.old) }
 {
     for number in 0..NAMES {

@@ -22,6 +22,8 @@ pub trait NewFiles {
         ensures empty { IfOk result
             (λ file. Self.Written.taken file ≡ option_map (λ _. []) (held self.old)) }
         ensures fresh { IfOk result (λ file. Self.Written.has_failed file ≡ false) }
+        ensures taken { IfSome (held self.old)
+            (λ files. (result ≡ Err NewFileFault.Taken) ↔ IsSome (files name.now)) }
         ensures refused { OnErr result (held self.new ≡ held self.old) };
 
     /// Stores all bytes that `file` has taken, and gives them the name `name`, too. The file was made as `other`.
