@@ -1,4 +1,4 @@
--- What becomes of the file that the option `-o` names.
+-- The file that the option `-o` names.
 use Rattle.std.proofs.Common.{◌≡◌, ◌∙◌, ℕ, Bool, true, false, List, [], Option, Result, Ok, Err, IsTrue, inl, inr}
 use Rattle.std.proofs.Common.{ap, refl, subst, sym, option_map}
 use Rattle.std.specs.Io.KnownBytes.{append_known}

@@ -1,4 +1,4 @@
--- What becomes of the file that the option `-o` names: it is there exactly if all was written that the answer says.
+-- The file that the option `-o` names: it is there exactly if all was written that the answer says.
 -- Code: the command writes to a new file under another name, which then gets its own name, or is removed.
 -- Test: tests/new-files
 use Rattle.std.specs.Prelude.{codes, ◌≡◌, ◌⊎◌, ℕ, Bool, true, false, List, [], ◌∷◌, ◌++◌, Option, Some, None, option_map}
@@ -87,9 +87,9 @@ pub data RunsTo (l : Language) (words : List (List ℕ)) (known : Option (List �
 abbrev pub IsMeantBySome : NamedCommand → Type 0
 IsMeantBySome command = (words : List (List ℕ)) × IsCommandLineOf words command
 
--- What becomes of the new file `name`, which has taken these bytes; `failed` says whether a write to it failed, and the
--- Bool after it whether all was written. Without a fault, there is the new file exactly if all was written. Otherwise
--- the files are as before.
+-- The files `before` a command and `after` it. It wrote `bytes` to a new file. `failed`: whether a write failed; the next
+-- Bool: whether all was written that the answer says. If it was, and nothing failed, the new file is there, with the name
+-- `name`. Otherwise the files are as before.
 abbrev pub EndsFile : Option FilesByName → Option FilesByName → List ℕ → Option (List ℕ) → Bool → Bool
     → Result (Unit {0}) NewFileFault → Type 0
 EndsFile before after name bytes failed true (Ok done) = AddsFile before after name bytes

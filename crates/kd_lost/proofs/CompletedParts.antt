@@ -5,11 +5,12 @@ use Rattle.std.proofs.lemmas.List.Elements.{All-head, All-tail}
 use Rattle.kd_state.specs.SheetDay.{Day}
 use Rattle.kd_lost.specs.declared.damaged_text.DamagedText.{DamagedText}
 use Rattle.kd_lost.specs.declared.part.{DamagedPart.{DamagedPart}}
-use Rattle.kd_lost.specs.DamagedForm.{AreFormParts, AreReadOf, PlacedPart, completed_parts, damaged_parts_of, form_parts}
+use Rattle.kd_lost.specs.DamagedForm.{AreFormParts, AreReadOf, AreReadWith, PlacedPart, completed_parts, damaged_parts_of, form_parts}
 use Rattle.kd_lost.specs.DamagedForm.{placed_from}
 use Rattle.kd_lost.specs.DamagedPart.{first_line}
 use Rattle.kd_lost.specs.Lines.{heading_line, line_breaks}
 use Rattle.kd_lost.specs.Lost.{is_lost, received_letter}
+use Rattle.kd_lost.specs.OneMessage.{are_of_one_message}
 use Rattle.kd_lost.specs.Repetitions.{are_kept, completed_at, completed_byte, completed_from, completed_of, completed_or}
 use Rattle.kd_lost.specs.Repetitions.{completed_with, copies_in, known_letter}
 use Rattle.kd_lost.specs.Texts.{shown_text}
@@ -132,3 +133,15 @@ as_many_parts s form parts is =
 
 pub chosen_alone : (alone : List DamagedPart) → alone ≡ completed_or alone alone
 chosen_alone alone = chosen_cases (λ l. alone ≡ l) alone alone (are_kept alone alone) refl refl
+
+-- the parts are read alone, and again with the letters of their copies
+pub read_twice : (s : Day) (form : List ℕ) (alone again : List DamagedPart) (kept : Bool)
+    → are_of_one_message alone ≡ true → AreReadWith s [] form alone → AreReadWith s alone form again
+    → are_kept alone again ≡ kept → AreFormParts s form (if kept then again else alone)
+read_twice s form alone again kept one first second is = record {
+  alone = alone;
+  read = subst (λ l. AreReadOf s l alone) (completed_by_none 0 (damaged_parts_of form)) first;
+  again = again;
+  read_again = subst (λ (b : Bool). AreReadWith s (if b then alone else []) form again) (sym one) second;
+  chosen = sym (ap (λ (b : Bool). if b then again else alone) is);
+}

@@ -1,12 +1,11 @@
 -- A form that `desk receive` reads is one whole message.
-use Rattle.std.proofs.Common.{◌≡◌, ◌≢◌, ◌∙◌, inl, inr, ℕ, zero, suc, ◌+◌, ◌-◌, ◌<◌, ◌≤◌, ◌&&◌, nat_le, IsFalse, IsTrue}
+use Rattle.std.proofs.Common.{◌≡◌, ◌≢◌, ◌∙◌, inl, inr, ℕ, zero, suc, ◌+◌, ◌-◌, ◌<◌, ◌≤◌, ◌&&◌, nat_le, IsFalse}
 use Rattle.std.proofs.Common.{Bool, true, false, List, [], ◌∷◌, ◌++◌, All, arith, refl, sym, ap, subst, map, Option, Some}
 use Rattle.std.proofs.Common.{None, Ok, if◌then◌else◌, MatchOption, flat_map}
 use Rattle.std.proofs.lemmas.Bool.{Decides.nat_tests, cases_Bool}
-use Rattle.std.proofs.lemmas.List.Elements.{All-append, All-cons, All-head, All-nil, All-tail, All-weaker}
+use Rattle.std.proofs.lemmas.List.Elements.{All-cons, All-head, All-nil, All-tail}
 use Rattle.std.specs.List.{range_with_len}
 use Rattle.std.specs.Prelude.{IfSome}
-use Rattle.kd_tables.specs.Text.{is_text_byte}
 use Rattle.kd_state.specs.SheetDay.{Day}
 use Rattle.kd_state.proofs.OneAnswer.{ThenNext-Ok, Yields-Ok}
 use Rattle.kd_form.specs.FormParts.{parts_of}
@@ -25,7 +24,7 @@ use Rattle.kd_lost.specs.Lost.{is_lost}
 use Rattle.kd_lost.proofs.CompletedParts.{read_as_it_stands}
 use Rattle.kd_lost.proofs.Forms.{AreAllReadOf, all_read}
 use Rattle.kd_lost.proofs.Counting.{numbers_given}
-use Rattle.kd_lost.proofs.WholeForms.{forms_shown, same_parts}
+use Rattle.kd_lost.proofs.WholeForms.{forms_shown, parts_kept, same_parts}
 use Rattle.kd_lost.proofs.WholeParts.{numbers_there, shown_whole, whole_part}
 use Rattle.kd_message.specs.Laws.{FormsReadAreWhole, letters_of_part, message_letters}
 use Rattle.kd_lost.specs.OneMessage.{agrees_with_each, are_of_one_message, numbers_agree, headings_agree, may_repeat}
@@ -224,23 +223,6 @@ in_order_one total number parts are =
     ∙ in_order_covered total number parts parts are (λ m least. refl)
 
 -- -------- a form that `desk receive` reads
-
-kept_text : (byte : ℕ) → IsTrue (is_text_byte byte) → IsFalse (is_lost byte)
-kept_text byte allowed = grind (arith, nat_tests, cases_Bool, allowed)
-
--- no byte of the parts is lost
-parts_kept : (s : Day) (p : PartStart) (parts : List (List ℕ)) (letters : List ℕ)
-    → ReadsPartsTo s (IsAnswerAt s (Ok tt)) p parts letters → All (All (λ b. IsFalse (is_lost b))) parts
-parts_kept s p [] letters read = All-nil (All (λ b. IsFalse (is_lost b)))
-parts_kept s p (part ∷ parts) letters (inl (fault, none)) = let off = fault.2 in absurd (cc)
-parts_kept s p (part ∷ parts) letters (inr (read, more, is, rest, joined)) =
-    let w = whole_part s p part read is in
-    let body = All-weaker (λ b. IsTrue (is_text_byte b)) (λ b. IsFalse (is_lost b)) (λ b. kept_text b) w.body w.allowed in
-    All-cons (All (λ b. IsFalse (is_lost b))) part parts
-    (subst (All (λ b. IsFalse (is_lost b))) (sym w.first.joined)
-    (All-append (λ b. IsFalse (is_lost b)) w.line (10 ∷ w.body) w.kept
-    (All-cons (λ b. IsFalse (is_lost b)) 10 w.body refl body)))
-    (parts_kept s (next_part_start p read.parts part) parts more rest)
 
 expected_parts : (s : Day) (p : PartStart) (part : List ℕ) (read : ReadPart) → IsPartAnswer s p part (Ok read)
     → IsExpectedCount p.expected read.parts

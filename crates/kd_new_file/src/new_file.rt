@@ -1,5 +1,5 @@
 //! A new file is begun under another name, and gets its own once it is whole.
-ghost use Rattle.std.specs.Prelude.{◌≡◌, ◌≢◌, ◌↔◌, [], Option, Some, Err, IfErr, IfOk, IfSome, IsSome, OnErr, OnOk, false, string_bytes};
+ghost use Rattle.std.specs.Prelude.{◌≡◌, ◌≢◌, ◌↔◌, ◌++◌, [], ℕ, codes, decimal, Option, Some, Err, IfErr, IfOk, IfSome, IsSome, OnErr, OnOk, false, string_bytes};
 ghost use Rattle.std.specs.Option.{option_map};
 ghost use Rattle.kd_new_file.specs.NewFiles.{AddsFile, FilesByName};
 
@@ -20,6 +20,8 @@ pub fn begin<N: NewFiles>(
 ) -> Result<(String, N::Written), NewFileFault>
     ensures added { IfOk result (λ begun.
         AddsFile (N.held files.old) (N.held files.new) (string_bytes begun.0) (Some [])) }
+    ensures other { IfOk result (λ begun. (number : ℕ)
+        × (string_bytes begun.0 ≡ name.now ++ (codes ".part" ++ decimal number))) }
     ensures empty { IfOk result
         (λ begun. N.Written.taken begun.1 ≡ option_map (λ _. []) (N.held files.old)) }
     ensures fresh { IfOk result (λ begun. N.Written.has_failed begun.1 ≡ false) }

@@ -2,7 +2,7 @@ use Rattle.std.proofs.Common.{◌≡◌, ◌∙◌, [], Bool, false, true, if◌
 use Rattle.kd_lost.specs.DamagedForm.{AreReadOf, AreReadWith, damaged_parts_of}
 use Rattle.kd_lost.specs.OneMessage.{are_of_one_message}
 use Rattle.kd_lost.specs.Repetitions.{are_kept}
-use Rattle.kd_lost.proofs.CompletedParts.{chosen_alone, completed_by_none}
+use Rattle.kd_lost.proofs.CompletedParts.{chosen_alone, completed_by_none, read_twice}
 use Rattle.kd_lost.proofs.form.read_damaged_form.Goals as goal
 
 pub returns-then-not-are_of_one_message-clause-read :
@@ -26,8 +26,6 @@ returns-then-not-are_of_one_message-clause-read c =
 
 pub returns-then-are_kept-clause-read : goal.returns-then-are_kept-clause-read
 returns-then-are_kept-clause-read c =
-    let s = c.args.day.now in
-    let form = c.args.form.now in
     let alone = c.in_ok-alone.alone.items in
     let again = c.in_ok-again.again.items in
     let one : are_of_one_message alone ≡ true =
@@ -36,20 +34,12 @@ returns-then-are_kept-clause-read c =
     let kept : are_kept alone again ≡ true =
     (λ i. are_kept (sym c.as_slice-3.ensures.value i) (sym c.as_slice-4.ensures.value i)) ∙ sym c.are_kept.ensures
     ∙ c.if-are_kept.true in
-    record {
-      alone = alone;
-      read = subst (λ l. AreReadOf s l alone) (completed_by_none 0 (damaged_parts_of form)) c.in_ok-alone.ensures.read;
-      again = again;
-      read_again =
-          subst (λ (b : Bool). AreReadWith s (if b then alone else []) form again) (sym one)
-          (subst (λ l. AreReadWith s l form again) c.as_slice-2.ensures.value c.in_ok-again.ensures.read);
-      chosen = sym (ap (λ (b : Bool). if b then again else alone) kept);
-    }
+    read_twice c.args.day.now c.args.form.now alone again true one c.in_ok-alone.ensures.read
+    (subst (λ l. AreReadWith c.args.day.now l c.args.form.now again) c.as_slice-2.ensures.value c.in_ok-again.ensures.read)
+    kept
 
 pub returns-else-are_kept-clause-read : goal.returns-else-are_kept-clause-read
 returns-else-are_kept-clause-read c =
-    let s = c.args.day.now in
-    let form = c.args.form.now in
     let alone = c.in_ok-alone.alone.items in
     let again = c.in_ok-again.again.items in
     let one : are_of_one_message alone ≡ true =
@@ -58,12 +48,6 @@ returns-else-are_kept-clause-read c =
     let kept : are_kept alone again ≡ false =
     (λ i. are_kept (sym c.as_slice-3.ensures.value i) (sym c.as_slice-4.ensures.value i)) ∙ sym c.are_kept.ensures
     ∙ c.if-are_kept.false in
-    record {
-      alone = alone;
-      read = subst (λ l. AreReadOf s l alone) (completed_by_none 0 (damaged_parts_of form)) c.in_ok-alone.ensures.read;
-      again = again;
-      read_again =
-          subst (λ (b : Bool). AreReadWith s (if b then alone else []) form again) (sym one)
-          (subst (λ l. AreReadWith s l form again) c.as_slice-2.ensures.value c.in_ok-again.ensures.read);
-      chosen = sym (ap (λ (b : Bool). if b then again else alone) kept);
-    }
+    read_twice c.args.day.now c.args.form.now alone again false one c.in_ok-alone.ensures.read
+    (subst (λ l. AreReadWith c.args.day.now l c.args.form.now again) c.as_slice-2.ensures.value c.in_ok-again.ensures.read)
+    kept
