@@ -11,15 +11,15 @@ use Rattle.kd_state.specs.SheetDay.{Day, Rotor, Pin, RotorDay, PinDay, IsLegalDa
 use Rattle.kd_sheet.specs.MachineText.{quoted_text, array_text, key_line, pin_texts}
 use Rattle.kd_sheet.specs.declared.key.Key.TheVariants as keys
 
--- the line before a section, if other sections come before it: an empty line
+-- an empty line if a section comes before (`started`), otherwise nothing
 abbrev pub section_gap : Bool → List ℕ
 section_gap started = if started then codes "\n" else []
 
--- the section of a day: the line `[[day]]`, and the day's lines
+-- the section of a day: the gap before it, the line `[[day]]`, and the day's lines
 abbrev pub section_text : Bool → List (List ℕ) → List ℕ
 section_text started lines = section_gap started ++ codes "[[day]]\n" ++ concat lines
 
--- the sections of days, each given by its lines
+-- the sections of several days; for each day, its lines are given
 abbrev pub sections_text : Bool → List (List (List ℕ)) → List ℕ
 sections_text started [] = []
 sections_text started (lines ∷ days) = section_text started lines ++ sections_text true days
@@ -29,7 +29,7 @@ abbrev pub day_head_lines : ℕ → Model → List (List ℕ)
 day_head_lines number model =
     key_line keys.Day (decimal number) ∷ key_line keys.Model (quoted_text (model_text model)) ∷ []
 
--- the reflector, and the wheels with their rings and window letters
+-- the lines with the reflector, and with the wheels, their rings and their window letters
 abbrev pub wheels_lines : RotorDay → List (List ℕ)
 wheels_lines s =
     key_line keys.Reflector (quoted_text (reflector_text s.reflector))
@@ -38,7 +38,7 @@ wheels_lines s =
     ∷ key_line keys.Window (quoted_text (letters_text (map (λ w. w.letter) s.wheels)))
     ∷ []
 
--- the plugged pairs, and the groups
+-- the lines with the plugged pairs and the groups
 abbrev pub plugs_lines : RotorDay → List (List ℕ)
 plugs_lines s =
     key_line keys.Plugs (array_text (map (λ pair. letters_text (pair.0 ∷ pair.1 ∷ [])) s.pairs))
@@ -48,7 +48,7 @@ plugs_lines s =
 abbrev pub rotor_day_lines : RotorDay → List (List ℕ)
 rotor_day_lines s = day_head_lines s.day s.model ++ wheels_lines s ++ plugs_lines s
 
--- what a Converter's day has after its number and its model
+-- the lines of a Converter's day after its number and its model
 abbrev pub converter_lines : PinDay → List (List ℕ)
 converter_lines s =
     key_line keys.List (quoted_text (letters_text s.list))
@@ -64,11 +64,11 @@ abbrev pub day_lines : Day → List (List ℕ)
 day_lines (Rotor s) = rotor_day_lines s
 day_lines (Pin s) = pin_day_lines s
 
--- the text of a key sheet that has these days, at least one
+-- the text of a key sheet for `days`, at least one day
 unfoldable pub sheet_text : List Day → List ℕ
 sheet_text days = sections_text false (map day_lines days)
 
--- Each day is legal, and its number is none of the numbers of the days before it: of `earlier`, and of the days here.
+-- Each day in the second list is legal, and no day before it, in either list, has its number.
 abbrev pub AreSheetDays : List Day → List Day → Type 0
 AreSheetDays earlier [] = ⊤
 AreSheetDays earlier (day ∷ days) =

@@ -26,7 +26,7 @@ wheel_for key model slots item = do
   demand (not (list_any (λ slot. option_map_or (same_wheel wheel) slot false) slots)) WheelTwice
   Ok wheel
 
--- what the next slot after `slots` holds: the wheel that `item` names; in a machine file, `""` is an empty slot
+-- the content of the next slot after `slots`: the wheel that `item` names; in a machine file, `""` is an empty slot
 unfoldable pub slot_for : Key → Model → List (Option Wheel) → Data → Result (Option Wheel) SheetFault
 slot_for keys.Slots model slots (string []) = Ok None
 slot_for key model slots item = wheel_for key model slots item >>= (λ wheel. Ok (Some wheel))

@@ -1,4 +1,4 @@
-//! The readers of single keys, for programs that judge each key of a file for itself.
+//! Readers of single keys, for programs that test each key of a file on its own.
 
 pub use crate::document::{find_at, parse_table};
 pub use crate::machine_reader::box_letters_in;

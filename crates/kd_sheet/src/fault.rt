@@ -18,14 +18,14 @@ pub enum SheetFault {
     Missing(Key),
     /// A key's value is wrong.
     ///
-    /// The value or one of its items has the wrong type, form or length, or is a number out of range. Or its text names
-    /// no wheel, or no reflector of the model. Or a letter isn't on its pin wheel, or a pin is named twice.
+    /// The value or one of its items has the wrong type, form or length; is a number out of range; names no wheel, or
+    /// no reflector of the model; has a letter that isn't on its pin wheel; or names a pin twice.
     BadValue(Key),
     /// A letter occurs twice among the cables, or among the pairs.
     LetterTwice,
     /// A wheel is in two slots.
     WheelTwice,
-    /// A wheel is in a slot in which the model doesn't allow it.
+    /// A wheel is in a slot where the model doesn't allow it.
     WheelNotAllowed,
     /// The bar or the row with this number, counted from 1, has no valid standing or reading.
     BadRow(u8),

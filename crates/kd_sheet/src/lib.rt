@@ -1,4 +1,4 @@
-//! Reads machine files and key sheets; writes machine files, and the lines of which both consist.
+//! Reads machine files and key sheets; writes machine files, and single lines of both.
 #![tactic(auto)]
 
 pub mod by_key;

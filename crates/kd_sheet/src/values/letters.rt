@@ -64,7 +64,7 @@ fn letter_of_number(item: &Value) -> Option<Letter>
     Letter::new(number_up_to(item, 26)? - 1)
 }
 
-/// Reads an array that has a number from 1 to 26 for each slot of `model`. 1 is A.
+/// Reads an array with a number from 1 to 26 for each slot of `model`. 1 is A.
 pub fn letters_of_numbers(items: &[Value], model: Model) -> Option<PerSlot<Letter>>
     requires { 0 < slots_of model }
     ensures { result ≡ letters_of_numbers (slots_of model) (map view items.now) }

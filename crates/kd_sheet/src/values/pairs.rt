@@ -1,4 +1,4 @@
-//! Reads the pairs of a day, from the key `plugs`: letters that the day's cables exchange.
+//! Reads the pairs of a day, from the key `plugs`. A cable of the day exchanges the two letters of a pair.
 ghost use Rattle.std.specs.Prelude.{◌≡◌};
 ghost use Rattle.toml.specs.View.{table_view};
 ghost use Rattle.kd_sheet.specs.{Cables.{pair_for, pairs_in}, Document.{result_map}};

@@ -1,4 +1,4 @@
-//! How an array's items are written: wheels, cables, pairs, groups, standings and readings of bars, and texts.
+//! Writes items of arrays: wheels, cables, pairs, groups, standings and readings of bars, and texts.
 ghost use Rattle.std.specs.Prelude.{◌≡◌, ℕ, List, [], ◌∷◌};
 ghost use Rattle.kd_tables.specs.{Places.{standing_text, reading_text}, Tables.{wheel_text}, Text.{letters_text}};
 ghost use Rattle.kd_sheet.specs.MachineText.{cable_text, slot_text};
