@@ -10,14 +10,14 @@ use Rattle.kd_desk.specs.declared.stop.Stop.{Stop}
 use Rattle.kd_desk.specs.declared.stop.Stop.TheVariants.{Usage, Unread, ReadFailed, Refused}
 use Rattle.kd_desk.specs.FaultText.{desk_fault_text}
 
--- the line on standard error for a `Stop`
+-- the line on standard error for each reason to stop
 abbrev pub stop_line : Stop → List ℕ
 stop_line Usage = codes "usage: desk COMMAND WORDS" ++ 10 ∷ []
 stop_line (Unread fault) = refused_line (file_fault_text fault)
 stop_line ReadFailed = refused_line (desk_fault_text faults.Device)
 stop_line (Refused fault) = refused_line (desk_fault_text fault)
 
--- what is written to standard error: a line for a `Stop`, or no bytes if all went well
+-- the text on standard error: the line for a `Stop`, or nothing after a success
 abbrev pub error_text : Result (Unit {0}) Stop → List ℕ
 error_text (Ok done) = []
 error_text (Err stop) = stop_line stop

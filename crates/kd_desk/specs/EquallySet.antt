@@ -1,4 +1,5 @@
--- Machines that are equally set for a day decipher each other's texts. What else a card promises: `IsShortestCard`.
+-- Machines that are equally set for a day decipher each other's texts. This is one promise of a card: `IsShortestCard`
+-- has them all.
 use Rattle.std.specs.Prelude.{◌≡◌, ◌<◌, ℕ, List, All}
 use Rattle.kd_state.specs.declared.machine.parts.Parts.{Parts}
 use Rattle.kd_state.specs.Machine.{IsMachine}
@@ -14,7 +15,7 @@ pub record AreEquallySet (day : Day) (one other : Parts) : Type 0 where
   pub other_on_key : OnKey other day
   pub letters : window_of one ≡ window_of other
 
--- A machine deciphers what another, equally set machine has enciphered.
+-- If two machines are equally set for the day, each deciphers the texts that the other enciphers.
 abbrev pub EquallySetDecipherOn : Day → Type 0
 EquallySetDecipherOn day =
     (one other : Parts) (text : List ℕ) → AreEquallySet day one other → All (λ letter. letter < 26) text

@@ -1,4 +1,4 @@
--- What the contracts of inner functions say. No public contract cites these definitions.
+-- Conditions in the contracts of private functions. No public contract cites these definitions.
 use Rattle.std.specs.Prelude.{◌≡◌, ℕ, Bool, false, List, Option, Result, Ok, IfSome}
 use Rattle.kd_tables.specs.Ports.{Port}
 use Rattle.kd_state.specs.declared.machine.parts.Parts.{Parts}
@@ -29,7 +29,8 @@ with_action_stream g action = with_action_files (λ file. file) g action
 abbrev pub HasNoFailedRead : {O : Type 0} → (O → Bool) → Option O → Type 0
 HasNoFailedRead failed file = IfSome file (λ f. failed f ≡ false)
 
--- `IsCommandDone` for a task, with the machine of the file `machine` and day `number` of the key sheet `sheet`.
+-- A task was carried out, as `IsCommandDone` says of a command, with the machine of the file `machine` and day `number`
+-- of the key sheet `sheet`.
 pub record IsTaskDone (left : KnownFile) (machine sheet : List ℕ) (number : ℕ) (task : KnownTask) (sink : Port)
     (answer : Result (Unit {0}) Stop) : Type 0 where
   pub told : Result (Unit {0}) DeskFault

@@ -1,4 +1,5 @@
--- The laws of reading bytes as settings: for all bytes, there is only one right answer, a list of settings or a fault.
+-- Laws of the desk. Bytes are read as settings in one way: they give one list, or they have one fault. The cards of a
+-- month set the machine to each day.
 use Rattle.std.specs.Prelude.{◌≡◌, ◌≢◌, ◌≤◌, ℕ, List, Option, Ok}
 use Rattle.kd_tables.specs.declared.model.Model.TheVariants.{M209}
 use Rattle.kd_state.specs.declared.machine.parts.Parts.{Parts}

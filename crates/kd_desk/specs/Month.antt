@@ -21,7 +21,7 @@ use Rattle.kd_desk.specs.RunCard.{IsChosenCard, Prints}
 use Rattle.kd_desk.specs.CallAnswers.{LacksMemory}
 use Rattle.kd_desk.specs.Settings.{AreSettings}
 
--- What is written for a day: a card, and the file of the machine that the card's settings lead to.
+-- The texts written for a day: a card, and the file of the machine that the card's settings lead to.
 pub record CardAndFile : Type 0 where
   pub card : List ℕ
   pub file : List ℕ
@@ -50,7 +50,7 @@ AreWrittenInTurn file sheet numbers papers = ⊥
 
 -- The card's settings lead from the machine of `file` to the machine of the next file. The machine of the next file is
 -- set as day `number` says, shows the day's letters, and enciphers as the day asks. Spare cables stay free. No fewer
--- settings lead to the day, and some valid prices prove this; that the card has these prices isn't said.
+-- settings lead to the day, and some valid prices, not always those of the card, prove this.
 pub record SetTheMachine (file sheet : List ℕ) (number : ℕ) (papers : CardAndFile) : Type 0 where
   pub m : Parts
   pub s : Day

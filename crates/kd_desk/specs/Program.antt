@@ -1,4 +1,4 @@
--- A command with what is known of its files, or the fault of the first file that can't be read or opened.
+-- How the program reads and opens a command's files, carries the command out, and answers.
 -- Code: `read_files` reads or opens one file after another, and returns the first fault.
 -- Test: tests/cases/desk-program.toml
 use Rattle.std.specs.Prelude.{◌≡◌, ◌⊎◌, ℕ, Bool, true, false, List, [], Option, None, Some, IfSome}
@@ -33,7 +33,8 @@ use Rattle.kd_desk.specs.RunCard.{IsChosenCard, Prints}
 use Rattle.kd_desk.specs.RunCheck.{Checks}
 use Rattle.kd_desk.specs.CallAnswers.{LacksMemory, AnswersFault, is_refused_before_message, is_device}
 
--- A task with what is known of its files: the bytes of a file that is read whole, and a `KnownFile` for an opened file.
+-- A task whose files have been read or opened: it has the bytes of a file that is read whole, and a `KnownFile` for an
+-- opened file.
 abbrev pub KnownTask : Type 0
 KnownTask = Task (List ℕ) KnownFile
 
@@ -48,7 +49,7 @@ abbrev pub with_file : {F X : Type 0} → Result F FileFault → (F → Result X
 with_file (Ok file) made = made file
 with_file (Err fault) made = Err fault
 
--- a task with what is known of its files, or the fault of the first file that can't be read or opened
+-- the task once its files are read or opened, or the fault of the first file that can't be read or opened
 abbrev pub known_task : (List ℕ → Option (List ℕ)) → NamedTask → Result KnownTask FileFault
 known_task held tasks.Card = Ok tasks.Card
 known_task held (tasks.Check card) = with_file (content_of (held card)) (λ bytes. Ok (tasks.Check bytes))
@@ -113,7 +114,7 @@ abbrev pub StopsForMemory : Result (Unit {0}) Stop → Type 0
 StopsForMemory answer = (answer ≡ Err (Refused (File NoMemory))) ⊎ (answer ≡ Err (Unread files.NoMemory))
 
 -- A command was carried out. `told` is the answer of the command's call, such as `run_card`, and `answer` is the
--- program's answer. `left` is what is known of the opened file after the call, when the program gave it back.
+-- program's answer. `left` is what is known of the opened file once the program has given it back.
 pub record IsCommandDone (left : KnownFile) (command : KnownCommand) (source sink : Port)
     (answer : Result (Unit {0}) Stop) : Type 0 where
   pub told : Result (Unit {0}) DeskFault

@@ -21,15 +21,16 @@ use Rattle.kd_desk.specs.EquallySet.{EquallySetDecipherOn}
 use Rattle.kd_tables.specs.Ports.{Port}
 use Rattle.kd_host.specs.Writing.{WritesText}
 
--- A shortest card: its settings lead the machine to the day's machine. No list that reaches the day is shorter, and its
--- prices show it. Whatever the card: machines that are equally set for the day decipher each other's texts.
+-- A shortest card: its settings lead the machine to the day's machine. No shorter list reaches the day, and the card's
+-- prices show this. Machines that are equally set for the day decipher each other's texts, whatever the card.
 pub record IsShortestCard (machine : Parts) (day : Day) (settings : List Setting) (prices : PriceParts) : Type 0 where
   pub leaves : (after : Parts) × Leads machine settings after × IsSheetsMachine after day
   pub shortest : IsShortest machine day settings
   pub shown : ShowShortest machine day settings prices
   pub deciphers : EquallySetDecipherOn day
 
--- A card of which `Promise` holds was written for day `number`; or only a prefix of its text, and the sink has failed.
+-- A card that satisfies `Promise` was written for day `number`, or a prefix of the card was written and the sink
+-- failed.
 pub record WritesCard (Promise : List Setting → PriceParts → Type 0) (number : ℕ) (sink : Port)
     (answer : Result (Unit {0}) DeskFault) : Type 0 where
   pub settings : List Setting
@@ -38,7 +39,7 @@ pub record WritesCard (Promise : List Setting → PriceParts → Type 0) (number
   pub written : WritesText Device (card_text number settings prices) sink answer
   pub failure : IsErr answer → IsTrue sink.has_failed
 
--- The machine and the day are of different models, or a card was written of which `Promise` holds.
+-- The machine and the day are of different models, or a card that satisfies `Promise` was written.
 pub data Prints (Promise : List Setting → PriceParts → Type 0) (machine : Parts) (day : Day) (number : ℕ) (sink : Port)
     (answer : Result (Unit {0}) DeskFault) : Type 0 where
   Different : model_of machine ≢ day_model day → answer ≡ Err OtherModel
@@ -48,7 +49,7 @@ pub data Prints (Promise : List Setting → PriceParts → Type 0) (machine : Pa
 -- ---- Which shortest card it is.
 
 -- A shortest card for day `number`, as the planner chooses it. Its values are valid, and it proves itself. Its lines
--- are those of a cheapest assignment, in the planner's order, and spare cables stay free.
+-- carry out a cheapest assignment, in the planner's order, and leave spare cables free.
 pub record IsChosenCard (machine : Parts) (day : Day) (number : ℕ) (settings : List Setting) (prices : PriceParts)
     : Type 0 where
   pub shortest : IsShortestCard machine day settings prices

@@ -17,12 +17,12 @@ use Rattle.kd_desk.specs.declared.fault.DeskFault.TheVariants as faults
 use Rattle.kd_tables.specs.Ports.{Port}
 use Rattle.kd_host.specs.Writing.{WritesText}
 
--- the line for a shortest card, which has `number` settings
+-- the line that calls a card with `number` settings shortest
 abbrev pub verdict_text : ℕ → List ℕ
 verdict_text number = codes "SHORTEST " ++ decimal number ++ 10 ∷ []
 
--- The card proves itself, so no shorter list of settings reaches the day. The line `verdict_text` was written, or only
--- a prefix of the line if the device failed.
+-- The card proves itself, so no shorter list of settings reaches the day. The line `verdict_text` was written, or a
+-- prefix of it if the device failed.
 pub record IsVerdictWritten (m : Parts) (s : Day) (settings : List Setting) (prices : PriceParts) (sink : Port)
     (answer : Result (Unit {0}) DeskFault)
     : Type 0 where

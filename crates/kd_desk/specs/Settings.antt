@@ -24,7 +24,7 @@ pub data AreSettings (bytes : List ℕ) (settings : List Setting) : Type 0 where
       → AreSettings bytes settings
   OfList : IsFalse (begins_as_card bytes) → IsListText bytes settings → AreSettings bytes settings
 
--- `fault` is the fault of `bytes`, which are read as a card if they begin with `CARD` and a space, and else as a list.
+-- `fault` is the fault of `bytes`, read as a card if they begin with `CARD` and a space, and otherwise as a list.
 pub data IsSettingsFault (bytes : List ℕ) (fault : DeskFault) : Type 0 where
   InCard : IsTrue (begins_as_card bytes) → (card : CardFault) → IsCardFault bytes card → fault ≡ faults.Card card
       → IsSettingsFault bytes fault

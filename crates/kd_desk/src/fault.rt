@@ -16,7 +16,7 @@ use thiserror::Error;
 /// Why the desk refuses a command: the first fault, in the order of testing.
 #[derive(Clone, Copy, Debug, PartialEq, Eq, Error)]
 pub enum DeskFault {
-    /// A machine file or a key sheet has this fault, or there was no memory.
+    /// A machine file or a key sheet has this fault, or memory ran out.
     File(SheetFault),
     /// A list of settings has this fault.
     List(ListFault),

@@ -47,7 +47,7 @@ impl Stop {
         }
     }
 
-    /// The line that is written to standard error.
+    /// The line for standard error.
     fn line(&self) -> Line
         ensures { result.bytes ≡ stop_line self.now }
     {
