@@ -38,9 +38,9 @@ bytes_in_files files name = option_map (λ file. file.1.now) (find (λ file. byt
 abbrev pub IsOpenAnswer : {O : Type 0} → Result KnownFile FileFault → (O → KnownFile) → Result O FileFault → Type 0
 IsOpenAnswer meant known answer = result_map_both known (λ fault. fault) answer ≡ meant
 
--- What was read from a source. `Ok`: all bytes that the source had. `ReadTooLong`: one byte more than a file may have.
--- `Device`, `NoMemory`: all bytes that came before the failed read, or before memory ran out; at most one byte more
--- than a file may have, and after a failed read at most as many bytes as a file may have.
+-- `read` has the bytes that were read from a source. For `Ok`, all bytes of the source; for `ReadTooLong`, one byte
+-- more than a file may have; for `Device`, the bytes before the failed read, at most as many as a file may have; for
+-- `NoMemory`, the bytes before memory ran out, at most one more than a file may have.
 abbrev pub IsReadWholeAs : Port → List ℕ → Result (List ℕ) FileFault → Type 0
 IsReadWholeAs source read (Ok bytes) = (bytes ≡ read) × (length read ≤ read_limit) × IsAtEnd source.has
     × KeepsFailureFlag source

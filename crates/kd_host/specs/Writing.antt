@@ -1,4 +1,4 @@
--- What a call that writes a text answers.
+-- The answer of a call that writes a text.
 -- Test: tests/refusals
 use Rattle.std.specs.Prelude.{◌≡◌, ℕ, List, Result, Err, OnErr}
 use Rattle.kd_tables.specs.Ports.{Port}

@@ -1,4 +1,4 @@
-//! The bytes of a file, which is read whole.
+//! The content of a file that is read whole.
 ghost use Rattle.std.specs.Prelude.{◌≡◌, Some};
 ghost use Rattle.kd_tables.specs.Ports.{port};
 ghost use Rattle.kd_host.specs.Files.{content_of, IsReadWhole};

@@ -21,7 +21,7 @@ pub trait Files<'n> {
     /// The names asked for, in order. Beside each name: whether the file could be read or opened.
     ghost asked: { Self → List AskedName };
 
-    /// The opened file that was taken back last, as it was then.
+    /// The opened file that was taken back last: its unread bytes, and whether a read of it failed.
     ghost returned: { Self → KnownFile };
 
     /// Reads the file `name` whole.

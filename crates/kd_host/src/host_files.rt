@@ -15,12 +15,12 @@ use std::fs::File;
 pub struct HostFiles<'n> {
     rt: &'n HostRuntime,
     asked: AskedNames<'n>,
-    /// Whether a read of the opened file failed that was taken back last.
+    /// Whether a read had failed in the opened file that was taken back last.
     has_failed: bool,
 }
 
 impl<'n> HostFiles<'n> {
-    /// The files of the host system, which `rt` can open. No name has been asked for yet.
+    /// Gives access to the files that `rt` can open. No name has been asked for yet.
     pub fn new(rt: &'n HostRuntime) -> Self
         ensures { result.asked ≡ [] }
     {

@@ -16,12 +16,12 @@ use std::alloc::Global;
 pub struct MemoryFiles<'n> {
     files: &'n [(&'n str, &'n [u8])],
     asked: AskedNames<'n>,
-    /// What was left to read of the opened file that was taken back last.
+    /// The unread bytes of the opened file that was taken back last.
     rest: &'n [u8],
 }
 
 impl<'n> MemoryFiles<'n> {
-    /// Creates files in memory. If two have one name, the first is read.
+    /// Creates files in memory. If several have the same name, the first is read.
     pub fn new(files: &'n [(&'n str, &'n [u8])]) -> Self
         ensures files { result.files ≡ files.entry }
         ensures asked { result.asked ≡ [] }
