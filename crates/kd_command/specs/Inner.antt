@@ -1,5 +1,5 @@
--- What the contracts of inner functions say: building the grammar, and reading the arguments. No public contract cites
--- these definitions.
+-- Conditions in the contracts of private functions that build the grammar and read the arguments. No public contract
+-- cites these definitions.
 use Rattle.std.specs.Prelude.{◌≡◌, ℕ, false, List, [], map, fold}
 use Rattle.std.specs.Borrow.{Bor}
 use Rattle.clap.specs.declared.builder.command.Command.{Command as Grammar, out-Command}

@@ -263,7 +263,7 @@ fn command_grammar<'a>(
     Ok(command)
 }
 
-/// Why clap takes no command from the words: memory ran out, or the words aren't a command.
+/// Why clap finds no command in the words: memory ran out, or the words aren't a command.
 fn no_command(error: &Error) -> NoCommand
     ensures memory { kind_of error.now ≡ ErrorKind.OutOfMemory → result ≡ NoCommand.NoMemory }
     ensures usage { kind_of error.now ≢ ErrorKind.OutOfMemory → result ≡ NoCommand.Usage }

@@ -1,4 +1,4 @@
-//! The command line of the key desk: its six commands, and the command that the words mean.
+//! Parses the command line of the key desk, which has six commands.
 #![tactic(auto)]
 
 mod command;
