@@ -19,7 +19,7 @@ infixl 10 ◌>>=◌
 abbrev pub ◌>>=◌ : {F X Y : Type 0} → AnswerRule F X → (X → AnswerRule F Y) → AnswerRule F Y
 says >>= next = ThenNext says next
 
--- the rule that only this value is right
+-- the rule by which only this value is right
 abbrev pub Yields : {F X : Type 0} → X → AnswerRule F X
 Yields x answer = answer ≡ Ok x
 
@@ -33,7 +33,7 @@ Finds {X} Holds due (Err fault) = ((x : X) → ¬ (Holds x)) × (fault ≡ due)
 abbrev pub Demands : {F : Type 0} → Type 0 → F → AnswerRule F (Unit {0})
 Demands Holds due = Finds (λ _. Holds) due
 
--- The rule for a step that always finds a value: a value is right if it has the property, and a fault is never right.
+-- The rule for a step that always finds a value: a value with the property is right, and a fault never is.
 abbrev pub FindsAlways : {F X : Type 0} → (X → Type 0) → AnswerRule F X
 FindsAlways Holds (Ok x) = Holds x
 FindsAlways Holds (Err fault) = ⊥

@@ -48,7 +48,8 @@ standings_as row =
 abbrev pub bar_cost : Place × Place → ℕ × ℕ → ℕ
 bar_cost standing row = fold min 2 (map (lugs_moved standing) (standings_as row))
 
--- the standing that reads as the row and needs the fewest moves of lugs; if there are two, the first in `standings`
+-- of the standings that read as the row, the one with the fewest lugs to move; if there are two, the first in
+-- `standings`
 abbrev pub nearest_standing : Place × Place → ℕ × ℕ → Option (Place × Place)
 nearest_standing bar row = find (λ other. nat_eq (lugs_moved bar other) (bar_cost bar row)) (standings_as row)
 

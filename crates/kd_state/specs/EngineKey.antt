@@ -5,7 +5,7 @@ use Rattle.kd_enigma.specs.Cipher.{RotorKey, enigma_cipher, key_after, key_turne
 use Rattle.kd_drum.specs.Converter.{PinKey, converter_cipher, pin_key_after, pin_key_turned}
 use Rattle.kd_state.specs.Machine.{AreLetters, AreOnWheels}
 
--- An engine's key: for wheels, reflector and plugboard, or for a Converter's drum.
+-- An engine's key: a rotor machine's or a Converter's.
 pub data EngineKey : Type 0 where
   Rotor : RotorKey → EngineKey
   Pin : PinKey → EngineKey

@@ -1,4 +1,4 @@
--- The values of a day: the code's types, such as `Entry`, turned into the types that contracts use.
+-- How the values of a day in the code (`Entry`) become the values in contracts (`Day`).
 use Rattle.kd_state.specs.declared.sheet_day.rotor_entry.RotorEntry.{RotorEntry}
 use Rattle.kd_state.specs.declared.sheet_day.pin_entry.PinEntry.{PinEntry}
 use Rattle.kd_state.specs.declared.sheet_day.entry.Entry.{Entry}

@@ -16,7 +16,7 @@ use Rattle.kd_state.specs.EngineKey.{EngineKey, cipher, engine_key_after, key_wi
 use Rattle.kd_state.specs.TwoCiphers.{IsReady, window_of, physical_cipher, sheet_cipher}
 use Rattle.kd_state.specs.OwnKeys.{physical_key, sheet_key, IsTurnedTo}
 
--- Wheels, and reflectors, are compared as what they are: `==` is true exactly if the two are the same.
+-- Two wheels, or two reflectors, are `==` exactly if they are the same.
 abbrev pub SamePartsAreEqual : Type 0
 SamePartsAreEqual =
     ((wheel other : Wheel) → Decides (same_wheel wheel other) (wheel ≡ other))
@@ -118,7 +118,7 @@ MachinesCanBeTurned =
     (machine : Parts) (window : List ℕ) → IsMachine machine → IsReady machine → IsWindow (physical_key machine) window
     → (turned : Parts) × IsTurnedTo machine window turned × IsMachine turned
 
--- If two machines on the day's key show the same letters, each deciphers what the other enciphers.
+-- If two machines on the day's key show the same letters, each deciphers the other's ciphertext.
 abbrev pub EquallySetDecipher : Type 0
 EquallySetDecipher =
     (machine other : Parts) (day : Day) (text : List ℕ) → IsMachine machine → IsMachine other → IsLegalDay day

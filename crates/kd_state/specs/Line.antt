@@ -1,4 +1,4 @@
--- The line of a setting, and its words.
+-- The line of a setting, the words of this line, and the text of a list of settings.
 -- Test: tests/cases/desk-lists.toml
 use Rattle.std.specs.Prelude.{codes, decimal, ◌≡◌, ◌≢◌, ℕ, ◌+◌, ◌^◌, ◌<◌, ◌≤◌, Bool, if◌then◌else◌, List, [], ◌∷◌, ◌++◌}
 use Rattle.std.specs.Prelude.{length, All, Option, MatchOption}

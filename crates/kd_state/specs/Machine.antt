@@ -118,7 +118,7 @@ ring_at machine wheel = slice_get machine.rings (place_in_box machine.model whee
 abbrev pub letter_at : RotorParts → Wheel → Option ℕ
 letter_at machine wheel = slice_get machine.letters (place_in_box machine.model wheel)
 
--- what the slot holds, `Some None` if the slot is empty; `None` if the machine lacks the slot
+-- the content of the slot: `Some None` if the slot is empty, `None` if the machine lacks the slot
 abbrev pub machine_slot : Parts → ℕ → Option (Option Wheel)
 machine_slot (Rotor machine) slot = numbered_item machine.slots slot
 machine_slot (Pin machine) slot = None

@@ -1,4 +1,4 @@
--- What it means that a machine is on a day's key (set as the day says), and that it also shows the day's letters.
+-- When a machine is on a day's key (set as the day says), and when it also shows the day's letters.
 -- Code: `on_key` sorts the cables of machine and day, or readings and rows, and compares them.
 -- Test: tests/cases/desk-cards.toml
 use Rattle.std.specs.Prelude.{◌≡◌, ℕ, ◌-◌, List, ◌++◌, length, map, replicate, All, IsPermutation, Option, Some, None}
@@ -24,7 +24,7 @@ abbrev pub cables_of : List (ℕ × ℕ) → List (Option ℕ × Option ℕ)
 cables_of pairs =
     map (λ pair. cable_in_order (Some pair.0) (Some pair.1)) pairs ++ replicate (13 - length pairs) (None, None)
 
--- The model, each slot's wheel with its ring, and the reflector are the day's. So are the cables, in any order.
+-- The machine has the day's model, its reflector, its wheels with their rings, and the day's cables in any order.
 pub record IsRotorOnKey (machine : RotorParts) (day : RotorDay) : Type 0 where
   pub model : machine.model ≡ day.model
   pub slots : machine.slots ≡ seats_of_wheels day.wheels

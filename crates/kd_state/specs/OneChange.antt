@@ -23,9 +23,8 @@ pub record IsItemChanged {X : Type 0} (before : List X) (number : ℕ) (value : 
   pub item : numbered_item after number ≡ Some value
   pub others : (other : ℕ) → other ≢ number → numbered_item after other ≡ numbered_item before other
 
--- None of the reasons for which the machine would refuse the setting is true, and `after` is the machine with one part
--- replaced, in which one item alone is changed. So all else is as it was, also rings and letters of the wheels in the
--- box. `Seat` leaves the slot empty from which the wheel comes.
+-- The machine has no reason to refuse the setting, and `after` is the machine with one item of one part changed.
+-- Everything else stays, also the rings and letters of the wheels in the box. `Seat` also empties the wheel's old slot.
 abbrev pub MakesOneChange : Parts → Setting → Parts → Type 0
 MakesOneChange (Rotor m) (Pull cable letter) after =
     (held : Option ℕ × Option ℕ) × (numbered_item m.cables cable ≡ Some held) × Contains (cable_letters held) letter
@@ -64,7 +63,7 @@ MakesOneChange (Pin m) (LugTo bar lug place) after =
     × (Pin (record m { bars = bars }) ≡ after)
 MakesOneChange _ _ after = ⊥
 
--- A machine carries a setting out exactly if it allows the setting, and then changes one thing alone.
+-- A machine carries a setting out exactly if it allows the setting, and then only one thing changes.
 abbrev pub SettingsChangeOneThing : Type 0
 SettingsChangeOneThing =
     (machine after : Parts) (setting : Setting) → IsMachine machine

@@ -1,4 +1,4 @@
--- Single settings: what each makes of a machine, and why a machine refuses it.
+-- The machine after a setting or a list of settings, and the reasons to refuse a setting.
 use Rattle.std.specs.Prelude.{◌≡◌, ℕ, ◌-◌, nat_eq, nat_lt, ◌+◌, Bool, false, not, ◌&&◌, List, [], ◌∷◌, ◌++◌, map}
 use Rattle.std.specs.Prelude.{slice_set, length, Option, Some, None, is_some, ok_or, Result, Ok, Err, ⊤, MatchResult}
 use Rattle.std.specs.Prelude.{if◌then◌else◌}
@@ -46,7 +46,7 @@ cable_without letter cable = if option_map_or (nat_eq letter) cable.0 false then
 abbrev pub cable_with : ℕ → Option ℕ × Option ℕ → Option ℕ × Option ℕ
 cable_with letter cable = cable_in_order (option_or cable.0 cable.1) (Some letter)
 
--- what a slot holds after this wheel is taken out: nothing if the slot held this wheel, else what it held before
+-- the content of a slot once this wheel is taken out: nothing if the slot held this wheel, otherwise as before
 abbrev pub seat_without : Wheel → Option Wheel → Option Wheel
 seat_without wheel seated = if option_map_or (same_wheel wheel) seated false then None else seated
 
@@ -55,9 +55,9 @@ seat_without wheel seated = if option_map_or (same_wheel wheel) seated false the
 -- Code: `carry` changes the machine in place.
 -- Test: tests/cases/desk-lists.toml
 
--- The machine after the setting; or, if it is refused, the first reason, in the order of the lines. `Seat` empties the
--- slot in which the wheel was. The wheel that was in the new slot is then in no slot. Both keep their rings and
--- window letters.
+-- The machine after the setting; or, if the setting is refused, the first reason, in the order of the lines below.
+-- `Seat` empties the wheel's old slot. A wheel that was in the new slot is then in no slot. Both wheels keep their
+-- rings and window letters.
 abbrev pub outcome : Parts → Setting → Result Parts Why
 outcome (Rotor machine) (Pull cable letter) = do
   held ← ok_or (numbered_item machine.cables cable) NoSuchCable
@@ -97,7 +97,7 @@ outcome (Pin machine) (LugTo bar lug place) = do
   Ok (Pin (record machine { bars = slice_set machine.bars (bar - 1) moved }))
 outcome _ _ = Err OtherModel
 
--- The machine carries the setting out, and then stands as `after`.
+-- The machine carries the setting out, and then is `after`.
 abbrev pub Carries : Parts → Setting → Parts → Type 0
 Carries machine setting after = outcome machine setting ≡ Ok after
 

@@ -47,7 +47,7 @@ rotor_day_of day model reflector wheels pairs groups = record {
 abbrev pub pin_day_of : ℕ → List (ℕ × ℕ) → PinSet → List ℕ → List ℕ → PinDay
 pin_day_of day rows pins window list = record { day = day; rows = rows; pins = pins; window = window; list = list }
 
--- A day's values: a rotor machine's or a Converter's.
+-- The values of a day, for a rotor machine or for a Converter.
 pub data Day : Type 0 where
   Rotor : RotorDay → Day
   Pin : PinDay → Day

@@ -8,7 +8,7 @@ ghost use Rattle.kd_state.specs.Laws.{MachinesCanBeTurned, EquallySetDecipher, D
 ghost use Rattle.kd_state.specs.Laws.{CipherOfChunks, KeyAfterChunks};
 ghost use Rattle.kd_state.specs.{Laws.{LeadsOrRefuses}, OneChange.{SettingsChangeOneThing}};
 
-/// Wheels are compared by which wheels they are, and reflectors likewise.
+/// Two wheels, or two reflectors, are `==` exactly if they are the same.
 pub fn same_parts_are_equal()
     ensures { SamePartsAreEqual }
 {}
@@ -30,9 +30,9 @@ pub fn settings_keep_machines()
     ensures lists { ListsKeepMachines }
 {}
 
-/// A machine carries a setting out exactly if none of the reasons for a refusal is true, and then changes one thing.
+/// A machine carries a setting out exactly if it has no reason to refuse it, and then only one thing changes.
 ///
-/// All else is as it was, also the rings and letters of the wheels in the box.
+/// All else stays, also the rings and letters of the wheels in the box.
 #[tactic(auto, using(crate::proofs::OneChange::settings_change_one_thing))]
 pub fn settings_change_one_thing()
     ensures { SettingsChangeOneThing }
@@ -90,7 +90,7 @@ pub fn ready_machines_can_be_turned()
     ensures { MachinesCanBeTurned }
 {}
 
-/// If two machines on the day's key show the same letters, each deciphers what the other enciphers.
+/// If two machines on the day's key show the same letters, each deciphers the other's ciphertext.
 ///
 /// An engine on the day's key also deciphers its own ciphertext, if it is turned back to the letters with which it
 /// began.

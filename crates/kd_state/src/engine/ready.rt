@@ -144,7 +144,7 @@ fn seated_wheel(parts: &RotorParts, seated: Option<Wheel>) -> Option<SheetWheel>
     })
 }
 
-/// The plugs that exchange letters as the cables do. `None` if a cable has exactly one letter.
+/// The letters that the cables exchange, as `Plugs`. `None` if a cable has exactly one letter.
 fn plugs_of(cables: &[Cable; 13]) -> Option<Plugs>
     requires { AreCables cables.now }
     ensures ready { IsSome result ↔ All (λ cable. length (cable_letters cable) ≢ 1) cables.now }

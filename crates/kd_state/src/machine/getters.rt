@@ -1,4 +1,4 @@
-//! Getters of a machine: calls that return one slot, ring, letter, cable, pin or bar.
+//! Getters of a machine: each call returns one slot, ring, letter, cable, pin or bar.
 ghost use Rattle.std.specs.Prelude.{◌≡◌, length, slice_get};
 ghost use Rattle.kd_tables.specs.Tables.{box_of};
 ghost use Rattle.kd_state.specs.SameParts.{place_in_box};

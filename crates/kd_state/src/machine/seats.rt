@@ -1,4 +1,4 @@
-//! Which wheels may be in which slots, and what a slot holds after a wheel is taken out.
+//! Checks which wheels are in which slots, and takes wheels out of slots.
 ghost use Rattle.std.specs.Prelude.{◌≡◌, ◌↔◌, ℕ, ◌+◌, ◌≤◌, IsTrue, IfSome, Some, Contains, length};
 ghost use Rattle.std.specs.Option.{SomeIff};
 ghost use Rattle.kd_tables.specs.Tables.{box_of, wheels_for};
@@ -82,7 +82,7 @@ fn is_alone(slots: &[Option<Wheel>], place: usize, seated: Option<Wheel>) -> boo
     true
 }
 
-/// What a slot with `seated` holds after `wheel` is taken out: nothing if `seated` is `wheel`, else `seated`.
+/// The content of a slot with `seated` once `wheel` is taken out: nothing if `seated` is `wheel`, else `seated`.
 pub(crate) fn seat_without(seated: Option<Wheel>, wheel: Wheel) -> Option<Wheel>
     ensures { result ≡ seat_without wheel seated }
 {
