@@ -40,7 +40,7 @@ pub enum Refusal {
     IllegalAt,
     /// After a card's lines are carried out, the machine isn't set as the day says, or doesn't show the day's letters.
     NotTheSheet,
-    /// The prices of a cable and a column, or of a bar and a row, add up to more than the cost where the two meet.
+    /// The prices of a cable and a column, or of a bar and a row, add up to more than the cost of the two.
     PriceTooHigh,
     /// The sum of a card's prices isn't the number of the card's lines for cables or bars.
     SumDiffers,
@@ -58,7 +58,7 @@ pub enum Refusal {
     BadValue,
     /// A wheel is in two slots.
     WheelTwice,
-    /// A wheel is in a slot in which the model doesn't allow this wheel.
+    /// A wheel is in a slot where the model doesn't allow it.
     WheelNotAllowed,
     /// An item of `bars` in a file isn't a standing such as `1-0R`, or an item of `rows` isn't a reading such as `0-1`.
     BadRow,
