@@ -1,4 +1,4 @@
--- What the code keeps of a machine besides its key. No public contract cites this file.
+-- The wheels and permutations that the code keeps besides a machine's key. No public contract cites this file.
 use Rattle.std.specs.Prelude.{◌≡◌, ℕ, ◌-◌, List, [], ◌∷◌, length, take}
 use Rattle.kd_tables.specs.Permutation.{alphabet}
 use Rattle.kd_tables.specs.Tables.{reflector_of}
@@ -30,9 +30,9 @@ key_of_parts stepper rings reflector plugs = record {
   plugs = plugs;
 }
 
--- What the code keeps for a key: the wheels in their slots, and three permutations. `reflecting` is the reflector's
--- permutation. `slow_map` is the path in through all wheels but the right one, through the reflector, and back.
--- `path_map` is the whole path while the key's window letters show.
+-- The values that the code keeps for a key: the wheels in their slots, and three permutations. `reflecting` is the
+-- reflector's permutation. `slow_map` is the path in through all wheels but the right one, through the reflector, and
+-- back. `path_map` is the whole path while the key's window letters show.
 pub record AreMapsOf (key : RotorKey) (seated : List SeatedWheel) (reflecting slow_map path_map : List ℕ) : Type 0 where
   pub seats : seated ≡ wheels_with_boards key.plugs key.wheels key.rings
   pub board : IsPlugboard key.plugs

@@ -137,7 +137,7 @@ impl<const S: usize> Enigma<S> {
         self.path_map = self.rotors[S - 1].enclose(self.slow_map, right);
     }
 
-    /// The letter whose lamp lights up for `letter` while no wheel moves.
+    /// The letter whose lamp lights up if `letter` is pressed and no wheel moves.
     fn light(&self, letter: Letter) -> Letter
         ensures { result ≡ slice_index (path self.now self.now.window) letter }
     {

@@ -35,7 +35,7 @@ pub fn enciphering_twice_gives_back()
     ensures { EnigmaTwiceGivesBack }
 {}
 
-/// Of a key whose plugboard is given by its pairs: the path is its own inverse and takes no letter to itself, and
+/// If a key's plugboard is given by its pairs, the path is its own inverse and takes no letter to itself, and
 /// enciphering twice gives the text back.
 pub fn keys_with_pairs_lead_back()
     ensures path { PairedPathsLeadBack }
