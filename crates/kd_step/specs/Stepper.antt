@@ -43,8 +43,8 @@ pub record IsStep (wheels : List Wheel) (before after : List ℕ) : Type 0 where
 -- ---- Several steps: as a chain of steps, and as a function, which the ciphers need.
 -- Code: `Stepper` overwrites the letters of its window at each step.
 
--- `n` steps lead from the window `first` to the window `last`: they are the ends of a list of `n + 1` windows, of which
--- each next one is a step on.
+-- `n` steps lead from the window `first` to the window `last`: a chain of `n + 1` windows joins the two, and a step
+-- leads from each window to the next.
 abbrev pub LeadsInSteps : List Wheel → List ℕ → ℕ → List ℕ → Type 0
 LeadsInSteps wheels first zero last = last ≡ first
 LeadsInSteps wheels first (suc n) last =
