@@ -28,7 +28,7 @@ abbrev pub IsNumberText : List ℕ → Type 0
 IsNumberText [] = ⊥
 IsNumberText (digit ∷ digits) = IsDigit digit × All IsDigit digits × ((digit ≡ 48) → (digits ≡ []))
 
--- The text is a decimal number without leading zeros. If the Bool is `true`, it may be negative, but not `-0`.
+-- The text is a decimal number without leading zeros. If the Bool is `true`, the number may be negative, but not `-0`.
 abbrev pub IsNumeral : Bool → List ℕ → Type 0
 IsNumeral false text = IsNumberText text
 IsNumeral true text =
@@ -87,7 +87,7 @@ first_text ByNumber Bars = codes "BARS"
 first_text ByKind Cables = cable_format.word
 first_text ByKind Bars = bar_format.word
 
--- The result of reading the first word of the first price line: what the prices are for, or a fault.
+-- The result of reading the first word of the first price line: the table of costs that the prices are for, or a fault.
 abbrev pub IsTableAnswer : Version → ℕ → List ℕ → AnswerRule CardFault CostTable
 IsTableAnswer version line bytes = do
   found ← IsLineAnswer line bytes
@@ -101,7 +101,8 @@ IsPricesAnswer number line words = do
   _ ← Demands (length prices ≡ number) PriceMissing
   Yields prices
 
--- The result of reading a line with `word` and then `number` prices: the prices and the bytes after it, or a fault.
+-- The result of reading a line with `word` and then `number` prices: the prices and the bytes after the line, or a
+-- fault.
 abbrev pub IsPriceLineAnswer : List ℕ → ℕ → ℕ → List ℕ → AnswerRule CardFault (List ℤ × List ℕ)
 IsPriceLineAnswer word number line bytes = do
   found ← IsLineAnswer line bytes
@@ -157,8 +158,8 @@ pub record BeginsWithKinds {K X : Type 0} (format : KindFormat K X) (last : Opti
   pub none_more : HasNoNext format (last_of last kinds) rest
 
 -- The result of reading a group of kinds: the kinds and the bytes after them, or a fault. The fault is `BadLine` if a
--- line has no LF. It is `BadLine`, too, if a line begins with the group's word, but isn't the line of a valid kind that
--- may come next. The fault is `PriceMissing` if the kinds' counts don't add up to `number`.
+-- line has no LF, or begins with the group's word but isn't the line of a valid kind that may come next. The fault is
+-- `PriceMissing` if the kinds' counts don't add up to `number`.
 -- Code: the reader keeps at most `number` kinds, and stops adding counts at `number + 1`.
 abbrev pub IsGroupAnswer : {K X : Type 0} → KindFormat K X → ℕ → ℕ → List ℕ → AnswerRule CardFault (List K × List ℕ)
 IsGroupAnswer {K} format number line bytes = do

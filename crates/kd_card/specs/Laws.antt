@@ -1,4 +1,4 @@
--- What the laws on cards promise.
+-- Laws of cards: their texts, the prices that bound the length of lists, and the cards that prove themselves.
 use Rattle.kd_card.specs.Proving.{AreSettingsNeeded, AreModelPrices, ProvesByNumber, Proves, priced_count}
 use Rattle.kd_card.specs.Shortest.{IsShortest, LeadsToTheDay, ShowShortest}
 use Rattle.kd_card.specs.declared.prices.Version.TheVariants.{ByKind}
@@ -17,8 +17,8 @@ LooseThingsAreCounted =
     (machine : Parts) (day : Day) → IsMachine machine → IsLegalDay day → model_of machine ≡ day_model day
     → length (loose_lines machine day) ≡ loose_count machine day
 
--- If prices fit, they bound the length of each list that reaches the day. The length is at least the number of loose
--- things plus the sum of the prices.
+-- If prices fit, each list that reaches the day has at least as many settings as loose things plus the sum of the
+-- prices.
 abbrev pub FittingPricesBoundLists : Type 0
 FittingPricesBoundLists =
     (machine : Parts) (day : Day) (prices : PriceParts) (settings : List Setting) → IsMachine machine → IsLegalDay day
@@ -49,13 +49,13 @@ ProvingCardsAreShortest =
     → ArePrices prices → Proves machine day settings prices
     → IsShortest machine day settings
 
--- If prices by kind show that no list that reaches the day is shorter than `settings`, then none is.
+-- If prices by kind show that a list of settings is shortest, no shorter list reaches the day.
 abbrev pub ShownListsAreShortest : Type 0
 ShownListsAreShortest =
     (machine : Parts) (day : Day) (settings : List Setting) (prices : PriceParts) → IsMachine machine → IsLegalDay day
     → ShowShortest machine day settings prices → IsShortest machine day settings
 
--- The prices of a card by kind that proves itself show that no list that reaches the day is shorter.
+-- If a card with prices by kind proves itself, its prices show that no shorter list reaches the day.
 abbrev pub ProvingPricesShow : Type 0
 ProvingPricesShow =
     (machine : Parts) (day : Day) (settings : List Setting) (prices : PriceParts) → version_of prices ≡ ByKind

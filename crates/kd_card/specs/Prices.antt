@@ -15,14 +15,14 @@ version_of (CableKinds cables columns) = ByKind
 version_of (BarKinds bars rows) = ByKind
 version_of _ = ByNumber
 
--- a price for each cable or bar, in order; by kind, each price as often as its kind's count says
+-- the prices of the cables or of the bars, in order; if they are by kind, each price as often as its kind's count says
 abbrev pub machine_prices : PriceParts → List ℤ
 machine_prices (Cables cables columns) = cables
 machine_prices (Bars bars rows) = bars
 machine_prices (CableKinds cables columns) = flat_map (λ k. replicate k.count k.price) cables.items
 machine_prices (BarKinds bars rows) = flat_map (λ k. replicate k.count k.price) bars.items
 
--- a price for each column of a rotor machine's day, or for each row of a Converter's day, in the same way
+-- the prices of a rotor day's columns, or of a Converter day's rows; if by kind, each as often as its kind's count says
 abbrev pub day_prices : PriceParts → List ℤ
 day_prices (Cables cables columns) = columns
 day_prices (Bars bars rows) = rows
@@ -55,7 +55,7 @@ ArePrices (BarKinds bars rows) = IsGroup bar_format 27 bars.items × IsGroup row
 abbrev pub cost_at : List (List ℕ) → ℕ → ℕ → ℕ
 cost_at costs i j = slice_index (slice_index_or costs i []) j
 
--- item `i` of a list of prices, counted from 0; of prices by number: the price of row `i`, or of column `i`
+-- item `i` of a list of prices, counted from 0; if the prices are by number, the price of row `i` or of column `i`
 abbrev pub price_at : List ℤ → ℕ → ℤ
 price_at prices i = slice_index_or prices i (pos 0)
 

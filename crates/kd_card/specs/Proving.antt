@@ -12,7 +12,7 @@ use Rattle.kd_state.specs.{Setting.Carries, Machine.model_of, OnKey.columns_in_o
 use Rattle.kd_card.specs.Shortest.{LeadsToTheDay}
 use Rattle.std.specs.Prelude.{◌≡◌, ℕ, ◌+◌, Bool, true, false, List, [], ◌∷◌, pos, IsFalse, count_by}
 
--- The prices are by number: one for each cable and each column (rotor machine), or each bar and each row (Converter).
+-- The prices are by number, and for the machine's model: one for each cable and column, or for each bar and row.
 abbrev pub AreModelPrices : Parts → PriceParts → Type 0
 AreModelPrices (Rotor machine) (Cables cables columns) = Unit {0}
 AreModelPrices (Pin machine) (Bars bars rows) = Unit {0}
@@ -34,7 +34,7 @@ abbrev pub IsSettingNeeded : Parts → Day → Setting → Type 0
 IsSettingNeeded machine day setting = IsFalse (is_priced_setting setting)
     → (after : Parts) × Carries machine setting after × (loose_count machine day ≡ loose_count after day + 1)
 
--- The machine carries the settings out one after another, and each is needed at its turn.
+-- The machine carries the settings out one after another, and each is needed when its turn comes.
 abbrev pub AreSettingsNeeded : Parts → Day → List Setting → Type 0
 AreSettingsNeeded machine day [] = Unit {0}
 AreSettingsNeeded machine day (setting ∷ rest) = (after : Parts) × Carries machine setting after
@@ -42,7 +42,8 @@ AreSettingsNeeded machine day (setting ∷ rest) = (after : Parts) × Carries ma
 
 -- ---- prices by kind mean prices by number
 
--- The first prices' kinds count all cables and columns, or bars and rows. The second prices give each its kind's price.
+-- The first prices are by kind, and count all cables and columns, or all bars and rows. The second prices are by
+-- number, and give each of these the price of its kind.
 abbrev pub AreExpanded : Parts → Day → PriceParts → PriceParts → Type 0
 AreExpanded (Rotor machine) (Rotor day) (CableKinds cable_kinds column_kinds) (Cables cables columns) =
     AreKindsOf cable_format machine.cables cables cable_kinds.items

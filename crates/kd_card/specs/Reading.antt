@@ -1,5 +1,4 @@
--- What the steps of reading a card find, and the text with which a card begins, up to the day's number. No public
--- contract cites this file.
+-- Conditions in the contracts of private functions that read a card. No public contract cites this file.
 use Rattle.kd_card.specs.{declared.prices.Version.TheVariants.{ByNumber, ByKind}, CardFault.IsPriceLineAnswer}
 use Rattle.kd_card.specs.CardFault.{EndsGroup, HasNoNext}
 use Rattle.kd_card.specs.{Kinds.{KindFormat, HasKindWords}, declared.prices.Version.Version}
@@ -28,7 +27,7 @@ abbrev pub IsNoPriceLine : List ℕ → ℕ → List ℕ → CardFault → Type 
 IsNoPriceLine word line bytes fault =
     (number : ℕ) → 0 < number → IsPriceLineAnswer word number line bytes (Err fault)
 
--- the group of kinds ends before `bytes`
+-- The group of kinds, whose last kind so far is `last`, ends before `bytes`.
 pub record EndsKindsAt {K X : Type 0} (format : KindFormat K X) (last : Option K) (bytes : List ℕ) : Type 0 where
   pub ends : EndsGroup format.word bytes
   pub none_more : HasNoNext format last bytes

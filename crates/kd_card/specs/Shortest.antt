@@ -16,8 +16,9 @@ abbrev pub IsShortest : Parts → Day → List Setting → Type 0
 IsShortest machine day settings =
     (others : List Setting) → LeadsToTheDay machine day others → length settings ≤ length others
 
--- Prices by kind fit. The kinds count exactly the machine's cables and the day's columns, or the machine's bars and the
--- day's rows. The prices of a cable and a column, or of a bar and a row, add up to at most the cost of the two.
+-- The prices are by kind, and fit. The kinds count exactly the machine's cables and the day's columns, or the machine's
+-- bars and the day's rows. The prices of a cable and a column, or of a bar and a row, add up to at most the cost of the
+-- two.
 abbrev pub KindPricesFit : Parts → Day → PriceParts → Type 0
 KindPricesFit (Rotor machine) (Rotor day) (CableKinds cables columns) =
     IsPermutation machine.cables (flat_map (λ k. replicate k.count k.ends) cables.items)
@@ -29,7 +30,8 @@ KindPricesFit (Pin machine) (Pin day) (BarKinds bars rows) =
     × All (λ k. All (λ r. (k.price +ℤ r.price) ≤ℤ pos (bar_cost k.standing r.reading)) rows.items) bars.items
 KindPricesFit _ _ _ = ⊥
 
--- The prices fit, and with the number of loose things they add up to the number of settings: so no list is shorter.
+-- The prices fit, and with the number of loose things they add up to the number of settings. So no shorter list reaches
+-- the day.
 pub record ShowShortest (machine : Parts) (day : Day) (settings : List Setting) (prices : PriceParts) : Type 0 where
   pub fit : KindPricesFit machine day prices
   pub as_many : pos (length settings) ≡ (pos (loose_count machine day) +ℤ price_sum prices)

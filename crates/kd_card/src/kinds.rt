@@ -55,7 +55,8 @@ pub struct RowKind {
     pub price: i16,
 }
 
-/// A kind of cables, columns, bars or rows: its key (letters, standing or reading), their count, and the price of each.
+/// A kind of cables, columns, bars or rows: their key (letters, standing or reading), their count, and the price of
+/// each.
 #[derive(Clone, Copy, Default)]
 pub struct KindOf<T> {
     pub key: T,

@@ -1,4 +1,4 @@
-//! Laws on cards: on their texts, on how short a list can be, and on cards that prove themselves.
+//! Laws of cards: their texts, how short a list can be, and cards that prove themselves.
 ghost use Rattle.kd_card.specs.Laws.{TextsDetermineCards, NoCardBeginsAnother, ReadingGivesCards, CardsHaveNoFault};
 ghost use Rattle.kd_card.specs.Laws.{OneCardFault, LooseThingsAreCounted, AsFewAreNeeded, FittingPricesBoundLists};
 ghost use Rattle.kd_card.specs.Laws.{ProvingCardsAreAsLong, ProvingCardsAreShortest, ProvingPricesAreTight};
@@ -42,7 +42,7 @@ pub fn as_few_are_needed()
     ensures { AsFewAreNeeded }
 {}
 
-/// If a card with prices by number proves itself, it has as many settings as loose things plus the sum of its prices.
+/// If a card with prices by number proves itself, the loose things and the prices add up to its number of settings.
 ///
 /// Prices are *by number* if each cable and each column, or each bar and each row, has its own price.
 #[tactic(auto, using(crate::proofs::Months::proving_cards_are_as_long))]
@@ -55,14 +55,14 @@ pub fn proving_cards_are_shortest()
     ensures { ProvingCardsAreShortest }
 {}
 
-/// If prices by kind show that no list of settings that reaches the day is shorter, then none is.
+/// If prices by kind show that a list of settings is shortest, no shorter list reaches the day.
 ///
-/// They show it if they fit, and there are as many settings as loose things plus the sum of the prices.
+/// They show it if they fit, and if the number of loose things plus the sum of the prices is the number of settings.
 pub fn shown_lists_are_shortest()
     ensures { ShownListsAreShortest }
 {}
 
-/// If a card with prices by kind proves itself, its prices show that no list that reaches the day is shorter.
+/// If a card with prices by kind proves itself, its prices show that no shorter list reaches the day.
 pub fn proving_prices_show()
     ensures { ProvingPricesShow }
 {}

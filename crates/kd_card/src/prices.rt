@@ -42,7 +42,7 @@ impl Version {
     }
 }
 
-/// What a card's prices are for: the rows and columns of the table of costs of cables, or of bars.
+/// The table of costs that a card's prices are for: the table of cables and columns, or the table of bars and rows.
 #[derive(Clone, Copy)]
 pub(crate) enum CostTable {
     Cables,
