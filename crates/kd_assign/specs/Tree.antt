@@ -27,7 +27,7 @@ pub record IsNearest (n : ℕ) (prices : List ℤ) (reached : List Bool) (ceilin
 
 -- One column is compared with `row`, which offers the price `offer` for it. Before, the column's nearest row is `near`,
 -- which offers `ceiling`; after, it is `near'`, which offers `ceiling'`. If the column is outside the tree, `near'` is
--- whichever of `near` and `row` offers less. If the column is in the tree (`reached`), nothing changes.
+-- the one of `near` and `row` that offers less. If the column is in the tree (`reached`), nothing changes.
 pub record IsCompared (reached : Bool) (row : ℕ) (offer : ℤ) (near : ℕ) (ceiling : ℤ)
     (near' : ℕ) (ceiling' : ℤ) : Type 0 where
   pub one : ((near' ≡ near) × (ceiling' ≡ ceiling)) ⊎ ((reached ≡ false) × (near' ≡ row) × (ceiling' ≡ offer))
