@@ -28,9 +28,9 @@ pub record CanBeKinds {K X : Type 0} (format : KindFormat K X) (pairs : List (X 
   pub one_price : HaveOnePriceEach pairs
   pub fine : All (IsValidKeyAndPrice format) pairs
 
--- `new` is `old`, and then added kinds. They count the key of `kind`, as often as `kind` does, and the keys in `pairs`,
--- all with their prices. Suppose that these keys can be grouped into valid kinds. Then the added kinds are valid and
--- strictly ascending. If the key of `kind` comes after a kind `last`, so do all added kinds.
+-- `new` is `old` followed by added kinds. The added kinds count the key of `kind` as often as `kind` does, and each key
+-- in `pairs` once, all with their prices. Suppose that these keys can be grouped into valid kinds. Then the added kinds
+-- are valid and strictly ascending. If the key of `kind` comes after a kind `last`, so do all added kinds.
 pub record AppendsKinds {K X : Type 0} (format : KindFormat K X) (kind : KindOf X) (pairs : List (X × ℤ))
     (old new : List K) : Type 0 where
   pub made : List K
@@ -46,6 +46,6 @@ pub record AppendsKinds {K X : Type 0} (format : KindFormat K X) (kind : KindOf 
 abbrev pub HasNoneLeft : {X : Type 0} → List (KindOf X) → X → Type 0
 HasNoneLeft kinds key = All (λ pair. pair.0 ≢ key) (expansion kinds)
 
--- `kinds` count the keys and prices that `left` count, and `key` with `price` once more, in any order.
+-- Without one `key` that has the price `price`, `kinds` count the same keys and prices as `left`.
 abbrev pub TakesOne : {X : Type 0} → List (KindOf X) → X → ℤ → List (KindOf X) → Type 0
 TakesOne kinds key price left = IsPermutation (expansion kinds) ((key, price) ∷ expansion left)

@@ -1,4 +1,4 @@
--- What the laws on checked cards promise.
+-- Laws of checked cards: their doubts, their remaining lines, and the prices of equal cables or bars.
 use Rattle.std.specs.Prelude.{◌≡◌, ℕ, ◌-◌, ◌<◌, ◌≤◌, List, length, take, drop}
 use Rattle.kd_state.specs.{SheetDay.{Day, IsLegalDay}, declared.{machine.parts.Parts.Parts, setting.Setting.Setting}}
 use Rattle.kd_state.specs.{Machine.IsMachine, Setting.Leads}

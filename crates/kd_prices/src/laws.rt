@@ -1,4 +1,4 @@
-//! Laws on checked cards: on doubts, on the remaining lines of a card, and on the prices of equal cables or bars.
+//! Laws of checked cards: their doubts, their remaining lines, and the prices of equal cables or bars.
 ghost use Rattle.kd_prices.specs.Laws.{ProvingCardsAreInNoDoubt, OneDoubt, RestIsShortest, AlikePricesAreEqual};
 
 /// If a card proves itself, there is no doubt about it. No card has two different first doubts.
