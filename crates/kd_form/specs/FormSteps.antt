@@ -1,4 +1,4 @@
--- What `FormReader` holds after it has read some bytes of a form. No public contract cites this file.
+-- The state of `FormReader` after it has read some bytes of a form. No public contract cites this file.
 use Rattle.std.specs.Prelude.{codes, ◌≡◌, ◌≢◌, ◌⊎◌, ℕ, ◌<◌, ◌≤◌, List, [], ◌∷◌, ◌++◌, length, take, slice_index, All}
 use Rattle.std.specs.Prelude.{IsTrue, Option, Some, None, Result, Ok, Err, MatchResult, MatchOption}
 use Rattle.kd_tables.specs.Text.{is_text_byte}
@@ -99,7 +99,8 @@ abbrev pub IsOpenHeading : Day → List ℕ → Option Heading → Type 0
 IsOpenHeading s part found =
     MatchOption found ((h : Heading) (body : List ℕ) → ¬ (HasHeading s part h body)) (λ h. HasHeading s part h [])
 
--- The answer to testing the heading `found`, which may be missing.
+-- The result of testing the heading `found`: the heading, or `BadHeading` if there is none, or `PartOrder` if its
+-- numbers are wrong.
 abbrev pub IsHeadingAnswer : ℕ → Option ℕ → Option Heading → AnswerRule FormFault Heading
 IsHeadingAnswer number expected found = do
   heading ← Finds (λ heading. found ≡ Some heading) (BadHeading number)
@@ -112,7 +113,7 @@ IsHeadingAnswer number expected found = do
 abbrev pub current_part_start : FormReader → List ℕ → PartStart
 current_part_start r front = record { number = r.number; expected = r.expected; bytes_before = length front }
 
--- The next part starts at `q`, and none of it is left.
+-- All parts are read, and the next part would start at `q`.
 abbrev pub IsAtPartStart : PartStart → PartsProperty
 IsAtPartStart q p parts = (p ≡ q) × (parts ≡ [])
 

@@ -54,7 +54,7 @@ plaintext_bytes s letters = map (plaintext_byte (space_letter s)) letters
 abbrev pub plaintext_with_end : Day → List ℕ → List ℕ
 plaintext_with_end s letters = plaintext_bytes s letters ++ 10 ∷ []
 
--- The form's parts are read in order, until the parts left satisfy `Holds`. `text` is the text of the parts read.
+-- The form's parts are read in order, until the remaining parts satisfy `Holds`. `text` is the text of the parts read.
 abbrev pub IsFormReadTo : Day → PartsProperty → List ℕ → List ℕ → Type 0
 IsFormReadTo s Holds form text =
     (letters : List ℕ) × ReadsPartsTo s Holds first_part_start (parts_of form) letters
@@ -63,8 +63,8 @@ IsFormReadTo s Holds form text =
 -- ---- The result of reading a form: its text, or its first fault.
 -- Test: tests/cases/desk-messages.toml, tests/refusals
 
--- The answer for a form whose other parts are read. It is the fault of the next part. If no part is left, as many parts
--- must have been read as the headings say.
+-- The answer for a form whose parts before `p` are read. It is the fault of the next part. If no part is left, it is
+-- success, or `PartOrder` if the headings say another number of parts.
 abbrev pub IsAnswerAt : Day → Result (Unit {0}) FormFault → PartsProperty
 IsAnswerAt s answer p [] = (count : ℕ) × (p.expected ≡ Some count) × Demands (p.number ≡ count + 1) PartOrder answer
 IsAnswerAt s answer p (part ∷ parts) = (fault : FormFault) × IsPartAnswer s p part (Err fault) × (answer ≡ Err fault)
@@ -108,8 +108,7 @@ pub data IsRefusedForGood (s : Day) (form text : List ℕ) (fault : FormFault) :
 abbrev pub IsLastPart : PartsProperty
 IsLastPart p parts = (part : List ℕ) × (parts ≡ part ∷ [])
 
--- What is written so far: `text` is the text of the parts before the fault or, without a fault, of all parts but the
--- last.
+-- `text` is written so far: the text of the parts before the fault or, without a fault, of all parts but the last.
 abbrev pub IsTextBefore : Day → Option FormFault → List ℕ → List ℕ → Type 0
 IsTextBefore s None form text = IsFormReadTo s IsLastPart form text
 IsTextBefore s (Some fault) form text = IsAnswerAfter s form text (Err fault)

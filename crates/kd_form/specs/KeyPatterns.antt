@@ -1,4 +1,4 @@
--- The pattern of a line of keys, and the letters that fill it; days by the sort of their machine.
+-- The pattern of a line of keys, and the letters that fill it; days of rotor machines and of Converters.
 use Rattle.std.specs.Prelude.{codes, ◌≡◌, ◌⊎◌, ℕ, List, [], ◌∷◌, ◌++◌, length, replicate}
 use Rattle.kd_state.specs.LineWords.{line_of}
 use Rattle.kd_state.specs.SheetDay.{Day, RotorDay, PinDay, Rotor, Pin}
@@ -13,8 +13,7 @@ use Rattle.kd_form.specs.Order.{IsKeyLine}
 abbrev pub blank_places : ℕ → List ℕ
 blank_places number = replicate number 95
 
--- The pattern of a line of keys for a rotor machine with `slots` slots. `pin_pattern`: the pattern for the Converter
--- M-209. `key_pattern`: the pattern for the day's model.
+-- the pattern of a line of keys for a rotor machine with `slots` slots
 abbrev pub rotor_pattern : ℕ → List ℕ
 rotor_pattern slots = line_of (codes "PART" ∷ blank_places slots ∷ blank_places slots ∷ blank_places 2
     ∷ blank_places 3 ∷ [])

@@ -1,4 +1,4 @@
--- What `OrderReader` holds after it has read some bytes of an order.
+-- The state of `OrderReader` after it has read some bytes of an order.
 use Rattle.std.specs.Prelude.{codes, ◌≡◌, ◌⊎◌, Result, Ok, Err, ℕ, ◌*◌, ◌<◌, ◌≤◌, List, [], ◌++◌, length, take}
 use Rattle.std.specs.Prelude.{drop, All, IsTrue}
 use Rattle.kd_tables.specs.Text.{is_text_byte}
@@ -33,7 +33,7 @@ pub record IsHeadBegun (s : Day) (keys : List Keys) (line order : List ℕ) : Ty
   pub few : length keys ≤ 99
   pub begins : IsPatternFault (IsHeadLine s (length keys)) line faults.Incomplete
 
--- what a reader of the head has read after one more byte: the head is still open, complete, or wrong at this byte
+-- After one more byte, the head is still open, or complete, or wrong at this byte.
 abbrev pub IsHeadStep : Day → List Keys → List ℕ → List ℕ → HeadStep → Type 0
 IsHeadStep s keys line order Open = IsHeadBegun s keys line order
 IsHeadStep s keys line order Text = IsOrder s order keys order []

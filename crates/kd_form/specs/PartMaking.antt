@@ -78,8 +78,9 @@ pin_letters s k internal text = pin_indicators s k ++ cipher_from s internal (fi
 -- ---- Which keys suit a day, and the part of a form that a text becomes with them.
 -- Test: tests/cases/desk-messages.toml
 
--- The answer to whether the keys of part `part` suit the day. On a rotor machine, the keys' group must be one of the
--- day's groups. On the Converter M-209, each external letter must be on its wheel, and there must be an internal key.
+-- The result of testing whether the keys of part `part` suit the day. On a rotor machine, the keys' group must be one
+-- of the day's groups. On the Converter M-209, each external letter must be on its wheel, and there must be an internal
+-- key.
 abbrev pub IsKeysAnswer : Day → ℕ → Keys → AnswerRule FormFault (Unit {0})
 IsKeysAnswer s part (Rotor k) = Demands (AreADaysGroup s k.group) (WrongGroup part)
 IsKeysAnswer s part (Pin k) = do

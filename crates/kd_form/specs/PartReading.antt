@@ -1,5 +1,5 @@
--- What one part of a form becomes: the letters of its text, or its first fault. Parts and bytes are counted
--- from 1.
+-- How one part of a form is read: the result is the letters of its text, or its first fault. Parts and bytes are
+-- counted from 1.
 -- Test: tests/cases/desk-messages.toml
 use Rattle.std.specs.Prelude.{◌≡◌, ℕ, ◌+◌, ◌-◌, List, [], ◌∷◌, ◌++◌, length, Option, Some, None, MatchOption}
 use Rattle.kd_state.specs.AnswerRules.{AnswerRule, ◌>>=◌, Yields, Finds, Demands}
@@ -13,7 +13,7 @@ use Rattle.kd_form.specs.Sending.{letters_from, IsBytesAnswer}
 use Rattle.kd_form.specs.BodyCipher.{IsLettersAnswer}
 use Rattle.kd_form.specs.FormParts.{IsHeading, HasFirstLine, IsLineText}
 
--- How a part begins. `number`: the part's number. `expected`: the number of all parts, if an earlier heading gave it.
+-- The start of a part. `number`: the part's number. `expected`: the number of all parts, if an earlier heading gave it.
 -- `bytes_before`: how many bytes of the form come before the part.
 pub record PartStart : Type 0 where
   pub number : ℕ
@@ -32,7 +32,7 @@ IsEndedHeading s part found =
     ((h : Heading) (body : List ℕ) → ¬ (HasHeading s (part ++ 10 ∷ []) h body))
     (λ h. IsHeading s h × IsLineText part (line_of (heading_words h)))
 
--- `parts` is the number of parts that the earlier headings say. Without an earlier heading, it may be any number.
+-- `parts` is the number of parts that the earlier headings say. Without an earlier heading, `parts` may be any number.
 abbrev pub IsExpectedCount : Option ℕ → ℕ → Type 0
 IsExpectedCount None parts = Unit {0}
 IsExpectedCount (Some first) parts = first ≡ parts
@@ -42,12 +42,12 @@ pub record HasDueNumbers (number : ℕ) (expected : Option ℕ) (h : Heading) : 
   pub numbered : h.part ≡ number
   pub as_expected : IsExpectedCount expected h.parts
 
--- what a part consists of: its heading, and the bytes after the heading line
+-- A part cut in two: its heading, and the bytes after the heading line.
 pub record PartContent : Type 0 where
   pub heading : Heading
   pub body : List ℕ
 
--- The answer to reading the bytes of a part that starts at `p`: it must begin with a heading line, with the right
+-- The result of reading the bytes of a part that starts at `p`: the part must begin with a heading line, with the right
 -- numbers, and each byte of its body must be allowed.
 abbrev pub IsContentAnswer : Day → PartStart → List ℕ → AnswerRule FormFault PartContent
 IsContentAnswer s p part = do
@@ -63,7 +63,7 @@ IsBodyAnswer s number h letters = do
   _ ← Demands (length letters ≡ h.letters) (CountWrong number)
   IsLettersAnswer s number h.indicator letters
 
--- what a part says: the number of all parts, and the letters of the part's text
+-- A part that has been read: the number of all parts, and the letters of the part's text.
 pub record ReadPart : Type 0 where
   pub parts : ℕ
   pub letters : List ℕ

@@ -1,4 +1,4 @@
--- What an order becomes: its form, or its first fault. Parts and bytes are counted from 1.
+-- How an order becomes a form, or is refused for its first fault. Parts and bytes are counted from 1.
 use Rattle.std.specs.Prelude.{◌≡◌, ◌≢◌, ℕ, ◌+◌, ◌-◌, ◌≤◌, ◌==◌, List, [], ◌∷◌, ◌++◌, length, filter_map, Ok, Err}
 use Rattle.std.specs.Prelude.{IsTrue, Option, Some, None, if◌then◌else◌}
 use Rattle.std.specs.Int.{div_ceil}
@@ -33,11 +33,11 @@ letters_from for_space text = filter_map (letter_of_byte for_space) text
 abbrev pub text_letters : Day → List ℕ → List ℕ
 text_letters s text = letters_from (space_letter s) text
 
--- The answer to whether the byte at `position` is allowed in a text.
+-- The result of testing whether the byte at `position` is allowed in a text.
 abbrev pub IsByteAnswer : ℕ → ℕ → AnswerRule FormFault (Unit {0})
 IsByteAnswer position byte = Demands (IsTrue (is_text_byte byte)) (BadByte position)
 
--- The answer to whether each byte of `text`, whose first byte is at `position`, is allowed in a text.
+-- The result of testing whether each byte of `text` is allowed in a text; the first byte is at `position`.
 abbrev pub IsBytesAnswer : ℕ → List ℕ → AnswerRule FormFault (Unit {0})
 IsBytesAnswer position text = InTurn IsByteAnswer position text
 
@@ -69,26 +69,27 @@ IsMadeAnswer s keys letters = do
 -- ---- The result of reading an order: its form, or its first fault.
 -- Test: tests/cases/desk-messages.toml
 
--- what an order consists of: the head, which has a line for each of `keys`, and the text
+-- An order cut in two: its head, which has a line for each of `keys`, and its text.
 pub record OrderParts : Type 0 where
   pub keys : List Keys
   pub head : List ℕ
   pub text : List ℕ
 
--- The answer to dividing an order into head and text. If it has no complete head, the fault is `BadByte`, with the
--- position of the first byte with which no head can go on.
+-- The result of cutting an order into head and text. Without a complete head, the fault is `BadByte`, with the position
+-- of the first byte with which no head can go on.
 abbrev pub IsDividedAnswer : Day → List ℕ → AnswerRule FormFault OrderParts
 IsDividedAnswer s order (Ok parts) = IsOrder s order parts.keys parts.head parts.text
 IsDividedAnswer s order (Err fault) = (position : ℕ) × IsOrderHeadFault s order position × (fault ≡ BadByte position)
 
--- The answer to reading an order up to its text: it has a complete head, and the keys of each part suit the day.
+-- The result of reading an order up to its text: the order must have a complete head, and the keys of each part must
+-- suit the day.
 abbrev pub IsHeadAnswer : Day → List ℕ → AnswerRule FormFault OrderParts
 IsHeadAnswer s order = do
   parts ← IsDividedAnswer s order
   _ ← InTurn (IsKeysAnswer s) 1 parts.keys
   Yields parts
 
--- The answer to reading the bytes of an order: its head is right, and each byte of its text is allowed.
+-- The result of reading the bytes of an order: its head must be right, and each byte of its text must be allowed.
 abbrev pub IsReadAnswer : Day → List ℕ → AnswerRule FormFault OrderParts
 IsReadAnswer s order = do
   parts ← IsHeadAnswer s order

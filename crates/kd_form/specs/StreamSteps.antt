@@ -1,4 +1,4 @@
--- What a step of reading a message does. No public contract cites this file.
+-- The steps of reading a message. No public contract cites this file.
 use Rattle.std.specs.Prelude.{◌≡◌, ℕ, ◌+◌, ◌^◌, ◌<◌, ◌≤◌, Bool, true, false, ◌||◌, List, [], ◌∷◌, ◌++◌, length, Result}
 use Rattle.std.specs.Prelude.{Ok, Err, MatchResult, Some}
 use Rattle.std.specs.Io.{StartsWith}

@@ -34,8 +34,8 @@ IsMessageAnswer m bytes text answer =
 -- Code: `stream_message` reads a message chunk by chunk; the readers of orders and forms take it byte by byte.
 -- Test: tests/cases/desk-messages.toml
 
--- `text` is all that is due after some prefix of `read` that has no fault; or, if the source ends after `read`, all
--- that is due at this end.
+-- `text` is all text that is due after some prefix of `read` without a fault; or, if the source ends after `read`, all
+-- text that is due at this end.
 pub data IsDue (m : Message) (source : Port) (read text : List ℕ) : Type 0 where
   ByThen : (front : List ℕ) → StartsWith read front → IsOpen m front text → IsDue m source read text
   ByTheEnd : (answer : Result (Unit {0}) FormFault) → IsAtEnd source.has → IsMessageAnswer m read text answer
@@ -51,10 +51,10 @@ pub record FallsShort (due text : List ℕ) : Type 0 where
   pub some : missing ≢ []
   pub joined : due ≡ text ++ missing
 
--- What a call has read and written when it returns. `MessageComplete`: the message has ended without a fault.
--- `FaultForGood`: the bytes have a fault, and no further bytes can change it. `FaultAtEnd`: the bytes have a fault
--- because the message ends there. `TooLong`: one byte more than the limit was read. `SourceFails`: all text that was
--- due for the bytes read is written. `SinkFails`: only a proper prefix of the text that was due is written.
+-- How a call that streams a message ends. `MessageComplete`: the message has ended without a fault. `FaultForGood`: the
+-- bytes have a fault, and no further bytes can change it. `FaultAtEnd`: the bytes have a fault because the message ends
+-- there. `TooLong`: one byte more than the limit was read. `SourceFails`: all text that was due for the bytes read is
+-- written. `SinkFails`: only a proper prefix of the text that was due is written.
 pub data IsStreamAnswer (m : Message) (source sink : Port) (read text : List ℕ)
     (answer : Result (Unit {0}) FormFault) : Type 0 where
   MessageComplete : length read ≤ read_limit → IsAtEnd source.has → m.becomes read text → KeepFailureFlags source sink
@@ -112,7 +112,7 @@ pub data StreamsUnlessFault (is_fault : FormFault → Type 0) (may : Type 0) (me
   NoFaultBefore : may → IsStreamed message source sink answer
       → StreamsUnlessFault is_fault may message source sink answer
 
--- `StreamsUnlessFault`, for the fault that the machine isn't ready or isn't on the key.
+-- The message is streamed, unless the machine isn't ready or isn't on the key.
 abbrev pub StreamsOnKey : Parts → Day → Message → Port → Port → Result (Unit {0}) FormFault → Type 0
 StreamsOnKey m s message source sink answer = StreamsUnlessFault (IsKeyFault m s) (IsReadyOnKey m s) message source
     sink answer

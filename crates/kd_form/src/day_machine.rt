@@ -1,4 +1,4 @@
-//! `DayMachine`, a machine set as the day says, with any letters in its windows; also how many slots it has.
+//! `DayMachine`, a machine set as the day says, with any letters in its windows; and the number of its slots.
 ghost use Rattle.std.specs.Prelude.{◌≡◌, ◌↔◌, ◌≤◌, ◌<◌, length, All, IsTrue, MatchOption};
 ghost use Rattle.std.specs.Bool.{OnTrue};
 ghost use Rattle.kd_state.specs.EngineKey.{IsWindow};

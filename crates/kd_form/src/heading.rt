@@ -1,8 +1,8 @@
-//! What the heading of a part of a form says.
+//! `Heading`: the values in the heading line of a part of a form.
 use kd_state::PerSlot;
 use kd_tables::Letter;
 
-/// What the heading line of a part says.
+/// The values in the heading line of a part.
 #[derive(Clone, Copy)]
 pub struct Heading {
     /// The part's number, counted from 1.
@@ -15,7 +15,7 @@ pub struct Heading {
     pub indicator: Option<Indicator>,
 }
 
-/// What the heading of a rotor machine's part says of the part's keys.
+/// The ground setting and the enciphered message key, which the heading of a rotor machine's part has.
 #[derive(Clone, Copy)]
 pub struct Indicator {
     /// The ground setting: the letters in the windows before the message key is deciphered.

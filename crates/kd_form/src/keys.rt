@@ -1,8 +1,8 @@
-//! `Keys`: what the sender chose for one part of a form.
+//! `Keys`: the keys that the sender chose for one part of a form.
 use kd_state::PerSlot;
 use kd_tables::Letter;
 
-/// What the sender chose for one part of a form.
+/// The keys that the sender chose for one part of a form.
 #[derive(Clone, Copy)]
 pub enum Keys {
     Rotor(RotorKeys),

@@ -96,8 +96,7 @@ fn decipher_pin_body(
 
 /// Deciphers `letters`, the body of the part with the heading `heading`.
 ///
-/// A body that is longer than any heading allows may be cut short, if `letters` is still longer than any heading
-/// allows: the fault is `CountWrong` either way.
+/// The body may be cut short if `letters` are still more than any heading allows: the fault is `CountWrong` either way.
 pub(crate) fn decipher_body(
     day: &SheetDay,
     heading: &Heading,

@@ -32,7 +32,7 @@ const LINE_START: usize = 6;
 /// The body of a part of a form, as far as it has been read.
 #[derive(Drop)]
 pub(crate) struct PartBody {
-    /// What the part's heading says.
+    /// The part's heading.
     pub(crate) heading: Heading,
     /// The first letters of the body, at most `KEPT_LETTERS`.
     pub(crate) letters: ArrayVec<Letter, KEPT_LETTERS>,

@@ -26,8 +26,8 @@ pub(crate) struct FormReader {
     pub(crate) number: u8,
     /// The number of parts of the whole form, as the headings say. `None` until the first part has been read.
     pub(crate) expected: Option<u8>,
-    /// What is kept of the current part. The variant says whether the next byte belongs to the heading line or the
-    /// body.
+    /// The kept bytes or letters of the current part. The variant says whether the next byte belongs to the heading
+    /// line or the body.
     pub(crate) stage: FormStage,
 }
 
@@ -107,7 +107,7 @@ impl MessageReader for FormReader {
     }
 }
 
-/// The fault of a form that ends within the heading line of part `number`. `line` is what was kept of this line.
+/// The fault of a form that ends within the heading line of part `number`. `line` has the bytes kept of this line.
 ///
 /// If the heading is valid and its numbers are right, the fault is `CountWrong`, because the part has no body.
 fn fault_in_heading(

@@ -22,7 +22,7 @@ pub struct HeadReader {
     line: ArrayVec<u8, LONGEST_LINE>,
 }
 
-/// What a `HeadReader` says once it has read another byte.
+/// The state of the head after a `HeadReader` has read one more byte.
 #[derive(Clone, Copy)]
 pub enum HeadStep {
     /// The head isn't complete yet.

@@ -53,8 +53,8 @@ impl PartWriter {
 
     /// Takes the next letter of the text. If the letters collected fill a part, first writes this part to `output`.
     ///
-    /// But the last part, for which the last line of keys is used, is written by `end`. Once the last part is full,
-    /// letters are only counted.
+    /// The last part, for which the last line of keys is used, is left to `end`. Once it is full, letters are only
+    /// counted.
     fn take_letter(&mut self, day: &SheetDay, keys: &[Keys], letter: Letter, output: &mut Output)
         requires taken { (letters sent : List ℕ) × AreLettersTaken day.now keys.now self.old letters sent
             × (length letters < 2 ^ 63) }

@@ -41,7 +41,7 @@ pub(crate) trait ChunkReader<Context> {
         ensures failed { W.has_failed sink.new
             ≡ (W.has_failed sink.old || is_device_interruption result) };
 
-    /// Ends the message, and writes to `sink` what is still to be written, even if a fault is returned.
+    /// Ends the message, and writes the rest of the output to `sink`, even if it returns a fault.
     fn finish<W: Sink>(&mut self, context: &Context, sink: &mut W) -> Result<(), Interruption>
         requires { HasRoom (message context.now) (holds context.now self.old) 0 }
         ensures ended { IsFinishAnswer (message context.now) (holds context.now self.old)
@@ -50,7 +50,7 @@ pub(crate) trait ChunkReader<Context> {
             ≡ (W.has_failed sink.old || is_device_interruption result) };
 }
 
-/// What a reader outputs after one byte: usually nothing, and at most one part.
+/// The output of a reader after one byte: usually nothing, and at most one part.
 pub(crate) type Output = ArrayVec<u8, LONGEST_PART>;
 
 /// A reader of one kind of message, which takes one byte at a time, and keeps one part at a time.
@@ -65,7 +65,7 @@ pub(crate) trait MessageReader {
     fn start(day: &SheetDay) -> Self
         ensures { HasReadSoFar (message day.now) (holds day.now result) [] [] };
 
-    /// Takes the message's next byte, and puts into `output` what can be written now.
+    /// Takes the message's next byte, and puts the output that can be written now into `output`.
     ///
     /// After a fault, the reader must not be called again.
     fn feed(&mut self, day: &SheetDay, byte: u8, output: &mut Output) -> Result<(), FormFault>
@@ -74,7 +74,7 @@ pub(crate) trait MessageReader {
         ensures { IsFeedAnswer (message day.now) (holds day.now self.old) (holds day.now self.new) byte
             output.new.items result };
 
-    /// Ends the message, and puts into `output` what is still to be written, even if a fault is returned.
+    /// Ends the message, and puts the rest of the output into `output`, even if it returns a fault.
     fn end(&mut self, day: &SheetDay, output: &mut Output) -> Result<(), FormFault>
         requires room { HasRoom (message day.now) (holds day.now self.old) 0 }
         requires empty { output.old.items ≡ [] }
