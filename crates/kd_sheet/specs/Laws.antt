@@ -12,7 +12,8 @@ use Rattle.kd_sheet.specs.Sheet.{day_of, month_of}
 use Rattle.kd_sheet.specs.SheetFile.{day_for, sheet_of}
 use Rattle.kd_sheet.specs.SheetText.{AreSheetDays, sheet_text}
 
--- The file written for legal parts is read as the same parts, with each cable's letters in alphabetical order.
+-- The file written for a machine's legal parts is read as the same parts, but with each cable's letters in alphabetical
+-- order.
 abbrev pub LegalPartsAreReadBack : Type 0
 LegalPartsAreReadBack = (m : Parts) → IsLegal m → machine_of (machine_text m) ≡ Ok (with_cables_in_order m)
 
@@ -20,7 +21,7 @@ LegalPartsAreReadBack = (m : Parts) → IsLegal m → machine_of (machine_text m
 abbrev pub WrittenFilesAreReadBack : Type 0
 WrittenFilesAreReadBack = (m : Parts) → IsMachine m → machine_of (machine_text m) ≡ Ok m
 
--- The sheet written for legal days, at least one and each with its own number, is read as exactly these days.
+-- The sheet written for one or more legal days with different numbers is read as exactly these days.
 abbrev pub WrittenSheetsAreReadBack : Type 0
 WrittenSheetsAreReadBack = (day : Day) (days : List Day) → AreSheetDays [] (day ∷ days)
     → sheet_of (sheet_text (day ∷ days)) ≡ Ok (month_of (day ∷ days))
@@ -29,8 +30,8 @@ WrittenSheetsAreReadBack = (day : Day) (days : List Day) → AreSheetDays [] (da
 abbrev pub LegalDaysAreDescribed : Type 0
 LegalDaysAreDescribed = (day : Day) → IsLegalDay day ↔ ((entry : Data) × (day_for [] entry ≡ Ok day))
 
--- Let the entries of a key sheet describe `days`, without a fault. Then day `number` of the month `month_of days` is
--- the day that the entry with this number describes.
+-- If the entries of a key sheet describe `days` without a fault, day `number` of the month is the day that the entry
+-- with this number describes.
 abbrev pub DaysAreTheEntries : Type 0
 DaysAreTheEntries = (entries : List Data) (days : List Day) (number : ℕ) (day : Day)
     → read_items day_for entries ≡ Ok days

@@ -40,6 +40,6 @@ pins_in table = value_at keys.Pins table >>= read_array keys.Pins (nat_eq 6) pin
 
 -- ---- Reading items one by one. No public contract cites this definition.
 
--- the pins of the wheels, which `items` describe one by one from wheel 1 on
+-- the pins of the six wheels, from one item for each wheel, wheel 1 first
 abbrev pub pins_of_items : List Data → Result PinSet SheetFault
 pins_of_items items = read_items pins_for items >>= (λ pins. Ok (pin_set pins))

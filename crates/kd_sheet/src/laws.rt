@@ -4,14 +4,14 @@ ghost use Rattle.kd_sheet.specs.Laws.{LegalDaysAreDescribed, DaysAreTheEntries};
 
 /// The file written for a machine is read as the same machine.
 ///
-/// The file written for legal parts is read as these parts, with each cable's letters in alphabetical order.
+/// The file written for legal parts is read as these parts, but with each cable's letters in alphabetical order.
 #[tactic(auto, using(crate::proofs::ReadBack::parts_are_read_back))]
 pub fn written_files_are_read_back()
     ensures machines { WrittenFilesAreReadBack }
     ensures parts { LegalPartsAreReadBack }
 {}
 
-/// The sheet written for legal days, at least one and each with its own number, is read as exactly these days.
+/// The sheet written for one or more legal days with different numbers is read as exactly these days.
 #[tactic(auto, using(crate::proofs::Days::sheet_again))]
 pub fn written_sheets_are_read_back()
     ensures { WrittenSheetsAreReadBack }

@@ -1,4 +1,5 @@
-//! Reads the rows of a day, from the key `rows`: the readings (wheel numbers, 0 for no wheel) asked of the 27 bars.
+//! Reads the rows of a day, from the key `rows`: the readings (wheel numbers, 0 for no wheel) that the 27 bars must
+//! have.
 ghost use Rattle.std.specs.Prelude.{◌≡◌, ◌+◌, ◌&&◌, nat_le, is_some, IfSome};
 ghost use Rattle.toml.specs.View.{view, table_view};
 ghost use Rattle.kd_sheet.specs.{Bars.{or_bad_row, reading_of_text, rows_in}, Document.{from_text}};
@@ -35,7 +36,7 @@ fn reading_of_item(item: &Value) -> Option<Reading>
     reading_of_text(item.as_str()?.as_bytes())
 }
 
-/// Reads an item as a row: the reading asked of a bar. A fault has the row's number, counted from 1.
+/// Reads an item as a row: the reading that a bar must have. A fault has the row's number, counted from 1.
 impl FromItem<()> for Reading {
     ghost parse = { λ _. or_bad_row reading_of_text };
 
@@ -44,7 +45,7 @@ impl FromItem<()> for Reading {
     }
 }
 
-/// Reads the rows of a day: the readings that the day asks of the 27 bars.
+/// Reads the rows of a day: the readings that the 27 bars must have.
 #[tactic(auto, unfolding(crate::specs::Bars::rows_in))]
 pub fn rows_in(table: &Table) -> Result<[Reading; BARS], SheetFault>
     ensures { result ≡ rows_in (table_view table.now) }
