@@ -1,4 +1,4 @@
--- What the desk does with a message: a text that is typed, an order that is sent, or a form that is received.
+-- How the desk handles a message: a typed text, an order to send, or a received form.
 -- Test: tests/cases/desk-messages.toml
 use Rattle.std.specs.Prelude.{◌≡◌, List, ℕ, ◌++◌, Result}
 use Rattle.std.specs.Result.{result_map_both}

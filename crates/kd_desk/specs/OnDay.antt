@@ -1,4 +1,4 @@
--- How a machine is found in a machine file, and a day in a key sheet, and what is done with both.
+-- How a machine is found in a machine file, and a day in a key sheet, for a call that needs both.
 -- Test: tests/cases/desk-program.toml
 use Rattle.std.specs.Prelude.{◌≡◌, ◌⊎◌, ℕ, List, Result, Ok, Err, MatchResult, ok_or}
 use Rattle.std.specs.Result.{result_map_both}
@@ -24,7 +24,8 @@ machine_and_day machine sheet number = do
   day ← ok_or (day_of month number) NoSuchDay
   Ok (m, day)
 
--- Machine and day satisfy `Holds`; or they can't be found, and the answer is the first fault. Or memory ran out.
+-- The machine and the day satisfy `Holds`; or one of them can't be found, and the answer is the first fault; or memory
+-- ran out.
 abbrev pub IsAnswerOnDay : List ℕ → List ℕ → ℕ → (Parts → Day → Type 0) → Result (Unit {0}) DeskFault → Type 0
 IsAnswerOnDay machine sheet number Holds answer =
     MatchResult (machine_and_day machine sheet number) (λ found. Holds found.0 found.1) (λ fault. answer ≡ Err fault)

@@ -80,21 +80,21 @@ pub record AppliesTo (machine list : List ℕ) (sink : Port) (answer : Result (U
   pub refused : IfErr (machine_of machine) (λ fault. AnswersFault answer (File fault))
   pub applied : IfOk (machine_of machine) (λ m. Applies m list sink answer ⊎ LacksMemory answer)
 
--- What a task does with a machine and a day. An order or a form is a port that is read.
+-- A task was carried out with a machine and a day. An order or a form is a port that is read.
 abbrev pub DoesTask : Task (List ℕ) Port → ℕ → Port → Result (Unit {0}) DeskFault → Parts → Day → Type 0
 DoesTask tasks.Card number sink answer m s = Prints (IsChosenCard m s number) m s number sink answer
 DoesTask (tasks.Check card) number sink answer m s = Checks m s number card sink answer
 DoesTask (tasks.Message Send order) number sink answer m s = Sends m s order sink answer
 DoesTask (tasks.Message Receive form) number sink answer m s = Receives m s form sink answer
 
--- What an action does with the machine of a machine file. Only `Type` reads `source`.
+-- An action was carried out with the machine of a machine file. Only `Type` reads `source`.
 abbrev pub DoesAction : List ℕ → Action (List ℕ) Port → Port → Port → Result (Unit {0}) DeskFault → Type 0
 DoesAction machine actions.Type source sink answer = TypesOn machine source sink answer
 DoesAction machine (actions.Apply list) source sink answer = AppliesTo machine list sink answer × IsUntouched source
 DoesAction machine (actions.OnDay sheet day task) source sink answer =
     IsAnswerOnDay machine sheet day (DoesTask task day sink answer) answer × IsUntouched source
 
--- What a command does with the bytes of its files.
+-- A command was carried out with the bytes of its files.
 abbrev pub DoesCommand : Command (List ℕ) Port → Port → Port → Result (Unit {0}) DeskFault → Type 0
 DoesCommand command source sink answer = DoesAction command.machine command.action source sink answer
 
@@ -142,9 +142,9 @@ abbrev pub is_stopped_by_port : Result (Unit {0}) Stop → Bool
 is_stopped_by_port (Err (Refused fault)) = is_device (Err fault)
 is_stopped_by_port _ = false
 
--- Which file names were asked for. If the answer is `Usage`: none. If it is `Unread`: the names up to and including the
--- first file that couldn't be read or opened. Otherwise: all names, or none if memory ran out while the command line
--- was read.
+-- `asked` has the file names that were asked for. If the answer is `Usage`: none. If it is `Unread`: the names up to
+-- and including the first file that couldn't be read or opened. Otherwise: all names, or none if memory ran out while
+-- the command line was read.
 abbrev pub AsksFor : List (List ℕ) → List AskedName → Result (Unit {0}) Stop → Type 0
 AsksFor names asked (Err Usage) = asked ≡ []
 AsksFor names asked (Err (Unread fault)) = AreAskedFor names [] asked false
@@ -157,7 +157,7 @@ abbrev pub CarriesOutKnown : KnownFile → Option (List ℕ → Option (List ℕ
 CarriesOutKnown left known command source sink answer =
     IfSome known (λ held. CarriesOut left (known_command held command) source sink answer)
 
--- What holds of the program's answer to a command line. `carried`: what is done, if the files' bytes are known; `left`
+-- The program's answer to a command line. `carried`: the command is carried out, if the files' bytes are known; `left`
 -- is the opened file as the program gave it back. `asks`, `none_asked`: which files are asked for. `usage`,
 -- `other_words`: when the answer is `Usage`. `untouched`, `failed`: what happens to the ports.
 pub record IsRun (words : List (List ℕ)) (known : Option (List ℕ → Option (List ℕ))) (left : KnownFile)

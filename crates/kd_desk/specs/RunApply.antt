@@ -1,4 +1,4 @@
--- What the desk does with a machine and bytes that should be a list or a card.
+-- How the desk applies bytes, which should be a list or a card, to a machine.
 -- Test: tests/cases/desk-cards.toml
 use Rattle.std.specs.Prelude.{◌≡◌, ℕ, List, Result, Ok, Err}
 use Rattle.kd_state.specs.declared.machine.parts.Parts.{Parts}

@@ -1,4 +1,4 @@
--- What the desk writes as a card, and what the card promises.
+-- The card that the desk writes, and the card's promises.
 -- Code: `print_card` plans the card with `plan`, gives it prices by kind with `by_kind`, and writes it with
 -- `write_card`.
 -- Test: tests/cases/desk-cards.toml

@@ -1,4 +1,4 @@
--- What the desk answers when it checks a card.
+-- The desk's answer when it checks a card.
 -- Test: tests/cases/desk-cards.toml
 use Rattle.std.specs.Prelude.{codes, decimal, ◌≡◌, ◌≢◌, ℕ, List, [], ◌∷◌, ◌++◌, length, Result, Err}
 use Rattle.kd_state.specs.declared.machine.parts.Parts.{Parts}
