@@ -1,4 +1,4 @@
--- What is known of the bytes of a file, which is either read whole, or opened and then streamed.
+-- The bytes of files, as far as they are known. A file is either read whole, or opened and then streamed.
 -- Code: `read_whole` reads a file chunk by chunk, into a vector that grows.
 -- Test: tests/cases/desk-program.toml, tests/cases/desk-messages.toml
 use Rattle.std.specs.Prelude.{◌≡◌, ℕ, ◌+◌, ◌≤◌, nat_le, Bool, true, false, IsTrue, List, [], ◌∷◌, ◌++◌, map}
@@ -16,7 +16,7 @@ abbrev pub content_of : Option (List ℕ) → Result (List ℕ) FileFault
 content_of None = Err Device
 content_of (Some bytes) = if nat_le (length bytes) read_limit then Ok bytes else Err ReadTooLong
 
--- What is known of an opened file: the bytes that are still to be read, and whether a read has failed.
+-- An opened file: its unread bytes, if they are known, and whether a read has failed.
 pub record KnownFile : Type 0 where
   pub bytes : Option (List ℕ)
   pub failed : Bool

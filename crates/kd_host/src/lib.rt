@@ -1,4 +1,4 @@
-//! What a program needs of its host: files, standard streams, and how it ends.
+//! The host of a program: its files, its standard streams, and the program's end.
 #![tactic(auto)]
 
 mod asked_names;
