@@ -1,4 +1,4 @@
--- How many settings it takes until a cable has exactly the letters of a column, or a bar reads as a row.
+-- The number of settings that give a cable exactly the letters of a column, or a bar the reading of a row.
 -- Code: `cable_cost` goes through the alphabet; `bar_cost` tries the one or two standings that read as the row.
 -- Test: kd_trials/src/state.rt
 use Rattle.std.specs.Prelude.{ℕ, ◌+◌, ◌-◌, nat_eq, nat_lt, min, Bool, false, not, ◌&&◌, List, [], ◌∷◌, ◌++◌, length}

@@ -1,4 +1,4 @@
--- The keys of engines, and the cipher by a key.
+-- The keys of engines, and the cipher of an engine with a key.
 -- Code: one type, `Engine`, serves all models.
 use Rattle.std.specs.Prelude.{ℕ, List, length}
 use Rattle.kd_enigma.specs.Cipher.{RotorKey, enigma_cipher, key_after, key_turned}

@@ -13,7 +13,7 @@ use Rattle.kd_state.specs.declared.setting.Setting.TheVariants.{LugTo}
 use Rattle.kd_state.specs.declared.setting.list.ListFault.{ListFault}
 use Rattle.kd_state.specs.declared.setting.list.ListFault.TheVariants.{BadLine, TooMany}
 
--- how a line names an effective and an ineffective pin
+-- the word for an effective or an ineffective pin in a line
 abbrev pub on_off_text : Bool → List ℕ
 on_off_text effective = if effective then codes "ON" else codes "OFF"
 

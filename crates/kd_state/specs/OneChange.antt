@@ -1,4 +1,4 @@
--- What a setting does, part by part: when a machine allows it, and the one thing that it changes.
+-- The effect of a setting, part by part: when a machine allows the setting, and the one thing that changes.
 -- Source: this desk's own rules; `outcome` in Setting.antt has the same rules as steps, with the reasons for refusals.
 -- Code: `carry` changes the machine in place.
 use Rattle.std.specs.Prelude.{◌≡◌, ◌≢◌, ◌↔◌, ℕ, ◌+◌, IsTrue, Bool, List, length, map, Contains}
