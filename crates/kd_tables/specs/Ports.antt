@@ -1,4 +1,4 @@
--- Sources and sinks: which bytes one `get` or one `put` moves, and what a source or a sink in memory keeps.
+-- Sources and sinks: the bytes that one `get` or one `put` moves, and the state of a source or a sink in memory.
 -- Code: a source is any type whose `get` satisfies `Gets`; a sink is any type whose `put` satisfies `Puts`.
 -- Test: tests/refusals
 use Rattle.std.specs.Prelude.{◌≡◌, ◌⊎◌, ℕ, ◌<◌, ◌≤◌, Bool, true, false, List, [], ◌∷◌, length, take, Option, Result}

@@ -1,4 +1,4 @@
--- Letters as bytes, and which bytes a text of letters may have.
+-- The bytes of letters, and the bytes that a text of letters may have.
 -- Test: tests/cases/desk-messages.toml
 use Rattle.std.specs.Prelude.{ℕ, ◌+◌, nat_le, ◌==◌, Bool, ◌&&◌, ◌||◌, List, map}
 

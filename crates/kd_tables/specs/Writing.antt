@@ -1,4 +1,4 @@
--- How much of a text a sink takes.
+-- The part of a text that a sink takes.
 -- Test: tests/refusals
 use Rattle.std.specs.Prelude.{ℕ, ◌<◌, List, length, take, Option, Result, OnOk, OnErr}
 use Rattle.std.specs.Io.KnownBytes.{Appends}

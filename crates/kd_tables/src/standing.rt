@@ -8,7 +8,7 @@ use super::reading::Reading;
 use arrayvec::ArrayString;
 use std::marker::Model;
 
-/// How a bar of the Converter M-209 stands: the places of its left lug and its right lug, in this order.
+/// A standing of a Converter M-209's bar: the places of the bar's left lug and right lug, in this order.
 ///
 /// Standings are ordered by the left lug's place, then by the right lug's place.
 #[derive(Clone, Copy, PartialEq, Eq, PartialOrd, Ord)]
