@@ -35,10 +35,10 @@ IsPairInOrder (Some pair) = (pair.0 < pair.1) × (pair.1 < 26)
 
 -- ---- the four sorts of kinds
 
--- How a card writes one sort of kinds: of cables, columns, bars or rows. Each line begins with `word`. `kind` gives the
--- key (letters, a standing or a reading), the count and the price of a kind. `text` is how a key is written, such as
--- `AB`, and `InForm` says which keys a card may have. Lines are sorted by the numbers that `order` makes of their keys,
--- so that the kinds of empty cables and of empty columns come last.
+-- The form of kinds of one sort (of cables, columns, bars or rows) on a card. Each line begins with `word`. `kind`
+-- gives a kind's key (letters, a standing or a reading), its count and its price. `text` writes a key, such as `AB`,
+-- and `InForm` says which keys a card may have. Lines are sorted by the numbers that `order` gives for their keys; so
+-- the kinds of empty cables and of empty columns come last.
 pub record KindFormat (K X : Type 0) : Type 1 where
   pub word : List ℕ
   pub kind : K → KindOf X

@@ -16,7 +16,7 @@ use Rattle.std.specs.Option.{option_map_or}
 abbrev pub setting_unless : Bool → Setting → List Setting
 setting_unless already x = if already then [] else x ∷ []
 
--- the settings that the function `lines` gives for each list item and the item's number, which counts from `number`
+-- the settings that `lines` gives for each item and the item's number; the first item has the number `number`
 abbrev pub lines_from : {Z : Type 0} → (ℕ → Z → List Setting) → ℕ → List Z → List Setting
 lines_from lines number [] = []
 lines_from lines number (z ∷ zs) = lines number z ++ lines_from lines (number + 1) zs

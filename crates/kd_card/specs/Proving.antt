@@ -52,7 +52,8 @@ AreExpanded (Pin machine) (Pin day) (BarKinds bar_kinds row_kinds) (Bars bars ro
     AreKindsOf bar_format machine.bars bars bar_kinds.items × AreKindsOf row_format day.rows rows row_kinds.items
 AreExpanded _ _ _ _ = ⊥
 
--- If `prices` are by number, `numbered` equal them. If not, both are valid, and `AreExpanded` relates them.
+-- If `prices` are by number, `numbered` equal them. Otherwise both are valid, and `numbered` have for each cable,
+-- column, bar or row the price of its kind.
 pub data Expands (machine : Parts) (day : Day) (prices numbered : PriceParts) : Type 0 where
   Same : version_of prices ≡ ByNumber → prices ≡ numbered → Expands machine day prices numbered
   Expanded : ArePrices prices → ArePrices numbered → AreExpanded machine day prices numbered
