@@ -25,7 +25,7 @@ abbrev pub next_part_start : PartStart → ℕ → List ℕ → PartStart
 next_part_start p count part = record
     { number = p.number + 1; expected = Some count; bytes_before = p.bytes_before + length part }
 
--- A property of a part's start and of the list of parts from there on. Example: `IsAnswerAt`.
+-- A statement about a part's start and the list of parts from there on, such as `IsAnswerAt`.
 abbrev pub PartsProperty : Type 1
 PartsProperty = PartStart → List (List ℕ) → Type 0
 
@@ -69,7 +69,8 @@ abbrev pub IsAnswerAt : Day → Result (Unit {0}) FormFault → PartsProperty
 IsAnswerAt s answer p [] = (count : ℕ) × (p.expected ≡ Some count) × Demands (p.number ≡ count + 1) PartOrder answer
 IsAnswerAt s answer p (part ∷ parts) = (fault : FormFault) × IsPartAnswer s p part (Err fault) × (answer ≡ Err fault)
 
--- The answer for a whole form, and the text of the parts before its first fault, if it has one.
+-- `answer` is the answer for a whole form. `text` is the text of the parts before the form's first fault, or of all
+-- parts without a fault.
 abbrev pub IsAnswerAfter : Day → List ℕ → List ℕ → Result (Unit {0}) FormFault → Type 0
 IsAnswerAfter s form text answer = IsFormReadTo s (IsAnswerAt s answer) form text
 
@@ -89,8 +90,8 @@ IsReceiveFault s form fault = IsFormAnswer s form (Err fault)
 -- ---- Which faults no further bytes can change, and what is written before a fault.
 -- Test: tests/cases/desk-messages.toml, tests/refusals
 
--- The first part not yet read, which begins at `p`, has `fault`, and no further bytes can change that: another part
--- follows, or the part's heading line has ended, and the fault is one of `IsContentAnswer`.
+-- The first part not yet read, which begins at `p`, has `fault` whatever bytes follow. Either another part comes after
+-- it; or the part's heading line has ended, and `IsContentAnswer` gives the fault.
 abbrev pub IsPartFaultForGood : Day → FormFault → PartsProperty
 IsPartFaultForGood s fault p [] = ⊥
 IsPartFaultForGood s fault p (part ∷ []) =
@@ -124,7 +125,7 @@ form_message s = record {
 
 -- ---- The text that an order's form has to give back.
 
--- The letters that are enciphered for a text: its own letters. On the Converter M-209, X is appended until the last
+-- The letters that are enciphered for a text: the text's letters; on the Converter M-209 with X appended until the last
 -- group of five is full.
 abbrev pub sent_letters : Day → List ℕ → List ℕ
 sent_letters (Rotor s) letters = letters

@@ -58,8 +58,8 @@ ArePartTextsMade s part parts (k ∷ keys) (piece ∷ pieces) bytes =
 ArePartTextsMade s part parts [] (piece ∷ pieces) bytes = ⊥
 ArePartTextsMade s part parts (k ∷ keys) [] bytes = ⊥
 
--- The answer for an order with these keys, whose text has these letters: its form, in which all parts but the last are
--- full. The text must have a letter, and must need as many parts as there are lines of keys.
+-- The answer for an order with the keys `keys` and the text's letters `letters`: the order's form, in which all parts
+-- but the last are full. The text must have a letter, and must need as many parts as there are lines of keys.
 abbrev pub IsMadeAnswer : Day → List Keys → List ℕ → AnswerRule FormFault (List ℕ)
 IsMadeAnswer s keys letters = do
   _ ← Demands (letters ≢ []) EmptyText

@@ -1,4 +1,4 @@
--- A text that is typed, as a kind of message: it becomes the ciphertext of its letters, and LF.
+-- Typed texts, as a kind of message: a text becomes the ciphertext of its letters, then LF.
 -- Code: `type_stream` reads chunks of at most 4,096 bytes, and presses a key for each letter of a chunk.
 -- Test: tests/cases/desk-messages.toml, tests/refusals
 use Rattle.std.specs.Prelude.{◌≡◌, ℕ, ◌<◌, ◌≤◌, List, [], ◌∷◌, ◌++◌, length, take, slice_index, All, IsTrue}

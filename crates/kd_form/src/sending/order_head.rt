@@ -29,7 +29,7 @@ pub enum HeadStep {
     Open,
     /// The head is complete; the text follows.
     Text,
-    /// The last byte read is wrong: with it, the bytes read can't be completed to an order's head.
+    /// The last byte read is wrong: no order's head begins with the bytes up to this byte.
     Bad,
 }
 

@@ -14,7 +14,7 @@ use arrayvec::ArrayVec;
 use kd_state::SheetDay;
 use kd_tables::Letter;
 
-/// A collector of the letters of an order's text, which makes the form's parts from them.
+/// A writer that collects the letters of an order's text, and makes the form's parts from them.
 #[derive(Drop)]
 pub(crate) struct PartWriter {
     /// The letters collected for the next part, at most `part_size`.
