@@ -38,7 +38,7 @@ impl Model for Converter {
 }
 
 impl Converter {
-    /// Sets up a Converter with the pins `pins`, the shown letters `letters`, and bars that read as `bars`.
+    /// Sets up a Converter with the pins `pins`, the shown letters `letters`, and the bars' readings `bars`.
     ///
     /// Returns `NotOnWheel` if one of `letters` isn't on its wheel.
     pub fn new(

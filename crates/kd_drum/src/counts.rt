@@ -30,7 +30,7 @@ fn bars_met_by(bars: &[Reading; 27], wheels: usize) -> u8
     met
 }
 
-/// Whether a bar that reads as `bar` has a lug at a wheel of the set `wheels`.
+/// Whether a bar with the reading `bar` has a lug at a wheel of the set `wheels`.
 fn is_met(bar: Reading, wheels: usize) -> bool
     ensures { result ≡ (is_in_set wheels bar.0 || is_in_set wheels bar.1) }
 {
