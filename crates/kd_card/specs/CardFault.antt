@@ -110,8 +110,8 @@ IsPriceLineAnswer word number line bytes = do
   prices ← IsPricesAnswer number line found.1
   Yields (prices, found.2)
 
--- The result of reading two price lines, each with a first word and then `number` prices. The result is the prices for
--- the rows of the table of costs, the prices for its columns and the bytes after both lines, or a fault.
+-- The result of reading two price lines, each with a first word and then `number` prices: the prices for the rows and
+-- for the columns of the table of costs, and the bytes after both lines; or a fault.
 abbrev pub IsListsAnswer : List ℕ → List ℕ → ℕ → ℕ → List ℕ → AnswerRule CardFault (List ℤ × List ℤ × List ℕ)
 IsListsAnswer row_word column_word number line bytes = do
   rows ← IsPriceLineAnswer row_word number line bytes
@@ -158,8 +158,8 @@ pub record BeginsWithKinds {K X : Type 0} (format : KindFormat K X) (last : Opti
   pub none_more : HasNoNext format (last_of last kinds) rest
 
 -- The result of reading a group of kinds: the kinds and the bytes after them, or a fault. The fault is `BadLine` if a
--- line has no LF, or begins with the group's word but isn't the line of a valid kind that may come next. The fault is
--- `PriceMissing` if the kinds' counts don't add up to `number`.
+-- line has no LF, or if a line with the group's word isn't the line of a valid next kind. The fault is `PriceMissing`
+-- if the kinds' counts don't add up to `number`.
 -- Code: the reader keeps at most `number` kinds, and stops adding counts at `number + 1`.
 abbrev pub IsGroupAnswer : {K X : Type 0} → KindFormat K X → ℕ → ℕ → List ℕ → AnswerRule CardFault (List K × List ℕ)
 IsGroupAnswer {K} format number line bytes = do

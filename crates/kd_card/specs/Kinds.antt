@@ -12,7 +12,7 @@ use Rattle.std.specs.declared.cmp.Ordering.{Ordering, TheVariants.Less}
 
 -- ---- keys: a cable's letters, a column's pair, a bar's standing, a row's reading
 
--- the text of a cable's or a column's letters in the line of its kind: the letters, or `-` if there are none
+-- the letters of a cable or a column in the line of its kind, or `-` if there are none
 abbrev pub letters_text : List ℕ → List ℕ
 letters_text [] = codes "-"
 letters_text (letter ∷ letters) = tables.letters_text (letter ∷ letters)

@@ -34,8 +34,7 @@ AsFewAreNeeded =
     → LeadsToTheDay machine day settings
     → length settings ≤ loose_count machine day + priced_count settings → AreSettingsNeeded machine day settings
 
--- If a card with prices by number proves itself, the number of its settings is the number of loose things plus the sum
--- of its prices.
+-- If a card with prices by number proves itself, the loose things and the prices add up to its number of settings.
 abbrev pub ProvingCardsAreAsLong : Type 0
 ProvingCardsAreAsLong =
     (machine : Parts) (day : Day) (settings : List Setting) (prices : PriceParts)

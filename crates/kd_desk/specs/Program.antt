@@ -100,7 +100,7 @@ DoesCommand command source sink answer = DoesAction command.machine command.acti
 
 -- ---- How a command is carried out, and what is left of the file that it opened.
 
--- the opened file as a port, from what is known of the file before a call (`file`) and after the call (`left`)
+-- the opened file as a port: `file` is what is known of it before a call, and `left` after the call
 abbrev pub file_port : KnownFile → KnownFile → Port
 file_port left file = record { had = file.bytes; has = left.bytes; had_failed = file.failed; has_failed = left.failed }
 

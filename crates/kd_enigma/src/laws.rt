@@ -35,8 +35,9 @@ pub fn enciphering_twice_gives_back()
     ensures { EnigmaTwiceGivesBack }
 {}
 
-/// If a key's plugboard is given by its pairs, the path is its own inverse and takes no letter to itself, and
-/// enciphering twice gives the text back.
+/// With a plugboard that is given by its pairs, the path is its own inverse, and takes no letter to itself.
+///
+/// Enciphering twice with the same key gives the text back.
 pub fn keys_with_pairs_lead_back()
     ensures path { PairedPathsLeadBack }
     ensures cipher { PairedKeysGiveBack }

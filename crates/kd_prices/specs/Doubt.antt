@@ -63,8 +63,8 @@ IsNeededAnswer machine day settings (Ok all) = AreSettingsNeeded machine day set
 IsNeededAnswer machine day settings (Err (NeedlessLine line)) = IsFirstNeedless machine day settings line
 IsNeededAnswer machine day settings (Err doubt) = ⊥
 
--- The result of checking a card with prices by number: success, or the first doubt. Success means that its settings
--- lead to the day, and that its prices prove that no shorter list does.
+-- The result of checking a card with prices by number: success, or the first doubt. Success means that the settings
+-- lead to the day, and the prices prove that no shorter list does.
 abbrev pub IsByNumberAnswer : Parts → Day → List Setting → PriceParts → AnswerRule Doubt (Unit {0})
 IsByNumberAnswer machine day settings prices = do
   n ← IsCarriedAnswer machine settings

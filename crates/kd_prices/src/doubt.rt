@@ -23,7 +23,7 @@ pub enum Doubt {
     /// In the table of costs, the prices of this row and this column add up to more than the cost in their cell.
     ///
     /// This cell is the first whose prices are too high, row by row. Rows and columns are counted from 1. A row of the
-    /// table stands for a cable or a bar, and a column for a pair (or no pair) or for a row of the sheet.
+    /// table is for a cable or a bar; a column is for a pair, for no pair, or for a row of the sheet.
     PriceTooHigh(u8, u8),
     /// The sum of the prices isn't the number of lines that change a cable or a bar.
     SumDiffers,
