@@ -18,8 +18,8 @@ abbrev pub around_wheel : List ℕ → List ℕ → List ℕ → List ℕ
 around_wheel board core wheel = followed_by (followed_by (followed_by board wheel) core)
     (followed_by (inverse wheel) board)
 
--- The current's path in through a list of wheels, through `core`, and back, while the windows show the given letters.
--- Both lists begin at the wheel next to `core`.
+-- The current's path through a list of wheels to `core`, through `core`, and back, while the windows show the given
+-- letters. Both lists begin at the wheel next to `core`.
 abbrev pub around_wheels : List ℕ → List SeatedWheel → List ℕ → List ℕ
 around_wheels core (s ∷ seated) (letter ∷ window) = around_wheels
     (around_wheel s.board core (rotor s.wheel s.ring letter)) seated window

@@ -31,8 +31,8 @@ key_of_parts stepper rings reflector plugs = record {
 }
 
 -- The values that the code keeps for a key: the wheels in their slots, and three permutations. `reflecting` is the
--- reflector's permutation. `slow_map` is the path in through all wheels but the right one, through the reflector, and
--- back. `path_map` is the whole path while the key's window letters show.
+-- reflector's permutation. `slow_map` is the path through all wheels but the right one to the reflector, and back.
+-- `path_map` is the whole path while the key's window letters show.
 pub record AreMapsOf (key : RotorKey) (seated : List SeatedWheel) (reflecting slow_map path_map : List ℕ) : Type 0 where
   pub seats : seated ≡ wheels_with_boards key.plugs key.wheels key.rings
   pub board : IsPlugboard key.plugs
