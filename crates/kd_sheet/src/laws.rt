@@ -17,7 +17,7 @@ pub fn written_sheets_are_read_back()
     ensures { WrittenSheetsAreReadBack }
 {}
 
-/// A day is legal exactly if some entry, first in its key sheet, describes the day.
+/// A day is legal exactly if some entry, alone in a key sheet, describes the day.
 ///
 /// Day `number` of a sheet is the day that the entry with this number describes.
 pub fn days_are_the_entries()
