@@ -26,8 +26,8 @@ pub record ArePicked (letters places picked : List ℕ) : Type 0 where
   pub taken : picked ≡ map (λ place. slice_index letters place) places
   pub on_wheels : AreOnWheels picked
 
--- `key` consists of six of `letters`. Their places are the lexicographically first list of places that `ArePicked`
--- allows. So each wheel in turn takes the next letter that is on the wheel.
+-- `key` consists of six of `letters`, at the lexicographically first places that `ArePicked` allows. So each wheel in
+-- turn takes the next letter that is on the wheel.
 pub record IsInternalKey (letters key : List ℕ) : Type 0 where
   pub places : List ℕ
   pub picked : ArePicked letters places key
