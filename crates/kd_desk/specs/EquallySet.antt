@@ -1,5 +1,4 @@
--- Machines that are equally set for a day decipher each other's texts. This is one promise of a card: `IsShortestCard`
--- has them all.
+-- Machines that are equally set for a day decipher each other's texts. `IsShortestCard` has further promises of a card.
 use Rattle.std.specs.Prelude.{◌≡◌, ◌<◌, ℕ, List, All}
 use Rattle.kd_state.specs.declared.machine.parts.Parts.{Parts}
 use Rattle.kd_state.specs.Machine.{IsMachine}

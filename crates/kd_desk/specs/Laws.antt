@@ -1,5 +1,5 @@
--- Laws of the desk. Bytes are read as settings in one way: they give one list, or they have one fault. The cards of a
--- month set the machine to each day.
+-- Laws of the desk. No bytes give two lists of settings, two faults, or a list and a fault. The cards of a month set
+-- the machine to each day.
 use Rattle.std.specs.Prelude.{◌≡◌, ◌≢◌, ◌≤◌, ℕ, List, Option, Ok}
 use Rattle.kd_tables.specs.declared.model.Model.TheVariants.{M209}
 use Rattle.kd_state.specs.declared.machine.parts.Parts.{Parts}
