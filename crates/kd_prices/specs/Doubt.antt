@@ -88,8 +88,8 @@ IsDoubt machine day settings prices doubt = IsCheckedAnswer machine day settings
 
 -- ---- The steps of finding the first doubt. No public contract cites these definitions.
 
--- The result of checking settings by `number` prices for the `rows` of the table of costs, and as many for its
--- `columns`: success if the settings lead to the day and are proved shortest, otherwise the first doubt.
+-- The result of checking settings by the prices `rows` and `columns` of the table of costs, `number` prices each:
+-- success if the settings lead to the day and are proved shortest, otherwise the first doubt.
 abbrev pub IsByPricesAnswer : Parts → Day → List Setting → ℕ → List ℤ → List ℤ → AnswerRule Doubt (Unit {0})
 IsByPricesAnswer machine day settings number rows columns answer =
     (prices : PriceParts) → machine_prices prices ≡ rows → day_prices prices ≡ columns → table_size prices ≡ number
