@@ -22,7 +22,7 @@ pub(crate) struct OrderReader {
 pub(crate) enum OrderStage {
     /// The head: the lines of keys and the line TEXT.
     Head,
-    /// The text.
+    /// The text to send.
     Text,
 }
 
