@@ -31,7 +31,7 @@ fn kind_of_words<K: Kind>(behind: Option<&[u8]>) -> Option<K>
     kind_of_parts(key, count, price)
 }
 
-/// Parses a kind from the words `key`, `count` and `price` of its line, as `AB`, `1` and `0` of `CABLE AB 1 0`.
+/// Parses a kind from three words of its line: in `CABLE AB 1 0`, `key` is `AB`, `count` is `1` and `price` is `0`.
 #[tactic(auto, using(crate::proofs::OneCard::no_count))]
 fn kind_of_parts<K: Kind>(key: &[u8], count: &[u8], price: &[u8]) -> Option<K>
     ensures { let words = K.format.word ∷ key.now ∷ count.now ∷ price.now ∷ [] in
