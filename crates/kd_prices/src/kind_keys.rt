@@ -1,4 +1,4 @@
-//! The keys of kinds: comparing keys, the keys of a day's columns, and keys with their prices.
+//! Compares keys of kinds, lists the keys of a day's columns, and pairs keys with prices.
 ghost use Rattle.std.specs.Prelude.{◌≡◌, ◌↔◌, ◌≤◌, length, zip, IsTrue};
 ghost use Rattle.kd_state.specs.OnKey.{columns_in_order};
 
