@@ -1,5 +1,5 @@
--- An order is its head (a line of keys for each part, then the line TEXT), and then the text to send. The last
--- definition says where a head has its fault. Bytes are counted from 1.
+-- An order is its head (a line of keys for each part, then the line TEXT), and then the text to send. Bytes are counted
+-- from 1.
 -- Test: tests/cases/desk-messages.toml
 use Rattle.std.specs.Prelude.{codes, ◌≡◌, ◌≢◌, ◌⊎◌, ℕ, ◌+◌, ◌≤◌, List, [], ◌∷◌, ◌++◌, length}
 use Rattle.kd_state.specs.LineWords.{line_of}
