@@ -61,7 +61,7 @@ impl Rotor {
     /// The path of the current at the window letter `window`: through board and wheel to `core`, through `core`, and
     /// back.
     ///
-    /// `core` is the path further left: to the reflector, and back.
+    /// `core` is the path through all that lies further left: to the reflector, and back.
     pub(crate) fn enclose(&self, core: Map, window: Letter) -> Map
         ensures { result ≡ around_wheel self.now.board core (rotor self.now.wheel self.now.ring window) }
     {
