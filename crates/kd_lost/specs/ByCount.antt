@@ -9,29 +9,30 @@ use Rattle.kd_lost.specs.declared.damaged_text.DamagedText.{DamagedText}
 use Rattle.kd_lost.specs.declared.part.{DamagedPart.{DamagedPart}, PartNumbers.{PartNumbers}}
 use Rattle.kd_lost.specs.declared.short_line.ShortLine.{ShortLine}
 use Rattle.kd_lost.specs.DamagedPart.{AreNumbersRead, IsDamagedTextAnswer, IsPartShown, first_line}
+use Rattle.kd_lost.specs.HeadingLine.{is_blank}
 use Rattle.kd_lost.specs.Tidy.{from_line_end}
 
 -- ---- A heading with another count.
 
--- the word with which `line` begins: the bytes before its first space
+-- the word with which `line` begins: the bytes before its first blank
 abbrev pub first_word : List ℕ → List ℕ
 first_word [] = []
-first_word (byte ∷ line) = if byte == 32 then [] else byte ∷ first_word line
+first_word (byte ∷ line) = if is_blank byte then [] else byte ∷ first_word line
 
--- `line`, from its first space on
-abbrev pub from_space : List ℕ → List ℕ
-from_space [] = []
-from_space (byte ∷ line) = if byte == 32 then byte ∷ line else from_space line
+-- `line`, from its first blank on
+abbrev pub from_blank : List ℕ → List ℕ
+from_blank [] = []
+from_blank (byte ∷ line) = if is_blank byte then byte ∷ line else from_blank line
 
 -- `line`, from its second word on
 abbrev pub later_words : List ℕ → List ℕ
-later_words line = drop 1 (from_space line)
+later_words line = drop 1 (from_blank line)
 
 -- `line`, with `count` in place of its third word
 abbrev pub counted_line : ℕ → List ℕ → List ℕ
 counted_line count line =
     first_word line ++ 32 ∷ [] ++ first_word (later_words line) ++ 32 ∷ [] ++ decimal count
-    ++ from_space (later_words (later_words line))
+    ++ from_blank (later_words (later_words line))
 
 -- the part, with `count` in place of the third word of its heading
 abbrev pub counted_part : ℕ → List ℕ → List ℕ

@@ -1,11 +1,11 @@
 -- Whether the parts of a received form are of one message.
 use Rattle.std.specs.Prelude.{ℕ, ◌==◌, ◌&&◌, ◌||◌, not, Bool, true, false, List, [], ◌∷◌, Option, Some, None}
-use Rattle.std.specs.Prelude.{Result, Ok, Err, is_err, nat_le}
+use Rattle.std.specs.Prelude.{Result, Ok, Err, is_err, length, nat_le}
 use Rattle.kd_lost.specs.declared.damage.PartDamage.{PartDamage}
 use Rattle.kd_lost.specs.declared.damaged_text.{DamagedText.{DamagedText}, TextKeys.{TextKeys}}
 use Rattle.kd_lost.specs.declared.damaged_text.TextKeys.TheVariants as text_keys
 use Rattle.kd_lost.specs.declared.part.{DamagedPart.{DamagedPart}, PartNumbers.{PartNumbers}}
-use Rattle.kd_lost.specs.ByCount.{later_words}
+use Rattle.kd_lost.specs.ByCount.{first_word, later_words}
 use Rattle.kd_lost.specs.Lost.{is_lost}
 
 -- ---- Two parts that were read.
@@ -77,12 +77,29 @@ signs_agree (sign ∷ one) [] = true
 abbrev pub keys_agree : DamagedPart → DamagedPart → Bool
 keys_agree one other = signs_agree (key_signs one.heading.bytes) (key_signs other.heading.bytes)
 
+-- the signs of a heading's count
+abbrev pub count_signs : List ℕ → List ℕ
+count_signs heading = first_word (later_words (later_words heading))
+
+-- whether as many signs stand in both counts, and they agree
+abbrev pub same_count : List ℕ → List ℕ → Bool
+same_count one other = length one == length other && signs_agree one other
+
+-- whether two parts may have as many letters: as many came, or their headings may have the same count
+abbrev pub counts_agree : DamagedPart → DamagedPart → Bool
+counts_agree one other =
+    one.came == other.came || same_count (count_signs one.heading.bytes) (count_signs other.heading.bytes)
+
+-- whether the headings of two parts may have been sent as one
+abbrev pub heading_repeats : DamagedPart → DamagedPart → Bool
+heading_repeats one other = counts_agree one other && keys_agree one other
+
 -- whether two parts may be the same part, sent twice: their bodies agree and, if both are read, their texts; none has
--- letters behind the end of the other, if this is read; and the keys of their headings agree
+-- letters behind the end of the other, if this is read; and the counts and keys of their headings agree
 abbrev pub may_repeat : DamagedPart → DamagedPart → Bool
 may_repeat one other =
     bodies_agree one.body.items other.body.items
-    && (texts_agree one.text other.text && (ends_within one other && (ends_within other one && keys_agree one other)))
+    && (texts_agree one.text other.text && (ends_within one other && (ends_within other one && heading_repeats one other)))
 
 -- ---- The parts of a form.
 

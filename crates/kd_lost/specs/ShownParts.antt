@@ -1,6 +1,6 @@
 -- Which parts of a received form are shown under which numbers, and whether the form is one whole message.
 use Rattle.std.specs.Prelude.{◌≡◌, ◌≢◌, ℕ, ◌<◌, ◌==◌, if◌then◌else◌, List, [], ◌∷◌, All, Option, None, Some}
-use Rattle.std.specs.Prelude.{MatchOption, Ok, IfSome, IsTrue, is_err, is_ok, is_some, nat_lt, ◌&&◌, ◌||◌}
+use Rattle.std.specs.Prelude.{MatchOption, Ok, IfSome, IsTrue, is_err, is_ok, is_some, nat_le, nat_lt, ◌&&◌, ◌||◌}
 use Rattle.std.specs.Prelude.{Bool, true, false}
 use Rattle.std.specs.List.{count_by, range_with_len}
 use Rattle.kd_lost.specs.declared.damaged_text.DamagedText.{DamagedText}
@@ -31,10 +31,10 @@ abbrev pub numbers_of : List DamagedPart → List ℕ
 numbers_of [] = []
 numbers_of (part ∷ parts) = number_before part.numbers (numbers_of parts)
 
--- whether each number is greater than the one before it, and the first than `before`
-abbrev pub are_rising : ℕ → List ℕ → Bool
-are_rising before [] = true
-are_rising before (number ∷ numbers) = nat_lt before number && are_rising number numbers
+-- whether no number is less than the one before it, nor the first than `before`: a part may come again at once
+abbrev pub are_in_order : ℕ → List ℕ → Bool
+are_in_order before [] = true
+are_in_order before (number ∷ numbers) = nat_le before number && are_in_order number numbers
 
 -- whether the heading gives this number
 abbrev pub is_number : ℕ → Option PartNumbers → Bool

@@ -1,11 +1,12 @@
 //! Reads a part whose count is wrong or damaged by the letters that came.
 ghost use Rattle.std.specs.Prelude.{◌≡◌, ◌++◌, drop, flat_map, MatchResult};
-ghost use Rattle.kd_lost.specs.ByCount.{IsFoundIn, counted_part, explains, first_word, from_space, heading_count, later_words};
+ghost use Rattle.kd_lost.specs.ByCount.{IsFoundIn, counted_part, explains, first_word, from_blank, heading_count, later_words};
 ghost use Rattle.kd_lost.specs.ByCount.{is_count_doubted, numbers_by_count, part_line, telling_line};
 
 use crate::damage::PartDamage;
 use crate::damaged_text::DamagedText;
 use crate::form::DamagedFormFault;
+use crate::heading_line::is_blank;
 use crate::part::{DamagedPart, PartNumbers, read_damaged_part};
 use crate::short_line::ShortLine;
 use crate::tidy::line_and_rest;
@@ -128,17 +129,25 @@ fn push_all(bytes: &mut Vec<u8>, pieces: &[&[u8]]) -> Result<(), DamagedFormFaul
     Ok(())
 }
 
-/// The first word of `line`, and the bytes from its first space on.
+/// The first word of `line`, and the bytes from its first blank on.
 fn split_word(line: &[u8]) -> (&[u8], &[u8])
     ensures word { result.0.now ≡ first_word line.now }
-    ensures rest { result.1.now ≡ from_space line.now }
+    ensures rest { result.1.now ≡ from_blank line.now }
 {
     for (index, byte) in line.iter().enumerate() {
-        if *byte == b' ' {
+        if is_blank(*byte) {
             return line.split_at(index);
         }
     }
     line.split_at(line.len())
+}
+
+/// The first word of `line`.
+pub(crate) fn first_word(line: &[u8]) -> &[u8]
+    ensures { result.now ≡ first_word line.now }
+{
+    let (word, _) = split_word(line);
+    word
 }
 
 /// `line` from its second word on.

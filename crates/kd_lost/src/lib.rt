@@ -34,7 +34,7 @@ pub use one_message::are_of_one_message;
 pub use part::{DamagedPart, PartNumbers, read_damaged_part};
 pub use short_line::ShortLine;
 pub use shown_parts::{
-    are_rising, is_any_read, is_one_message, is_whole, shown_under, times_of, total_of,
+    are_in_order, is_any_read, is_one_message, is_whole, shown_under, times_of, total_of,
 };
 pub use texts::shown_text;
 pub use wrong_sign::WrongSign;

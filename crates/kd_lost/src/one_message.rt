@@ -3,9 +3,10 @@ ghost use Rattle.std.specs.Prelude.{◌≡◌};
 ghost use Rattle.kd_lost.specs.OneMessage.{agrees_with_each, are_of_one_message, headings_agree, letter_agrees};
 ghost use Rattle.kd_lost.specs.OneMessage.{letters_agree, numbers_agree, parts_agree, same_keys, same_letters};
 ghost use Rattle.kd_lost.specs.OneMessage.{bodies_agree, ends_within, key_signs, keys_agree, may_repeat};
+ghost use Rattle.kd_lost.specs.OneMessage.{count_signs, counts_agree, heading_repeats, same_count};
 ghost use Rattle.kd_lost.specs.OneMessage.{sign_agrees, signs_agree, texts_agree};
 
-use crate::by_count::later_words;
+use crate::by_count::{first_word, later_words};
 use crate::damage::PartDamage;
 use crate::damaged_text::{DamagedText, TextKeys};
 use crate::part::{DamagedPart, PartNumbers};
@@ -49,7 +50,36 @@ fn may_repeat(one: &DamagedPart, other: &DamagedPart) -> bool
         && texts_agree(&one.text, &other.text)
         && ends_within(one, other)
         && ends_within(other, one)
-        && keys_agree(one, other)
+        && heading_repeats(one, other)
+}
+
+/// Whether the headings of two parts may have been sent as one.
+fn heading_repeats(one: &DamagedPart, other: &DamagedPart) -> bool
+    ensures { result ≡ heading_repeats one.now other.now }
+{
+    counts_agree(one, other) && keys_agree(one, other)
+}
+
+/// Whether two parts may have as many letters: as many came, or their headings may have the same count.
+fn counts_agree(one: &DamagedPart, other: &DamagedPart) -> bool
+    ensures { result ≡ counts_agree one.now other.now }
+{
+    one.came == other.came || has_count_of(one, other)
+}
+
+fn has_count_of(one: &DamagedPart, other: &DamagedPart) -> bool
+    ensures { result ≡ same_count (count_signs one.now.heading.bytes) (count_signs other.now.heading.bytes) }
+{
+    let one = count_signs(one.heading.as_str().as_bytes());
+    let other = count_signs(other.heading.as_str().as_bytes());
+    one.len() == other.len() && signs_agree(one, other)
+}
+
+/// The signs of a heading's count.
+fn count_signs(heading: &[u8]) -> &[u8]
+    ensures { result.now ≡ count_signs heading.now }
+{
+    first_word(later_words(later_words(heading)))
 }
 
 /// Whether the headings of two parts may have the same keys.

@@ -2,7 +2,7 @@
 ghost use Rattle.std.specs.Prelude.{◌≡◌, ◌≢◌, ◌↔◌, ◌≤◌, ◌+◌, All, IsTrue, MatchOption, None, Some, length};
 ghost use Rattle.std.specs.List.{range_with_len};
 ghost use Rattle.kd_lost.specs.ShownParts.{IsNumberWhole, IsReadWhole, IsWhole, MayBeOfTheDay, are_covered};
-ghost use Rattle.kd_lost.specs.ShownParts.{are_rising, is_any_read, is_covered, is_number, is_one_message, is_worse};
+ghost use Rattle.kd_lost.specs.ShownParts.{are_in_order, is_any_read, is_covered, is_number, is_one_message, is_worse};
 ghost use Rattle.kd_lost.specs.ShownParts.{numbers_of, shown_under, times_of, total_of};
 
 use crate::damaged_text::GroupTest;
@@ -24,14 +24,14 @@ pub fn total_of(parts: &[DamagedPart]) -> u8
     }
 }
 
-/// Whether the parts that have numbers came in the order of their numbers, and the first has one above `before`.
-pub fn are_rising(before: u8, parts: &[DamagedPart]) -> bool
-    ensures { result ≡ are_rising before (numbers_of parts.now) }
+/// Whether the parts that have numbers came in the order of their numbers, none below `before`; a part may come again at once.
+pub fn are_in_order(before: u8, parts: &[DamagedPart]) -> bool
+    ensures { result ≡ are_in_order before (numbers_of parts.now) }
 {
     match parts {
         [part, rest @ ..] => match &part.numbers {
-            Some(numbers) => before < numbers.part && are_rising(numbers.part, rest),
-            None => are_rising(before, rest),
+            Some(numbers) => before <= numbers.part && are_in_order(numbers.part, rest),
+            None => are_in_order(before, rest),
         },
         [] => true,
     }

@@ -27,7 +27,7 @@ use Rattle.kd_part_sheet.specs.declared.sheet.Sheet.{Sheet}
 use Rattle.kd_message.specs.declared.texts.TheConstants as texts
 use Rattle.kd_part_sheet.specs.PartSheet.{warnings_text}
 use Rattle.kd_part_sheet.specs.Rows.{pieces}
-use Rattle.kd_lost.specs.ShownParts.{are_rising, is_one_message, numbers_of}
+use Rattle.kd_lost.specs.ShownParts.{are_in_order, is_one_message, numbers_of}
 
 -- the head of the sheet
 abbrev pub text_sheet_head : Language → Day → List ℕ
@@ -70,7 +70,7 @@ several_words l parts = text_in l texts.SEVERAL ++ headings_after [] parts ++ te
 abbrev pub order_text : Language → List DamagedPart → List ℕ
 order_text l parts =
     if is_one_message parts
-    then (if are_rising 0 (numbers_of parts) then [] else order_words l (numbers_of parts))
+    then (if are_in_order 0 (numbers_of parts) then [] else order_words l (numbers_of parts))
     else several_words l parts
 
 -- ---- What was passed over.

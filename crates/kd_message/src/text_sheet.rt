@@ -19,7 +19,7 @@ use crate::texts::{
 use itoa::Buffer;
 use kd_form::text_bytes::space_letter;
 use kd_lost::{
-    DamagedPart, DamagedText, GroupTest, LostCopies, PartNumbers, are_rising, is_one_message,
+    DamagedPart, DamagedText, GroupTest, LostCopies, PartNumbers, are_in_order, is_one_message,
 };
 use kd_part_sheet::markup::{COMMA, LOST_LETTER, SPACE};
 use kd_part_sheet::part_sheet::{PartName, Warnings, draw_warnings};
@@ -82,7 +82,7 @@ pub(crate) fn draw_order<W: Sink>(sink: &mut W, language: Language, parts: &[Dam
 {
     if !is_one_message(parts) {
         draw_several_words(sink, language, parts);
-    } else if are_rising(0, parts) {
+    } else if are_in_order(0, parts) {
         draw(sink, "");
     } else {
         draw_order_words(sink, language, parts);
