@@ -19,7 +19,8 @@ without_mark form = if bytes_eq (take 3 form) (239 ∷ 187 ∷ 191 ∷ []) then 
 abbrev pub was_heading : ℕ → List ℕ → Bool
 was_heading byte bytes = byte == 47 || byte == 10 && is_part_line bytes
 
--- `bytes` from the first heading after their first line on; `None` if there is none, or a damaged heading may stand before it
+-- `bytes` from the first heading after their first line on; `None` if there is none, or a damaged heading may stand
+-- before it
 abbrev pub later_heading : List ℕ → Option (List ℕ)
 later_heading [] = None
 later_heading (byte ∷ bytes) =

@@ -39,8 +39,8 @@ fn without_mark(form: &[u8]) -> &[u8]
     }
 }
 
-/// `bytes` from the first heading after their first line on; `None` if there is none, or a damaged heading
-/// may stand before it.
+/// `bytes` from the first heading after their first line on; `None` if there is none, or a damaged heading may stand
+/// before it.
 ///
 /// The part under a damaged heading mustn't be dropped in silence.
 fn later_heading(bytes: &[u8]) -> Option<&[u8]>
