@@ -1,4 +1,4 @@
-//! `DamagedText`: what can be read of the text of a part, with two warnings.
+//! `DamagedText`: what can be read of the text of a part, with its warnings.
 ghost use Rattle.std.specs.Prelude.{◌≡◌, map};
 ghost use Rattle.kd_form.specs.Sending.{space_letter};
 ghost use Rattle.kd_lost.specs.DamagedForm.{shown_byte};
@@ -34,7 +34,7 @@ pub enum TextKeys {
     Pin(PinTextKeys),
 }
 
-/// The keys of a text on the Converter M-209.
+/// The keys with which a text on the Converter M-209 was deciphered.
 #[derive(Drop)]
 pub struct PinTextKeys {
     /// The chosen letter and the external letters, put together from both copies.
@@ -46,11 +46,11 @@ pub struct PinTextKeys {
 /// Whether the letters by which a receiver knows the day are the day's.
 #[derive(Clone, Copy, Debug, PartialEq, Eq)]
 pub enum GroupTest {
-    /// They are.
+    /// These letters are the day's.
     Right,
-    /// They aren't: the part was made with another day's settings, or these letters were changed on the air.
+    /// They aren't the day's: the part was made with another day's settings, or they were changed on the air.
     Wrong,
-    /// One of them is lost.
+    /// They weren't compared: a letter of the group, or a list letter in both copies, is lost.
     NotTested,
 }
 

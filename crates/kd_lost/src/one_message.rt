@@ -53,14 +53,14 @@ fn may_repeat(one: &DamagedPart, other: &DamagedPart) -> bool
         && heading_repeats(one, other)
 }
 
-/// Whether the headings of two parts may have been sent as one.
+/// Whether the headings of two parts may be one heading, sent twice.
 fn heading_repeats(one: &DamagedPart, other: &DamagedPart) -> bool
     ensures { result ≡ heading_repeats one.now other.now }
 {
     counts_agree(one, other) && keys_agree(one, other)
 }
 
-/// Whether two parts may have as many letters: as many came, or their headings may have the same count.
+/// Whether two parts may have equally many letters: equally many came, or the counts in their headings agree.
 fn counts_agree(one: &DamagedPart, other: &DamagedPart) -> bool
     ensures { result ≡ counts_agree one.now other.now }
 {
@@ -90,14 +90,14 @@ fn keys_agree(one: &DamagedPart, other: &DamagedPart) -> bool
     signs_agree(one, key_signs(other.heading.as_str().as_bytes()))
 }
 
-/// The signs of a heading behind its count.
+/// The signs of a heading after its count: on a rotor machine, the ground setting and the enciphered key.
 fn key_signs(heading: &[u8]) -> &[u8]
     ensures { result.now ≡ key_signs heading.now }
 {
     later_words(later_words(later_words(heading)))
 }
 
-/// Whether the signs agree at each place that both have.
+/// Whether the signs agree at each place, up to the end of the shorter slice.
 fn signs_agree(one: &[u8], other: &[u8]) -> bool
     ensures { result ≡ signs_agree one.now other.now }
 {
@@ -109,14 +109,14 @@ fn signs_agree(one: &[u8], other: &[u8]) -> bool
     true
 }
 
-/// Whether both signs may have been sent as one: they are equal, or one is lost.
+/// Whether both signs may stand for one sent sign: they are equal, or one is lost.
 fn sign_agrees(sign: u8, again: u8) -> bool
     ensures { result ≡ sign_agrees sign again }
 {
     sign == again || is_lost(sign) || is_lost(again)
 }
 
-/// Whether `one` has no more letters than the other part, if this one is read.
+/// Whether `one` has at most as many letters as `other`, or `other` couldn't be read.
 fn ends_within(one: &DamagedPart, other: &DamagedPart) -> bool
     ensures { result ≡ ends_within one.now other.now }
 {
@@ -158,7 +158,7 @@ fn texts_agree(
     }
 }
 
-/// Whether two bodies have as many letters, and agree at each place.
+/// Whether two bodies are equally long, and agree at each place.
 fn letters_agree(one: &[Option<Letter>], other: &[Option<Letter>]) -> bool
     ensures { result ≡ letters_agree one.now other.now }
 {
@@ -170,7 +170,7 @@ fn letters_agree(one: &[Option<Letter>], other: &[Option<Letter>]) -> bool
     one.is_empty() && other.is_empty()
 }
 
-/// Whether both letters may have been sent as one: they are equal, or one is lost.
+/// Whether both letters may stand for one sent letter: they are equal, or one is lost.
 fn letter_agrees(one: &Option<Letter>, other: &Option<Letter>) -> bool
     ensures { result ≡ letter_agrees one.now other.now }
 {
