@@ -34,6 +34,7 @@ use Rattle.kd_message.specs.LoneParts.{listed_lone, lone_text}
 use Rattle.kd_message.specs.Notes.{lone_note, missing_note, part_note, several_note}
 use Rattle.kd_message.specs.SendPage.{list_head, listed_sheet, part_name, title_text}
 use Rattle.kd_lost.specs.ShownParts.{IsWhole, is_any_read, is_one_message, shown_under, times_of, total_of}
+use Rattle.kd_lost.specs.Texts.{shown_text}
 use Rattle.kd_message.specs.TextSheet.{came_text, counted_text, damage_text, missing_text, order_text, passed_text, read_text}
 use Rattle.kd_message.specs.TextSheet.{text_part_head}
 use Rattle.kd_message.specs.TextSheet.{text_sheet_head, warnings_of}
@@ -47,22 +48,20 @@ sheet_to_receive model = if is_converter model then PinReceive else RotorReceive
 abbrev pub listed_unread : Language → PartName → List ℕ
 listed_unread l name = filled (text_in l texts.LISTED_UNREAD) (decimal name.part ∷ decimal name.parts ∷ [])
 
--- a part, as a line in the list of the sheets; `counted` is its text by count
-abbrev pub listed_text : Language → PartName → Result DamagedText PartDamage → Option DamagedText → List ℕ
-listed_text l name (Ok shown) counted = listed_sheet l name.sheet name.part name.parts
-listed_text l name (Err damage) (Some shown) = listed_sheet l name.sheet name.part name.parts
-listed_text l name (Err damage) None = listed_unread l name
+-- a part with this text, as a line in the list of the sheets
+abbrev pub listed_text : Language → PartName → Option DamagedText → List ℕ
+listed_text l name (Some shown) = listed_sheet l name.sheet name.part name.parts
+listed_text l name None = listed_unread l name
 
 -- the sheet on which this text is worked
 abbrev pub sheet_of_text : Language → Day → PartName → DamagedText → List ℕ
 sheet_of_text l s name shown =
     part_sheet l (sheet_to_receive (day_model s)) s name (warnings_of shown) (received_work s shown)
 
--- the sheet on which a part is worked; none if the part isn't read, not even by count
-abbrev pub worked_text : Language → Day → PartName → Result DamagedText PartDamage → Option DamagedText → List ℕ
-worked_text l s name (Ok shown) counted = sheet_of_text l s name shown
-worked_text l s name (Err damage) (Some shown) = sheet_of_text l s name shown
-worked_text l s name (Err damage) None = []
+-- the sheet on which a part with this text is worked; none if there is no text, not even by count
+abbrev pub worked_text : Language → Day → PartName → Option DamagedText → List ℕ
+worked_text l s name (Some shown) = sheet_of_text l s name shown
+worked_text l s name None = []
 
 -- the text of a part by count; if there is none, why the part isn't read
 abbrev pub counted_or_damage : Language → Day → PartName → DamagedPart → PartDamage → Option DamagedText → List ℕ
@@ -77,8 +76,8 @@ text_or_damage l s name part (Err damage) = counted_or_damage l s name part dama
 
 -- the words of a section on a part that came `times` times
 abbrev pub part_in : Section → Language → Day → PartName → ℕ → DamagedPart → List ℕ
-part_in sections.Listed l s name times part = listed_text l name part.text part.by_count
-part_in sections.Worked l s name times part = worked_text l s name part.text part.by_count
+part_in sections.Listed l s name times part = listed_text l name (shown_text part)
+part_in sections.Worked l s name times part = worked_text l s name (shown_text part)
 part_in sections.Noted l s name times part = part_note l name part
 part_in sections.Texts l s name times part =
     text_part_head l name ++ came_text l times ++ text_or_damage l s name part part.text ++ SECTION_END.now
@@ -205,9 +204,8 @@ pub data IsFormNoted (l : Language) (s : Day) (form : List ℕ) (Told : List ℕ
 -- ---- What the code holds. No public contract cites these definitions.
 
 -- The machine can show the letters of the keys of the part's text, even if it is one by count.
-pub record HasShowableKeys (s : Day) (part : DamagedPart) : Type 0 where
-  pub of_text : IfOk part.text (λ shown. AreShowable s shown.keys)
-  pub of_count : IfSome part.by_count (λ shown. AreShowable s shown.keys)
+abbrev pub HasShowableKeys : Day → DamagedPart → Type 0
+HasShowableKeys s part = IfSome (shown_text part) (λ shown. AreShowable s shown.keys)
 
 -- The machine can show the letters of the keys of each text.
 abbrev pub AreWorkable : Day → List DamagedPart → Type 0

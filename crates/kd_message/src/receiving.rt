@@ -12,6 +12,7 @@ ghost use Rattle.kd_message.specs.ReceivePage.{IsFormNoted, receive_notes, recei
 ghost use Rattle.kd_message.specs.ReceivePage.{sheet_of_text, sheet_to_receive, shown_in, text_or_damage, worked_text};
 ghost use Rattle.kd_message.specs.SendPage.{part_name};
 ghost use Rattle.kd_lost.specs.ShownParts.{shown_under, times_of, total_of};
+ghost use Rattle.kd_lost.specs.Texts.{shown_text};
 
 use crate::counted::draw_counted_text;
 use crate::lone_parts::{draw_listed_lone, draw_lone_text};
@@ -26,7 +27,7 @@ use crate::texts::{ARTICLE_END, LIST_END_WITH_TEXT, LISTED_UNREAD, TITLE_TO_RECE
 use crate::unread::{draw_damage, draw_missing};
 use kd_lost::{
     DamagedFormFault, DamagedPart, DamagedText, PartNumbers, is_any_read, is_one_message, is_whole,
-    read_damaged_form, shown_under, times_of, total_of,
+    read_damaged_form, shown_text, shown_under, times_of, total_of,
 };
 use kd_part_sheet::markup::SECTION_END;
 use kd_part_sheet::part_sheet::{PartName, draw_if, draw_part_sheet, note};
@@ -427,13 +428,11 @@ fn draw_part<W: Sink>(
 /// Writes a part as a line in the list of the sheets.
 fn draw_listed<W: Sink>(sink: &mut W, language: Language, name: PartName, part: &DamagedPart)
     ensures { Draws W.taken W.has_failed sink.old sink.new
-        (listed_text language name part.now.text part.now.by_count) }
+        (listed_text language name (shown_text part.now)) }
 {
-    match (&part.text, &part.by_count) {
-        (Err(_), None) => draw_listed_unread(sink, language, name),
-        (Ok(_), _) | (Err(_), Some(_)) => {
-            draw_listed_part(sink, language, name.sheet, name.part, name.parts)
-        }
+    match shown_text(part) {
+        Some(_) => draw_listed_part(sink, language, name.sheet, name.part, name.parts),
+        None => draw_listed_unread(sink, language, name),
     }
 }
 
@@ -462,12 +461,11 @@ fn draw_worked<W: Sink>(
 )
     requires { HasShowableKeys day.now part.now }
     ensures { Draws W.taken W.has_failed sink.old sink.new
-        (worked_text language day.now name part.now.text part.now.by_count) }
+        (worked_text language day.now name (shown_text part.now)) }
 {
-    match (&part.text, &part.by_count) {
-        (Ok(shown), _) => draw_sheet_of_text(sink, language, day, name, shown),
-        (Err(_), Some(shown)) => draw_sheet_of_text(sink, language, day, name, shown),
-        (Err(_), None) => draw(sink, ""),
+    match shown_text(part) {
+        Some(shown) => draw_sheet_of_text(sink, language, day, name, shown),
+        None => draw(sink, ""),
     }
 }
 
